@@ -1,0 +1,202 @@
+-- How an exchange ended, at each of its ends.
+use Rattle.std.proofs.Common.{◌≡◌, ℕ, ◌+◌, ◌-◌, ◌<◌, ◌≤◌, List, [], ◌++◌, length, take, drop, refl, ◌∙◌, ap, sym, arith, append_assoc, IsTrue, rules, subst, true, false, Option, Some, None, Result, Ok, Err, IsErrOf, codes, ◌⊎◌, inl, inr}
+use Rattle.std.proofs.lemmas.Grind.{common_steps}
+use Rattle.std.proofs.Math.Seq.{take-length}
+use Rattle.kmip_link.specs.State.{LinkState, left, Keeps, Writes, Rose}
+use Rattle.kmip_enums.specs.declared.operation.Operation.{Operation}
+use Rattle.kmip_client.specs.declared.error.Error.{Error}
+use Rattle.kmip_client.specs.declared.error.Error.TheVariants.{ConfigurationError, SerializeError, RequestWriteError, ResponseReadError, DeserializeError, ServerError, InternalError, ItemNotFound, Unknown, OutOfMemory}
+use Rattle.kmip_client.specs.declared.message.MessageStop.{MessageStop}
+use Rattle.kmip_client.specs.Transfer.{Takes, TakesPart, WritesPart}
+use Rattle.kmip_client.specs.Message.{Message, message_at, taken_for, Comes, StopsWithin, ReadsMessage, IsRead}
+use Rattle.kmip_client.specs.Client.{lacks_memory}
+use Rattle.kmip_client.specs.Outcome.{Answer, Outcome, outcome_of, answer_of, left_for, Moves, Exchanged, completed, write_failed, read_failed, sending_cut, reading_cut, Gives, said, Caused, not_valid, given, no_memory}
+use Rattle.kmip_client.proofs.Messages.{message_short}
+
+append_none : (xs : List ℕ) → xs ≡ xs ++ []
+append_none xs = grind (arith, common_steps)
+
+moves_none : (a : LinkState) → Moves a a [] 0
+moves_none a = record { sent_is = append_none a.sent; pos = omega arith; ever = record { more = []; is = append_none a.ever }; still = λ h. refl }
+
+-- nothing was sent, since the request has no form
+pub not_sent : (a : LinkState) (operation : Operation) (limit : Option ℕ) (rest : List ℕ) → Exchanged (outcome_of None operation limit rest) a a (Err (SerializeError (codes "request has no wire form")))
+not_sent a operation limit rest = completed refl (moves_none a)
+
+-- or since memory ran out
+pub short_at_start : (a : LinkState) (o : Outcome) → Exchanged o a a (Err OutOfMemory)
+short_at_start a o = sending_cut refl 0 (omega arith) (moves_none a)
+
+-- a part of the request was written
+moves_part : {before after : LinkState} (request : List ℕ) (n : ℕ) → Writes before after (take n request) → Moves before after (take n request) 0
+moves_part request n writes = record { sent_is = writes.sent; pos = omega (arith, writes.pos); ever = record { more = writes.ever.0; is = writes.ever.1 }; still = writes.still }
+
+-- the writing stopped
+pub send_stopped : {before after : LinkState} (request : List ℕ) (operation : Operation) (limit : Option ℕ) (rest : List ℕ) (error : Error) → WritesPart before after request →
+    ((error ≡ RequestWriteError (codes "link failed")) × Rose before.faults after.faults) ⊎ (error ≡ OutOfMemory) →
+    Exchanged (outcome_of (Some request) operation limit rest) before after (Err error)
+send_stopped request operation limit rest error part (inl failed) = write_failed (ap (λ e. Err e) failed.0) failed.1 part.0 part.1 (moves_part request part.0 part.2)
+send_stopped request operation limit rest error part (inr short) = sending_cut (ap (λ e. Err e) short) part.0 (omega (arith, part.1)) (moves_part request part.0 part.2)
+
+pub send_caused : {before after : ℕ} (request : List ℕ) (operation : Operation) (limit : Option ℕ) (error : Error) →
+    ((error ≡ RequestWriteError (codes "link failed")) × Rose before after) ⊎ (error ≡ OutOfMemory) →
+    Caused (Some request) operation limit before after (Err error)
+send_caused request operation limit error (inl failed) = Caused.write_failed refl (ap (λ e. Err e) failed.0) failed.1
+send_caused request operation limit error (inr short) = no_memory (ap (λ e. Err e) short)
+
+-- a request was written and so many bytes were read
+moves_both : {before between after : LinkState} {request : List ℕ} {n : ℕ} → Writes before between request → Takes between after n → Moves before after request n
+moves_both {n = n} writes takes = record { sent_is = takes.sent ∙ writes.sent; pos = takes.pos ∙ ap (λ p. p + n) writes.pos; ever = record { more = writes.ever.0; is = takes.ever ∙ writes.ever.1 }; still = λ h. takes.ever ∙ writes.still h }
+
+left_same : {before between after : LinkState} {request : List ℕ} {n : ℕ} → Writes before between request → Takes between after n → left between ≡ left_for before after
+left_same writes takes = rw (writes.pos, takes.ever) refl
+
+gives_cases : (expected answer : Answer) → Gives expected answer → (answer ≡ expected) ⊎ (answer ≡ Err OutOfMemory)
+gives_cases expected (Ok payload) gives = inl gives
+gives_cases expected (Err (ConfigurationError t)) gives = inl gives
+gives_cases expected (Err (SerializeError t)) gives = inl gives
+gives_cases expected (Err (RequestWriteError t)) gives = inl gives
+gives_cases expected (Err (ResponseReadError t)) gives = inl gives
+gives_cases expected (Err (DeserializeError t)) gives = inl gives
+gives_cases expected (Err (ServerError t)) gives = inl gives
+gives_cases expected (Err (InternalError t)) gives = inl gives
+gives_cases expected (Err (ItemNotFound t)) gives = inl gives
+gives_cases expected (Err (Unknown t)) gives = inl gives
+gives_cases expected (Err OutOfMemory) gives = inr refl
+
+-- memory ran out after the writing
+short_after : {before between after : LinkState} (request : List ℕ) (operation : Operation) (limit : Option ℕ) (answer : Answer) (n : ℕ) →
+    Writes before between request → Takes between after n → n ≤ taken_for (left between) (message_at (left between) limit) → answer ≡ Err OutOfMemory →
+    Exchanged (outcome_of (Some request) operation limit (left_for before after)) before after answer
+short_after {before = before} {between = between} {after = after} request operation limit answer n writes takes within is =
+    let P : List ℕ → Type 0 = λ rest. n ≤ taken_for rest (message_at rest limit) in
+    reading_cut is n (subst P (left_same writes takes) within) (moves_both writes takes)
+
+-- the reading came to this
+came_to : {before between after : LinkState} (request : List ℕ) (operation : Operation) (limit : Option ℕ) (taken : List ℕ) (here : Message) (answer : Answer) →
+    Writes before between request → Comes between after limit taken here → (answer ≡ answer_of operation here) ⊎ (answer ≡ Err OutOfMemory) →
+    Exchanged (outcome_of (Some request) operation limit (left_for before after)) before after answer
+came_to {before = before} {between = between} {after = after} request operation limit taken here answer writes comes (inl is) =
+    let same : left between ≡ left_for before after = left_same writes comes.takes in
+    let front : message_at (left_for before after) limit ≡ here = ap (λ rest. message_at rest limit) (sym same) ∙ comes.front in
+    let P : Message → Type 0 = λ m. Moves before after request (taken_for (left_for before after) m) in
+    let Q : List ℕ → Type 0 = λ rest. Moves before after request (taken_for rest here) in
+    completed (is ∙ ap (λ m. answer_of operation m) (sym front)) (subst P (sym front) (subst Q same (moves_both writes comes.takes)))
+came_to {before = before} {between = between} {after = after} request operation limit taken here answer writes comes (inr is) =
+    let P : Message → Type 0 = λ m. taken_for (left between) here ≤ taken_for (left between) m in
+    short_after request operation limit answer _ writes comes.takes (subst P (sym comes.front) (omega arith)) is
+
+-- the reading ended
+pub read_ended : {before between after : LinkState} (request : List ℕ) (operation : Operation) (limit : Option ℕ) (taken : List ℕ) (read : Result (Unit {0}) MessageStop) (answer : Answer) →
+    Keeps before between → Writes before between request → ReadsMessage between after limit taken read → (IsErrOf read MessageStop.Fault → Rose between.faults after.faults) →
+    Gives (said operation taken read) answer →
+    Exchanged (outcome_of (Some request) operation limit (left_for before after)) before after answer
+read_ended request operation limit taken (Ok u) answer keeps writes reads rose gives =
+    came_to request operation limit taken (Message.Whole taken) answer writes reads (gives_cases _ answer gives)
+read_ended request operation limit taken (Err MessageStop.Ended) answer keeps writes reads rose gives =
+    came_to request operation limit taken Message.Ended answer writes reads (gives_cases _ answer gives)
+read_ended request operation limit taken (Err (MessageStop.Refused error)) answer keeps writes reads rose gives =
+    came_to request operation limit taken (Message.Refused error) answer writes reads (gives_cases _ answer gives)
+read_ended {before = before} {between = between} {after = after} request operation limit taken (Err MessageStop.Fault) answer keeps writes reads rose gives =
+    elim (gives_cases (Err (ResponseReadError (codes "link failed"))) answer gives) [
+      | inl is ↦
+          let P : List ℕ → Type 0 = λ rest. reads.0 ≤ taken_for rest (message_at rest limit) in
+          read_failed is (omega (arith, keeps.faults, rose refl)) reads.0 (subst P (left_same writes reads.1.takes) reads.1.within) (moves_both writes reads.1.takes)
+      | inr is ↦ short_after request operation limit answer reads.0 writes reads.1.takes reads.1.within is
+    ]
+read_ended request operation limit taken (Err MessageStop.OutOfMemory) answer keeps writes reads rose gives =
+    elim (gives_cases (Err OutOfMemory) answer gives) [
+      | inl is ↦ short_after request operation limit answer reads.0 writes reads.1.takes reads.1.within is
+      | inr is ↦ short_after request operation limit answer reads.0 writes reads.1.takes reads.1.within is
+    ]
+
+-- bytes that come to this message were given
+bytes_given : (before after : ℕ) (request : List ℕ) (operation : Operation) (limit : Option ℕ) (rest : List ℕ) (here : Message) (answer : Answer) →
+    message_at rest limit ≡ here → (answer ≡ answer_of operation here) ⊎ (answer ≡ Err OutOfMemory) → Caused (Some request) operation limit before after answer
+bytes_given before after request operation limit rest here answer front (inl is) = given refl rest (is ∙ ap (λ m. answer_of operation m) (sym front))
+bytes_given before after request operation limit rest here answer front (inr is) = no_memory is
+
+fault_caused : (before after : ℕ) (request : List ℕ) (operation : Operation) (limit : Option ℕ) (answer : Answer) → Rose before after →
+    (answer ≡ Err (ResponseReadError (codes "link failed"))) ⊎ (answer ≡ Err OutOfMemory) → Caused (Some request) operation limit before after answer
+fault_caused before after request operation limit answer rose (inl is) = Caused.read_failed refl is rose
+fault_caused before after request operation limit answer rose (inr is) = no_memory is
+
+memory_caused : (before after : ℕ) (request : List ℕ) (operation : Operation) (limit : Option ℕ) (answer : Answer) →
+    (answer ≡ Err OutOfMemory) ⊎ (answer ≡ Err OutOfMemory) → Caused (Some request) operation limit before after answer
+memory_caused before after request operation limit answer (inl is) = no_memory is
+memory_caused before after request operation limit answer (inr is) = no_memory is
+
+-- why the reading ended so, over any link
+pub read_caused : (before after : ℕ) (request : List ℕ) (operation : Operation) (limit : Option ℕ) (taken : List ℕ) (read : Result (Unit {0}) MessageStop) (answer : Answer) →
+    IsRead limit taken read → (IsErrOf read MessageStop.Fault → Rose before after) → Gives (said operation taken read) answer → Caused (Some request) operation limit before after answer
+read_caused before after request operation limit taken (Ok u) answer front rose gives = bytes_given before after request operation limit taken (Message.Whole taken) answer front (gives_cases _ answer gives)
+read_caused before after request operation limit taken (Err MessageStop.Ended) answer front rose gives = bytes_given before after request operation limit [] Message.Ended answer (message_short [] limit (omega arith)) (gives_cases _ answer gives)
+read_caused before after request operation limit taken (Err (MessageStop.Refused error)) answer front rose gives = bytes_given before after request operation limit taken (Message.Refused error) answer front (gives_cases _ answer gives)
+read_caused before after request operation limit taken (Err MessageStop.Fault) answer front rose gives = fault_caused before after request operation limit answer (rose refl) (gives_cases _ answer gives)
+read_caused before after request operation limit taken (Err MessageStop.OutOfMemory) answer front rose gives = memory_caused before after request operation limit answer (gives_cases _ answer gives)
+
+-- the bytes that were read are those that the position passed
+taken_is : {before between after : LinkState} {request : List ℕ} {n : ℕ} (taken : List ℕ) → Writes before between request → Takes between after n → taken ≡ take n (left between) → taken ≡ take (after.pos - before.pos) (left_for before after)
+taken_is {before = before} {between = between} {after = after} {n = n} taken writes takes is =
+    let passed : n ≡ after.pos - before.pos = omega (arith, takes.pos, writes.pos) in
+    is ∙ ap (λ k. take k (left between)) passed ∙ ap (λ l. take (after.pos - before.pos) l) (left_same writes takes)
+
+pub read_bytes : {before between : LinkState} (after : LinkState) (request : List ℕ) (operation : Operation) (limit : Option ℕ) (taken : List ℕ) (read : Result (Unit {0}) MessageStop) (answer : Answer) →
+    Writes before between request → ReadsMessage between after limit taken read → Gives (said operation taken read) answer → lacks_memory answer ≡ false →
+    taken ≡ take (after.pos - before.pos) (left_for before after)
+read_bytes after request operation limit taken (Ok u) answer writes reads gives room = taken_is taken writes reads.takes reads.bytes
+read_bytes after request operation limit taken (Err MessageStop.Ended) answer writes reads gives room = taken_is taken writes reads.takes reads.bytes
+read_bytes after request operation limit taken (Err (MessageStop.Refused error)) answer writes reads gives room = taken_is taken writes reads.takes reads.bytes
+read_bytes after request operation limit taken (Err MessageStop.Fault) answer writes reads gives room = taken_is taken writes reads.1.takes reads.2
+read_bytes after request operation limit taken (Err MessageStop.OutOfMemory) answer writes reads gives room =
+    elim (gives_cases (Err OutOfMemory) answer gives) [
+      inl is ↦ absurd (let e : true ≡ false = rw is at room in cc)
+    | inr is ↦ absurd (let e : true ≡ false = rw is at room in cc) ]
+
+-- the request was not written out
+pub serialize_stopped : (request : Option (List ℕ)) (operation : Operation) (limit : Option ℕ) (rest : List ℕ) (a : LinkState) (error : Error) →
+    ((error ≡ SerializeError (codes "request has no wire form")) × (request ≡ None)) ⊎ (error ≡ OutOfMemory) →
+    Exchanged (outcome_of request operation limit rest) a a (Err error)
+serialize_stopped request operation limit rest a error (inl refused) = rw (refused.0, refused.1) (not_sent a operation limit rest)
+serialize_stopped request operation limit rest a error (inr short) = rw short (short_at_start a _)
+
+pub serialize_caused : (request : Option (List ℕ)) (operation : Operation) (limit : Option ℕ) (before after : ℕ) (error : Error) →
+    ((error ≡ SerializeError (codes "request has no wire form")) × (request ≡ None)) ⊎ (error ≡ OutOfMemory) →
+    Caused request operation limit before after (Err error)
+serialize_caused request operation limit before after error (inl refused) = not_valid refused.1 (ap (λ e. Err e) refused.0)
+serialize_caused request operation limit before after error (inr short) = no_memory (ap (λ e. Err e) short)
+
+-- memory that runs out after an exchange leaves what was sent and taken
+pub short_anyway : {o : Outcome} {before after : LinkState} {answer : Answer} → Exchanged o before after answer → Exchanged o before after (Err OutOfMemory)
+short_anyway {o = o} (completed is moves) = reading_cut refl o.taken (omega arith) moves
+short_anyway (write_failed is rose n within moves) = sending_cut refl n (omega arith) moves
+short_anyway (read_failed is rose n within moves) = reading_cut refl n within moves
+short_anyway (sending_cut is n within moves) = sending_cut refl n within moves
+short_anyway (reading_cut is n within moves) = reading_cut refl n within moves
+
+-- an answer with its diagnostic, or want of memory in its place
+abbrev pub IsKept : Answer → Answer → Type 0
+IsKept answer kept = (kept ≡ answer) ⊎ (kept ≡ Err OutOfMemory)
+
+pub kept_exchanged : {o : Outcome} {before after : LinkState} (answer kept : Answer) → IsKept answer kept → Exchanged o before after answer → Exchanged o before after kept
+kept_exchanged answer kept (inl is) exchanged = rw is exchanged
+kept_exchanged answer kept (inr is) exchanged = rw is (short_anyway exchanged)
+
+pub kept_caused : {request : Option (List ℕ)} {operation : Operation} {limit : Option ℕ} {before after : ℕ} (answer kept : Answer) → IsKept answer kept →
+    Caused request operation limit before after answer → Caused request operation limit before after kept
+kept_caused answer kept (inl is) caused = rw is caused
+kept_caused answer kept (inr is) caused = no_memory is
+
+-- an exchange of the bytes of a request is one of the request
+pub of_request : {before after : LinkState} {answer : Answer} (request : Option (List ℕ)) (bytes sent : List ℕ) (operation named : Operation) (limit : Option ℕ) (rest : List ℕ) →
+    request ≡ Some bytes → sent ≡ bytes → named ≡ operation → Exchanged (outcome_of (Some sent) named limit rest) before after answer → Exchanged (outcome_of request operation limit rest) before after answer
+of_request request bytes sent operation named limit rest has same op exchanged = rw (has, ← same, ← op) exchanged
+
+pub caused_by : {before after : ℕ} {answer : Answer} (request : Option (List ℕ)) (bytes sent : List ℕ) (operation named : Operation) (limit : Option ℕ) →
+    request ≡ Some bytes → sent ≡ bytes → named ≡ operation → Caused (Some sent) named limit before after answer → Caused request operation limit before after answer
+caused_by request bytes sent operation named limit has same op caused = rw (has, ← same, ← op) caused
+
+-- what a diagnostic kept beside an answer leaves of it
+pub kept_is : {P Q : Type 0} (answer kept : Answer) → (P × (kept ≡ answer)) ⊎ (Q × (kept ≡ Err OutOfMemory)) → IsKept answer kept
+kept_is answer kept (inl it) = inl it.1
+kept_is answer kept (inr it) = inr it.1

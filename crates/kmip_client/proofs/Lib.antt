@@ -1,0 +1,4 @@
+pub mod Transfers
+pub mod Messages
+pub mod Exchanges
+pub mod Checks

@@ -1,0 +1,20 @@
+use Rattle.std.proofs.Common.{◌≡◌, List, ℕ, arith, refl}
+use Rattle.kmip_client.proofs.Exchanges.{send_stopped, read_ended, read_caused, read_bytes}
+use Rattle.kmip_client.proofs.exchange.exchange.Goals as goal
+
+pub returns-in-Err-clause-exchange : goal.returns-in-Err-clause-exchange
+returns-in-Err-clause-exchange g c = λ tells.
+    send_stopped c.args.request.now c.args.operation c.args.config.now.max_bytes _ c.in-Err.error (c.in-Err.ensures.part tells) c.in-Err.ensures.err
+
+pub returns-clause-exchange : goal.returns-clause-exchange
+returns-clause-exchange g c = λ tells.
+    read_ended c.args.request.now c.args.operation c.args.config.now.max_bytes c.read_message-read.new.taken.items c.read_message-read.result _
+    c.send.ensures.keeps (c.in-Ok.ensures.ok tells) (c.read_message-read.ensures.reads (rw c.send.ensures.keeps.tells tells)) c.read_message-read.ensures.fault
+    (rw c.deref.ensures.value at c.answer_read.ensures)
+
+pub returns-clause-caused : goal.returns-clause-caused
+returns-clause-caused g c =
+    read_caused (g.L.Link.state c.args.link.now).faults (g.L.Link.state c.read_message-read.new.link).faults c.args.request.now c.args.operation c.args.config.now.max_bytes c.read_message-read.new.taken.items c.read_message-read.result _
+    c.read_message-read.ensures.read
+    (λ is. omega (arith, c.send.ensures.keeps.faults, c.read_message-read.ensures.fault is))
+    (rw c.deref.ensures.value at c.answer_read.ensures)

@@ -1,0 +1,34 @@
+-- The diagnostics of a call.
+use Rattle.std.specs.Prelude.{◌≡◌, ℕ, List, Bool, true, false, Option, Some, None, Result, Ok, Err, ◌⊎◌}
+use Rattle.kmip_diag.specs.Diagnostic.{diagnostic}
+use Rattle.kmip_client.specs.Outcome.{Answer}
+use Rattle.kmip_client.specs.declared.error.Error.TheVariants.{SerializeError, RequestWriteError, OutOfMemory}
+
+-- the diagnostic of these bytes, where the buffer is on
+abbrev pub diagnostic_for : Bool → List ℕ → Option (List ℕ)
+diagnostic_for true bytes = Some (diagnostic (Some 0x4200) bytes)
+diagnostic_for false bytes = None
+
+-- and of bytes that there may be
+abbrev pub diagnostic_of : Bool → Option (List ℕ) → Option (List ℕ)
+diagnostic_of buffered None = None
+diagnostic_of buffered (Some bytes) = diagnostic_for buffered bytes
+
+-- The text is the diagnostic of the request, or none after want of memory.
+abbrev pub IsRequestText : Bool → Option (List ℕ) → Answer → Option (List ℕ) → Type 0
+IsRequestText buffered request (Err OutOfMemory) text = (text ≡ None) ⊎ (text ≡ diagnostic_of buffered request)
+IsRequestText buffered request answer text = text ≡ diagnostic_of buffered request
+
+-- The text is the diagnostic of the bytes that were taken, or none where the request was not sent or memory ran out.
+abbrev pub IsResponseText : Bool → List ℕ → Answer → Option (List ℕ) → Type 0
+IsResponseText buffered taken (Err OutOfMemory) text = (text ≡ None) ⊎ (text ≡ diagnostic_for buffered taken)
+IsResponseText buffered taken (Err (SerializeError reason)) text = text ≡ None
+IsResponseText buffered taken (Err (RequestWriteError reason)) text = text ≡ None
+IsResponseText buffered taken answer text = text ≡ diagnostic_for buffered taken
+
+-- whether a response was read, wholly or in part
+abbrev pub is_read : Answer → Bool
+is_read (Err OutOfMemory) = false
+is_read (Err (SerializeError reason)) = false
+is_read (Err (RequestWriteError reason)) = false
+is_read answer = true

@@ -1,0 +1,10 @@
+pub mod Transfer
+pub mod Message
+pub mod MessageStop
+pub mod Check
+pub mod Outcome
+pub mod Headline
+pub mod Diagnostics
+pub mod Client
+pub mod Errors
+pub mod Lending

@@ -1,0 +1,125 @@
+-- What one exchange sends, takes and answers, and what a call did to its link.
+use Rattle.std.specs.Prelude.{◌≡◌, ℕ, ◌+◌, ◌<◌, ◌≤◌, List, [], ◌∷◌, ◌++◌, length, take, drop, Option, Some, None, Result, Ok, Err, codes, IsTrue, IsSome}
+use Rattle.std.specs.Fmt.{decimal}
+use Rattle.kmip_wire.specs.Tree.{Tree}
+use Rattle.kmip_wire.specs.Reading.{item_of}
+use Rattle.kmip_wire.specs.declared.error.HeadError.{HeadError}
+use Rattle.kmip_wire.specs.declared.error.HeadError.TheVariants.{NotStructure, TooLong}
+use Rattle.kmip_shape.specs.Val.{Val}
+use Rattle.kmip_shape.specs.Reads.{root_read}
+use Rattle.kmip_enums.specs.declared.operation.Operation.{Operation}
+use Rattle.kmip_types.specs.declared.auth.CredentialType.{CredentialType}
+use Rattle.kmip_request.specs.Message.{request_bytes, operation_of}
+use Rattle.kmip_request.specs.declared.payload.RequestPayload.{RequestPayload}
+use Rattle.kmip_response.specs.Tables.{response_message}
+use Rattle.kmip_response.specs.Values.{response_payload_val}
+use Rattle.kmip_response.specs.declared.payload.ResponsePayload.{ResponsePayload}
+use Rattle.kmip_link.specs.State.{LinkState, Rose}
+use Rattle.kmip_client.specs.Transfer.{Grows}
+use Rattle.kmip_client.specs.declared.error.Error.{Error}
+use Rattle.kmip_client.specs.declared.error.Error.TheVariants.{SerializeError, RequestWriteError, ResponseReadError, DeserializeError, InternalError, OutOfMemory}
+use Rattle.kmip_client.specs.declared.message.MessageStop.{MessageStop}
+use Rattle.kmip_client.specs.Message.{Message, message_at, taken_for}
+use Rattle.kmip_client.specs.Check.{check_response}
+
+-- what a client answers, as contracts see it: the value of a payload, or an error
+abbrev pub Answer : Type 0
+Answer = Result Val Error
+
+-- an answer of the code, as contracts see it
+abbrev pub seen : Result ResponsePayload Error → Answer
+seen (Ok payload) = Ok (response_payload_val payload)
+seen (Err error) = Err error
+
+-- the tag of a response message (KMIP 1.0, 9.1.3.1)
+abbrev pub response_tag : ℕ
+response_tag = 0x42007B
+
+abbrev pub value_answer : Operation → Option Val → Answer
+value_answer operation None = Err (InternalError (codes "not a response message"))
+value_answer operation (Some message) = check_response operation message
+
+abbrev pub tree_answer : Operation → Option Tree → Answer
+tree_answer operation None = Err (DeserializeError (codes "malformed TTLV"))
+tree_answer operation (Some tree) = value_answer operation (root_read response_message response_tag tree)
+
+-- what a whole message answers a request of this operation
+abbrev pub read_answer : Operation → List ℕ → Answer
+read_answer operation m = tree_answer operation (item_of 64 m)
+
+abbrev pub refused_text : HeadError → List ℕ
+refused_text NotStructure = codes "not a structure"
+refused_text (TooLong size limit) = codes "response size " ++ (decimal size ++ (codes " exceeds limit " ++ decimal limit))
+
+-- what stands at the front of the bytes left answers a request of this operation
+abbrev pub answer_of : Operation → Message → Answer
+answer_of operation Message.Ended = Err (ResponseReadError (codes "end of input"))
+answer_of operation (Message.Refused error) = Err (DeserializeError (refused_text error))
+answer_of operation (Message.Whole m) = read_answer operation m
+
+pub record Outcome : Type 0 where
+  -- the bytes that are sent
+  pub sent : List ℕ
+  -- how many bytes are taken
+  pub taken : ℕ
+  pub answer : Answer
+
+abbrev pub outcome_of : Option (List ℕ) → Operation → Option ℕ → List ℕ → Outcome
+outcome_of None operation limit rest = record { sent = []; taken = 0; answer = Err (SerializeError (codes "request has no wire form")) }
+outcome_of (Some request) operation limit rest = record { sent = request; taken = taken_for rest (message_at rest limit); answer = answer_of operation (message_at rest limit) }
+
+-- what an exchange comes to on these bytes left, where neither the link nor memory fails
+abbrev pub outcome : RequestPayload → Option CredentialType → Option ℕ → List ℕ → Outcome
+outcome payload credential limit rest = outcome_of (request_bytes payload credential) (operation_of payload) limit rest
+
+-- the bytes left to read, as they stood after the writing
+abbrev pub left_for : LinkState → LinkState → List ℕ
+left_for before after = drop before.pos after.ever
+
+-- these bytes were sent, and so many taken
+pub record Moves (before after : LinkState) (sent : List ℕ) (taken : ℕ) : Type 0 where
+  pub sent_is : after.sent ≡ before.sent ++ sent
+  pub pos : after.pos ≡ before.pos + taken
+  -- what became readable came at the end
+  pub ever : Grows before after
+  pub still : IsTrue before.still → after.ever ≡ before.ever
+
+-- how a call ended that should come to this outcome
+pub data Exchanged (o : Outcome) (before after : LinkState) (answer : Answer) : Type 0 where
+  -- as it should
+  completed : answer ≡ o.answer → Moves before after o.sent o.taken → Exchanged o before after answer
+  -- the link failed before it took the whole request
+  write_failed : answer ≡ Err (RequestWriteError (codes "link failed")) → Rose before.faults after.faults →
+      (n : ℕ) → n < length o.sent → Moves before after (take n o.sent) 0 → Exchanged o before after answer
+  -- it failed while the response was read
+  read_failed : answer ≡ Err (ResponseReadError (codes "link failed")) → Rose before.faults after.faults →
+      (n : ℕ) → n ≤ o.taken → Moves before after o.sent n → Exchanged o before after answer
+  -- memory ran out before the whole request was sent
+  sending_cut : answer ≡ Err OutOfMemory →
+      (n : ℕ) → n ≤ length o.sent → Moves before after (take n o.sent) 0 → Exchanged o before after answer
+  -- memory ran out afterwards
+  reading_cut : answer ≡ Err OutOfMemory →
+      (n : ℕ) → n ≤ o.taken → Moves before after o.sent n → Exchanged o before after answer
+
+-- this answer, or want of memory
+abbrev pub Gives : Answer → Answer → Type 0
+Gives expected (Err OutOfMemory) = Unit {0}
+Gives expected answer = answer ≡ expected
+
+-- what is answered after a reading
+abbrev pub said : Operation → List ℕ → Result (Unit {0}) MessageStop → Answer
+said operation taken (Ok _) = read_answer operation taken
+said operation taken (Err MessageStop.Ended) = answer_of operation Message.Ended
+said operation taken (Err (MessageStop.Refused error)) = answer_of operation (Message.Refused error)
+said operation taken (Err MessageStop.Fault) = Err (ResponseReadError (codes "link failed"))
+said operation taken (Err MessageStop.OutOfMemory) = Err OutOfMemory
+
+-- Why a call answered so, over any link, which may tell nothing.
+pub data Caused (request : Option (List ℕ)) (operation : Operation) (limit : Option ℕ) (before after : ℕ) (answer : Answer) : Type 0 where
+  -- the request has no canonical bytes
+  not_valid : request ≡ None → answer ≡ Err (SerializeError (codes "request has no wire form")) → Caused request operation limit before after answer
+  write_failed : IsSome request → answer ≡ Err (RequestWriteError (codes "link failed")) → Rose before after → Caused request operation limit before after answer
+  read_failed : IsSome request → answer ≡ Err (ResponseReadError (codes "link failed")) → Rose before after → Caused request operation limit before after answer
+  -- the link gave bytes that have this answer
+  given : IsSome request → (rest : List ℕ) → answer ≡ answer_of operation (message_at rest limit) → Caused request operation limit before after answer
+  no_memory : answer ≡ Err OutOfMemory → Caused request operation limit before after answer

@@ -1,0 +1,117 @@
+//! One call of a client, with its diagnostics.
+ghost use Rattle.std.specs.Prelude.{◌≡◌, ◌⊎◌, ◌-◌, take, false, None, Ok, Err, IfOk, IsTrue, option_map};
+ghost use Rattle.kmip_link.specs.State.{Keeps};
+ghost use Rattle.kmip_request.specs.Message.{request_bytes, credential_of, operation_of};
+ghost use Rattle.kmip_client.specs.Outcome.{Exchanged, Caused, outcome, left_for, seen};
+ghost use Rattle.kmip_client.specs.declared.error.Error.TheVariants.{OutOfMemory as no_memory};
+ghost use Rattle.kmip_client.specs.Diagnostics.{diagnostic_for, IsRequestText, IsResponseText, is_read};
+
+use crate::error::Error;
+use crate::exchange::{exchange, serialize};
+use kmip_diag::PrettyPrinter;
+use kmip_link::Link;
+use kmip_request::{Authentication, RequestPayload};
+use kmip_response::ResponsePayload;
+use kmip_wire::{Config, OutOfMemory, Text};
+use std::alloc::Global;
+
+/// What a client adds to each request, and how it reads responses.
+#[derive(Drop)]
+pub struct Settings {
+    pub authentication: Option<Authentication>,
+    pub config: Config,
+}
+
+/// The diagnostics of a call.
+#[derive(Drop)]
+pub struct Diagnostics {
+    pub request: Option<Text>,
+    pub response: Option<Text>,
+}
+
+/// The diagnostic of these bytes, where the buffer is on.
+fn diagnostic_for(
+    alloc: Global,
+    config: &Config,
+    bytes: &[u8],
+) -> Result<Option<Text>, OutOfMemory>
+    ensures { IfOk result (λ text. text ≡ diagnostic_for config.now.has_buf bytes.now) }
+{
+    if !config.has_buf() {
+        return Ok(None);
+    }
+    let mut printer = PrettyPrinter::new();
+    printer.with_tag_prefix(0x4200);
+    Ok(Some(printer.to_diag_string(alloc, bytes)?))
+}
+
+/// Whether a response was read, wholly or in part.
+fn is_read(answer: &Result<ResponsePayload, Error>) -> bool
+    ensures { result ≡ is_read (seen answer.now) }
+{
+    match answer {
+        Err(Error::OutOfMemory | Error::SerializeError(_) | Error::RequestWriteError(_)) => false,
+        _ => true,
+    }
+}
+
+/// Keeps a diagnostic beside an answer, in whose place want of memory comes where it was not made.
+fn keep(
+    answer: Result<ResponsePayload, Error>,
+    made: Result<Option<Text>, OutOfMemory>,
+    kept: &mut Option<Text>,
+) -> Result<ResponsePayload, Error>
+    ensures { ((made ≡ Ok kept.new) × (seen result ≡ seen answer)) ⊎ ((kept.new ≡ kept.old) × (seen result ≡ Err no_memory)) }
+{
+    match made {
+        Ok(text) => {
+            *kept = text;
+            answer
+        }
+        Err(_) => Err(Error::OutOfMemory),
+    }
+}
+
+/// Writes the request, sends it, reads its response and keeps the diagnostics of both.
+pub fn call<L: Link>(
+    alloc: Global,
+    link: &mut L,
+    settings: &mut Settings,
+    payload: RequestPayload,
+    diagnostics: &mut Diagnostics,
+) -> Result<ResponsePayload, Error>
+    requires request { diagnostics.old.request ≡ None }
+    requires response { diagnostics.old.response ≡ None }
+    ensures keeps { Keeps (L.state link.old) (L.state link.new) }
+    ensures settings { settings.new ≡ settings.old }
+    ensures exchange { IsTrue (L.state link.old).tells →
+        Exchanged (outcome payload (option_map credential_of settings.old.authentication) settings.old.config.max_bytes (left_for (L.state link.old) (L.state link.new)))
+        (L.state link.old) (L.state link.new) (seen result) }
+    ensures caused { Caused (request_bytes payload (option_map credential_of settings.old.authentication)) (operation_of payload) settings.old.config.max_bytes
+        (L.state link.old).faults (L.state link.new).faults (seen result) }
+    ensures request_text { IsRequestText settings.old.config.has_buf (request_bytes payload (option_map credential_of settings.old.authentication)) (seen result) diagnostics.new.request }
+    ensures response_text { IsTrue (L.state link.old).tells →
+        IsResponseText settings.old.config.has_buf (take ((L.state link.new).pos - (L.state link.old).pos) (left_for (L.state link.old) (L.state link.new))) (seen result) diagnostics.new.response }
+    ensures quiet { settings.old.config.has_buf ≡ false → diagnostics.new.response ≡ None }
+{
+    let operation = payload.operation();
+    let request = match serialize(alloc, payload, &mut settings.authentication) {
+        Ok(request) => request,
+        Err(error) => return Err(error),
+    };
+    diagnostics.request = diagnostic_for(alloc, &settings.config, request.as_slice())?;
+    let mut taken = Vec::new(alloc);
+    let answer = exchange(
+        alloc,
+        link,
+        &settings.config,
+        operation,
+        request.as_slice(),
+        &mut taken,
+    );
+    if !is_read(&answer) {
+        return answer;
+    }
+    let made = diagnostic_for(alloc, &settings.config, &taken);
+    keep(answer, made, &mut diagnostics.response)
+}

@@ -1,0 +1,166 @@
+//! What a response message answers.
+ghost use Rattle.std.specs.Prelude.{◌≡◌, ◌++◌, ◌<◌, IfOk, IfErr, Some, Err, codes, pos, length};
+ghost use Rattle.std.specs.Ordering.{int_eq};
+ghost use Rattle.kmip_shape.specs.Val.{Text as text_val};
+ghost use Rattle.kmip_shape.specs.Writes.{optional};
+ghost use Rattle.kmip_shape.specs.Enumerations.{enumeration_val};
+ghost use Rattle.kmip_enums.specs.Operations.{operation_line};
+ghost use Rattle.kmip_enums.specs.ResultReasons.{result_reason_line};
+ghost use Rattle.kmip_response.specs.Values.{batch_item_val, response_message_val, response_payload_val};
+ghost use Rattle.kmip_enums.specs.declared.result_reason.ResultReason.{ResultReason};
+ghost use Rattle.kmip_client.specs.Check.{check_response, check_item, is_number, text_in, one_of, operation_shown, count_text, failed_text, failure, mismatch_text, payload_answer};
+ghost use Rattle.kmip_client.specs.Outcome.{Gives, seen};
+ghost use Rattle.kmip_client.specs.declared.error.Error.TheVariants.{ServerError, InternalError, OutOfMemory};
+
+use crate::error::Error;
+use kmip_enums::{Operation, ResultReason, ResultStatus};
+use kmip_response::{BatchItem, ResponseHeader, ResponseMessage, ResponsePayload};
+use kmip_shape::Enumeration;
+use kmip_wire::Text;
+use std::alloc::Global;
+
+/// Whether a batch item names this operation.
+fn is_of(answered: Option<Operation>, asked: Operation) -> bool
+    ensures { result ≡ is_number (pos (operation_line asked).number) (one_of (optional (enumeration_val operation_line) answered)) }
+{
+    match answered {
+        Some(answered) => answered.number() == asked.number(),
+        None => false,
+    }
+}
+
+/// Whether an object was not found.
+fn is_not_found(reason: Option<ResultReason>) -> bool
+    ensures { result ≡ is_number (pos (result_reason_line ResultReason.ItemNotFound).number) (one_of (optional (enumeration_val result_reason_line) reason)) }
+{
+    match reason {
+        Some(reason) => reason.number() == ResultReason::ItemNotFound.number(),
+        None => false,
+    }
+}
+
+/// That there is not one batch item, but this many.
+fn not_single(alloc: Global, count: usize) -> Result<ResponsePayload, Error>
+    ensures { Gives (Err (ServerError (count_text count))) (seen result) }
+{
+    let text = format!(in alloc; "Expected one batch item in response but received {count}")?;
+    Err(Error::ServerError(Text::of(alloc, text.as_str())?))
+}
+
+/// What the server says of a failure.
+fn failure(
+    alloc: Global,
+    operation: Operation,
+    reason: Option<ResultReason>,
+    message: &Option<Text>,
+) -> Result<ResponsePayload, Error>
+    ensures { Gives (failure operation (one_of (optional (enumeration_val result_reason_line) reason)) (one_of (optional text_val message.now))) (seen result) }
+{
+    let message = match message {
+        Some(message) => message.as_str(),
+        None => "",
+    };
+    let text = format!(in alloc; "Operation {operation} failed: {message}")?;
+    let text = Text::of(alloc, text.as_str())?;
+    if is_not_found(reason) {
+        Err(Error::ItemNotFound(text))
+    } else {
+        Err(Error::ServerError(text))
+    }
+}
+
+/// That the response is one to another operation, or to none.
+fn mismatch(
+    alloc: Global,
+    answered: Option<Operation>,
+    asked: Operation,
+) -> Result<ResponsePayload, Error>
+    ensures { Gives (Err (InternalError (mismatch_text asked (operation_shown (one_of (optional (enumeration_val operation_line) answered)))))) (seen result) }
+{
+    let text = match answered {
+        Some(answered) => {
+            format!(in alloc; "Response operation Some({answered}) does not match request operation {asked}")?
+        }
+        None => {
+            format!(in alloc; "Response operation None does not match request operation {asked}")?
+        }
+    };
+    Err(Error::InternalError(Text::of(alloc, text.as_str())?))
+}
+
+/// The payload of a batch item, where there is one.
+fn payload_of(alloc: Global, payload: Option<ResponsePayload>) -> Result<ResponsePayload, Error>
+    ensures { Gives (payload_answer (one_of (optional response_payload_val payload))) (seen result) }
+{
+    match payload {
+        Some(payload) => Ok(payload),
+        None => {
+            let text = "Unable to process response payload due to wrong deserialized type!";
+            Err(Error::InternalError(Text::of(alloc, text)?))
+        }
+    }
+}
+
+/// What a batch item answers.
+#[tactic(auto, unfolding(crate::specs::Check::check_item))]
+fn check_item(
+    alloc: Global,
+    operation: Operation,
+    item: BatchItem,
+) -> Result<ResponsePayload, Error>
+    ensures { Gives (check_item operation (batch_item_val item)) (seen result) }
+{
+    match item.result_status {
+        ResultStatus::OperationFailed => {
+            failure(alloc, operation, item.result_reason, &item.result_message)
+        }
+        ResultStatus::OperationPending => {
+            let text = "Result status 'operation pending' is not supported";
+            Err(Error::InternalError(Text::of(alloc, text)?))
+        }
+        ResultStatus::OperationUndone => {
+            let text = "Result status 'operation undone' is not supported";
+            Err(Error::InternalError(Text::of(alloc, text)?))
+        }
+        ResultStatus::Success => {
+            if is_of(item.operation, operation) {
+                payload_of(alloc, item.payload)
+            } else {
+                mismatch(alloc, item.operation, operation)
+            }
+        }
+    }
+}
+
+/// Whether a header says that there is one batch item.
+fn counts_one(header: &ResponseHeader) -> bool
+    ensures { result ≡ int_eq header.now.batch_count (pos 1) }
+{
+    header.batch_count == 1
+}
+
+/// What a response message answers.
+pub fn check_message(
+    alloc: Global,
+    operation: Operation,
+    message: ResponseMessage,
+) -> Result<ResponsePayload, Error>
+    ensures { Gives (check_response operation (response_message_val message)) (seen result) }
+{
+    let ResponseMessage {
+        header,
+        batch_items,
+    } = message;
+    let count = batch_items.len();
+    if !counts_one(&header) {
+        return not_single(alloc, count);
+    }
+    if count != 1 {
+        return not_single(alloc, count);
+    }
+    let mut items = batch_items.into_vec();
+    match items.pop() {
+        Some(item) => check_item(alloc, operation, item),
+        None => not_single(alloc, count),
+    }
+}

@@ -1,0 +1,148 @@
+//! A client over a link.
+ghost use Rattle.std.specs.Prelude.{◌≡◌, ◌+◌, ◌<◌, None, Some, IfOk, IsTrue, [], option_map, take, ◌-◌, false};
+ghost use Rattle.kmip_link.specs.State.{Keeps};
+ghost use Rattle.kmip_request.specs.Message.{request_bytes, operation_of, credential_of};
+ghost use Rattle.kmip_response.specs.Values.{response_payload_val};
+ghost use Rattle.kmip_client.specs.Client.{ClientState, loses_connection, lacks_memory, counted, IsOfOperation};
+ghost use Rattle.kmip_client.specs.Outcome.{Exchanged, Caused, outcome, left_for, seen};
+ghost use Rattle.kmip_client.specs.Headline.{Headline};
+ghost use Rattle.kmip_client.specs.Diagnostics.{IsRequestText, IsResponseText};
+
+use crate::error::Error;
+use crate::call::{Diagnostics, Settings, call};
+use kmip_link::Link;
+use kmip_request::{Authentication, RequestPayload};
+use kmip_response::ResponsePayload;
+use kmip_wire::Config;
+use std::alloc::Global;
+use std::marker::Model;
+
+/// Sends requests over a link, and answers what the responses say.
+#[derive(Drop)]
+pub struct Client<T> {
+    link: T,
+    settings: Settings,
+    errors: u8,
+    diagnostics: Diagnostics,
+}
+
+impl<T> Model for Client<T> {
+    ghost Value = { ClientState T };
+
+    ghost view = { λ c. record { link = c.link; credential = option_map credential_of c.settings.authentication; limit = c.settings.config.max_bytes; buffered = c.settings.config.has_buf; errors = c.errors; request_text = c.diagnostics.request; response_text = c.diagnostics.response } };
+}
+
+impl<T> Client<T> {
+    /// A client that was not used yet.
+    pub(crate) fn of_parts(
+        link: T,
+        authentication: Option<Authentication>,
+        config: Config,
+    ) -> Client<T>
+        ensures { result ≡ record { link = link; credential = option_map credential_of authentication; limit = config.max_bytes; buffered = config.has_buf; errors = 0; request_text = None; response_text = None } }
+    {
+        Client {
+            link,
+            settings: Settings {
+                authentication,
+                config,
+            },
+            errors: 0,
+            diagnostics: Diagnostics {
+                request: None,
+                response: None,
+            },
+        }
+    }
+
+    /// How many calls ended in a connection error since the client was built, modulo 256. It takes no memory.
+    pub fn connection_error_count(&self) -> u8
+        ensures { result ≡ self.now.errors }
+    {
+        self.errors
+    }
+
+    /// The diagnostic of the last call's request, where the buffer is on and the request was written. It takes no memory.
+    pub fn last_req_diag_str(&self) -> Option<&str>
+        ensures { option_map (λ s. s.now) result ≡ self.now.request_text }
+    {
+        match &self.diagnostics.request {
+            Some(text) => Some(text.as_str()),
+            None => None,
+        }
+    }
+
+    /// The diagnostic of the bytes that the last call took, where the buffer is on and the whole request was sent. It takes no memory.
+    pub fn last_res_diag_str(&self) -> Option<&str>
+        ensures { option_map (λ s. s.now) result ≡ self.now.response_text }
+    {
+        match &self.diagnostics.response {
+            Some(text) => Some(text.as_str()),
+            None => None,
+        }
+    }
+}
+
+impl<T: Link> Client<T> {
+    ghost use Rattle.std.specs.Borrow.{sem};
+    ghost use Rattle.kmip_client.specs.Lending.{lends_link};
+
+    /// Lends the link. What the borrower does to it stays done. It takes no memory.
+    pub fn inner(&mut self) -> &mut T
+        ensures* writes_back { sem 𝓛 (lends_link T.row self.entry result) }
+        ensures value { result.now ≡ self.old.link }
+    {
+        &mut self.link
+    }
+
+    /// Sends a request, and answers what its response says.
+    pub fn do_request(
+        &mut self,
+        alloc: Global,
+        payload: RequestPayload,
+    ) -> Result<ResponsePayload, Error>
+        ensures exchange { IsTrue (T.state self.old.link).tells →
+            Exchanged (outcome payload self.old.credential self.old.limit (left_for (T.state self.old.link) (T.state self.new.link)))
+            (T.state self.old.link) (T.state self.new.link) (seen result) }
+        ensures caused { Caused (request_bytes payload self.old.credential) (operation_of payload) self.old.limit
+            (T.state self.old.link).faults (T.state self.new.link).faults (seen result) }
+        ensures keeps { Keeps (T.state self.old.link) (T.state self.new.link) }
+        ensures settings { (self.new.credential ≡ self.old.credential) × (self.new.limit ≡ self.old.limit) × (self.new.buffered ≡ self.old.buffered) }
+        ensures count { self.new.errors ≡ counted self.old.errors (loses_connection (seen result)) }
+        ensures request_text { IsRequestText self.old.buffered (request_bytes payload self.old.credential) (seen result) self.new.request_text }
+        ensures response_text { IsTrue (T.state self.old.link).tells →
+            IsResponseText self.old.buffered (take ((T.state self.new.link).pos - (T.state self.old.link).pos) (left_for (T.state self.old.link) (T.state self.new.link))) (seen result) self.new.response_text }
+        ensures quiet { self.old.buffered ≡ false → self.new.response_text ≡ None }
+    {
+        self.diagnostics = Diagnostics {
+            request: None,
+            response: None,
+        };
+        let answer = call(
+            alloc,
+            &mut self.link,
+            &mut self.settings,
+            payload,
+            &mut self.diagnostics,
+        );
+        self.errors = counted(self.errors, loses_connection(&answer));
+        answer
+    }
+}
+
+/// Whether the connection failed.
+pub fn loses_connection(answer: &Result<ResponsePayload, Error>) -> bool
+    ensures { result ≡ loses_connection (seen answer.now) }
+{
+    match answer {
+        Ok(_) => false,
+        Err(error) => error.is_connection_error(),
+    }
+}
+
+/// The count of connection errors after a call.
+fn counted(errors: u8, lost: bool) -> u8
+    ensures { result ≡ counted errors lost }
+{
+    if lost { errors.wrapping_add(1) } else { errors }
+}

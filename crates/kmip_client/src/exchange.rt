@@ -1,0 +1,75 @@
+//! One request and its response over a link.
+ghost use Rattle.std.specs.Prelude.{◌≡◌, ◌+◌, ◌-◌, take, false, ◌<◌, ◌≤◌, ◌↔◌, ◌⊎◌, [], None, Some, Err, Ok, List, ℕ, IfOk, IfErr, OnOk, OnErr, IsErrOf, IsTrue, codes};
+ghost use Rattle.std.specs.Option.{option_map};
+ghost use Rattle.kmip_link.specs.State.{Keeps, Rose, Writes, left};
+ghost use Rattle.kmip_request.specs.Message.{request_bytes, credential_of, operation_of};
+ghost use Rattle.kmip_client.specs.Transfer.{WritesPart};
+ghost use Rattle.kmip_client.specs.Outcome.{Exchanged, Caused, outcome_of, left_for, seen};
+ghost use Rattle.kmip_client.specs.Client.{lacks_memory};
+ghost use Rattle.kmip_client.specs.declared.error.Error.TheVariants.{SerializeError, RequestWriteError, OutOfMemory};
+
+use crate::answer::answer_read;
+use crate::error::Error;
+use crate::message::read_message;
+use crate::transfer::write_all;
+use kmip_enums::Operation;
+use kmip_link::{Link, LinkError};
+use kmip_request::{Authentication, RequestPayload, write_request};
+use kmip_response::ResponsePayload;
+use kmip_wire::{Blob, Config, Text, WireError};
+use std::alloc::Global;
+
+/// The one canonical message of a request.
+pub fn serialize(
+    alloc: Global,
+    payload: RequestPayload,
+    authentication: &mut Option<Authentication>,
+) -> Result<Blob, Error>
+    ensures kept { authentication.new ≡ authentication.old }
+    ensures ok { IfOk result (λ b. request_bytes payload (option_map credential_of authentication.old) ≡ Some b) }
+    ensures err { IfErr result (λ e. ((e ≡ SerializeError (codes "request has no wire form")) × (request_bytes payload (option_map credential_of authentication.old) ≡ None)) ⊎ (e ≡ OutOfMemory)) }
+{
+    match write_request(alloc, payload, authentication) {
+        Ok(request) => Ok(request),
+        Err(WireError::OutOfMemory) => Err(Error::OutOfMemory),
+        Err(_) => Err(Error::SerializeError(Text::of(alloc, "request has no wire form")?)),
+    }
+}
+
+/// Sends the request.
+pub fn send<L: Link>(alloc: Global, link: &mut L, request: &[u8]) -> Result<(), Error>
+    ensures keeps { Keeps (L.state link.old) (L.state link.new) }
+    ensures ok { OnOk result (IsTrue (L.state link.old).tells → Writes (L.state link.old) (L.state link.new) request.now) }
+    ensures part { OnErr result (IsTrue (L.state link.old).tells → WritesPart (L.state link.old) (L.state link.new) request.now) }
+    ensures err { IfErr result (λ e. ((e ≡ RequestWriteError (codes "link failed")) × Rose (L.state link.old).faults (L.state link.new).faults) ⊎ (e ≡ OutOfMemory)) }
+{
+    match write_all(link, request) {
+        Ok(()) => Ok(()),
+        Err(LinkError::Fault) => Err(Error::RequestWriteError(Text::of(alloc, "link failed")?)),
+        Err(LinkError::OutOfMemory) => Err(Error::OutOfMemory),
+    }
+}
+
+/// Sends a request and answers what its response says. `taken`, which is empty, gets the bytes that were read.
+pub fn exchange<L: Link>(
+    alloc: Global,
+    link: &mut L,
+    config: &Config,
+    operation: Operation,
+    request: &[u8],
+    taken: &mut Vec<u8>,
+) -> Result<ResponsePayload, Error>
+    requires { taken.old.items ≡ [] }
+    ensures keeps { Keeps (L.state link.old) (L.state link.new) }
+    ensures exchange { IsTrue (L.state link.old).tells → Exchanged (outcome_of (Some request.now) operation config.now.max_bytes (left_for (L.state link.old) (L.state link.new))) (L.state link.old) (L.state link.new) (seen result) }
+    ensures caused { Caused (Some request.now) operation config.now.max_bytes (L.state link.old).faults (L.state link.new).faults (seen result) }
+    ensures bytes { IsTrue (L.state link.old).tells → lacks_memory (seen result) ≡ false →
+        taken.new.items ≡ take ((L.state link.new).pos - (L.state link.old).pos) (left_for (L.state link.old) (L.state link.new)) }
+{
+    match send(alloc, link, request) {
+        Ok(()) => {}
+        Err(error) => return Err(error),
+    }
+    let read = read_message(alloc, link, config, taken);
+    answer_read(alloc, operation, taken, read)
+}

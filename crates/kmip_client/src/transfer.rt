@@ -1,0 +1,119 @@
+//! Loops over the calls of a link: all of a request, and so many bytes of a response.
+ghost use Rattle.std.specs.Prelude.{◌≡◌, ◌+◌, ◌-◌, ◌<◌, ◌≤◌, ◌++◌, [], ℕ, length, take, drop, min, IfOk, IfErr, OnErr, OnOk, IsErrOf, IsTrue, vec_len};
+ghost use Rattle.kmip_link.specs.State.{Keeps, Writes, Rose, left};
+ghost use Rattle.kmip_client.specs.Transfer.{WritesPart, Takes, TakesPart};
+
+use kmip_link::{Link, LinkError};
+use std::alloc::{AllocError, Global};
+
+/// The most room that one read is offered.
+const MAX_PIECE: usize = 65536;
+
+/// Why fewer bytes were read than were wanted.
+#[derive(Clone, Copy, Debug, PartialEq, Eq)]
+pub enum ReadStop {
+    /// The link gave nothing.
+    Ended,
+    /// The link failed.
+    Fault,
+    OutOfMemory,
+}
+
+impl From<AllocError> for ReadStop {
+    ghost use Rattle.kmip_client.specs.declared.transfer.ReadStop.{ReadStop};
+
+    ghost from_gives = { λ _ e. e ≡ ReadStop.OutOfMemory };
+
+    fn from(_: AllocError) -> Self {
+        ReadStop::OutOfMemory
+    }
+}
+
+impl From<LinkError> for ReadStop {
+    ghost use Rattle.kmip_client.specs.Transfer.{stop_of};
+
+    ghost from_gives = { λ x e. e ≡ stop_of x };
+
+    fn from(error: LinkError) -> Self {
+        match error {
+            LinkError::Fault => ReadStop::Fault,
+            LinkError::OutOfMemory => ReadStop::OutOfMemory,
+        }
+    }
+}
+
+/// Writes all the bytes. Each write is offered the whole rest of them.
+pub fn write_all<L: Link>(link: &mut L, bytes: &[u8]) -> Result<(), LinkError>
+    ensures keeps { Keeps (L.state link.old) (L.state link.new) }
+    ensures ok { OnOk result (IsTrue (L.state link.old).tells → Writes (L.state link.old) (L.state link.new) bytes.now) }
+    ensures err { OnErr result (IsTrue (L.state link.old).tells → WritesPart (L.state link.old) (L.state link.new) bytes.now) }
+    ensures cause { IsErrOf result LinkError.Fault → Rose (L.state link.old).faults (L.state link.new).faults }
+{
+    let mut done = 0;
+    while done < bytes.len() {
+        done += link.write(&bytes[done..])?;
+    }
+    Ok(())
+}
+
+/// Reads at most `room` bytes by way of `piece`, and adds them to the end of `taken`.
+fn read_piece<L: Link>(
+    link: &mut L,
+    piece: &mut [u8],
+    room: usize,
+    taken: &mut Vec<u8>,
+) -> Result<usize, ReadStop>
+    requires some { 0 < room }
+    requires within { room ≤ length piece.old }
+    ensures keeps { Keeps (L.state link.old) (L.state link.new) }
+    ensures some { IfOk result (λ n. (0 < n) × (n ≤ room) × (vec_len taken.new ≡ vec_len taken.old + n)) }
+    ensures ok { IfOk result (λ n. IsTrue (L.state link.old).tells →
+        Takes (L.state link.old) (L.state link.new) n
+        × (taken.new.items ≡ taken.old.items ++ take n (left (L.state link.old)))) }
+    ensures ended { IsErrOf result ReadStop.Ended → IsTrue (L.state link.old).tells →
+        (left (L.state link.old) ≡ []) × Takes (L.state link.old) (L.state link.new) 0 }
+    ensures fault { IsErrOf result ReadStop.Fault → Rose (L.state link.old).faults (L.state link.new).faults }
+    ensures idle { IsErrOf result ReadStop.Fault → IsTrue (L.state link.old).tells → Takes (L.state link.old) (L.state link.new) 0 }
+    ensures err { OnErr result (taken.new.items ≡ taken.old.items) }
+    ensures kept { take (length taken.old.items) taken.new.items ≡ taken.old.items }
+    ensures part { IsTrue (L.state link.old).tells → TakesPart (L.state link.old) (L.state link.new) room }
+{
+    let got = link.read(&mut piece[..room])?;
+    if got == 0 {
+        return Err(ReadStop::Ended);
+    }
+    taken.extend_from_slice(&piece[..got])?;
+    Ok(got)
+}
+
+/// Reads `count` bytes to the end of `taken`, in pieces of at most 65,536. Room is taken only piece by piece.
+pub fn read_more<L: Link>(
+    alloc: Global,
+    link: &mut L,
+    count: usize,
+    taken: &mut Vec<u8>,
+) -> Result<(), ReadStop>
+    ensures keeps { Keeps (L.state link.old) (L.state link.new) }
+    ensures kept { take (length taken.old.items) taken.new.items ≡ taken.old.items }
+    ensures grown { OnOk result (vec_len taken.new ≡ vec_len taken.old + count) }
+    ensures ok { OnOk result (IsTrue (L.state link.old).tells →
+        Takes (L.state link.old) (L.state link.new) count
+        × (taken.new.items ≡ taken.old.items ++ take count (left (L.state link.old)))) }
+    ensures ended { IsErrOf result ReadStop.Ended → IsTrue (L.state link.old).tells →
+        (length (left (L.state link.old)) < count)
+        × Takes (L.state link.old) (L.state link.new) (length (left (L.state link.old)))
+        × (taken.new.items ≡ taken.old.items ++ left (L.state link.old)) }
+    ensures fault { IsErrOf result ReadStop.Fault → Rose (L.state link.old).faults (L.state link.new).faults }
+    ensures broken { IsErrOf result ReadStop.Fault → IsTrue (L.state link.old).tells →
+        (n : ℕ) × (n < count) × Takes (L.state link.old) (L.state link.new) n
+        × (taken.new.items ≡ taken.old.items ++ take n (left (L.state link.old))) }
+    ensures part { IsTrue (L.state link.old).tells → TakesPart (L.state link.old) (L.state link.new) count }
+{
+    let mut piece = vec![in alloc; 0u8; count.min(MAX_PIECE)]?;
+    let mut done = 0;
+    while done < count {
+        let room = (count - done).min(MAX_PIECE);
+        done += read_piece(link, &mut piece, room, taken)?;
+    }
+    Ok(())
+}

@@ -1,0 +1,10 @@
+pub mod BlockCipherModes
+pub mod CryptographicAlgorithms
+pub mod DigitalSignatureAlgorithms
+pub mod HashingAlgorithms
+pub mod KeyCompressionTypes
+pub mod KeyFormatTypes
+pub mod KeyRoleTypes
+pub mod PaddingMethods
+pub mod UsageMask
+pub mod WrappingMethods

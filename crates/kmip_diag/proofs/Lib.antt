@@ -1,0 +1,10 @@
+pub mod Wire
+pub mod Showing
+pub mod OneShown
+pub mod Reading
+pub mod Stacks
+pub mod Expanding
+pub mod Ranges
+pub mod Told
+pub mod Trees
+pub mod Explained

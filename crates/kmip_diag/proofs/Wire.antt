@@ -1,0 +1,78 @@
+-- What kmip_wire's definitions give, in the forms that are used here.
+use Rattle.std.proofs.Common.{◌≡◌, refl, sym, ◌∙◌, ap, subst, arith, ℕ, ◌-◌, ◌≤◌, ◌<◌, Bool, true, false, leb, eqb, List, [], ◌∷◌, length, take, drop, Option, Some, None, MatchOption}
+use Rattle.std.proofs.lemmas.Bool.{false≢true, leb-true, leb-false, eqb-true}
+use Rattle.std.proofs.lemmas.Slice.Eq.{bytes_eq-Decides}
+use Rattle.std.specs.Prelude.{bytes_eq}
+use mathlib.Core.Bool.{not}
+use Rattle.std.proofs.lemmas.Option.{none-some}
+use Rattle.std.proofs.lemmas.List.{length-take, length-take-le, length-drop}
+use Rattle.kmip_wire.specs.Tree.{Tree}
+use Rattle.kmip_wire.specs.Head.{head_length, size_at, value_of}
+use Rattle.kmip_wire.specs.Parses.{Parses, IsLevel, IsFront, NoFront}
+use Rattle.kmip_wire.specs.Reading.{item_of, front_at}
+use Rattle.kmip_wire.proofs.Computed.{sized, size_at-take, tree_computed}
+
+pub no_front_deep : (level : ℕ) (b : List ℕ) → 64 < level → front_at level b ≡ None
+unfolding item_of
+no_front_deep level b h = let none : 65 - level ≡ 0 = omega (arith, h) in ap (λ k. item_of k (take (size_at b) b)) none
+
+-- an item at the front is as long as its head tells
+pub front_size : (level : ℕ) (b : List ℕ) (n : ℕ) → IsFront level b n → n ≡ size_at b
+front_size level b n (le, (t, q)) =
+    let s = sized t level (take n b) q
+    in let long : length (take n b) ≡ n = length-take-le n b le
+    in sym long ∙ s.whole ∙ size_at-take n b (omega (arith, s.head, long))
+
+-- the item at the front, or none
+pub front_rule : (level : ℕ) (b : List ℕ) → 1 ≤ level → MatchOption (front_at level b) (NoFront level b) (λ t. (size_at b ≤ length b) × Parses t level (take (size_at b) b))
+front_rule level b low = by_level (leb level 64) refl
+  where
+    found : (t : Tree) → IsLevel level → item_of (65 - level) (take (size_at b) b) ≡ Some t → (size_at b ≤ length b) × Parses t level (take (size_at b) b)
+    found t l e =
+        let q = (tree_computed t level (take (size_at b) b) l).0 e
+        in let s = sized t level (take (size_at b) b) q
+        in (short (leb (size_at b) (length b)) refl s.whole, q)
+      where
+        short : (x : Bool) → leb (size_at b) (length b) ≡ x → length (take (size_at b) b) ≡ size_at (take (size_at b) b) → size_at b ≤ length b
+        short true e w = leb-true _ _ e
+        short false e w = omega (arith, w, size_at-take (size_at b) b (omega arith), leb-false _ _ e, length-take (size_at b) b)
+
+    missed : IsLevel level → front_at level b ≡ None → NoFront level b
+    missed l e n (le, (t, q)) =
+        let same = front_size level b n (le, (t, q))
+        in none-some t (sym e ∙ (tree_computed t level (take (size_at b) b) l).1 (subst (λ k. Parses t level (take k b)) same q))
+
+    by_front : IsLevel level → (o : Option Tree) → front_at level b ≡ o → MatchOption o (NoFront level b) (λ t. (size_at b ≤ length b) × Parses t level (take (size_at b) b))
+    by_front l None e = missed l e
+    by_front l (Some t) e = found t l e
+
+    by_level : (x : Bool) → leb level 64 ≡ x → MatchOption (front_at level b) (NoFront level b) (λ t. (size_at b ≤ length b) × Parses t level (take (size_at b) b))
+    by_level true e = by_front (low, leb-true level 64 e) (front_at level b) refl
+    by_level false e =
+        let deep = leb-false level 64 e
+        in subst (λ o. MatchOption o (NoFront level b) (λ t. (size_at b ≤ length b) × Parses t level (take (size_at b) b))) (sym (no_front_deep level b deep))
+        (λ n (le, (t, q)). omega (arith, deep, (sized t level (take n b) q).level_is.1))
+
+-- contents are shorter than what they stand in
+pub value_shorter : (b : List ℕ) → 0 < length b → length (value_of b) < length b
+value_shorter b some = omega (arith, some, length-take (head_length b) (drop 8 b), length-drop 8 b)
+
+-- the test of a loop over bytes
+pub some_bytes : (b : List ℕ) (r : Bool) → r ≡ eqb (length b) 0 → r ≡ false → 0 < length b
+some_bytes [] r h e = absurd (false≢true (sym e ∙ h))
+some_bytes (x ∷ xs) r h e = omega arith
+
+pub no_bytes : (b : List ℕ) (r : Bool) → r ≡ eqb (length b) 0 → r ≡ true → b ≡ []
+no_bytes [] r h e = refl
+no_bytes (x ∷ xs) r h e = absurd (omega (arith, eqb-true (length (x ∷ xs)) 0 (sym h ∙ e)))
+
+-- the test of two texts
+pub other_text : (x again text : List ℕ) (r : Bool) → r ≡ not (bytes_eq x text) → x ≡ again → r ≡ true → again ≡ text → ⊥
+other_text x again text r h e f same = false≢true (sym (h ∙ ap not ((bytes_eq-Decides x text).1 (e ∙ same))) ∙ f)
+
+pub same_text : (x again text : List ℕ) (r : Bool) → r ≡ not (bytes_eq x text) → x ≡ again → r ≡ false → again ≡ text
+same_text x again text r h e f = by_test (bytes_eq x text) refl (sym h ∙ f)
+  where
+    by_test : (t : Bool) → bytes_eq x text ≡ t → not t ≡ false → again ≡ text
+    by_test true g k = sym e ∙ (bytes_eq-Decides x text).0 g
+    by_test false g k = absurd (false≢true (sym k))

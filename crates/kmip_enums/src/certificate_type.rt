@@ -1,0 +1,51 @@
+//! The kinds of certificates.
+
+ghost use Rattle.std.specs.Prelude.{◌≡◌, Some, refl};
+ghost use Rattle.kmip_enums.specs.CertificateTypes.{certificate_type_line, certificate_type_variants, certificate_type_found};
+
+use kmip_shape::Enumeration;
+use std::fmt::{self, Display, Formatter, Write};
+
+/// What kind of certificate it is.
+#[derive(Clone, Copy, PartialEq, Eq, Drop)]
+pub enum CertificateType {
+    X509 = 1,
+    PGP = 2,
+}
+
+impl Enumeration for CertificateType {
+    ghost line = { certificate_type_line };
+
+    ghost variants = { certificate_type_variants };
+
+    fn number(self) -> u32 {
+        self as u32
+    }
+
+    fn from_number(number: u32) -> Option<CertificateType> {
+        match number {
+            1 => Some(CertificateType::X509),
+            2 => Some(CertificateType::PGP),
+            _ => None,
+        }
+    }
+
+    fn name(self) -> &'static str {
+        match self {
+            CertificateType::X509 => "X509",
+            CertificateType::PGP => "PGP",
+        }
+    }
+
+    ghost found = { certificate_type_found };
+
+    ghost distinct = { refl };
+}
+
+impl Display for CertificateType {
+    ghost output = { λ x. Some (certificate_type_line x).name };
+
+    fn fmt<W: Write>(&self, f: &mut Formatter<W>) -> fmt::Result {
+        f.write_str(self.name())
+    }
+}

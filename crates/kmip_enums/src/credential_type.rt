@@ -1,0 +1,48 @@
+//! The kinds of credentials.
+
+ghost use Rattle.std.specs.Prelude.{◌≡◌, Some, refl};
+ghost use Rattle.kmip_enums.specs.CredentialTypes.{credential_type_line, credential_type_variants, credential_type_found};
+
+use kmip_shape::Enumeration;
+use std::fmt::{self, Display, Formatter, Write};
+
+/// What kind of credential it is.
+#[derive(Clone, Copy, PartialEq, Eq, Drop)]
+pub enum CredentialType {
+    UsernameAndPassword = 1,
+}
+
+impl Enumeration for CredentialType {
+    ghost line = { credential_type_line };
+
+    ghost variants = { credential_type_variants };
+
+    fn number(self) -> u32 {
+        self as u32
+    }
+
+    fn from_number(number: u32) -> Option<CredentialType> {
+        match number {
+            1 => Some(CredentialType::UsernameAndPassword),
+            _ => None,
+        }
+    }
+
+    fn name(self) -> &'static str {
+        match self {
+            CredentialType::UsernameAndPassword => "UsernameAndPassword",
+        }
+    }
+
+    ghost found = { credential_type_found };
+
+    ghost distinct = { refl };
+}
+
+impl Display for CredentialType {
+    ghost output = { λ x. Some (credential_type_line x).name };
+
+    fn fmt<W: Write>(&self, f: &mut Formatter<W>) -> fmt::Result {
+        f.write_str(self.name())
+    }
+}

@@ -1,0 +1,83 @@
+//! The kinds of managed objects.
+
+ghost use Rattle.std.specs.Prelude.{◌≡◌, Some, refl};
+ghost use Rattle.kmip_enums.specs.ObjectTypes.{object_type_line, object_type_variants, object_type_found};
+
+use kmip_shape::Enumeration;
+use kmip_shape::columns::Chooses;
+use kmip_shape::read::Outer;
+use std::fmt::{self, Display, Formatter, Write};
+
+/// What kind of managed object it is.
+#[derive(Clone, Copy, PartialEq, Eq, Drop)]
+pub enum ObjectType {
+    Certificate = 1,
+    SymmetricKey = 2,
+    PublicKey = 3,
+    PrivateKey = 4,
+    SplitKey = 5,
+    Template = 6,
+    SecretData = 7,
+    OpaqueObject = 8,
+    PGPKey = 9,
+}
+
+impl Enumeration for ObjectType {
+    ghost line = { object_type_line };
+
+    ghost variants = { object_type_variants };
+
+    fn number(self) -> u32 {
+        self as u32
+    }
+
+    fn from_number(number: u32) -> Option<ObjectType> {
+        match number {
+            1 => Some(ObjectType::Certificate),
+            2 => Some(ObjectType::SymmetricKey),
+            3 => Some(ObjectType::PublicKey),
+            4 => Some(ObjectType::PrivateKey),
+            5 => Some(ObjectType::SplitKey),
+            6 => Some(ObjectType::Template),
+            7 => Some(ObjectType::SecretData),
+            8 => Some(ObjectType::OpaqueObject),
+            9 => Some(ObjectType::PGPKey),
+            _ => None,
+        }
+    }
+
+    fn name(self) -> &'static str {
+        match self {
+            ObjectType::Certificate => "Certificate",
+            ObjectType::SymmetricKey => "SymmetricKey",
+            ObjectType::PublicKey => "PublicKey",
+            ObjectType::PrivateKey => "PrivateKey",
+            ObjectType::SplitKey => "SplitKey",
+            ObjectType::Template => "Template",
+            ObjectType::SecretData => "SecretData",
+            ObjectType::OpaqueObject => "OpaqueObject",
+            ObjectType::PGPKey => "PGPKey",
+        }
+    }
+
+    ghost found = { object_type_found };
+
+    ghost distinct = { refl };
+}
+
+impl Display for ObjectType {
+    ghost output = { λ x. Some (object_type_line x).name };
+
+    fn fmt<W: Write>(&self, f: &mut Formatter<W>) -> fmt::Result {
+        f.write_str(self.name())
+    }
+}
+
+impl Chooses for ObjectType {
+    fn outer(&self) -> Outer<'_> {
+        Outer {
+            number: Some(self.number()),
+            name: None,
+        }
+    }
+}

@@ -1,0 +1,57 @@
+//! The ways in which an operation ends.
+
+ghost use Rattle.std.specs.Prelude.{◌≡◌, Some, refl};
+ghost use Rattle.kmip_enums.specs.ResultStatuses.{result_status_line, result_status_variants, result_status_found};
+
+use kmip_shape::Enumeration;
+use std::fmt::{self, Display, Formatter, Write};
+
+/// How an operation ended.
+#[derive(Clone, Copy, PartialEq, Eq, Drop)]
+pub enum ResultStatus {
+    Success = 0,
+    OperationFailed = 1,
+    OperationPending = 2,
+    OperationUndone = 3,
+}
+
+impl Enumeration for ResultStatus {
+    ghost line = { result_status_line };
+
+    ghost variants = { result_status_variants };
+
+    fn number(self) -> u32 {
+        self as u32
+    }
+
+    fn from_number(number: u32) -> Option<ResultStatus> {
+        match number {
+            0 => Some(ResultStatus::Success),
+            1 => Some(ResultStatus::OperationFailed),
+            2 => Some(ResultStatus::OperationPending),
+            3 => Some(ResultStatus::OperationUndone),
+            _ => None,
+        }
+    }
+
+    fn name(self) -> &'static str {
+        match self {
+            ResultStatus::Success => "Success",
+            ResultStatus::OperationFailed => "OperationFailed",
+            ResultStatus::OperationPending => "OperationPending",
+            ResultStatus::OperationUndone => "OperationUndone",
+        }
+    }
+
+    ghost found = { result_status_found };
+
+    ghost distinct = { refl };
+}
+
+impl Display for ResultStatus {
+    ghost output = { λ x. Some (result_status_line x).name };
+
+    fn fmt<W: Write>(&self, f: &mut Formatter<W>) -> fmt::Result {
+        f.write_str(self.name())
+    }
+}

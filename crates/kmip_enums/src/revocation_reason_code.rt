@@ -1,0 +1,66 @@
+//! The reasons for a revocation.
+
+ghost use Rattle.std.specs.Prelude.{◌≡◌, Some, refl};
+ghost use Rattle.kmip_enums.specs.RevocationReasonCodes.{revocation_reason_code_line, revocation_reason_code_variants, revocation_reason_code_found};
+
+use kmip_shape::Enumeration;
+use std::fmt::{self, Display, Formatter, Write};
+
+/// Why an object is revoked.
+#[derive(Clone, Copy, PartialEq, Eq, Drop)]
+pub enum RevocationReasonCode {
+    Unspecified = 1,
+    KeyCompromise = 2,
+    CACompromise = 3,
+    AffiliationChanged = 4,
+    Superseded = 5,
+    CessationOfOperation = 6,
+    PrivilegeWithdrawn = 7,
+}
+
+impl Enumeration for RevocationReasonCode {
+    ghost line = { revocation_reason_code_line };
+
+    ghost variants = { revocation_reason_code_variants };
+
+    fn number(self) -> u32 {
+        self as u32
+    }
+
+    fn from_number(number: u32) -> Option<RevocationReasonCode> {
+        match number {
+            1 => Some(RevocationReasonCode::Unspecified),
+            2 => Some(RevocationReasonCode::KeyCompromise),
+            3 => Some(RevocationReasonCode::CACompromise),
+            4 => Some(RevocationReasonCode::AffiliationChanged),
+            5 => Some(RevocationReasonCode::Superseded),
+            6 => Some(RevocationReasonCode::CessationOfOperation),
+            7 => Some(RevocationReasonCode::PrivilegeWithdrawn),
+            _ => None,
+        }
+    }
+
+    fn name(self) -> &'static str {
+        match self {
+            RevocationReasonCode::Unspecified => "Unspecified",
+            RevocationReasonCode::KeyCompromise => "KeyCompromise",
+            RevocationReasonCode::CACompromise => "CACompromise",
+            RevocationReasonCode::AffiliationChanged => "AffiliationChanged",
+            RevocationReasonCode::Superseded => "Superseded",
+            RevocationReasonCode::CessationOfOperation => "CessationOfOperation",
+            RevocationReasonCode::PrivilegeWithdrawn => "PrivilegeWithdrawn",
+        }
+    }
+
+    ghost found = { revocation_reason_code_found };
+
+    ghost distinct = { refl };
+}
+
+impl Display for RevocationReasonCode {
+    ghost output = { λ x. Some (revocation_reason_code_line x).name };
+
+    fn fmt<W: Write>(&self, f: &mut Formatter<W>) -> fmt::Result {
+        f.write_str(self.name())
+    }
+}

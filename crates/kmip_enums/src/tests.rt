@@ -1,0 +1,234 @@
+use crate::{
+    CertificateType, CredentialType, Enumeration, LinkType, NameType, ObjectType, Operation,
+    QueryFunction, ResultReason, ResultStatus, RevocationReasonCode, State,
+};
+use kmip_shape::ShowItem;
+use kmip_shape::children::{read_list, read_one, read_opt};
+use kmip_shape::read::{Outer, ReadError, ReadItem};
+use kmip_wire::{ItemRef, Tag, Text};
+use std::alloc::Global;
+use std::fmt::Display;
+use std::ops::Range;
+use std::process::Abort;
+use std::test::Fail;
+
+/// The variants of the numbers print the names, and the number after them has no variant.
+fn has_names<T: Enumeration + Display>(
+    rt: &impl Abort,
+    alloc: Global,
+    numbers: Range<u32>,
+    names: &[&str],
+) -> Result<(), Fail> {
+    assert_eq!(rt; numbers.len(), names.len());
+    assert!(rt; T::from_number(numbers.end).is_none());
+    for (number, name) in numbers.zip(names) {
+        let variant = T::from_number(number).ok_or("no variant")?;
+        assert_eq!(rt; variant.number(), number);
+        assert_eq!(rt; format!(in alloc; "{variant}")?.as_str(), *name);
+    }
+    Ok(())
+}
+
+#[test]
+fn names(rt: HostRuntime) -> Result<(), Fail> {
+    has_names::<CertificateType>(&rt, rt.alloc(), 1..3, &["X509", "PGP"])?;
+    has_names::<CredentialType>(&rt, rt.alloc(), 1..2, &["UsernameAndPassword"])?;
+    has_names::<LinkType>(
+        &rt,
+        rt.alloc(),
+        0x101..0x108,
+        &[
+            "CertificateLink",
+            "PublicKeyLink",
+            "PrivateKeyLink",
+            "DerivationBaseObjectLink",
+            "DerivedKeyLink",
+            "ReplacementObjectLink",
+            "ReplacedObjectLink",
+        ],
+    )?;
+    has_names::<NameType>(&rt, rt.alloc(), 1..3, &["UninterpretedTextString", "URI"])?;
+    has_names::<ObjectType>(
+        &rt,
+        rt.alloc(),
+        1..10,
+        &[
+            "Certificate",
+            "SymmetricKey",
+            "PublicKey",
+            "PrivateKey",
+            "SplitKey",
+            "Template",
+            "SecretData",
+            "OpaqueObject",
+            "PGPKey",
+        ],
+    )?;
+    has_names::<Operation>(
+        &rt,
+        rt.alloc(),
+        1..42,
+        &[
+            "Create",
+            "CreateKeyPair",
+            "Register",
+            "Rekey",
+            "DeriveKey",
+            "Certify",
+            "Recertify",
+            "Locate",
+            "Check",
+            "Get",
+            "GetAttributes",
+            "GetAttributeList",
+            "AddAttribute",
+            "ModifyAttribute",
+            "DeleteAttribute",
+            "ObtainLease",
+            "GetUsageAllocation",
+            "Activate",
+            "Revoke",
+            "Destroy",
+            "Archive",
+            "Recover",
+            "Validate",
+            "Query",
+            "Cancel",
+            "Poll",
+            "Notify",
+            "Put",
+            "RekeyKeyPair",
+            "DiscoverVersions",
+            "Encrypt",
+            "Decrypt",
+            "Sign",
+            "SignatureVerify",
+            "MAC",
+            "MACVerify",
+            "RNGRetrieve",
+            "RNGSeed",
+            "Hash",
+            "CreateSplitKey",
+            "JoinSplitKey",
+        ],
+    )?;
+    has_names::<QueryFunction>(
+        &rt,
+        rt.alloc(),
+        1..4,
+        &["QueryOperations", "QueryObjects", "QueryServerInformation"],
+    )?;
+    has_names::<ResultReason>(
+        &rt,
+        rt.alloc(),
+        1..18,
+        &[
+            "ItemNotFound",
+            "ResponseTooLarge",
+            "AuthenticationNotSuccessful",
+            "InvalidMessage",
+            "OperationNotSupported",
+            "MissingData",
+            "InvalidField",
+            "FeatureNotSupported",
+            "OperationCanceledByRequester",
+            "CryptographicFailure",
+            "IllegalOperation",
+            "PermissionDenied",
+            "ObjectArchived",
+            "IndexOutOfBounds",
+            "ApplicationNamespaceNotSupported",
+            "KeyFormatTypeNotSupported",
+            "KeyCompressionTypeNotSupported",
+        ],
+    )?;
+    has_names::<ResultReason>(&rt, rt.alloc(), 0x100..0x101, &["GeneralFailure"])?;
+    has_names::<ResultStatus>(
+        &rt,
+        rt.alloc(),
+        0..4,
+        &[
+            "Success",
+            "OperationFailed",
+            "OperationPending",
+            "OperationUndone",
+        ],
+    )?;
+    has_names::<RevocationReasonCode>(
+        &rt,
+        rt.alloc(),
+        1..8,
+        &[
+            "Unspecified",
+            "KeyCompromise",
+            "CACompromise",
+            "AffiliationChanged",
+            "Superseded",
+            "CessationOfOperation",
+            "PrivilegeWithdrawn",
+        ],
+    )?;
+    has_names::<State>(
+        &rt,
+        rt.alloc(),
+        1..7,
+        &[
+            "PreActive",
+            "Active",
+            "Deactivated",
+            "Compromised",
+            "Destroyed",
+            "DestroyedCompromised",
+        ],
+    )?;
+    Ok(())
+}
+
+#[test]
+fn numbers(rt: HostRuntime) {
+    assert!(rt; ResultReason::from_number(0x100) == Some(ResultReason::GeneralFailure));
+    assert!(rt; ResultReason::from_number(0x12).is_none());
+    assert!(rt; ResultStatus::from_number(0) == Some(ResultStatus::Success));
+    assert_eq!(rt; LinkType::CertificateLink.number(), 0x101);
+    assert!(rt; Operation::from_number(0).is_none());
+}
+
+// The items below are 5C i1 and 5C e2A, and the structures 7C{5C e1,5C e18} and 7C{5C e1}.
+const INTEGER: &[u8] = b"\x42\x00\x5C\x02\x00\x00\x00\x04\x00\x00\x00\x01\x00\x00\x00\x00";
+
+const NO_OPERATION: &[u8] = b"\x42\x00\x5C\x05\x00\x00\x00\x04\x00\x00\x00\x2A\x00\x00\x00\x00";
+
+const TWO: &[u8] =
+    b"\x42\x00\x7C\x01\x00\x00\x00\x20\x42\x00\x5C\x05\x00\x00\x00\x04\x00\x00\x00\x01\x00\x00\x00\x00\x42\x00\x5C\x05\x00\x00\x00\x04\x00\x00\x00\x18\x00\x00\x00\x00";
+
+const ONE: &[u8] =
+    b"\x42\x00\x7C\x01\x00\x00\x00\x10\x42\x00\x5C\x05\x00\x00\x00\x04\x00\x00\x00\x01\x00\x00\x00\x00";
+
+#[test]
+fn readers(rt: HostRuntime) -> Result<(), Fail> {
+    let alloc = rt.alloc();
+    let outer = Outer::none();
+    for bytes in [INTEGER, NO_OPERATION] {
+        let item = ItemRef::root(bytes).ok_or("no item")?;
+        assert!(rt; Operation::read(alloc, outer, item) == Err(ReadError::Unread));
+    }
+    let operation = Tag::of(0x42005C);
+    let two = ItemRef::root(TWO).ok_or("no item")?;
+    assert!(rt; read_one::<Operation>(alloc, outer, two, operation) == Err(ReadError::Unread));
+    assert!(rt; read_opt::<Operation>(alloc, outer, two, operation) == Err(ReadError::Unread));
+    let both = read_list::<Operation>(alloc, outer, two, operation)?;
+    assert!(rt; both.as_slice() == [Operation::Create, Operation::Query].as_slice());
+
+    let one = ItemRef::root(ONE).ok_or("no item")?;
+    assert!(rt; read_one::<Operation>(alloc, outer, one, operation)? == Operation::Create);
+    assert!(rt; read_opt::<Operation>(alloc, outer, one, operation)? == Some(Operation::Create));
+    let mut shown = Text::new(alloc);
+    Operation::Create.show(alloc, &mut shown)?;
+    assert_eq!(rt; shown.as_str(), "Create");
+
+    let object_type = Tag::of(0x420057);
+    assert!(rt; read_one::<ObjectType>(alloc, outer, one, object_type) == Err(ReadError::Unread));
+    assert!(rt; read_opt::<ObjectType>(alloc, outer, one, object_type)?.is_none());
+    assert!(rt; read_list::<ObjectType>(alloc, outer, one, object_type)?.len() == 0);
+    Ok(())
+}

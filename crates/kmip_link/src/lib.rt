@@ -1,0 +1,21 @@
+//! Links, sources and sinks: what moves bytes to and from the outside.
+//!
+//! A contract can name the bytes and the faults of each. A [`Link`] carries a client's requests and
+//! responses, a [`Source`] is what a program reads, a [`Sink`] is what it writes. The forms in memory tell
+//! their whole content, cut it into planned pieces and fail at planned calls. The forms over std's readers
+//! and writers ([`StreamLink`], [`StdSource`], [`StdSink`]) tell nothing of it: they are the trusted edge.
+#![tactic(auto)]
+
+mod link;
+mod memory_link;
+mod memory_streams;
+mod planned_link;
+mod stream;
+#[cfg(test)]
+mod tests;
+
+pub use link::{Link, LinkError, Sink, Source};
+pub use memory_link::MemoryLink;
+pub use memory_streams::{MemorySink, MemorySource};
+pub use planned_link::PlannedLink;
+pub use stream::{StdSink, StdSource, StreamLink};

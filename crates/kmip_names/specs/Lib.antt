@@ -1,0 +1,5 @@
+pub mod AttributeNames
+pub mod ByteStrings
+pub mod Numbers
+pub mod Parameters
+pub mod Texts

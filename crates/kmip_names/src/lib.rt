@@ -1,0 +1,25 @@
+//! The types of one field: names and identifiers, numbers, parameters and bytes.
+//!
+//! Each stands in one item and is read, written and shown as the value in it.
+#![tactic(auto)]
+
+mod attribute_name;
+mod byte_strings;
+mod numbers;
+mod parameters;
+mod texts;
+
+pub use attribute_name::AttributeName;
+pub use byte_strings::{Data, UniqueBatchItemID};
+pub use numbers::{AttributeIndex, CompromiseOccurrenceDate, CryptographicLength, DataLength};
+pub use parameters::{
+    CounterLength, FixedFieldLength, IVLength, InitialCounterValue, InvocationFieldLength,
+    RandomIV, TagLength,
+};
+pub use texts::{
+    ApplicationData, ApplicationNamespace, LinkedObjectIdentifier, NameValue, RevocationMessage,
+    UniqueIdentifier,
+};
+
+#[cfg(test)]
+mod tests;

@@ -1,0 +1,82 @@
+-- The message of a request (KMIP 1.0, 7.1), and when there is one.
+use Rattle.std.specs.Prelude.{ℕ, ℤ, pos, List, [], ◌∷◌, ◌++◌, Option, Some, None, IsSome}
+use Rattle.std.specs.Option.{option_map, option_and_then, is_some}
+use Rattle.kmip_wire.specs.Tree.{Tree, scalar, structure, trees_of, integer, enumeration, text_string}
+use Rattle.kmip_wire.specs.Bytes.{bytes}
+use Rattle.kmip_shape.specs.Trees.{tree_of}
+use Rattle.kmip_shape.specs.Enumerations.{enumeration_val}
+use Rattle.kmip_types.specs.declared.auth.CredentialType.{CredentialType}
+use Rattle.kmip_types.specs.declared.auth.CredentialType.TheVariants.{UsernameAndPassword}
+use Rattle.kmip_enums.specs.Operations.{operation_line}
+use Rattle.kmip_enums.specs.declared.operation.Operation.{Operation}
+use Rattle.kmip_enums.specs.declared.operation.Operation.TheVariants as operations
+use Rattle.kmip_request.specs.declared.authentication.Authentication.{Authentication}
+use Rattle.kmip_request.specs.declared.authentication.CredentialValue.TheVariants as values
+use Rattle.kmip_request.specs.declared.header.ProtocolVersion.{ProtocolVersion}
+use Rattle.kmip_request.specs.declared.payload.RequestPayload.{RequestPayload}
+use Rattle.kmip_request.specs.declared.payload.RequestPayload.TheVariants.{Activate, RNGRetrieve}
+use Rattle.kmip_request.specs.Tables.{request_payload}
+use Rattle.kmip_request.specs.Values.{request_payload_val}
+
+-- the operation of a payload's name
+abbrev pub operation_of : RequestPayload → Operation
+operation_of (Activate id) = operations.Activate
+operation_of (RNGRetrieve length) = operations.RNGRetrieve
+
+-- the minor number of the version of KMIP 1 that a payload needs
+abbrev pub minor_of : RequestPayload → ℕ
+minor_of (Activate id) = 0
+minor_of (RNGRetrieve length) = 2
+
+-- the version of KMIP that a payload needs
+abbrev pub version_of : RequestPayload → ProtocolVersion
+version_of payload = record { 0 = record { 0 = pos 1 }; 1 = record { 0 = pos (minor_of payload) } }
+
+abbrev pub password_trees : Option (List ℕ) → List Tree
+password_trees None = []
+password_trees (Some password) = scalar 0x4200A1 (text_string password) ∷ []
+
+-- the item of a credential, where there is one
+abbrev pub authentication_trees : Option CredentialType → List Tree
+authentication_trees None = []
+authentication_trees (Some (UsernameAndPassword c)) =
+    structure 0x42000C (trees_of (
+        structure 0x420023 (trees_of (
+            scalar 0x420024 (enumeration 1)
+            ∷ structure 0x420025 (trees_of (scalar 0x420099 (text_string c.username) ∷ password_trees c.password))
+            ∷ []))
+        ∷ []))
+    ∷ []
+
+-- the credential that an item was built of
+abbrev pub credential_of : Authentication → CredentialType
+credential_of a = elim ((a.0).1) [ values.UsernameAndPassword username password ↦ UsernameAndPassword (record { username = username.0; password = option_map (λ p. p.0) password }) ]
+
+-- the head of a request: its version, the credential where there is one, and that it has one batch item
+abbrev pub header_tree : ℕ → List Tree → Tree
+header_tree minor authentication =
+    structure 0x420077 (trees_of (
+        structure 0x420069 (trees_of (scalar 0x42006A (integer (pos 1)) ∷ scalar 0x42006B (integer (pos minor)) ∷ []))
+        ∷ (authentication ++ scalar 0x42000D (integer (pos 1)) ∷ [])))
+
+-- the message round the item of a payload
+abbrev pub message_tree : Tree → ℕ → Tree → Tree
+message_tree header operation payload =
+    structure 0x420078 (trees_of (
+        header
+        ∷ structure 0x42000F (trees_of (scalar 0x42005C (enumeration operation) ∷ payload ∷ []))
+        ∷ []))
+
+-- the request message round a payload and a credential, where the payload has a tree
+abbrev pub request_tree : RequestPayload → Option CredentialType → Option Tree
+request_tree payload credential =
+    option_map (message_tree (header_tree (minor_of payload) (authentication_trees credential)) (operation_line (operation_of payload)).number)
+        (tree_of request_payload 0x420079 (request_payload_val payload))
+
+-- the one canonical message of a request, where it has one
+abbrev pub request_bytes : RequestPayload → Option CredentialType → Option (List ℕ)
+request_bytes payload credential = option_and_then bytes (request_tree payload credential)
+
+-- The request has canonical bytes.
+abbrev pub IsValidRequest : RequestPayload → Option CredentialType → Type 0
+IsValidRequest payload credential = IsSome (request_bytes payload credential)

@@ -1,0 +1,77 @@
+-- The typed values of a request, as contracts see them: each a record of its fields in the order of its table.
+use Rattle.std.specs.Prelude.{[], ◌∷◌}
+use Rattle.kmip_shape.specs.Val.{Val, Number, Text, Bytes, Record, Case, AndField, NoField, One, Many}
+use Rattle.kmip_shape.specs.Writes.{optional, vals}
+use Rattle.kmip_shape.specs.Enumerations.{enumeration_val}
+use Rattle.kmip_types.specs.Texts.{unique_identifier_val}
+use Rattle.kmip_types.specs.Numbers.{data_length_val}
+use Rattle.kmip_types.specs.ByteStrings.{unique_batch_item_id_val}
+use Rattle.kmip_enums.specs.Operations.{operation_line}
+use Rattle.kmip_enums.specs.CredentialTypes.{credential_type_line}
+use Rattle.kmip_request.specs.declared.header.ProtocolVersion.{ProtocolVersion}
+use Rattle.kmip_request.specs.declared.header.RequestHeader.{RequestHeader}
+use Rattle.kmip_request.specs.declared.authentication.CredentialValue.{CredentialValue}
+use Rattle.kmip_request.specs.declared.authentication.CredentialValue.TheVariants.{UsernameAndPassword}
+use Rattle.kmip_request.specs.declared.authentication.Credential.{Credential}
+use Rattle.kmip_request.specs.declared.authentication.Authentication.{Authentication}
+use Rattle.kmip_request.specs.declared.payload.RequestPayload.{RequestPayload}
+use Rattle.kmip_request.specs.declared.payload.RequestPayload.TheVariants.{Activate, RNGRetrieve}
+use Rattle.kmip_request.specs.declared.message.BatchItem.{BatchItem}
+use Rattle.kmip_request.specs.declared.message.RequestMessage.{RequestMessage}
+use Rattle.kmip_request.specs.declared.writing.SingleRequest.{SingleRequest}
+
+abbrev pub protocol_version_val : ProtocolVersion → Val
+protocol_version_val x = Record
+    (AndField (One (Number (x.0).0))
+    (AndField (One (Number (x.1).0))
+    NoField))
+
+abbrev pub credential_value_val : CredentialValue → Val
+credential_value_val (UsernameAndPassword username password) = Case 1 (Record
+    (AndField (One (Text username.0))
+    (AndField (optional (λ p. Text p.0) password)
+    NoField)))
+
+abbrev pub credential_val : Credential → Val
+credential_val x = Record
+    (AndField (One (enumeration_val credential_type_line x.0))
+    (AndField (One (credential_value_val x.1))
+    NoField))
+
+abbrev pub authentication_val : Authentication → Val
+authentication_val x = Record
+    (AndField (One (credential_val x.0))
+    NoField)
+
+abbrev pub request_header_val : RequestHeader → Val
+request_header_val x = Record
+    (AndField (One (protocol_version_val x.0))
+    (AndField (optional (λ n. Number n.0) x.1)
+    (AndField (optional authentication_val x.2)
+    (AndField (One (Number (x.3).0))
+    NoField))))
+
+-- a payload is the case of its operation's number
+abbrev pub request_payload_val : RequestPayload → Val
+request_payload_val (Activate id) = Case 18 (Record (AndField (optional unique_identifier_val id) NoField))
+request_payload_val (RNGRetrieve length) = Case 37 (Record (AndField (One (data_length_val length)) NoField))
+
+abbrev pub batch_item_val : BatchItem → Val
+batch_item_val x = Record
+    (AndField (One (enumeration_val operation_line x.0))
+    (AndField (optional unique_batch_item_id_val x.1)
+    (AndField (One (request_payload_val x.2))
+    NoField)))
+
+abbrev pub request_message_val : RequestMessage → Val
+request_message_val x = Record
+    (AndField (One (request_header_val x.0))
+    (AndField (Many (vals batch_item_val x.1))
+    NoField))
+
+-- a message with one batch item
+abbrev pub single_request_val : SingleRequest → Val
+single_request_val x = Record
+    (AndField (One (request_header_val x.header))
+    (AndField (Many (vals batch_item_val (x.item ∷ [])))
+    NoField))

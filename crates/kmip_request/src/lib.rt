@@ -1,0 +1,16 @@
+//! Requests: what a client asks, and how it is written as its one canonical message.
+#![tactic(auto)]
+
+mod authentication;
+mod header;
+mod message;
+mod numbers;
+mod payload;
+mod writing;
+
+pub use authentication::{Authentication, Credential, CredentialValue, Password, Username};
+pub use header::{ProtocolVersion, RequestHeader};
+pub use message::{BatchItem, RequestMessage};
+pub use numbers::{BatchCount, MaximumResponseSize, ProtocolVersionMajor, ProtocolVersionMinor};
+pub use payload::RequestPayload;
+pub use writing::{to_vec, write_request};

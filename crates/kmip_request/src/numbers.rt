@@ -1,0 +1,115 @@
+//! The numbers in the head of a request.
+
+ghost use Rattle.std.specs.Prelude.{◌≡◌, ℤ};
+ghost use Rattle.std.proofs.Common.{ap};
+ghost use Rattle.kmip_wire.specs.declared.kind.Kind.TheVariants.{Integer};
+ghost use Rattle.kmip_shape.specs.Val.{Number};
+ghost use Rattle.kmip_shape.specs.Shape.{Scalar};
+ghost use Rattle.kmip_shape.specs.Same.{same_number};
+
+use kmip_shape::{Item, WriteItem};
+use kmip_wire::{Buffer, Tag};
+
+/// The first number of a version of KMIP: KMIP 1.0, 6.1.
+#[derive(Clone, Copy, PartialEq, Eq, Drop)]
+pub struct ProtocolVersionMajor(pub i32);
+
+impl Item for ProtocolVersionMajor {
+    ghost shape = { Scalar Integer };
+
+    ghost val = { λ x. Number x.0 };
+
+    fn known(&self) {
+        self.0.known();
+    }
+
+    ghost same = { λ x y h. ap (λ (n : ℤ). record { 0 = n }) (same_number h) };
+}
+
+impl WriteItem for ProtocolVersionMajor {
+    fn wire_len(&self, tag: Tag) -> Option<u64> {
+        self.0.wire_len(tag)
+    }
+
+    fn write_into(&self, tag: Tag, out: &mut Buffer) {
+        self.0.write_into(tag, out);
+    }
+}
+
+/// The second number of a version of KMIP: KMIP 1.0, 6.1.
+#[derive(Clone, Copy, PartialEq, Eq, Drop)]
+pub struct ProtocolVersionMinor(pub i32);
+
+impl Item for ProtocolVersionMinor {
+    ghost shape = { Scalar Integer };
+
+    ghost val = { λ x. Number x.0 };
+
+    fn known(&self) {
+        self.0.known();
+    }
+
+    ghost same = { λ x y h. ap (λ (n : ℤ). record { 0 = n }) (same_number h) };
+}
+
+impl WriteItem for ProtocolVersionMinor {
+    fn wire_len(&self, tag: Tag) -> Option<u64> {
+        self.0.wire_len(tag)
+    }
+
+    fn write_into(&self, tag: Tag, out: &mut Buffer) {
+        self.0.write_into(tag, out);
+    }
+}
+
+/// The most bytes that a client takes as a response: KMIP 1.0, 6.3.
+#[derive(Clone, Copy, PartialEq, Eq, Drop)]
+pub struct MaximumResponseSize(pub i32);
+
+impl Item for MaximumResponseSize {
+    ghost shape = { Scalar Integer };
+
+    ghost val = { λ x. Number x.0 };
+
+    fn known(&self) {
+        self.0.known();
+    }
+
+    ghost same = { λ x y h. ap (λ (n : ℤ). record { 0 = n }) (same_number h) };
+}
+
+impl WriteItem for MaximumResponseSize {
+    fn wire_len(&self, tag: Tag) -> Option<u64> {
+        self.0.wire_len(tag)
+    }
+
+    fn write_into(&self, tag: Tag, out: &mut Buffer) {
+        self.0.write_into(tag, out);
+    }
+}
+
+/// How many batch items a message has: KMIP 1.0, 6.14.
+#[derive(Clone, Copy, PartialEq, Eq, Drop)]
+pub struct BatchCount(pub i32);
+
+impl Item for BatchCount {
+    ghost shape = { Scalar Integer };
+
+    ghost val = { λ x. Number x.0 };
+
+    fn known(&self) {
+        self.0.known();
+    }
+
+    ghost same = { λ x y h. ap (λ (n : ℤ). record { 0 = n }) (same_number h) };
+}
+
+impl WriteItem for BatchCount {
+    fn wire_len(&self, tag: Tag) -> Option<u64> {
+        self.0.wire_len(tag)
+    }
+
+    fn write_into(&self, tag: Tag, out: &mut Buffer) {
+        self.0.write_into(tag, out);
+    }
+}

@@ -1,0 +1,100 @@
+//! One operation's result.
+
+ghost use Rattle.std.specs.Prelude.{◌≡◌};
+ghost use Rattle.kmip_response.specs.Tables.{batch_item};
+ghost use Rattle.kmip_response.specs.Values.{batch_item_val};
+ghost use Rattle.kmip_response.specs.Same.{batch_item_same};
+
+use crate::extension::MessageExtension;
+use crate::payload::ResponsePayload;
+use kmip_enums::{Operation, ResultReason, ResultStatus};
+use kmip_shape::columns::{ChosenOpt, One, Opt};
+use kmip_shape::read::{Outer, ReadError, ReadItem};
+use kmip_shape::record::{Choosing, End, Row, read_record};
+use kmip_shape::{Item, ReadRoot, known_optional};
+use kmip_types::UniqueBatchItemID;
+use kmip_wire::{ItemRef, Tag, Text};
+use std::alloc::Global;
+
+/// What one operation came to: KMIP 1.0, 7.2.
+#[derive(PartialEq, Eq, Drop)]
+pub struct BatchItem {
+    pub operation: Option<Operation>,
+    pub unique_batch_item_id: Option<UniqueBatchItemID>,
+    pub result_status: ResultStatus,
+    pub result_reason: Option<ResultReason>,
+    pub result_message: Option<Text>,
+    /// Chosen by `operation`; a payload without one, or under another, is not read.
+    pub payload: Option<ResponsePayload>,
+    pub message_extension: Option<MessageExtension>,
+}
+
+impl Item for BatchItem {
+    ghost shape = { batch_item };
+
+    ghost val = { batch_item_val };
+
+    fn known(&self) {
+        known_optional(&self.operation);
+        known_optional(&self.unique_batch_item_id);
+        self.result_status.known();
+        known_optional(&self.result_reason);
+        known_optional(&self.result_message);
+        known_optional(&self.payload);
+        known_optional(&self.message_extension);
+    }
+
+    ghost same = { batch_item_same };
+}
+
+type BatchItemRows<'a> = Choosing<
+    Opt<Operation, 0x42005C>,
+    Row<
+        Opt<UniqueBatchItemID, 0x420093>,
+        Row<
+            One<ResultStatus, 0x42007F>,
+            Row<
+                Opt<ResultReason, 0x42007E>,
+                Row<
+                    Opt<Text, 0x42007D>,
+                    Row<
+                        ChosenOpt<'a, ResponsePayload, 0x42007C>,
+                        Row<Opt<MessageExtension, 0x420051>, End>,
+                    >,
+                >,
+            >,
+        >,
+    >,
+>;
+
+impl ReadItem for BatchItem {
+    fn read(alloc: Global, outer: Outer<'_>, item: ItemRef<'_>) -> Result<Self, ReadError> {
+        let (
+            operation,
+            (
+                unique_batch_item_id,
+                (
+                    result_status,
+                    (result_reason, (result_message, (payload, (message_extension, _)))),
+                ),
+            ),
+        ) = read_record::<BatchItemRows<'_>>(alloc, outer, item)?;
+        Ok(BatchItem {
+            operation,
+            unique_batch_item_id,
+            result_status,
+            result_reason,
+            result_message,
+            payload,
+            message_extension,
+        })
+    }
+}
+
+impl ReadRoot for BatchItem {
+    ghost root_tag = { 0x42000F };
+
+    fn root_tag() -> Tag {
+        Tag::of(0x42000F)
+    }
+}

@@ -1,0 +1,61 @@
+//! What a vendor adds to a message.
+
+ghost use Rattle.std.specs.Prelude.{◌≡◌};
+ghost use Rattle.kmip_response.specs.Tables.{message_extension};
+ghost use Rattle.kmip_response.specs.Values.{message_extension_val};
+ghost use Rattle.kmip_response.specs.Same.{message_extension_same};
+
+use kmip_shape::{Item, ReadRoot};
+use kmip_shape::columns::One;
+use kmip_shape::read::{Outer, ReadError, ReadItem};
+use kmip_shape::record::{End, Row, read_record};
+use kmip_wire::{ItemRef, Tag, Text};
+use std::alloc::Global;
+
+/// The contents of a vendor's extension, which are skipped.
+#[derive(Clone, Copy, PartialEq, Eq, Default, Drop)]
+pub struct VendorExtension;
+
+/// An extension of a message: KMIP 1.0, 6.16.
+#[derive(PartialEq, Eq, Drop)]
+pub struct MessageExtension {
+    pub vendor_identification: Text,
+    /// Whether a receiver that does not know the extension must refuse the message.
+    pub criticality_indicator: bool,
+    pub vendor_extension: VendorExtension,
+}
+
+impl Item for MessageExtension {
+    ghost shape = { message_extension };
+
+    ghost val = { message_extension_val };
+
+    fn known(&self) {
+        self.vendor_identification.known();
+        self.criticality_indicator.known();
+    }
+
+    ghost same = { message_extension_same };
+}
+
+type MessageExtensionRows = Row<One<Text, 0x42009D>, Row<One<bool, 0x420026>, End>>;
+
+impl ReadItem for MessageExtension {
+    fn read(alloc: Global, outer: Outer<'_>, item: ItemRef<'_>) -> Result<Self, ReadError> {
+        let (vendor_identification, (criticality_indicator, _)) =
+            read_record::<MessageExtensionRows>(alloc, outer, item)?;
+        Ok(MessageExtension {
+            vendor_identification,
+            criticality_indicator,
+            vendor_extension: VendorExtension,
+        })
+    }
+}
+
+impl ReadRoot for MessageExtension {
+    ghost root_tag = { 0x420051 };
+
+    fn root_tag() -> Tag {
+        Tag::of(0x420051)
+    }
+}

@@ -1,0 +1,23 @@
+//! Responses: what a server answers, and how it is read from checked bytes.
+//!
+//! Every type reads its children in one walk, makes no tree, and takes memory only for what the value holds.
+//! Known fields stand in any order, unknown tags are skipped; a second item of a single field, a missing
+//! required field, a known tag of another type and a number outside its table are `Unread`.
+#![tactic(auto)]
+
+mod batch_item;
+mod extension;
+mod header;
+mod message;
+mod payload;
+mod reading;
+
+pub use batch_item::BatchItem;
+pub use extension::{MessageExtension, VendorExtension};
+pub use header::{ProtocolVersion, ResponseHeader};
+pub use message::ResponseMessage;
+pub use payload::{
+    ActivateResponsePayload, RNGRetrieveResponsePayload, ResponsePayload,
+    UniqueIdentifierResponsePayload,
+};
+pub use reading::{ResponseError, from_slice};

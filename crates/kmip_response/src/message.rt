@@ -1,0 +1,53 @@
+//! The whole message.
+
+ghost use Rattle.std.specs.Prelude.{◌≡◌};
+ghost use Rattle.kmip_response.specs.Tables.{response_message};
+ghost use Rattle.kmip_response.specs.Values.{response_message_val};
+ghost use Rattle.kmip_response.specs.Same.{response_message_same};
+
+use crate::batch_item::BatchItem;
+use crate::header::ResponseHeader;
+use kmip_shape::columns::{NonEmpty, One};
+use kmip_shape::read::{Outer, ReadError, ReadItem};
+use kmip_shape::record::{End, Row, read_record};
+use kmip_shape::{Item, ReadRoot, known_list};
+use kmip_wire::{ItemRef, List, Tag};
+use std::alloc::Global;
+
+/// A response: KMIP 1.0, 7.1.
+#[derive(PartialEq, Eq, Drop)]
+pub struct ResponseMessage {
+    pub header: ResponseHeader,
+    /// At least one.
+    pub batch_items: List<BatchItem>,
+}
+
+impl Item for ResponseMessage {
+    ghost shape = { response_message };
+
+    ghost val = { response_message_val };
+
+    fn known(&self) {
+        self.header.known();
+        known_list(self.batch_items.as_slice());
+    }
+
+    ghost same = { response_message_same };
+}
+
+type ResponseMessageRows = Row<One<ResponseHeader, 0x42007A>, Row<NonEmpty<BatchItem, 0x42000F>, End>>;
+
+impl ReadItem for ResponseMessage {
+    fn read(alloc: Global, outer: Outer<'_>, item: ItemRef<'_>) -> Result<Self, ReadError> {
+        let (header, (batch_items, _)) = read_record::<ResponseMessageRows>(alloc, outer, item)?;
+        Ok(ResponseMessage { header, batch_items })
+    }
+}
+
+impl ReadRoot for ResponseMessage {
+    ghost root_tag = { 0x42007B };
+
+    fn root_tag() -> Tag {
+        Tag::of(0x42007B)
+    }
+}

@@ -1,0 +1,105 @@
+-- The lines, one after the other.
+use Rattle.std.proofs.Common.{◌≡◌, ℕ, ◌+◌, ◌-◌, ◌<◌, ◌≤◌, Bool, List, [], ◌∷◌, ◌++◌, length, take, drop, refl, ◌∙◌, ap, sym, arith, append_assoc, Option, Some, None, codes, min}
+use Rattle.std.proofs.lemmas.Grind.{common_steps}
+use Rattle.std.proofs.lemmas.List.{length-take, take_all}
+use Rattle.kmip_link.specs.Plan.{MemoryState}
+use Rattle.kmip_run.specs.Script.{lines_of}
+use Rattle.kmip_run.specs.Calls.{call_of, response_of}
+use Rattle.kmip_run.specs.Exchange.{Settings, Step, step}
+use Rattle.kmip_run.specs.Transcript.{Transcript, only_text, call_text, status_after, bad_line, then_later, replayed, RunsCall, Replays, most_script, replay_transcript}
+use Rattle.kmip_run.specs.declared.call.Call.{Call}
+
+pub append_none : (xs : List ℕ) → xs ≡ xs ++ []
+append_none xs = grind (arith, common_steps)
+
+-- what was done, and what is still to come
+pub record SoFar (all : Transcript) (before now : MemoryState) (old new : List ℕ) (rest : Transcript) : Type 0 where
+  pub wrote : List ℕ
+  pub fed : List ℕ
+  pub sent : List ℕ
+  pub taken : ℕ
+  pub text : all.text ≡ wrote ++ rest.text
+  pub status : all.status ≡ rest.status
+  pub all_fed : all.fed ≡ fed ++ rest.fed
+  pub all_sent : all.sent ≡ sent ++ rest.sent
+  pub all_taken : all.taken ≡ taken + rest.taken
+  pub new_is : new ≡ old ++ wrote
+  pub ever : now.ever ≡ before.ever ++ fed
+  pub sent_is : now.sent ≡ before.sent ++ sent
+  pub pos : now.pos ≡ before.pos + taken
+
+pub nothing_yet : (all : Transcript) (link : MemoryState) (old : List ℕ) → SoFar all link link old old all
+nothing_yet all link old = record { wrote = []; fed = []; sent = []; taken = 0; text = refl; status = refl; all_fed = refl; all_sent = refl; all_taken = omega arith; new_is = append_none old; ever = append_none link.ever; sent_is = append_none link.sent; pos = omega arith }
+
+-- one line more
+pub one_more : {all : Transcript} {before now after : MemoryState} {old between new : List ℕ} {failed : Bool} (fed : List ℕ) (s : Step) (rest : Transcript) →
+    SoFar all before now old between (then_later fed s rest) → RunsCall s fed now after failed between new → SoFar all before after old new rest
+one_more {before = before} {now = now} {old = old} fed s rest so_far line = record {
+  wrote = so_far.wrote ++ call_text s;
+  fed = so_far.fed ++ fed;
+  sent = so_far.sent ++ s.sent;
+  taken = so_far.taken + s.taken;
+  text = so_far.text ∙ sym (append_assoc so_far.wrote (call_text s) rest.text);
+  status = so_far.status;
+  all_fed = so_far.all_fed ∙ sym (append_assoc so_far.fed fed rest.fed);
+  all_sent = so_far.all_sent ∙ sym (append_assoc so_far.sent s.sent rest.sent);
+  all_taken = omega (arith, so_far.all_taken);
+  new_is = line.text ∙ ap (λ (l : List ℕ). l ++ call_text s) so_far.new_is ∙ append_assoc old so_far.wrote (call_text s);
+  ever = line.ever ∙ ap (λ (l : List ℕ). l ++ fed) so_far.ever ∙ append_assoc before.ever so_far.fed fed;
+  sent_is = line.sent ∙ ap (λ (l : List ℕ). l ++ s.sent) so_far.sent_is ∙ append_assoc before.sent so_far.sent s.sent;
+  pos = omega (arith, line.pos, so_far.pos);
+}
+
+pub replayed_call : (settings : Settings) (line : List ℕ) (lines : List (List ℕ)) (number status : ℕ) (rest : List ℕ) (call : Call) → Some call ≡ call_of line →
+    replayed settings (line ∷ lines) number status rest ≡
+    then_later (response_of call) (step settings call (rest ++ response_of call))
+      (replayed settings lines (number + 1) (status_after status (step settings call (rest ++ response_of call)).failed) (drop (step settings call (rest ++ response_of call)).taken (rest ++ response_of call)))
+unfolding replayed
+replayed_call settings line lines number status rest call is = rw (sym is, replayed) refl
+
+pub replayed_bad : (settings : Settings) (line : List ℕ) (lines : List (List ℕ)) (number status : ℕ) (rest : List ℕ) → None ≡ call_of line → replayed settings (line ∷ lines) number status rest ≡ bad_line number
+unfolding replayed
+replayed_bad settings line lines number status rest is = rw (sym is, replayed) refl
+
+pub replayed_none : (settings : Settings) (lines : List (List ℕ)) (number status : ℕ) (rest : List ℕ) → lines ≡ [] → replayed settings lines number status rest ≡ only_text [] status
+unfolding replayed
+replayed_none settings lines number status rest is = rw is refl
+
+-- nothing more is to come but this text
+pub ended : {all : Transcript} {before now : MemoryState} {old between : List ℕ} (text : List ℕ) (status : ℕ) →
+    SoFar all before now old between (only_text text status) → Replays all before now status old (between ++ text)
+ended {before = before} {old = old} text status so_far = record {
+  text = ap (λ (l : List ℕ). l ++ text) so_far.new_is ∙ append_assoc old so_far.wrote text ∙ ap (λ (l : List ℕ). old ++ l) (sym so_far.text);
+  status_is = sym so_far.status;
+  ever = so_far.ever ∙ ap (λ (l : List ℕ). before.ever ++ l) (append_none so_far.fed ∙ sym so_far.all_fed);
+  sent = so_far.sent_is ∙ ap (λ (l : List ℕ). before.sent ++ l) (append_none so_far.sent ∙ sym so_far.all_sent);
+  pos = omega (arith, so_far.pos, so_far.all_taken);
+}
+
+-- the next line is a call
+pub next_call : {all : Transcript} {before now after : MemoryState} {old between new : List ℕ} {failed : Bool} (settings : Settings) (call : Call) (script line later : List ℕ) (number status next : ℕ) →
+    lines_of script ≡ line ∷ lines_of later → Some call ≡ call_of line → next ≡ status_after status failed →
+    SoFar all before now old between (replayed settings (lines_of script) number status (drop now.pos now.ever)) →
+    RunsCall (step settings call (drop now.pos now.ever ++ response_of call)) (response_of call) now after failed between new →
+    SoFar all before after old new (replayed settings (lines_of later) (number + 1) next (drop after.pos after.ever))
+next_call {now = now} {failed = failed} settings call script line later number status next lines is next_is so_far runs =
+    let here = rw (lines, replayed_call settings line (lines_of later) number status (drop now.pos now.ever) call is) at so_far in
+    rw (next_is, runs.failed_is, runs.left) (one_more (response_of call) (step settings call (drop now.pos now.ever ++ response_of call)) _ here runs)
+
+-- the next line is not of the grammar
+pub next_bad : {all : Transcript} {before now : MemoryState} {old between : List ℕ} (settings : Settings) (script line later : List ℕ) (number status : ℕ) →
+    lines_of script ≡ line ∷ lines_of later → None ≡ call_of line →
+    SoFar all before now old between (replayed settings (lines_of script) number status (drop now.pos now.ever)) →
+    Replays all before now 2 old (between ++ (bad_line number).text)
+next_bad {now = now} settings script line later number status lines is so_far =
+    ended (bad_line number).text 2 (rw (lines, replayed_bad settings line (lines_of later) number status (drop now.pos now.ever) is) at so_far)
+
+no_lines : (script : List ℕ) → length script ≡ 0 → lines_of script ≡ []
+no_lines [] none = refl
+no_lines (c ∷ script) none = absurd (omega arith)
+
+-- no line is left
+pub no_more : {all : Transcript} {before now : MemoryState} {old between : List ℕ} (settings : Settings) (script : List ℕ) (number status : ℕ) → length script ≡ 0 →
+    SoFar all before now old between (replayed settings (lines_of script) number status (drop now.pos now.ever)) → Replays all before now status old between
+no_more {now = now} {between = between} settings script number status none so_far =
+    rw (append_none between) (ended [] status (rw (replayed_none settings (lines_of script) number status (drop now.pos now.ever) (no_lines script none)) at so_far))

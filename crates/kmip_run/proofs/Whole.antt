@@ -1,0 +1,101 @@
+-- What the program does with its words and its script.
+use Rattle.std.proofs.Common.{◌≡◌, ◌≢◌, ℕ, ◌+◌, ◌<◌, ◌≤◌, ◌⊎◌, List, [], ◌∷◌, ◌++◌, length, take, drop, min, refl, ◌∙◌, ap, sym, arith, codes, Option, Some, None, Bool, true, false, IsSome}
+use Rattle.std.proofs.lemmas.Bool.Decides.{nat_tests}
+use Rattle.std.proofs.lemmas.List.{length-take, take_all}
+use Rattle.std.specs.List.{All}
+use Rattle.std.proofs.lemmas.List.Elements.{All-head, All-tail}
+use Rattle.kmip_link.specs.Plan.{MemoryState}
+use Rattle.kmip_link.specs.State.{SinkState}
+use Rattle.kmip_run.specs.Script.{lines_of}
+use Rattle.kmip_run.specs.Calls.{call_of, response_of}
+use Rattle.kmip_run.specs.Commands.{command_of}
+use Rattle.kmip_run.specs.Exchange.{Settings, settings_for, Step, step}
+use Rattle.kmip_run.specs.Streams.{WrotePart}
+use Rattle.kmip_run.specs.Transcript.{Transcript, only_text, status_after, replayed, most_script, replay_transcript, command_transcript, transcript, IsOfGrammar, Replays}
+use Rattle.kmip_run.specs.declared.call.Call.{Call}
+use Rattle.kmip_run.specs.declared.command.Options.{Options}
+use Rattle.kmip_run.specs.declared.command.Command.{Command}
+use Rattle.kmip_run.specs.declared.command.Command.TheVariants.{Replay}
+use Rattle.kmip_run.proofs.Runs.{append_none, replayed_call, replayed_none}
+
+pub most : most_script ≡ 16777216
+unfolding most_script
+most = refl
+
+pub transcript_long : (settings : Settings) (script : List ℕ) → 16777216 < length script → replay_transcript settings script ≡ only_text [] 6
+unfolding replay_transcript most_script
+transcript_long settings script long = grind (arith, nat_tests)
+
+pub transcript_fits : (settings : Settings) (script : List ℕ) → length script ≤ 16777216 → replay_transcript settings script ≡ replayed settings (lines_of script) 1 0 []
+unfolding replay_transcript most_script
+transcript_fits settings script fits = grind (arith, nat_tests)
+
+pub transcript_words : (words : List (List ℕ)) (script : List ℕ) → None ≡ command_of words → transcript words script ≡ only_text (codes "! words\n") 2
+unfolding transcript
+transcript_words words script none = rw (sym none) refl
+
+pub transcript_command : (words : List (List ℕ)) (script : List ℕ) (command : Command) → Some command ≡ command_of words → transcript words script ≡ command_transcript (Some command) script
+unfolding transcript
+transcript_command words script command is = rw (sym is) refl
+
+-- more was read than the longest script
+pub script_long : (most : ℕ) (script left : List ℕ) → script ≡ take (most + 1) left → most < length script → most < length left
+script_long most script left is long =
+    let e : length script ≡ min (most + 1) (length left) = ap length is ∙ length-take (most + 1) left in omega arith
+
+-- no more was read, so that it is the whole script
+pub script_whole : (most : ℕ) (script left : List ℕ) → script ≡ take (most + 1) left → length script ≤ most → script ≡ left
+script_whole most script left is fits =
+    let e : length script ≡ min (most + 1) (length left) = ap length is ∙ length-take (most + 1) left in
+    is ∙ take_all (most + 1) left (omega arith)
+
+-- a text that was made first and is written then
+pub onto : {t : Transcript} {before after : MemoryState} {status : ℕ} {out : List ℕ} (old : List ℕ) → Replays t before after status [] out → Replays t before after status old (old ++ out)
+onto old it = record { text = ap (λ (l : List ℕ). old ++ l) it.text; status_is = it.status_is; ever = it.ever; sent = it.sent; pos = it.pos }
+
+pub nothing_written : (link : MemoryState) (status : ℕ) (old : List ℕ) → Replays (only_text [] status) link link status old old
+nothing_written link status old = record { text = append_none old; status_is = refl; ever = append_none link.ever; sent = append_none link.sent; pos = omega arith }
+
+pub text_alone : (link : MemoryState) (text : List ℕ) (status : ℕ) (old : List ℕ) → Replays (only_text text status) link link status old (old ++ text)
+text_alone link text status old = record { text = refl; status_is = refl; ever = append_none link.ever; sent = append_none link.sent; pos = omega arith }
+
+-- nothing at all is a part of a text
+pub no_part : (sink : SinkState) (text : List ℕ) → WrotePart sink sink text
+no_part sink text = (0, omega arith, append_none sink.sent)
+
+status_small : (status : ℕ) (failed : Bool) → status < 2 → status_after status failed < 2
+status_small status true small = omega arith
+status_small status false small = small
+
+-- lines of the grammar end with the status 0 or 1
+pub good_status : (settings : Settings) (lines : List (List ℕ)) (number status : ℕ) (rest : List ℕ) → status < 2 → All (λ line. IsSome (call_of line)) lines → (replayed settings lines number status rest).status < 2
+good_status settings [] number status rest small good = rw (replayed_none settings [] number status rest refl) small
+good_status settings (line ∷ lines) number status rest small good =
+    elim (call_of line) as (λ o. call_of line ≡ o → IsSome o → (replayed settings (line ∷ lines) number status rest).status < 2) [
+      | None ↦ λ e some. cc
+      | Some call ↦ λ e some.
+          let s : Step = step settings call (rest ++ response_of call) in
+          rw (replayed_call settings line lines number status rest call (sym e))
+          (good_status settings lines (number + 1) (status_after status s.failed) (drop s.taken (rest ++ response_of call)) (status_small status s.failed small) (All-tail (λ l. IsSome (call_of l)) line lines good))
+    ] refl (All-head (λ l. IsSome (call_of l)) line lines good)
+
+of_command : (words : List (List ℕ)) (script : List ℕ) (command : Command) → command_of words ≡ Some command → IsOfGrammar words script → (transcript words script).status < 2
+of_command words script (Replay options) is good =
+    let fits : length script ≤ 16777216 = rw most at good.fits in
+    rw (transcript_command words script (Replay options) (sym is), transcript_fits (settings_for options) script fits)
+    (good_status (settings_for options) (lines_of script) 1 0 [] (omega arith) good.lines_are)
+
+-- a script of the grammar ends with the status 0 or 1
+pub grammar_status : (words : List (List ℕ)) (script : List ℕ) → IsOfGrammar words script → (transcript words script).status < 2
+grammar_status words script good =
+    elim (command_of words) as (λ o. command_of words ≡ o → IsSome o → (transcript words script).status < 2) [
+      | None ↦ λ e some. cc
+      | Some command ↦ λ e some. of_command words script command e good
+    ] refl good.words_are
+
+-- the status that is left, where the writing did not end otherwise
+pub status_left : (result status : ℕ) → (result ≡ status) ⊎ ((result ≡ 4) ⊎ (result ≡ 5)) → result ≢ 4 → result ≢ 5 → result ≡ status
+status_left result status cases no4 no5 = grind arith
+
+pub completes : (result status : ℕ) → result ≢ 3 → result ≢ 4 → (result ≢ 5 → result ≡ status) → status < 2 → (result ≡ 0) ⊎ ((result ≡ 1) ⊎ (result ≡ 5))
+completes result status no3 no4 is small = grind (arith, nat_tests)

@@ -1,0 +1,23 @@
+use Rattle.std.proofs.Common.{◌≡◌, ◌∙◌, ap, sym, option_map, Some, None, List, ℕ, Bor}
+use Rattle.kmip_run.proofs.Given.{replay_of_is, with_more, with_limit, with_bad_limit, with_no_limit}
+use Rattle.kmip_run.proofs.command.replay_of.Goals as goal
+
+pub returns-then-not-is_empty : goal.returns-then-not-is_empty
+returns-then-not-is_empty c =
+    let is = replay_of_is c.args.words.now _ _ _ _ _ _ c.given.ensures.value c.given.ensures.rest c.given_after.ensures.value c.given_after.ensures.rest c.given-2.ensures.value c.given-2.ensures.rest in
+    sym (is ∙ with_more _ _ _ _ c.if-not-is_empty.ensures)
+
+pub returns-in-Some-number_of : goal.returns-in-Some-number_of
+returns-in-Some-number_of c =
+    let is = replay_of_is c.args.words.now _ _ _ _ _ _ c.given.ensures.value c.given.ensures.rest c.given_after.ensures.value c.given_after.ensures.rest c.given-2.ensures.value c.given-2.ensures.rest in
+    rw (is ∙ with_limit _ _ _ _ c.in-Some.limit.now c.in-Some-number_of.limit (ap (option_map (λ (v : Bor (List ℕ)). v.now)) c.in-Some.is) c.if-not-is_empty.ensures c.in-Some-number_of.ensures) c.replay_with.ensures
+
+pub returns-in-None-number_of : goal.returns-in-None-number_of
+returns-in-None-number_of c =
+    let is = replay_of_is c.args.words.now _ _ _ _ _ _ c.given.ensures.value c.given.ensures.rest c.given_after.ensures.value c.given_after.ensures.rest c.given-2.ensures.value c.given-2.ensures.rest in
+    sym (is ∙ with_bad_limit _ _ _ _ c.in-Some.limit.now (ap (option_map (λ (v : Bor (List ℕ)). v.now)) c.in-Some.is) c.if-not-is_empty.ensures c.in-None-number_of.ensures)
+
+pub returns-in-None : goal.returns-in-None
+returns-in-None c =
+    let is = replay_of_is c.args.words.now _ _ _ _ _ _ c.given.ensures.value c.given.ensures.rest c.given_after.ensures.value c.given_after.ensures.rest c.given-2.ensures.value c.given-2.ensures.rest in
+    rw (is ∙ with_no_limit _ _ _ _ (ap (option_map (λ (v : Bor (List ℕ)). v.now)) c.in-None.is) c.if-not-is_empty.ensures) c.replay_with-in-None.ensures

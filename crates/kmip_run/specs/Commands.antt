@@ -1,0 +1,45 @@
+-- What the words of the command line ask for.
+use Rattle.std.specs.Prelude.{ℕ, ◌==◌, nat_eq, List, [], ◌∷◌, length, drop, Bool, Option, Some, None, is_some, if◌then◌else◌, codes, bytes_eq}
+use Rattle.std.specs.List.{starts_with}
+use Rattle.kmip_run.specs.Values.{number_of}
+use Rattle.kmip_run.specs.declared.command.Command.{Command}
+use Rattle.kmip_run.specs.declared.command.Command.TheVariants.{Replay}
+
+-- the value that a first word gives to a name, and the words that are left after it
+pub record Given : Type 0 where
+  pub value : Option (List ℕ)
+  pub rest : List (List ℕ)
+
+abbrev pub given : List ℕ → List (List ℕ) → Given
+given name [] = record { value = None; rest = [] }
+given name (word ∷ words) =
+    if starts_with nat_eq word name then record { value = Some (drop (length name) word); rest = words }
+    else record { value = None; rest = word ∷ words }
+
+-- a value is given only after another
+abbrev pub given_after : Option (List ℕ) → List ℕ → List (List ℕ) → Given
+given_after (Some before) name words = given name words
+given_after None name words = record { value = None; rest = words }
+
+abbrev pub replay_limited : Option (List ℕ) → Option (List ℕ) → Option ℕ → Option Command
+replay_limited user password (Some limit) = Some (Replay (record { user = user; password = password; limit = Some limit }))
+replay_limited user password None = None
+
+-- `replay`, with these words left after its last one
+abbrev pub replay_with : Option (List ℕ) → Option (List ℕ) → Option (List ℕ) → List (List ℕ) → Option Command
+replay_with user password None [] = Some (Replay (record { user = user; password = password; limit = None }))
+replay_with user password (Some limit) [] = replay_limited user password (number_of limit)
+replay_with user password limit words = None
+
+-- `[user=U] [password=P] [limit=N]`, each at most once and in this order, and a password only after a user
+unfoldable pub replay_of : List (List ℕ) → Option Command
+replay_of words =
+    let user : Given = given (codes "user=") words in
+    let password : Given = given_after user.value (codes "password=") user.rest in
+    let limit : Given = given (codes "limit=") password.rest in
+    replay_with user.value password.value limit.value limit.rest
+
+-- the command of the words after the program's name
+unfoldable pub command_of : List (List ℕ) → Option Command
+command_of [] = None
+command_of (name ∷ words) = if bytes_eq name (codes "replay") then replay_of words else None

@@ -1,0 +1,101 @@
+-- What the program writes, and with which status it ends.
+use Rattle.std.specs.Prelude.{◌≡◌, ℕ, ◌+◌, ◌<◌, ◌≤◌, List, [], ◌∷◌, ◌++◌, length, drop, min, Bool, true, false, Option, Some, None, IsSome, if◌then◌else◌, nat_lt, codes}
+use Rattle.std.specs.Fmt.{decimal}
+use Rattle.std.specs.List.{All}
+use Rattle.hex.specs.Hex.{encode_upper}
+use Rattle.kmip_link.specs.Plan.{MemoryState}
+use Rattle.kmip_run.specs.Script.{lines_of}
+use Rattle.kmip_run.specs.Calls.{call_of, response_of}
+use Rattle.kmip_run.specs.Commands.{command_of}
+use Rattle.kmip_run.specs.Exchange.{Settings, settings_for, Step, step}
+use Rattle.kmip_run.specs.declared.call.Call.{Call}
+use Rattle.kmip_run.specs.declared.command.Command.{Command}
+use Rattle.kmip_run.specs.declared.command.Command.TheVariants.{Replay}
+
+-- what is written, the status, and the bytes that are fed to the link, sent, and taken
+pub record Transcript : Type 0 where
+  pub text : List ℕ
+  pub status : ℕ
+  pub fed : List ℕ
+  pub sent : List ℕ
+  pub taken : ℕ
+
+-- a text, and nothing on the link
+abbrev pub only_text : List ℕ → ℕ → Transcript
+only_text text status = record { text = text; status = status; fed = []; sent = []; taken = 0 }
+
+-- the lines of a call: what it sent, and its answer
+abbrev pub call_text : Step → List ℕ
+call_text s = codes "> " ++ (encode_upper s.sent ++ (codes "\n" ++ s.shown))
+
+-- the status after a call: 1 once some answer was an error
+abbrev pub status_after : ℕ → Bool → ℕ
+status_after status true = 1
+status_after status false = status
+
+-- a line that is not of the grammar, by its number
+abbrev pub bad_line : ℕ → Transcript
+bad_line number = only_text (codes "! line " ++ (decimal number ++ codes "\n")) 2
+
+-- a call that is fed this response, and the later lines
+abbrev pub then_later : List ℕ → Step → Transcript → Transcript
+then_later fed s later = record {
+  text = call_text s ++ later.text;
+  status = later.status;
+  fed = fed ++ later.fed;
+  sent = s.sent ++ later.sent;
+  taken = s.taken + later.taken;
+}
+
+-- the lines from this one on: their numbers, the status so far, and the bytes left
+unfoldable pub replayed : Settings → List (List ℕ) → ℕ → ℕ → List ℕ → Transcript
+replayed settings [] number status rest = only_text [] status
+replayed settings (line ∷ lines) number status rest = elim (call_of line) [
+  | None ↦ bad_line number
+  | Some call ↦
+      let s : Step = step settings call (rest ++ response_of call) in
+      then_later (response_of call) s (replayed settings lines (number + 1) (status_after status s.failed) (drop s.taken (rest ++ response_of call)))
+]
+
+-- the bytes of the longest script
+unfoldable pub most_script : ℕ
+most_script = 16777216
+
+unfoldable pub replay_transcript : Settings → List ℕ → Transcript
+replay_transcript settings script = if nat_lt most_script (length script) then only_text [] 6 else replayed settings (lines_of script) 1 0 []
+
+abbrev pub command_transcript : Option Command → List ℕ → Transcript
+command_transcript None script = only_text (codes "! words\n") 2
+command_transcript (Some (Replay options)) script = replay_transcript (settings_for options) script
+
+-- what the program does with these words over this script
+unfoldable pub transcript : List (List ℕ) → List ℕ → Transcript
+transcript words script = command_transcript (command_of words) script
+
+-- how many bytes a command reads of those left: one more than the longest script at most
+abbrev pub read_by : Option Command → ℕ → ℕ
+read_by None left = 0
+read_by (Some (Replay options)) left = min (most_script + 1) left
+
+-- The words, and each line of the script, are of the grammar, and the script is not too long.
+pub record IsOfGrammar (words : List (List ℕ)) (script : List ℕ) : Type 0 where
+  pub words_are : IsSome (command_of words)
+  pub lines_are : All (λ line. IsSome (call_of line)) (lines_of script)
+  pub fits : length script ≤ most_script
+
+-- what a call did: to the link, and to the text
+pub record RunsCall (s : Step) (fed : List ℕ) (before after : MemoryState) (failed : Bool) (old new : List ℕ) : Type 0 where
+  pub text : new ≡ old ++ call_text s
+  pub failed_is : failed ≡ s.failed
+  pub ever : after.ever ≡ before.ever ++ fed
+  pub sent : after.sent ≡ before.sent ++ s.sent
+  pub pos : after.pos ≡ before.pos + s.taken
+  pub left : drop after.pos after.ever ≡ drop s.taken (drop before.pos before.ever ++ fed)
+
+-- what the lines did: to the link, and to the text
+pub record Replays (t : Transcript) (before after : MemoryState) (status : ℕ) (old new : List ℕ) : Type 0 where
+  pub text : new ≡ old ++ t.text
+  pub status_is : status ≡ t.status
+  pub ever : after.ever ≡ before.ever ++ t.fed
+  pub sent : after.sent ≡ before.sent ++ t.sent
+  pub pos : after.pos ≡ before.pos + t.taken

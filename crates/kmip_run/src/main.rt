@@ -1,0 +1,48 @@
+//! The program `kmip_run`: it replays calls of a KMIP client over recorded responses.
+//!
+//! Its words say what to do, and its standard input is the script, of one call a line. It writes what each
+//! call sent and what it answered, and ends with a status from 0 to 6, as `program::run` says.
+#![tactic(auto)]
+
+mod call;
+mod command;
+mod exchange;
+mod program;
+mod replay;
+mod script;
+mod streams;
+mod values;
+mod words;
+
+use kmip_link::{MemoryLink, StdSink, StdSource};
+use kmip_wire::{List, OutOfMemory, Text};
+use std::env;
+use std::process::ExitCode;
+
+/// The words after the program's name. There is no list of them where memory runs out, and where one is not UTF-8.
+fn given_words(rt: &HostRuntime) -> Result<List<Text>, OutOfMemory> {
+    let mut words = List::new(rt.alloc());
+    let Ok(args) = env::args(rt) else {
+        return Err(OutOfMemory);
+    };
+    for word in args.skip(1) {
+        words.push(Text::of(rt.alloc(), word.as_str())?)?;
+    }
+    Ok(words)
+}
+
+fn main(rt: HostRuntime) -> ExitCode {
+    let Ok(words) = given_words(&rt) else {
+        return ExitCode::from(5);
+    };
+    let mut source = StdSource::new(rt.stdin());
+    let mut sink = StdSink::new(rt.stdout());
+    let mut link = MemoryLink::new(rt.alloc());
+    ExitCode::from(program::run(
+        rt.alloc(),
+        &words,
+        &mut source,
+        &mut sink,
+        &mut link,
+    ))
+}

@@ -1,0 +1,166 @@
+//! The program.
+ghost use Rattle.std.specs.Prelude.{◌≡◌, ◌≢◌, ◌+◌, ◌<◌, ◌≤◌, ◌++◌, ◌⊎◌, [], min, length, drop, codes, None, Some, IsSome, IsTrue, IfOk};
+ghost use Rattle.kmip_link.specs.State.{SourceKeeps, SinkKeeps, Rose, source_left};
+ghost use Rattle.kmip_run.specs.Script.{lines_of};
+ghost use Rattle.kmip_run.specs.Commands.{command_of};
+ghost use Rattle.kmip_run.specs.Exchange.{settings_for};
+ghost use Rattle.kmip_run.specs.Streams.{WrotePart};
+ghost use Rattle.kmip_run.specs.Transcript.{most_script, read_by, replayed, replay_transcript, command_transcript, transcript, IsOfGrammar, Replays};
+
+use crate::command::{Command, Options, command_of};
+use crate::exchange::client_of;
+use crate::replay::replay;
+use crate::streams::{read_up_to, write_out};
+use kmip_link::{LinkError, MemoryLink, Sink, Source};
+use kmip_wire::{List, OutOfMemory, Text};
+use std::alloc::Global;
+use std::mem;
+
+/// The longest script, in bytes.
+const MAX_SCRIPT: usize = 16_777_216;
+
+/// Writes the whole text, and answers the status, or that of a failed write.
+fn finish<K: Sink>(sink: &mut K, text: &str, status: u8) -> u8
+    requires { status < 3 }
+    ensures keeps { SinkKeeps (K.state sink.old) (K.state sink.new) }
+    ensures fault { result ≡ 4 → Rose (K.state sink.old).faults (K.state sink.new).faults }
+    ensures status { (result ≡ status) ⊎ ((result ≡ 4) ⊎ (result ≡ 5)) }
+    ensures written { IsTrue (K.state sink.old).tells → result ≢ 4 → result ≢ 5 → (K.state sink.new).sent ≡ (K.state sink.old).sent ++ text.now }
+    ensures part { IsTrue (K.state sink.old).tells → WrotePart (K.state sink.old) (K.state sink.new) text.now }
+{
+    match write_out(sink, text.as_bytes()) {
+        Ok(()) => status,
+        Err(LinkError::Fault) => 4,
+        Err(LinkError::OutOfMemory) => 5,
+    }
+}
+
+/// Replays a script on the link: moves it into a client, and back.
+fn replay_on(
+    alloc: Global,
+    options: Options,
+    script: &[u8],
+    link: &mut MemoryLink,
+    output: &mut Text,
+) -> Result<u8, OutOfMemory>
+    ensures bound { IfOk result (λ status. status < 3) }
+    ensures replays { IfOk result (λ status. Replays
+        (replayed (settings_for options) (lines_of script.now) 1 0 (drop link.old.pos link.old.ever))
+        link.old link.new status output.old output.new) }
+{
+    let moved = mem::replace(link, MemoryLink::new(alloc));
+    let mut client = client_of(moved, options);
+    let status = replay(alloc, &mut client, script, output);
+    *link = mem::replace(client.inner(), MemoryLink::new(alloc));
+    status
+}
+
+/// Reads the whole script and replays it, and answers the status.
+fn replay_script<S: Source, K: Sink>(
+    alloc: Global,
+    options: Options,
+    source: &mut S,
+    sink: &mut K,
+    link: &mut MemoryLink,
+) -> u8
+    requires { drop link.old.pos link.old.ever ≡ [] }
+    ensures source_keeps { SourceKeeps (S.state source.old) (S.state source.new) }
+    ensures sink_keeps { SinkKeeps (K.state sink.old) (K.state sink.new) }
+    ensures bound { result ≤ 6 }
+    ensures replays { IsTrue (S.state source.old).tells → IsTrue (K.state sink.old).tells → result ≢ 3 → result ≢ 4 → result ≢ 5 →
+        Replays (replay_transcript (settings_for options) (source_left (S.state source.old))) link.old link.new result (K.state sink.old).sent (K.state sink.new).sent }
+    ensures part { IsTrue (S.state source.old).tells → IsTrue (K.state sink.old).tells → (result ≡ 4) ⊎ (result ≡ 5) →
+        WrotePart (K.state sink.old) (K.state sink.new) (replay_transcript (settings_for options) (source_left (S.state source.old))).text }
+    ensures read_fault { result ≡ 3 → Rose (S.state source.old).faults (S.state source.new).faults }
+    ensures write_fault { result ≡ 4 → Rose (K.state sink.old).faults (K.state sink.new).faults }
+    ensures kept { (result ≡ 3) ⊎ (result ≡ 6) → link.new ≡ link.old }
+    ensures silent { (result ≡ 3) ⊎ (result ≡ 6) → K.state sink.new ≡ K.state sink.old }
+    ensures too_long { IsTrue (S.state source.old).tells → result ≡ 6 → most_script < length (source_left (S.state source.old)) }
+    ensures long { IsTrue (S.state source.old).tells → most_script < length (source_left (S.state source.old)) → (result ≡ 6) ⊎ ((result ≡ 3) ⊎ (result ≡ 5)) }
+    ensures read { IsTrue (S.state source.old).tells → result ≢ 3 → result ≢ 4 → result ≢ 5 →
+        (S.state source.new).pos ≡ (S.state source.old).pos + min (most_script + 1) (length (source_left (S.state source.old))) }
+{
+    let mut script = Vec::new(alloc);
+    match read_up_to(alloc, source, MAX_SCRIPT + 1, &mut script) {
+        Ok(()) => {}
+        Err(LinkError::Fault) => return 3,
+        Err(LinkError::OutOfMemory) => return 5,
+    }
+    if script.len() > MAX_SCRIPT {
+        return 6;
+    }
+    let mut output = Text::new(alloc);
+    match replay_on(alloc, options, &script, link, &mut output) {
+        Ok(status) => finish(sink, output.as_str(), status),
+        Err(OutOfMemory) => 5,
+    }
+}
+
+/// Does what a command asks for, and answers the status.
+fn perform<S: Source, K: Sink>(
+    alloc: Global,
+    command: Command,
+    source: &mut S,
+    sink: &mut K,
+    link: &mut MemoryLink,
+) -> u8
+    requires { drop link.old.pos link.old.ever ≡ [] }
+    ensures source_keeps { SourceKeeps (S.state source.old) (S.state source.new) }
+    ensures sink_keeps { SinkKeeps (K.state sink.old) (K.state sink.new) }
+    ensures bound { result ≤ 6 }
+    ensures replays { IsTrue (S.state source.old).tells → IsTrue (K.state sink.old).tells → result ≢ 3 → result ≢ 4 → result ≢ 5 →
+        Replays (command_transcript (Some command) (source_left (S.state source.old))) link.old link.new result (K.state sink.old).sent (K.state sink.new).sent }
+    ensures part { IsTrue (S.state source.old).tells → IsTrue (K.state sink.old).tells → (result ≡ 4) ⊎ (result ≡ 5) →
+        WrotePart (K.state sink.old) (K.state sink.new) (command_transcript (Some command) (source_left (S.state source.old))).text }
+    ensures read_fault { result ≡ 3 → Rose (S.state source.old).faults (S.state source.new).faults }
+    ensures write_fault { result ≡ 4 → Rose (K.state sink.old).faults (K.state sink.new).faults }
+    ensures kept { (result ≡ 3) ⊎ (result ≡ 6) → link.new ≡ link.old }
+    ensures silent { (result ≡ 3) ⊎ (result ≡ 6) → K.state sink.new ≡ K.state sink.old }
+    ensures too_long { IsTrue (S.state source.old).tells → result ≡ 6 → most_script < length (source_left (S.state source.old)) }
+    ensures long { IsTrue (S.state source.old).tells → most_script < length (source_left (S.state source.old)) → (result ≡ 6) ⊎ ((result ≡ 3) ⊎ (result ≡ 5)) }
+    ensures read { IsTrue (S.state source.old).tells → result ≢ 3 → result ≢ 4 → result ≢ 5 →
+        (S.state source.new).pos ≡ (S.state source.old).pos + read_by (Some command) (length (source_left (S.state source.old))) }
+{
+    match command {
+        Command::Replay(options) => replay_script(alloc, options, source, sink, link),
+    }
+}
+
+/// Runs the program on the words after its name, and answers its status.
+pub fn run<S: Source, K: Sink>(
+    alloc: Global,
+    words: &List<Text>,
+    source: &mut S,
+    sink: &mut K,
+    link: &mut MemoryLink,
+) -> u8
+    requires { drop link.old.pos link.old.ever ≡ [] }
+    ensures source_keeps { SourceKeeps (S.state source.old) (S.state source.new) }
+    ensures sink_keeps { SinkKeeps (K.state sink.old) (K.state sink.new) }
+    ensures bound { result ≤ 6 }
+    ensures transcript { IsTrue (S.state source.old).tells → IsTrue (K.state sink.old).tells → result ≢ 3 → result ≢ 4 → result ≢ 5 →
+        Replays (transcript words.now (source_left (S.state source.old))) link.old link.new result (K.state sink.old).sent (K.state sink.new).sent }
+    ensures part { IsTrue (S.state source.old).tells → IsTrue (K.state sink.old).tells → (result ≡ 4) ⊎ (result ≡ 5) →
+        WrotePart (K.state sink.old) (K.state sink.new) (transcript words.now (source_left (S.state source.old))).text }
+    ensures read_fault { result ≡ 3 → Rose (S.state source.old).faults (S.state source.new).faults }
+    ensures write_fault { result ≡ 4 → Rose (K.state sink.old).faults (K.state sink.new).faults }
+    ensures words { command_of words.now ≡ None → (result ≡ 2) ⊎ ((result ≡ 4) ⊎ (result ≡ 5)) }
+    ensures words_text { command_of words.now ≡ None → IsTrue (K.state sink.old).tells → result ≡ 2 → (K.state sink.new).sent ≡ (K.state sink.old).sent ++ codes "! words\n" }
+    ensures words_part { command_of words.now ≡ None → IsTrue (K.state sink.old).tells → WrotePart (K.state sink.old) (K.state sink.new) (codes "! words\n") }
+    ensures unread { command_of words.now ≡ None → S.state source.new ≡ S.state source.old }
+    ensures kept { (command_of words.now ≡ None) ⊎ ((result ≡ 3) ⊎ (result ≡ 6)) → link.new ≡ link.old }
+    ensures silent { (result ≡ 3) ⊎ (result ≡ 6) → K.state sink.new ≡ K.state sink.old }
+    ensures too_long { IsTrue (S.state source.old).tells → result ≡ 6 → IsSome (command_of words.now) × (most_script < length (source_left (S.state source.old))) }
+    ensures long { IsTrue (S.state source.old).tells → IsSome (command_of words.now) → most_script < length (source_left (S.state source.old)) → (result ≡ 6) ⊎ ((result ≡ 3) ⊎ (result ≡ 5)) }
+    ensures read { IsTrue (S.state source.old).tells → result ≢ 3 → result ≢ 4 → result ≢ 5 →
+        (S.state source.new).pos ≡ (S.state source.old).pos + read_by (command_of words.now) (length (source_left (S.state source.old))) }
+    ensures complete { IsTrue (S.state source.old).tells → IsTrue (K.state sink.old).tells →
+        (Rose (S.state source.old).faults (S.state source.new).faults → ⊥) → (Rose (K.state sink.old).faults (K.state sink.new).faults → ⊥) →
+        IsOfGrammar words.now (source_left (S.state source.old)) → (result ≡ 0) ⊎ ((result ≡ 1) ⊎ (result ≡ 5)) }
+{
+    match command_of(alloc, words.as_slice()) {
+        Ok(Some(command)) => perform(alloc, command, source, sink, link),
+        Ok(None) => finish(sink, "! words\n", 2),
+        Err(OutOfMemory) => 5,
+    }
+}

@@ -1,0 +1,17 @@
+pub mod Lists
+pub mod Parts
+pub mod Cases
+pub mod Inside
+pub mod ReadBack
+pub mod Lens
+pub mod Forms
+pub mod Aligned
+pub mod WrittenText
+pub mod Gathered
+pub mod ByCase
+pub mod Lengths
+pub mod Known
+pub mod Public
+pub mod Growth
+pub mod Escapes
+pub mod Variants

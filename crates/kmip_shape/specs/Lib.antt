@@ -1,0 +1,11 @@
+pub mod Val
+pub mod Shape
+pub mod Trees
+pub mod Reads
+pub mod Fits
+pub mod Writes
+pub mod Same
+pub mod Codes
+pub mod Resume
+pub mod Shown
+pub mod Enumerations

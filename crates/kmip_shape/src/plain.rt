@@ -1,0 +1,279 @@
+//! Plain values as items: texts, bytes, numbers and truth values.
+//!
+//! A `Text` is a Text String, a `Blob` a Byte String, an `i32` an Integer, an `i64` a Long Integer, a `bool` a Boolean,
+//! a `u64` a Date-Time and a `u32` an Interval. `BigInteger` and `Timestamp` wrap a `Blob` that is a Big Integer and an
+//! `i64` that is a Date-Time.
+
+ghost use Rattle.std.specs.Prelude.{◌≡◌, pos};
+ghost use Rattle.kmip_wire.specs.declared.kind.Kind.TheVariants.{TextString, ByteString, BigInteger as big_integer, Integer, LongInteger, Boolean, DateTime, Interval};
+ghost use Rattle.kmip_shape.specs.Val.{Number, Text as text, Bytes as bytes, Truth};
+ghost use Rattle.kmip_shape.specs.Shape.{Scalar};
+ghost use Rattle.kmip_shape.specs.Same.{same_text, same_bytes, same_number, same_truth, same_unsigned};
+
+use crate::item::{Item, WriteItem};
+use crate::read::{Outer, ReadError, ReadItem};
+use crate::rows::known_bytes;
+use crate::scalars::{SCALAR_LEN, bytes_len, put_boolean, put_bytes, put_date, put_integer, put_interval, put_long_integer, put_text, text_len};
+use crate::show::ShowItem;
+use crate::sink::Sink;
+use kmip_wire::{Blob, Buffer, ItemRef, Tag, Text};
+use std::alloc::Global;
+
+impl Item for Text {
+    ghost shape = { Scalar TextString };
+
+    ghost val = { λ x. text x };
+
+    fn known(&self) {
+        let _text = self.as_str();
+    }
+
+    ghost same = { λ x y h. same_text h };
+}
+
+impl WriteItem for Text {
+    fn wire_len(&self, _tag: Tag) -> Option<u64> {
+        text_len(self.as_str())
+    }
+
+    fn write_into(&self, tag: Tag, out: &mut Buffer) {
+        put_text(tag, self.as_str(), out);
+    }
+}
+
+impl ReadItem for Text {
+    fn read(alloc: Global, _outer: Outer<'_>, item: ItemRef<'_>) -> Result<Self, ReadError> {
+        match item.text() {
+            None => Err(ReadError::Unread),
+            Some(value) => Ok(Text::of(alloc, value)?),
+        }
+    }
+}
+
+impl ShowItem for Text {
+    fn show_into(&self, out: &mut Sink) {
+        out.put_text(self.as_str());
+    }
+}
+
+impl Item for Blob {
+    ghost shape = { Scalar ByteString };
+
+    ghost val = { λ x. bytes x };
+
+    fn known(&self) {
+        known_bytes(self.as_slice());
+    }
+
+    ghost same = { λ x y h. same_bytes h };
+}
+
+impl WriteItem for Blob {
+    fn wire_len(&self, _tag: Tag) -> Option<u64> {
+        bytes_len(self.as_slice())
+    }
+
+    fn write_into(&self, tag: Tag, out: &mut Buffer) {
+        put_bytes(tag, self.as_slice(), out);
+    }
+}
+
+impl ReadItem for Blob {
+    fn read(alloc: Global, _outer: Outer<'_>, item: ItemRef<'_>) -> Result<Self, ReadError> {
+        match item.bytes() {
+            None => Err(ReadError::Unread),
+            Some(value) => Ok(Blob::of(alloc, value)?),
+        }
+    }
+}
+
+impl ShowItem for Blob {
+    fn show_into(&self, out: &mut Sink) {
+        out.put_bytes(self.as_slice());
+    }
+}
+
+impl Item for i32 {
+    ghost shape = { Scalar Integer };
+
+    ghost val = { λ x. Number x };
+
+    fn known(&self) {
+        let _value = *self;
+    }
+
+    ghost same = { λ x y h. same_number h };
+}
+
+impl WriteItem for i32 {
+    fn wire_len(&self, _tag: Tag) -> Option<u64> {
+        Some(SCALAR_LEN)
+    }
+
+    fn write_into(&self, tag: Tag, out: &mut Buffer) {
+        put_integer(tag, *self, out);
+    }
+}
+
+impl ReadItem for i32 {
+    fn read(_alloc: Global, _outer: Outer<'_>, item: ItemRef<'_>) -> Result<Self, ReadError> {
+        match item.int() {
+            None => Err(ReadError::Unread),
+            Some(value) => Ok(value),
+        }
+    }
+}
+
+impl ShowItem for i32 {
+    fn show_into(&self, out: &mut Sink) {
+        out.put_signed(i64::from(*self));
+    }
+}
+
+impl Item for i64 {
+    ghost shape = { Scalar LongInteger };
+
+    ghost val = { λ x. Number x };
+
+    fn known(&self) {
+        let _value = *self;
+    }
+
+    ghost same = { λ x y h. same_number h };
+}
+
+impl WriteItem for i64 {
+    fn wire_len(&self, _tag: Tag) -> Option<u64> {
+        Some(SCALAR_LEN)
+    }
+
+    fn write_into(&self, tag: Tag, out: &mut Buffer) {
+        put_long_integer(tag, *self, out);
+    }
+}
+
+impl ReadItem for i64 {
+    fn read(_alloc: Global, _outer: Outer<'_>, item: ItemRef<'_>) -> Result<Self, ReadError> {
+        match item.long() {
+            None => Err(ReadError::Unread),
+            Some(value) => Ok(value),
+        }
+    }
+}
+
+impl ShowItem for i64 {
+    fn show_into(&self, out: &mut Sink) {
+        out.put_signed(*self);
+    }
+}
+
+impl Item for bool {
+    ghost shape = { Scalar Boolean };
+
+    ghost val = { λ x. Truth x };
+
+    fn known(&self) {
+        let _value = *self;
+    }
+
+    ghost same = { λ x y h. same_truth h };
+}
+
+impl WriteItem for bool {
+    fn wire_len(&self, _tag: Tag) -> Option<u64> {
+        Some(SCALAR_LEN)
+    }
+
+    fn write_into(&self, tag: Tag, out: &mut Buffer) {
+        put_boolean(tag, *self, out);
+    }
+}
+
+impl ReadItem for bool {
+    fn read(_alloc: Global, _outer: Outer<'_>, item: ItemRef<'_>) -> Result<Self, ReadError> {
+        match item.flag() {
+            None => Err(ReadError::Unread),
+            Some(value) => Ok(value),
+        }
+    }
+}
+
+impl ShowItem for bool {
+    fn show_into(&self, out: &mut Sink) {
+        out.put_truth(*self);
+    }
+}
+
+impl Item for u64 {
+    ghost shape = { Scalar DateTime };
+
+    ghost val = { λ x. Number (pos x) };
+
+    fn known(&self) {
+        let _value = *self;
+    }
+
+    ghost same = { λ x y h. same_unsigned h };
+}
+
+impl WriteItem for u64 {
+    fn wire_len(&self, _tag: Tag) -> Option<u64> {
+        Some(SCALAR_LEN)
+    }
+
+    fn write_into(&self, tag: Tag, out: &mut Buffer) {
+        put_date(tag, *self, out);
+    }
+}
+
+impl ReadItem for u64 {
+    fn read(_alloc: Global, _outer: Outer<'_>, item: ItemRef<'_>) -> Result<Self, ReadError> {
+        match item.date() {
+            None => Err(ReadError::Unread),
+            Some(value) => Ok(value),
+        }
+    }
+}
+
+impl ShowItem for u64 {
+    fn show_into(&self, out: &mut Sink) {
+        out.put_unsigned(*self);
+    }
+}
+
+impl Item for u32 {
+    ghost shape = { Scalar Interval };
+
+    ghost val = { λ x. Number (pos x) };
+
+    fn known(&self) {
+        let _value = *self;
+    }
+
+    ghost same = { λ x y h. same_unsigned h };
+}
+
+impl WriteItem for u32 {
+    fn wire_len(&self, _tag: Tag) -> Option<u64> {
+        Some(SCALAR_LEN)
+    }
+
+    fn write_into(&self, tag: Tag, out: &mut Buffer) {
+        put_interval(tag, *self, out);
+    }
+}
+
+impl ReadItem for u32 {
+    fn read(_alloc: Global, _outer: Outer<'_>, item: ItemRef<'_>) -> Result<Self, ReadError> {
+        match item.interval() {
+            None => Err(ReadError::Unread),
+            Some(value) => Ok(value),
+        }
+    }
+}
+
+impl ShowItem for u32 {
+    fn show_into(&self, out: &mut Sink) {
+        out.put_unsigned(u64::from(*self));
+    }
+}

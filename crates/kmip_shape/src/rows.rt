@@ -1,0 +1,161 @@
+//! The rows of a record, for every type of their items.
+
+ghost use Rattle.std.specs.Prelude.{ℕ, ◌≡◌, ◌+◌, ◌-◌, ◌≤◌, ◌<◌, ◌^◌, Option, map};
+ghost use Rattle.kmip_wire.specs.Room.{Appends};
+ghost use Rattle.kmip_wire.specs.Bytes.{head_bytes};
+ghost use Rattle.kmip_shape.specs.Fits.{mark_fits, field_fits, vals_fit, AreBytes};
+ghost use Rattle.kmip_shape.specs.Shape.{NoCase, Optional, OptionalList};
+ghost use Rattle.kmip_shape.specs.Writes.{list_form, list_size, list_text, list_len as len_of_list, field_form, field_size, field_text, field_len, optional, optional_list, vals, sum_len, structure_len as len_of_structure, plus_len, HasForm, size_of, wire_len_of};
+
+use crate::item::{Item, WriteItem};
+use kmip_wire::{Buffer, Kind, List, Tag};
+
+/// The length of an item that may be absent.
+pub fn optional_len<T: WriteItem>(item: &Option<T>, tag: Tag) -> Option<u64>
+    ensures { result ≡ field_len (optional T.val item.now) T.shape }
+{
+    match item {
+        Some(item) => item.wire_len(tag),
+        None => Some(0),
+    }
+}
+
+/// Appends an item that may be absent.
+pub fn write_optional<T: WriteItem>(item: &Option<T>, tag: Tag, out: &mut Buffer)
+    requires form { field_form (optional T.val item.now) T.shape }
+    requires room { field_size (optional T.val item.now) T.shape ≤ out.old.spare }
+    ensures { Appends out.old out.new (field_text (optional T.val item.now) T.shape tag) (field_size (optional T.val item.now) T.shape) }
+{
+    if let Some(item) = item {
+        item.write_into(tag, out);
+    }
+}
+
+/// The length of several items together, where it is below 2^32.
+pub fn plus_len(len: Option<u64>, more: Option<u64>) -> Option<u64>
+    ensures { result ≡ plus_len len more }
+{
+    let sum = len?.checked_add(more?)?;
+    if sum < 1 << 32 { Some(sum) } else { None }
+}
+
+/// The length of the items of a list.
+#[tactic(auto, using(crate::proofs::Lens::plus_assoc, crate::proofs::Lens::list_len_zero, crate::proofs::Lens::plus_end))]
+pub fn list_len<T: WriteItem>(items: &[T], tag: Tag) -> Option<u64>
+    ensures { result ≡ len_of_list (vals T.val items.now) T.shape }
+{
+    let mut sum = 0;
+    let mut rest = items;
+    while let [item, tail @ ..] = rest {
+        sum = plus_len(Some(sum), item.wire_len(tag))?;
+        rest = tail;
+    }
+    Some(sum)
+}
+
+/// Appends the items of a list.
+#[tactic(auto, using(std::proofs::lemmas::List::append_assoc))]
+pub fn write_list<T: WriteItem>(items: &[T], tag: Tag, out: &mut Buffer)
+    requires form { list_form (vals T.val items.now) T.shape }
+    requires room { list_size (vals T.val items.now) T.shape ≤ out.old.spare }
+    ensures { Appends out.old out.new (list_text (vals T.val items.now) T.shape tag) (list_size (vals T.val items.now) T.shape) }
+{
+    let mut rest = items;
+    while let [item, tail @ ..] = rest {
+        item.write_into(tag, out);
+        rest = tail;
+    }
+}
+
+#[tactic(auto, using(crate::proofs::Lens::plus_assoc, crate::proofs::Lens::sum_len_zero, crate::proofs::Lens::plus_end))]
+/// The length of a structure, from the lengths of its rows.
+pub fn structure_len(rows: &[Option<u64>]) -> Option<u64>
+    ensures { result ≡ len_of_structure (sum_len rows.now) }
+{
+    let mut sum = 0;
+    let mut rest = rows;
+    while let [row, tail @ ..] = rest {
+        sum = plus_len(Some(sum), *row)?;
+        rest = tail;
+    }
+    Some(8 + sum)
+}
+
+/// Appends the head of a structure, for an item with a form and its length.
+#[tactic(auto, using(crate::proofs::Forms::len_law))]
+pub fn begin_structure<T: Item>(item: &T, len: Option<u64>, tag: Tag, out: &mut Buffer)
+    requires form { HasForm T.shape (T.val item.now) }
+    requires len { len ≡ wire_len_of T.shape (T.val item.now) }
+    requires whole { 8 ≤ size_of T.shape (T.val item.now) }
+    requires below { size_of T.shape (T.val item.now) < 2 ^ 32 + 8 }
+    requires room { 8 ≤ out.old.spare }
+    ensures head { Appends out.old out.new (head_bytes tag 1 (size_of T.shape (T.val item.now) - 8)) 8 }
+    ensures contents { (n : ℕ) → size_of T.shape (T.val item.now) ≡ 8 + n → Appends out.old out.new (head_bytes tag 1 n) 8 }
+{
+    if let Some(len) = len {
+        out.put_head(tag, Kind::Structure, (len - 8) as u32);
+    }
+}
+
+/// An item that may be absent fits an optional row. It does nothing.
+pub fn known_optional<T: Item>(item: &Option<T>)
+    ensures mark { mark_fits Optional (optional T.val item.now) }
+    ensures field { field_fits (optional T.val item.now) NoCase T.shape }
+{
+    if let Some(item) = item {
+        item.known();
+    }
+}
+
+/// The items of a list fit. It does nothing.
+pub fn known_list<T: Item>(items: &[T])
+    ensures { vals_fit (vals T.val items.now) NoCase T.shape }
+{
+    let mut rest = items;
+    while let [item, tail @ ..] = rest {
+        item.known();
+        rest = tail;
+    }
+}
+
+/// The length of the items of a list that may be absent.
+pub fn optional_list_len<T: WriteItem>(items: &Option<List<T>>, tag: Tag) -> Option<u64>
+    ensures { result ≡ field_len (optional_list T.val items.now) T.shape }
+{
+    match items {
+        Some(items) => list_len(items.as_slice(), tag),
+        None => Some(0),
+    }
+}
+
+/// Appends the items of a list that may be absent.
+pub fn write_optional_list<T: WriteItem>(items: &Option<List<T>>, tag: Tag, out: &mut Buffer)
+    requires form { field_form (optional_list T.val items.now) T.shape }
+    requires room { field_size (optional_list T.val items.now) T.shape ≤ out.old.spare }
+    ensures { Appends out.old out.new (field_text (optional_list T.val items.now) T.shape tag) (field_size (optional_list T.val items.now) T.shape) }
+{
+    if let Some(items) = items {
+        write_list(items.as_slice(), tag, out);
+    }
+}
+
+/// The items of a list that may be absent fit. It does nothing.
+pub fn known_optional_list<T: Item>(items: &Option<List<T>>)
+    ensures mark { mark_fits OptionalList (optional_list T.val items.now) }
+    ensures field { field_fits (optional_list T.val items.now) NoCase T.shape }
+{
+    if let Some(items) = items {
+        known_list(items.as_slice());
+    }
+}
+
+/// The bytes of a slice are below 256. It does nothing.
+pub fn known_bytes(bytes: &[u8])
+    ensures { AreBytes bytes.now }
+{
+    let mut rest = bytes;
+    while let [byte, tail @ ..] = rest {
+        let _byte = *byte;
+        rest = tail;
+    }
+}

@@ -1,0 +1,92 @@
+//! Values shown as text.
+
+ghost use Rattle.std.specs.Prelude.{◌≡◌, ◌++◌, Bool, ◌||◌, false, true, OnOk};
+ghost use Rattle.kmip_shape.specs.Val.{One as one, Many as many};
+ghost use Rattle.kmip_shape.specs.Shape.{NoCase};
+ghost use Rattle.kmip_shape.specs.Writes.{optional, optional_list, vals};
+ghost use Rattle.kmip_shape.specs.Shown.{Grows, AddsPart, shown, row_shown, list_shown, stands};
+
+use crate::item::Item;
+use crate::sink::Sink;
+use kmip_wire::{List, OutOfMemory, Text};
+use std::alloc::Global;
+use std::mem;
+
+/// An item that is shown as text.
+pub trait ShowItem: Item {
+    /// Appends its text to what grows until memory runs out. This is what a type writes; others call `show`.
+    fn show_into(&self, out: &mut Sink)
+        ensures { Grows out.old out.new (shown Self.shape (Self.val self.now)) };
+
+    /// Appends its text. Where memory runs out, a first part of the text was appended.
+    fn show(&self, alloc: Global, out: &mut Text) -> Result<(), OutOfMemory>
+        ensures all { OnOk result (out.new ≡ out.old ++ shown Self.shape (Self.val self.now)) }
+        ensures part { AddsPart out.old out.new (shown Self.shape (Self.val self.now)) }
+    {
+        let mut sink = Sink::over(alloc, mem::replace(out, Text::new(alloc)));
+        self.show_into(&mut sink);
+        let (text, live) = sink.into_text();
+        *out = text;
+        if live { Ok(()) } else { Err(OutOfMemory) }
+    }
+}
+
+/// A field of one item, after others or not; whether a field stands now.
+pub fn show_one<T: ShowItem>(item: &T, name: &str, after: bool, out: &mut Sink) -> bool
+    ensures after { (a : Bool) → after ≡ a → result ≡ (a || stands (one (T.val item.now))) }
+    ensures text { (a : Bool) → after ≡ a → Grows out.old out.new (row_shown (one (T.val item.now)) NoCase name.now T.shape a) }
+{
+    out.put_comma(after);
+    out.put(name);
+    out.put("=");
+    item.show_into(out);
+    true
+}
+
+/// A field that may be absent.
+pub fn show_optional<T: ShowItem>(item: &Option<T>, name: &str, after: bool, out: &mut Sink) -> bool
+    ensures after { (a : Bool) → after ≡ a → result ≡ (a || stands (optional T.val item.now)) }
+    ensures text { (a : Bool) → after ≡ a → Grows out.old out.new (row_shown (optional T.val item.now) NoCase name.now T.shape a) }
+{
+    match item {
+        Some(item) => show_one(item, name, after, out),
+        None => after,
+    }
+}
+
+/// The items of a list, after others or not.
+#[tactic(auto, using(crate::proofs::Growth::growth))]
+pub fn show_items<T: ShowItem>(items: &[T], out: &mut Sink)
+    ensures { Grows out.old out.new (list_shown (vals T.val items.now) NoCase T.shape false) }
+{
+    let mut after = false;
+    for item in items {
+        out.put_comma(after);
+        item.show_into(out);
+        after = true;
+    }
+}
+
+/// A field of a list.
+pub fn show_list<T: ShowItem>(items: &List<T>, name: &str, after: bool, out: &mut Sink) -> bool
+    ensures after { (a : Bool) → after ≡ a → result ≡ (a || stands (many (vals T.val items.now))) }
+    ensures text { (a : Bool) → after ≡ a → Grows out.old out.new (row_shown (many (vals T.val items.now)) NoCase name.now T.shape a) }
+{
+    out.put_comma(after);
+    out.put(name);
+    out.put("=[");
+    show_items(items.as_slice(), out);
+    out.put("]");
+    true
+}
+
+/// A field of a list that may be absent.
+pub fn show_optional_list<T: ShowItem>(items: &Option<List<T>>, name: &str, after: bool, out: &mut Sink) -> bool
+    ensures after { (a : Bool) → after ≡ a → result ≡ (a || stands (optional_list T.val items.now)) }
+    ensures text { (a : Bool) → after ≡ a → Grows out.old out.new (row_shown (optional_list T.val items.now) NoCase name.now T.shape a) }
+{
+    match items {
+        Some(items) => show_list(items, name, after, out),
+        None => after,
+    }
+}

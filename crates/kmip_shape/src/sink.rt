@@ -1,0 +1,190 @@
+//! What values are shown into.
+
+ghost use Rattle.std.specs.Prelude.{◌≡◌, ◌++◌, ◌<◌, ◌∷◌, [], true, flat_map};
+ghost use Rattle.std.specs.Fmt.{decimal, signed_decimal};
+ghost use Rattle.std.specs.Char.{encode_utf8};
+ghost use Rattle.kmip_shape.specs.Shown.{Grows, comma, escaped, hex_byte, hex_digit, text_shown, bytes_shown, truth_shown};
+
+use kmip_wire::Text;
+use std::alloc::Global;
+use std::marker::Model;
+
+/// A digit in upper-case hex.
+fn hex_digit(digit: u8) -> &'static str
+    requires { digit < 16 }
+    ensures { result.now ≡ hex_digit digit ∷ [] }
+{
+    match digit {
+        0 => "0",
+        1 => "1",
+        2 => "2",
+        3 => "3",
+        4 => "4",
+        5 => "5",
+        6 => "6",
+        7 => "7",
+        8 => "8",
+        9 => "9",
+        10 => "A",
+        11 => "B",
+        12 => "C",
+        13 => "D",
+        14 => "E",
+        _ => "F",
+    }
+}
+
+/// A text that grows until memory runs out, and then no more.
+#[derive(Drop)]
+pub struct Sink {
+    text: Text,
+    live: bool,
+    alloc: Global,
+}
+
+impl Model for Sink {
+    ghost use Rattle.kmip_shape.specs.Shown.{Growing};
+
+    ghost Value = { Growing };
+
+    ghost view = { λ s. record { text = s.text; live = s.live } };
+}
+
+impl Sink {
+    /// A text that grows further.
+    pub fn over(alloc: Global, text: Text) -> Sink
+        ensures { result ≡ record { text = text; live = true } }
+    {
+        Sink {
+            text,
+            live: true,
+            alloc,
+        }
+    }
+
+    /// The text, and whether memory sufficed.
+    pub fn into_text(self) -> (Text, bool)
+        ensures text { result.0 ≡ self.text }
+        ensures live { result.1 ≡ self.live }
+    {
+        (self.text, self.live)
+    }
+
+    /// Appends the text, if memory suffices.
+    #[tactic(auto, using(crate::proofs::Growth::growth))]
+    pub fn put(&mut self, text: &str)
+        ensures { Grows self.old self.new text.now }
+    {
+        if self.live {
+            match self.text.push_str(text) {
+                Ok(()) => {}
+                Err(_) => self.live = false,
+            }
+        }
+    }
+
+    /// A comma, after other text.
+    #[tactic(auto, using(crate::proofs::Growth::growth))]
+    pub fn put_comma(&mut self, after: bool)
+        ensures { Grows self.old self.new (comma after) }
+    {
+        if after {
+            self.put(",");
+        }
+    }
+
+    /// A signed number, in decimal.
+    #[tactic(auto, using(crate::proofs::Growth::growth))]
+    pub fn put_signed(&mut self, number: i64)
+        ensures { Grows self.old self.new (signed_decimal number) }
+    {
+        match format!(in self.alloc; "{number}") {
+            Ok(text) => self.put(text.as_str()),
+            Err(_) => self.live = false,
+        }
+    }
+
+    /// An unsigned number, in decimal.
+    #[tactic(auto, using(crate::proofs::Growth::growth))]
+    pub fn put_unsigned(&mut self, number: u64)
+        ensures { Grows self.old self.new (decimal number) }
+    {
+        match format!(in self.alloc; "{number}") {
+            Ok(text) => self.put(text.as_str()),
+            Err(_) => self.live = false,
+        }
+    }
+
+    /// A truth value.
+    pub fn put_truth(&mut self, truth: bool)
+        ensures { Grows self.old self.new (truth_shown truth) }
+    {
+        self.put(if truth { "true" } else { "false" });
+    }
+
+    /// A byte, as two digits.
+    fn put_hex(&mut self, byte: u8)
+        ensures { Grows self.old self.new (hex_byte byte) }
+    {
+        self.put(hex_digit(byte / 16));
+        self.put(hex_digit(byte % 16));
+    }
+
+    /// A byte as `\x` and two digits.
+    fn put_control(&mut self, byte: u8)
+        ensures { Grows self.old self.new (92 ∷ 120 ∷ hex_byte byte) }
+    {
+        self.put("\\x");
+        self.put_hex(byte);
+    }
+
+    /// A character of a text in double quotes.
+    #[tactic(auto, using(crate::proofs::Growth::growth, crate::proofs::Escapes::escapes))]
+    fn put_escaped(&mut self, ch: char)
+        ensures { Grows self.old self.new (flat_map escaped (encode_utf8 ch)) }
+    {
+        match ch {
+            '"' => self.put("\\\""),
+            '\\' => self.put("\\\\"),
+            '\0'..='\x1f' => self.put_control(ch as u8),
+            '\x7f' => self.put("\\x7F"),
+            _ => self.put(ch.encode_utf8(&mut [0; 4])),
+        }
+    }
+
+    /// The characters of a text.
+    fn put_characters(&mut self, text: &str)
+        ensures { Grows self.old self.new (flat_map escaped text.now) }
+    {
+        for ch in text.chars() {
+            self.put_escaped(ch);
+        }
+    }
+
+    /// A text in double quotes, `"` and `\` after a backslash, control characters as `\x` and two digits.
+    pub fn put_text(&mut self, text: &str)
+        ensures { Grows self.old self.new (text_shown text.now) }
+    {
+        self.put("\"");
+        self.put_characters(text);
+        self.put("\"");
+    }
+
+    /// The digits of bytes.
+    fn put_digits(&mut self, bytes: &[u8])
+        ensures { Grows self.old self.new (flat_map hex_byte bytes.now) }
+    {
+        for byte in bytes {
+            self.put_hex(*byte);
+        }
+    }
+
+    /// Bytes as `x"` hex `"`.
+    pub fn put_bytes(&mut self, bytes: &[u8])
+        ensures { Grows self.old self.new (bytes_shown bytes.now) }
+    {
+        self.put("x\"");
+        self.put_digits(bytes);
+        self.put("\"");
+    }
+}

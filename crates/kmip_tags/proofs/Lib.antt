@@ -1,0 +1,2 @@
+pub mod TheTable
+pub mod Entries

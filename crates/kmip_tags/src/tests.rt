@@ -1,0 +1,36 @@
+use crate::{make_kmip_tag_map, name_of};
+use kmip_wire::Tag;
+
+// Some lines of the table, at its ends, at the two names with two spaces, and on both sides of it.
+const LINES: [(u32, Option<&str>); 9] = [
+    (0x42_0000, None),
+    (0x42_0001, Some("Activation Date")),
+    (0x42_001B, Some("Certificate Subject  Alternative Name")),
+    (0x42_0020, Some("Compromise  Date")),
+    (0x42_0094, Some("Unique Identifier")),
+    (0x42_00A1, Some("Password")),
+    (0x42_0124, Some("Replace Existing")),
+    (0x42_0125, None),
+    (0x54_0001, None),
+];
+
+#[test]
+fn tags_have_the_names_of_the_table(rt: HostRuntime) {
+    let Ok(map) = make_kmip_tag_map(rt.alloc()) else {
+        panic!(rt; "no memory")
+    };
+    assert_eq!(rt; map.len(), 292);
+    for (number, name) in LINES {
+        let Some(tag) = Tag::new(number) else {
+            panic!(rt; "no tag")
+        };
+        assert_eq!(rt; name_of(tag), name);
+        assert_eq!(rt; map.get(tag), name);
+    }
+    let Some((tag, name)) = map.at(291) else {
+        panic!(rt; "no last entry")
+    };
+    assert_eq!(rt; tag.number(), 0x42_0124);
+    assert_eq!(rt; name, "Replace Existing");
+    assert!(rt; map.at(292).is_none());
+}

@@ -1,0 +1,27 @@
+//! Credentials that a client sends.
+
+ghost use Rattle.std.specs.Prelude.{◌≡◌};
+
+use kmip_wire::Text;
+
+/// What a client shows to be let in.
+#[derive(Drop)]
+pub enum CredentialType {
+    UsernameAndPassword(UsernameAndPasswordCredential),
+}
+
+/// A username, and its password where there is one: KMIP 1.0, 2.1.2.
+#[derive(Drop)]
+pub struct UsernameAndPasswordCredential {
+    pub username: Text,
+    pub password: Option<Text>,
+}
+
+impl UsernameAndPasswordCredential {
+    /// The credential of these two. It takes no memory.
+    pub fn new(username: Text, password: Option<Text>) -> Self
+        ensures { (result.username ≡ username) × (result.password ≡ password) }
+    {
+        UsernameAndPasswordCredential { username, password }
+    }
+}

@@ -1,0 +1,11 @@
+pub mod Values
+pub mod Computed
+pub mod SameItems
+pub mod Views
+pub mod Owned
+pub mod Steps
+pub mod Closings
+pub mod Ascii
+pub mod Writing
+pub mod Written
+pub mod Ranges

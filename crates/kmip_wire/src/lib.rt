@@ -1,0 +1,37 @@
+//! The wire form of KMIP: items of a tag, a type, a length and a value (TTLV).
+#![tactic(auto)]
+
+mod buffer;
+mod config;
+mod error;
+mod front;
+mod item;
+mod kind;
+mod laws;
+mod list;
+mod memory;
+mod read;
+mod tag;
+#[cfg(test)]
+mod tests;
+mod text;
+mod tree;
+mod value;
+mod write;
+
+pub use buffer::Buffer;
+pub use config::{Config, head};
+pub use error::{HeadError, WireError};
+pub use front::{check, front_len, front_len_at};
+pub use item::{Children, ItemRef};
+pub use kind::Kind;
+pub use laws::{
+    equality, list_equality, one_text, one_tree, parsed_ranges, tree_computed, written_parses,
+};
+pub use list::{List, clone_items};
+pub use memory::{OutOfMemory, TryClone, clone_optional};
+pub use read::{read_tree, split_front};
+pub use tag::Tag;
+pub use text::{Blob, Text};
+pub use tree::{Node, Tree, Trees};
+pub use write::write_tree;
