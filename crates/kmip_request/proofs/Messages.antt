@@ -2,7 +2,7 @@
 use Rattle.std.specs.Prelude.{ℕ, ℤ, pos, List, [], ◌∷◌, ◌++◌, Option, Some, None, ◌≡◌, refl}
 use Rattle.std.specs.Prelude.{Result}
 use Rattle.std.proofs.Common.{ap, subst, ◌∙◌}
-use Rattle.kmip_wire.specs.Bytes.{Writes}
+use Rattle.kmip_wire.specs.Found.{Writes}
 use Rattle.kmip_wire.specs.declared.error.WireError.{WireError}
 use Rattle.kmip_enums.specs.declared.operation.Operation.{Operation}
 use Rattle.kmip_request.specs.declared.header.ProtocolVersion.{ProtocolVersion}
@@ -60,10 +60,10 @@ bytes_are payload credential = ap (λ tree. option_and_then bytes tree) (tree_is
 -- what is written of a message of the right parts
 pub written_for : (result : Result (List ℕ) WireError) (payload : RequestPayload) (credential : Option Authentication) (version : ProtocolVersion) (kept : Option Authentication) (operation : Operation) →
     version ≡ version_of payload → kept ≡ credential → operation ≡ operation_of payload →
-    Writes (λ b. b) result (bytes_of request_message 0x420078 (single_request_val (made_of version kept operation payload))) →
-    Writes (λ b. b) result (request_bytes payload (option_map credential_of credential))
+    Writes result (bytes_of request_message 0x420078 (single_request_val (made_of version kept operation payload))) →
+    Writes result (request_bytes payload (option_map credential_of credential))
 written_for result payload credential version kept operation v k o w =
     let e : made_of version kept operation payload ≡ made_for payload credential = rw (v, k, o) refl in
     let all : bytes_of request_message 0x420078 (single_request_val (made_of version kept operation payload)) ≡ request_bytes payload (option_map credential_of credential) =
         ap (λ m. bytes_of request_message 0x420078 (single_request_val m)) e ∙ bytes_are payload credential in
-    subst (λ bytes. Writes (λ b. b) result bytes) all w
+    subst (λ bytes. Writes result bytes) all w

@@ -2,7 +2,7 @@
 
 ghost use Rattle.std.specs.Prelude.{◌≡◌, ◌≢◌, Some, None, IfOk, IfErr, IsErrOf};
 ghost use Rattle.std.specs.Option.{option_map};
-ghost use Rattle.kmip_wire.specs.Bytes.{Writes};
+ghost use Rattle.kmip_wire.specs.Found.{Writes};
 ghost use Rattle.kmip_request.specs.Tables.{request_message};
 ghost use Rattle.kmip_request.specs.Values.{single_request_val};
 ghost use Rattle.kmip_request.specs.Same.{single_request_same};
@@ -56,7 +56,7 @@ impl WriteItem for SingleRequest {
 
 /// The canonical bytes of a message.
 fn written(alloc: Global, message: &SingleRequest) -> Result<Blob, WireError>
-    ensures { Writes (λ b. b) result (bytes_of request_message 0x420078 (single_request_val message.now)) }
+    ensures { Writes result (bytes_of request_message 0x420078 (single_request_val message.now)) }
 {
     let tag = Tag::of(0x420078);
     let Some(len) = item_len(message, tag) else {
@@ -74,7 +74,7 @@ pub fn write_request(
     payload: RequestPayload,
     authentication: &mut Option<Authentication>,
 ) -> Result<Blob, WireError>
-    ensures bytes { Writes (λ b. b) result (request_bytes payload (option_map credential_of authentication.old)) }
+    ensures bytes { Writes result (request_bytes payload (option_map credential_of authentication.old)) }
     ensures ok { IfOk result (λ b. request_bytes payload (option_map credential_of authentication.old) ≡ Some b) }
     ensures no_form { IsErrOf result WireError.NoForm → request_bytes payload (option_map credential_of authentication.old) ≡ None }
     ensures never { IfErr result (λ e. e ≢ WireError.Malformed) }
@@ -103,7 +103,7 @@ pub fn to_vec(
     payload: RequestPayload,
     credential: Option<auth::CredentialType>,
 ) -> Result<Blob, WireError>
-    ensures { Writes (λ b. b) result (request_bytes payload credential) }
+    ensures { Writes result (request_bytes payload credential) }
 {
     let mut authentication = credential.map(Authentication::build);
     write_request(alloc, payload, &mut authentication)

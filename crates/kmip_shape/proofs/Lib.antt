@@ -13,5 +13,6 @@ pub mod Lengths
 pub mod Known
 pub mod Public
 pub mod Growth
+pub mod Appended
 pub mod Escapes
 pub mod Variants

@@ -1,5 +1,5 @@
 -- Tags, lists of trees, and the tests of a shape.
-use Rattle.std.proofs.Common.{◌≡◌, ℕ, Bool, true, false, cond, ◌&&◌, ◌||◌, not, List, [], ◌∷◌, ◌++◌, nat_eq, refl, sym, ◌∙◌, ap, subst, append-nil, eqb→eq, eq-eqb, filter, ◌==◌}
+use Rattle.std.proofs.Common.{◌≡◌, ℕ, ◌<◌, ◌^◌, nat_lt, ltb-true, Bool, true, false, cond, ◌&&◌, ◌||◌, not, List, [], ◌∷◌, ◌++◌, nat_eq, refl, sym, ◌∙◌, ap, subst, append-nil, eqb→eq, eq-eqb, filter, ◌==◌}
 use Rattle.kmip_wire.specs.Tree.{Tree}
 use Rattle.kmip_wire.specs.Parts.{tag_of}
 use Rattle.kmip_shape.specs.Shape.{Shape, OuterValue, Place, Under, ByCase, in_place, own_tags, among}
@@ -174,3 +174,9 @@ filter_place (Under tag) shape outer [] = refl
 filter_place (Under tag) shape outer (t ∷ ts) = rw (turned (tag_of t) tag, filter_place (Under tag) shape outer ts) refl
 filter_place ByCase shape outer [] = refl
 filter_place ByCase shape outer (t ∷ ts) = rw (filter_place ByCase shape outer ts) refl
+
+pub tag_first : (tag : ℕ) (rest : Bool) → (nat_lt tag (2 ^ 24) && rest) ≡ true → tag < 2 ^ 24
+tag_first tag rest h = let e : nat_lt tag (2 ^ 24) ≡ true = and_left (nat_lt tag (2 ^ 24)) rest h in ltb-true tag (2 ^ 24) e
+
+pub tags_rest : (tag : ℕ) (rest : Bool) → (nat_lt tag (2 ^ 24) && rest) ≡ true → rest ≡ true
+tags_rest tag rest h = and_right (nat_lt tag (2 ^ 24)) rest h

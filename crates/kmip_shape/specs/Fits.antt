@@ -1,4 +1,4 @@
-use Rattle.std.specs.Prelude.{ℕ, ◌^◌, ◌<◌, ◌≤ℤ◌, pos, negsuc, Bool, true, false, ◌&&◌, not, List, [], ◌∷◌, ◌++◌, Some, None, IfSome, IsUtf8, ◌≡◌}
+use Rattle.std.specs.Prelude.{ℕ, ◌^◌, ◌<◌, ◌≤ℤ◌, pos, negsuc, Bool, true, false, ◌&&◌, not, List, [], ◌∷◌, ◌++◌, Some, None, nat_lt, IfSome, IsUtf8, ◌≡◌}
 use Rattle.kmip_wire.specs.declared.kind.Kind.{Kind}
 use Rattle.kmip_wire.specs.declared.kind.Kind.TheVariants.{Integer, LongInteger, BigInteger, Enumeration, Boolean, TextString, ByteString, DateTime, Interval}
 use Rattle.kmip_shape.specs.Val.{Val, Vals, Field, Fields, Number, Text, Bytes, Truth, Record, Case, Absent, One, Many, NoField, AndField, NoVal, AndVal}
@@ -206,3 +206,8 @@ abbrev pub choosers_stand : Shape → Bool
 choosers_stand (Rows rows) = rows_choose false rows
 choosers_stand (RowsOrBytes n rows) = rows_choose false rows
 choosers_stand _ = true
+
+-- the tags of the rows are tags
+abbrev pub are_tags : RowList → Bool
+are_tags NoRow = true
+are_tags (AndRow name place mark role shape rows) = nat_lt (place_tag place) (2 ^ 24) && are_tags rows

@@ -1,6 +1,6 @@
 use Rattle.std.specs.Prelude.{ℕ, ℤ, pos, Bool, List, [], ◌∷◌, Option, Some, None, ◌≡◌, refl}
 use Rattle.std.proofs.Common.{ap, ◌∙◌}
-use Rattle.kmip_shape.specs.Val.{Val, Field, Fields, Number, Text, Bytes, Truth, Record, Case, One, Many, AndField}
+use Rattle.kmip_shape.specs.Val.{Val, Field, Fields, Number, Text, Bytes, Truth, Record, Case, One, Many, NoField, AndField}
 use Rattle.kmip_shape.specs.Writes.{optional, vals, optional_list}
 
 -- Equal fields, one row after the other.
@@ -29,9 +29,9 @@ same_number h = cc
 pub same_unsigned : {x y : ℕ} → Number (pos x) ≡ Number (pos y) → x ≡ y
 same_unsigned h = cc
 
--- equal values of a type that has one value for each
-abbrev pub IsFaithful : {T : Type 0} → (T → Val) → Type 0
-IsFaithful {T} val = (x y : T) → val x ≡ val y → x ≡ y
+-- values that are seen alike are equal
+abbrev pub IsFaithful : {T V : Type 0} → (T → V) → Type 0
+IsFaithful {T} {V} val = (x y : T) → val x ≡ val y → x ≡ y
 
 pub same_one : {T : Type 0} (val : T → Val) → IsFaithful val → (x y : T) → One (val x) ≡ One (val y) → x ≡ y
 same_one val f x y h = f x y cc
@@ -59,3 +59,25 @@ same_optional_list val f None None h = refl
 same_optional_list val f None (Some ys) h = cc
 same_optional_list val f (Some xs) None h = cc
 same_optional_list val f (Some xs) (Some ys) h = ap Some (same_vals val f xs ys cc)
+
+-- The fields of a record as nested pairs, row by row: `and_row (one_row name_same) (and_row (optional_row index_same) no_row)`.
+
+pub one_row : {T : Type 0} {val : T → Val} → IsFaithful val → IsFaithful (λ (x : T). One (val x))
+one_row {T} {val} f x y h = same_one val f x y h
+
+pub optional_row : {T : Type 0} {val : T → Val} → IsFaithful val → IsFaithful (λ (x : Option T). optional val x)
+optional_row {T} {val} f x y h = same_optional val f x y h
+
+pub list_row : {T : Type 0} {val : T → Val} → IsFaithful val → IsFaithful (λ (x : List T). Many (vals val x))
+list_row {T} {val} f x y h = same_list val f x y h
+
+pub optional_list_row : {T : Type 0} {val : T → Val} → IsFaithful val → IsFaithful (λ (x : Option (List T)). optional_list val x)
+optional_list_row {T} {val} f x y h = same_optional_list val f x y h
+
+pub and_row : {A B : Type 0} {field : A → Field} {fields : B → Fields} → IsFaithful field → IsFaithful fields → IsFaithful (λ (t : A × B). AndField (field t.0) (fields t.1))
+and_row {A} {B} {field} {fields} f g x y h =
+    let r = same_rows h in
+    ap (λ (a : A). (a, x.1)) (f x.0 y.0 r.0) ∙ ap (λ (b : B). (y.0, b)) (g x.1 y.1 r.1)
+
+pub no_row : IsFaithful (λ (t : Unit {0}). NoField)
+no_row x y h = refl

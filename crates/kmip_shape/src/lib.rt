@@ -7,6 +7,7 @@ mod plain;
 pub mod children;
 pub mod columns;
 mod enumeration;
+pub mod fields;
 pub mod read;
 pub mod record;
 mod root;
@@ -17,6 +18,7 @@ mod sink;
 mod write;
 
 pub use enumeration::Enumeration;
+pub use fields::{known_record, record_len, show_record, write_record};
 pub use show::ShowItem;
 pub use sink::Sink;
 pub use laws::{read_back, written};

@@ -1,4 +1,4 @@
--- The names of tags.
+-- The names of tags (KMIP 1.0, 9.1.3.1).
 use Rattle.std.specs.Prelude.{ℕ, ◌+◌, ◌-◌, List, [], ◌∷◌, Option, None, nat_lt, slice_get, if◌then◌else◌}
 use Rattle.kmip_tags.specs.Table.{first_tag, names}
 
