@@ -4,10 +4,11 @@ use Rattle.std.proofs.lemmas.List.{length-replicate}
 use Rattle.kmip_wire.specs.Tree.{Tree, Trees, scalar, structure, none, more}
 use Rattle.kmip_wire.specs.Kinds.{code_of, kind_of_scalar}
 use Rattle.kmip_wire.specs.Head.{pads}
-use Rattle.kmip_wire.specs.Bytes.{bytes, all_bytes, framed, in_order, head_bytes, item_bytes, value_bytes, has_form}
+use Rattle.kmip_shape.specs.Writes.{structure_head}
+use Rattle.kmip_wire.specs.Bytes.{bytes, all_bytes, framed, in_order, item_bytes, value_bytes, has_form}
 
 pub item_len : (tag code : ℕ) (v : List ℕ) → length (item_bytes tag code v) ≡ 8 + length v + pads (length v)
-unfolding item_bytes head_bytes
+unfolding item_bytes
 item_len tag code v = grind (arith, length-append, length-replicate)
 
 abbrev pub IsAligned : Option (List ℕ) → Type 0
@@ -39,6 +40,6 @@ trees_aligned none = refl
 trees_aligned (more t ts) = order_aligned (bytes t) (all_bytes ts) (tree_aligned t) (trees_aligned ts)
 
 -- what comes in eights has no pads as a value
-pub flat : (tag : ℕ) (c : List ℕ) → length c % 8 ≡ 0 → item_bytes tag 1 c ≡ head_bytes tag 1 (length c) ++ c
-unfolding item_bytes
-flat tag c h = let e : pads (length c) ≡ 0 = omega arith in rw e (ap (λ (x : List ℕ). head_bytes tag 1 (length c) ++ x) (append-nil c))
+pub flat : (tag : ℕ) (c : List ℕ) → length c % 8 ≡ 0 → item_bytes tag 1 c ≡ structure_head tag (length c) ++ c
+unfolding item_bytes structure_head
+flat tag c h = let e : pads (length c) ≡ 0 = omega arith in rw e (ap (λ (x : List ℕ). structure_head tag (length c) ++ x) (append-nil c))

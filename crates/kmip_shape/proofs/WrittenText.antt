@@ -1,8 +1,8 @@
 -- What is written is the bytes of the tree.
 use Rattle.std.proofs.Common.{◌≡◌, ℕ, ◌+◌, ◌^◌, ◌<◌, Bool, true, false, cond, length, List, [], ◌∷◌, ◌++◌, Option, Some, None, refl, sym, ◌∙◌, ap, subst, lt-ltb, length-append, append-nil, append_assoc}
 use Rattle.kmip_wire.specs.Tree.{Scalar as Leaf, Tree, scalar, trees_of}
-use Rattle.kmip_wire.specs.Bytes.{head_bytes, item_bytes, bytes, all_bytes, in_order, value_bytes}
-use Rattle.kmip_shape.specs.Writes.{leaf_form, leaf_has_form, leaf_size, leaf_text, len_of}
+use Rattle.kmip_wire.specs.Bytes.{item_bytes, bytes, all_bytes, in_order, value_bytes}
+use Rattle.kmip_shape.specs.Writes.{structure_head, leaf_form, leaf_has_form, leaf_size, leaf_text, len_of}
 use Rattle.std.specs.Option.{option_and_then}
 use Rattle.kmip_wire.specs.Kinds.{kind_of_scalar, code_of}
 use Rattle.kmip_wire.specs.declared.kind.Kind.TheVariants.{Enumeration}
@@ -47,9 +47,9 @@ maybe_then None b = refl
 maybe_then (Some ts) None = sym (then_stop (all_bytes (trees_of ts)))
 maybe_then (Some ts) (Some us) = all_append ts us
 
-pub head_len : (tag code len : ℕ) → length (head_bytes tag code len) ≡ 8
-unfolding head_bytes
-head_len tag code len = refl
+pub head_len : (tag len : ℕ) → length (structure_head tag len) ≡ 8
+unfolding structure_head
+head_len tag len = refl
 
 abbrev pub tree_bytes : Option Tree → Option (List ℕ)
 tree_bytes o = option_and_then bytes o
@@ -81,15 +81,15 @@ shape_written (OneOf es) v tag h = leaf_written tag (leaf_of Enumeration v) h
 shape_written _ v tag h = absurd h
 
 pub structure_written : (tag : ℕ) (o : Option (List Tree)) (contents : List ℕ) (size : ℕ) → maybe_bytes o ≡ Some contents → length contents ≡ size → size < 2 ^ 32
-    → (tree_bytes (structure_of tag o) ≡ Some (head_bytes tag 1 size ++ contents)) × (length (head_bytes tag 1 size ++ contents) ≡ 8 + size)
+    → (tree_bytes (structure_of tag o) ≡ Some (structure_head tag size ++ contents)) × (length (structure_head tag size ++ contents) ≡ 8 + size)
 structure_written tag None contents size h e l = absurd (clash h)
   where
     clash : None ≡ Some contents → ⊥
     clash h = cc
 structure_written tag (Some ts) contents size h e l =
     let aligned : IsAligned (Some contents) = subst IsAligned h (trees_aligned (trees_of ts)) in
-    let whole : item_bytes tag 1 contents ≡ head_bytes tag 1 size ++ contents = flat tag contents aligned ∙ rw e refl in
-    (rw (h, e, lt-ltb size (2 ^ 32) l) (ap Some whole), length-append (head_bytes tag 1 size) contents ∙ rw (head_len tag 1 size, e) refl)
+    let whole : item_bytes tag 1 contents ≡ structure_head tag size ++ contents = flat tag contents aligned ∙ rw e refl in
+    (rw (h, e, lt-ltb size (2 ^ 32) l) (ap Some whole), length-append (structure_head tag size) contents ∙ rw (head_len tag size, e) refl)
 
 pub one_bytes : (o : Option Tree) → maybe_bytes (one_tree o) ≡ tree_bytes o
 one_bytes None = refl
@@ -140,7 +140,7 @@ plains_written around (AndVal v vs) f =
     then_written (one_tree (plain_tree around v)) (plain_trees around vs) (maybe_text attribute_value (plain_leaf around v)) (plains_text around vs) (maybe_size (plain_leaf around v)) (plains_size around vs) (one_bytes (plain_tree around v) ∙ p.0) q.0 p.1 q.1
 
 custom_written : (around : Cases) (fs : Fields) (tag : ℕ) → custom_form around fs
-    → (tree_bytes (structure_of tag (custom_trees around fs)) ≡ Some (head_bytes tag 1 (plains_size around (many_of fs)) ++ plains_text around (many_of fs))) × (length (head_bytes tag 1 (plains_size around (many_of fs)) ++ plains_text around (many_of fs)) ≡ 8 + plains_size around (many_of fs))
+    → (tree_bytes (structure_of tag (custom_trees around fs)) ≡ Some (structure_head tag (plains_size around (many_of fs)) ++ plains_text around (many_of fs))) × (length (structure_head tag (plains_size around (many_of fs)) ++ plains_text around (many_of fs)) ≡ 8 + plains_size around (many_of fs))
 custom_written around (AndField (Many vs) NoField) tag f =
     let p = plains_written around vs f.0 in structure_written tag (plain_trees around vs) (plains_text around vs) (plains_size around vs) p.0 p.1 f.1
 custom_written around NoField tag f = absurd f
@@ -153,8 +153,8 @@ bytes_written : (n : ℕ) (fs : Fields) (around : Cases) (rows : RowList) (tag :
 bytes_written n fs around rows tag f ih = go (byte_form n fs) f
   where
     go : (o : Option (List ℕ)) → elim o as (λ _. Type 0) [ None ↦ fields_form fs rows × (fields_size fs rows < 2 ^ 32) | Some b ↦ leaf_form (byte_string b) ]
-        → (tree_bytes (bytes_or tag o (structure_of tag (field_trees fs NoCase rows))) ≡ Some (elim o as (λ _. List ℕ) [ None ↦ head_bytes tag 1 (fields_size fs rows) ++ fields_text fs rows | Some b ↦ leaf_text tag (byte_string b) ]))
-        × (length (elim o as (λ _. List ℕ) [ None ↦ head_bytes tag 1 (fields_size fs rows) ++ fields_text fs rows | Some b ↦ leaf_text tag (byte_string b) ]) ≡ elim o as (λ _. ℕ) [ None ↦ 8 + fields_size fs rows | Some b ↦ leaf_size (byte_string b) ])
+        → (tree_bytes (bytes_or tag o (structure_of tag (field_trees fs NoCase rows))) ≡ Some (elim o as (λ _. List ℕ) [ None ↦ structure_head tag (fields_size fs rows) ++ fields_text fs rows | Some b ↦ leaf_text tag (byte_string b) ]))
+        × (length (elim o as (λ _. List ℕ) [ None ↦ structure_head tag (fields_size fs rows) ++ fields_text fs rows | Some b ↦ leaf_text tag (byte_string b) ]) ≡ elim o as (λ _. ℕ) [ None ↦ 8 + fields_size fs rows | Some b ↦ leaf_size (byte_string b) ])
     go None f = ih f.0 f.1
     go (Some b) f = leaf_written tag (Some (byte_string b)) f
 

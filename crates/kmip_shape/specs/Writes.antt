@@ -170,6 +170,10 @@ abbrev mutual
   list_form NoVal shape = Unit {0}
   list_form (AndVal val vals) shape = form_in val NoCase shape × list_form vals shape
 
+-- the head of a structure whose contents have so many bytes
+unfoldable pub structure_head : ℕ → ℕ → List ℕ
+structure_head tag size = head_bytes tag 1 size
+
 -- What a value is written as, where it has a form.
 abbrev mutual
   pub text_in : Val → Cases → Shape → ℕ → List ℕ
@@ -178,9 +182,9 @@ abbrev mutual
   text_in (Bytes b) around shape tag = maybe_text tag (leaf_at shape (Bytes b))
   text_in (Truth b) around shape tag = maybe_text tag (leaf_at shape (Truth b))
   text_in (Record fields) around shape tag = elim shape [
-      Rows rows ↦ head_bytes tag 1 (fields_size fields rows) ++ fields_text fields rows
-    | RowsOrBytes n rows ↦ elim (byte_form n fields) [ None ↦ head_bytes tag 1 (fields_size fields rows) ++ fields_text fields rows | Some b ↦ leaf_text tag (byte_string b) ]
-    | Custom ↦ head_bytes tag 1 (plains_size around (many_of fields)) ++ plains_text around (many_of fields)
+      Rows rows ↦ structure_head tag (fields_size fields rows) ++ fields_text fields rows
+    | RowsOrBytes n rows ↦ elim (byte_form n fields) [ None ↦ structure_head tag (fields_size fields rows) ++ fields_text fields rows | Some b ↦ leaf_text tag (byte_string b) ]
+    | Custom ↦ structure_head tag (plains_size around (many_of fields)) ++ plains_text around (many_of fields)
     | _ ↦ [] ]
   text_in (Case n val) around shape tag = elim shape [
       Choice rule cases ↦ elim (case_at cases n) [ None ↦ [] | Some c ↦ text_in val cases c.shape (tag_or c.tag tag) ]

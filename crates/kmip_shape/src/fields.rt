@@ -5,11 +5,10 @@
 
 ghost use Rattle.std.specs.Prelude.{◌≡◌, ◌≤◌, ◌<◌, ◌+◌, ◌^◌, ◌++◌, ◌||◌, ◌∷◌, ℕ, Bool, false, IfSome, [], true};
 ghost use Rattle.kmip_wire.specs.Room.{Appends};
-ghost use Rattle.kmip_wire.specs.Bytes.{head_bytes};
 ghost use Rattle.kmip_shape.specs.Val.{Field, Fields, Val, NoField as no_fields, AndField as and_field, One as one, Many as many, Record as record_of};
 ghost use Rattle.kmip_shape.specs.Shape.{RowList, Shape, Mark, Required, Optional, AnyNumber, AtLeastOne, OptionalList, NoRow, AndRow, Under, Plain, NoCase, Rows as rows_of};
 ghost use Rattle.kmip_shape.specs.Fits.{are_tags, mark_fits, field_fits, fields_fit};
-ghost use Rattle.kmip_shape.specs.Writes.{optional, optional_list, vals, field_form, field_len, field_size, field_text, fields_form, fields_len, fields_size, fields_text, structure_len as len_of_structure};
+ghost use Rattle.kmip_shape.specs.Writes.{structure_head, optional, optional_list, vals, field_form, field_len, field_size, field_text, fields_form, fields_len, fields_size, fields_text, structure_len as len_of_structure};
 ghost use Rattle.kmip_shape.specs.Shown.{Grows, shown, row_shown, fields_shown, stands};
 
 use crate::columns::{ChosenOne, ChosenOpt, Many, NonEmpty, One, Opt, OptMany};
@@ -466,7 +465,7 @@ pub fn write_record<'b, R: WriteRows<'b>>(lent: R::Lent, tag: Tag, out: &mut Buf
     requires form { fields_form (R.fields lent) R.row_list }
     requires below { fields_size (R.fields lent) R.row_list < 2 ^ 32 }
     requires room { 8 + fields_size (R.fields lent) R.row_list ≤ out.old.spare }
-    ensures { Appends out.old out.new (head_bytes tag 1 (fields_size (R.fields lent) R.row_list) ++ fields_text (R.fields lent) R.row_list) (8 + fields_size (R.fields lent) R.row_list) }
+    ensures { Appends out.old out.new (structure_head tag (fields_size (R.fields lent) R.row_list) ++ fields_text (R.fields lent) R.row_list) (8 + fields_size (R.fields lent) R.row_list) }
 {
     if let Some(len) = R::len(lent) {
         out.put_head(tag, Kind::Structure, len as u32);

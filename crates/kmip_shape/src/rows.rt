@@ -2,10 +2,9 @@
 
 ghost use Rattle.std.specs.Prelude.{ℕ, ◌≡◌, ◌+◌, ◌-◌, ◌≤◌, ◌<◌, ◌^◌, Option, map};
 ghost use Rattle.kmip_wire.specs.Room.{Appends};
-ghost use Rattle.kmip_wire.specs.Bytes.{head_bytes};
 ghost use Rattle.kmip_shape.specs.Fits.{mark_fits, field_fits, vals_fit, AreBytes};
 ghost use Rattle.kmip_shape.specs.Shape.{NoCase, Optional, OptionalList};
-ghost use Rattle.kmip_shape.specs.Writes.{list_form, list_size, list_text, list_len as len_of_list, field_form, field_size, field_text, field_len, optional, optional_list, vals, sum_len, structure_len as len_of_structure, plus_len, HasForm, size_of, wire_len_of};
+ghost use Rattle.kmip_shape.specs.Writes.{structure_head, list_form, list_size, list_text, list_len as len_of_list, field_form, field_size, field_text, field_len, optional, optional_list, vals, sum_len, structure_len as len_of_structure, plus_len, HasForm, size_of, wire_len_of};
 
 use crate::item::{Item, WriteItem};
 use kmip_wire::{Buffer, Kind, List, Tag};
@@ -82,15 +81,15 @@ pub fn structure_len(rows: &[Option<u64>]) -> Option<u64>
 }
 
 /// Appends the head of a structure, for an item with a form and its length.
-#[tactic(auto, using(crate::proofs::Forms::len_law))]
+#[tactic(auto, using(crate::proofs::Forms::len_law), unfolding(crate::specs::Writes::structure_head))]
 pub fn begin_structure<T: Item>(item: &T, len: Option<u64>, tag: Tag, out: &mut Buffer)
     requires form { HasForm T.shape (T.val item.now) }
     requires len { len ≡ wire_len_of T.shape (T.val item.now) }
     requires whole { 8 ≤ size_of T.shape (T.val item.now) }
     requires below { size_of T.shape (T.val item.now) < 2 ^ 32 + 8 }
     requires room { 8 ≤ out.old.spare }
-    ensures head { Appends out.old out.new (head_bytes tag 1 (size_of T.shape (T.val item.now) - 8)) 8 }
-    ensures contents { (n : ℕ) → size_of T.shape (T.val item.now) ≡ 8 + n → Appends out.old out.new (head_bytes tag 1 n) 8 }
+    ensures head { Appends out.old out.new (structure_head tag (size_of T.shape (T.val item.now) - 8)) 8 }
+    ensures contents { (n : ℕ) → size_of T.shape (T.val item.now) ≡ 8 + n → Appends out.old out.new (structure_head tag n) 8 }
 {
     if let Some(len) = len {
         out.put_head(tag, Kind::Structure, (len - 8) as u32);

@@ -22,7 +22,7 @@ use Rattle.kmip_wire.proofs.Computed.{mapped}
 -- ---- an item's bytes and its value
 
 pub item_bytes-length : (tag code : ℕ) (v : List ℕ) → length (item_bytes tag code v) ≡ 8 + (length v + pads (length v))
-unfolding item_bytes head_bytes
+unfolding item_bytes
 item_bytes-length tag code v = omega (arith, length-append v (replicate (pads (length v)) 0), length-replicate {A = ℕ} (pads (length v)) 0)
 
 map_cond : {A B : Type 0} (f : A → B) (b : Bool) (x : A) → cond b (Some (f x)) None ≡ option_map f (cond b (Some x) None)

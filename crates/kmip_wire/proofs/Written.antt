@@ -16,7 +16,7 @@ use Rattle.kmip_wire.specs.Parses.{IsValue, IsLevel, IsItem, Parses, ParseAll}
 use Rattle.kmip_wire.specs.Reading.{scalar_at}
 use Rattle.kmip_wire.specs.Parts.{tag_of, kind_of_tree}
 use Rattle.kmip_wire.specs.Contents.{fitting, value_of_tree}
-use Rattle.kmip_wire.specs.Bytes.{head_bytes, value_bytes, has_form, item_bytes, bytes, all_bytes, levels, levels_of_all, IsInRange, HasRanges, HaveRanges}
+use Rattle.kmip_wire.specs.Bytes.{value_bytes, has_form, item_bytes, bytes, all_bytes, levels, levels_of_all, IsInRange, HasRanges, HaveRanges}
 use Rattle.kmip_wire.proofs.Values.{kind_of-code_of, scalar_at-complete}
 use Rattle.kmip_wire.proofs.Computed.{mapped, size_at-take}
 use Rattle.kmip_wire.proofs.Writing.{item_bytes-length, bytes_are, both_some, value_short}
@@ -24,19 +24,19 @@ use Rattle.kmip_wire.proofs.Writing.{item_bytes-length, bytes_are, both_some, va
 -- ---- what the bytes of an item say
 
 item_bytes-head_tag : (tag code : ℕ) (v : List ℕ) → tag < 2 ^ 24 → head_tag (item_bytes tag code v) ≡ tag
-unfolding item_bytes head_tag head_bytes
+unfolding item_bytes head_tag
 item_bytes-head_tag tag code v h = omega (arith, from_be_bytes-to_be_bytes_4 tag (omega arith))
 
 item_bytes-head_length : (tag code : ℕ) (v : List ℕ) → length v < 2 ^ 32 → head_length (item_bytes tag code v) ≡ length v
-unfolding item_bytes head_length head_bytes
+unfolding item_bytes head_length
 item_bytes-head_length tag code v h = from_be_bytes-to_be_bytes_4 (length v) h
 
 item_bytes-head_code : (tag code : ℕ) (v : List ℕ) → head_code (item_bytes tag code v) ≡ code
-unfolding item_bytes head_bytes
+unfolding item_bytes
 item_bytes-head_code tag code v = refl
 
 item_bytes-value : (tag code : ℕ) (v : List ℕ) → length v < 2 ^ 32 → value_of (item_bytes tag code v) ≡ v
-unfolding item_bytes head_bytes
+unfolding item_bytes
 item_bytes-value tag code v h =
     ap (λ k. take k (drop 8 (item_bytes tag code v))) (item_bytes-head_length tag code v h) ∙ take_at v (replicate (pads (length v)) 0) (length v) refl
 

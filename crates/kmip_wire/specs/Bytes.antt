@@ -23,7 +23,7 @@ has_form (big_integer b) = length b % 8 == 0
 has_form _ = true
 
 -- three bytes of the tag, one of the type, four of the length
-unfoldable pub head_bytes : ℕ → ℕ → ℕ → List ℕ
+abbrev pub head_bytes : ℕ → ℕ → ℕ → List ℕ
 head_bytes tag code n = drop 1 (to_be_bytes w32 tag) ++ (code ∷ to_be_bytes w32 n)
 
 -- head, value and the fewest zero pads

@@ -86,7 +86,6 @@ impl Buffer {
     }
 
     /// Appends the head of an item, which is 8 bytes.
-    #[tactic(auto, using(std::proofs::lemmas::List::append_assoc), unfolding(crate::specs::Bytes::head_bytes))]
     pub fn put_head(&mut self, tag: Tag, kind: Kind, len: u32)
         requires { 8 ≤ self.old.spare }
         ensures { Appends self.old self.new (head_bytes tag (code_of kind) len) 8 }

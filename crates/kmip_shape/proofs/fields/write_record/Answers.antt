@@ -1,14 +1,14 @@
 use Rattle.std.proofs.Common.{◌≡◌, ℕ, Some, ◌∙◌, subst}
 use Rattle.kmip_wire.specs.Room.{Appends}
-use Rattle.kmip_wire.specs.Bytes.{head_bytes}
-use Rattle.kmip_shape.specs.Writes.{fields_size}
+use Rattle.kmip_shape.specs.Writes.{fields_size, structure_head}
 use Rattle.kmip_shape.proofs.Appended.{appended}
 use Rattle.kmip_shape.proofs.Forms.{fields_len_law}
 use Rattle.kmip_shape.proofs.Parts.{some_same}
 use Rattle.kmip_shape.proofs.fields.write_record.Goals as goal
 
 pub returns-in-Some : goal.returns-in-Some
+unfolding structure_head
 returns-in-Some g c =
     let size : ℕ = fields_size (g.R.FieldRows.fields c.args.lent) g.R.FieldRows.row_list in
     let e : c.in-Some.len ≡ size = some_same c.in-Some.len size (c.in-Some.ensures.len ∙ fields_len_law (g.R.FieldRows.fields c.args.lent) g.R.FieldRows.row_list c.requires.form c.requires.below) in
-    appended (subst (λ (n : ℕ). Appends c.args.out.now c.put_head.new.self (head_bytes c.args.tag 1 n) 8) e c.put_head.ensures) c.write.ensures
+    appended (subst (λ (n : ℕ). Appends c.args.out.now c.put_head.new.self (structure_head c.args.tag n) 8) e c.put_head.ensures) c.write.ensures
