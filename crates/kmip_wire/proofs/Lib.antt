@@ -1,0 +1,5 @@
+pub mod Values
+pub mod Computed
+pub mod SameItems
+pub mod Views
+pub mod Owned

@@ -1,0 +1,15 @@
+pub mod Tree
+pub mod Sizes
+pub mod Sees
+pub mod Falls
+pub mod Same
+pub mod Kinds
+pub mod Head
+pub mod Parses
+pub mod Reading
+pub mod Bytes
+pub mod Parts
+pub mod Room
+pub mod Whole
+pub mod Items
+pub mod Found

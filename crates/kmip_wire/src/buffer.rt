@@ -1,0 +1,126 @@
+// The buffer that writers write into, seen as its bytes and its spare room.
+ghost use Rattle.std.specs.Prelude.{◌≡◌, ◌+◌, ◌≤◌, ◌<◌, ◌^◌, [], length, replicate, OnOk, OnErr};
+ghost use Rattle.kmip_wire.specs.Kinds.{code_of};
+ghost use Rattle.kmip_wire.specs.Head.{pads};
+ghost use Rattle.kmip_wire.specs.Bytes.{head_bytes, item_bytes};
+ghost use Rattle.kmip_wire.specs.Room.{Appends};
+
+use crate::kind::Kind;
+use crate::memory::OutOfMemory;
+use crate::tag::Tag;
+use crate::text::Blob;
+use std::alloc::Global;
+use std::marker::Model;
+
+/// Bytes, and room reserved for more.
+#[derive(Drop)]
+pub struct Buffer {
+    bytes: Vec<u8>,
+    spare: usize,
+}
+
+impl Model for Buffer {
+    ghost use Rattle.std.specs.Prelude.{◌+◌, ◌≤◌, vec_len, vec_capacity};
+    ghost use Rattle.kmip_wire.specs.Room.{Room};
+
+    ghost Value = { Room };
+
+    ghost view = { λ b. record { bytes = b.bytes.items; spare = b.spare } };
+
+    ghost invariant = { λ b. vec_len b.bytes + b.spare ≤ vec_capacity b.bytes };
+}
+
+#[tactic(auto, using(std::proofs::lemmas::List::append_assoc))]
+impl Buffer {
+    /// No bytes and no room. It takes no memory.
+    pub fn new(alloc: Global) -> Buffer
+        ensures bytes { result.bytes ≡ [] }
+        ensures spare { result.spare ≡ 0 }
+    {
+        Buffer {
+            bytes: Vec::new(alloc),
+            spare: 0,
+        }
+    }
+
+    /// How many more bytes it takes with no memory asked for.
+    pub fn spare(&self) -> usize
+        ensures { result ≡ self.now.spare }
+    {
+        self.spare
+    }
+
+    /// Makes the spare room at least `more`. Where memory runs out, the buffer stays as it was.
+    pub fn reserve(&mut self, more: usize) -> Result<(), OutOfMemory>
+        ensures bytes { self.new.bytes ≡ self.old.bytes }
+        ensures room { OnOk result (more ≤ self.new.spare) }
+        ensures grows { self.old.spare ≤ self.new.spare }
+        ensures refused { OnErr result (self.new ≡ self.old) }
+    {
+        if more <= self.spare {
+            return Ok(());
+        }
+        match self.bytes.reserve(more) {
+            Ok(()) => {
+                self.spare = more;
+                Ok(())
+            }
+            Err(_) => Err(OutOfMemory),
+        }
+    }
+
+    /// Appends the bytes, for which there is room.
+    pub fn put(&mut self, bytes: &[u8])
+        requires { length bytes.now ≤ self.old.spare }
+        ensures { Appends self.old self.new bytes.now (length bytes.now) }
+    {
+        let _ = self.bytes.extend_from_slice(bytes);
+        self.spare -= bytes.len();
+    }
+
+    /// Its bytes, with no copy made.
+    pub fn into_blob(self) -> Blob
+        ensures { result ≡ self.bytes }
+    {
+        Blob::of_vec(self.bytes)
+    }
+
+    /// Appends the head of an item, which is 8 bytes.
+    pub fn put_head(&mut self, tag: Tag, kind: Kind, len: u32)
+        requires { 8 ≤ self.old.spare }
+        ensures { Appends self.old self.new (head_bytes tag (code_of kind) len) 8 }
+    {
+        let tag = tag.number().to_be_bytes();
+        let length = len.to_be_bytes();
+        self.put(&[
+            tag[1],
+            tag[2],
+            tag[3],
+            kind.code(),
+            length[0],
+            length[1],
+            length[2],
+            length[3],
+        ]);
+    }
+
+    // Appends the fewest zeros that bring a value of so many bytes to a multiple of 8.
+    fn put_pads(&mut self, len: usize)
+        requires { pads len ≤ self.old.spare }
+        ensures { Appends self.old self.new (replicate (pads len) 0) (pads len) }
+    {
+        self.put(&[0; 8][..(8 - len % 8) % 8]);
+    }
+
+    /// Appends an item of the value: its head, the value and its pads.
+    #[tactic(auto, using(std::proofs::lemmas::List::append_assoc), unfolding(crate::specs::Bytes::item_bytes))]
+    pub fn put_item(&mut self, tag: Tag, kind: Kind, value: &[u8])
+        requires form { length value.now < 2 ^ 32 }
+        requires room { 8 + length value.now + pads (length value.now) ≤ self.old.spare }
+        ensures { Appends self.old self.new (item_bytes tag (code_of kind) value.now) (8 + length value.now + pads (length value.now)) }
+    {
+        self.put_head(tag, kind, value.len() as u32);
+        self.put(value);
+        self.put_pads(value.len());
+    }
+}

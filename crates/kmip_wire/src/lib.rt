@@ -1,0 +1,28 @@
+//! The wire form of KMIP: items of a tag, a type, a length and a value (TTLV).
+#![tactic(auto)]
+
+mod buffer;
+mod error;
+mod front;
+mod item;
+mod kind;
+mod laws;
+mod list;
+mod memory;
+mod read;
+mod tag;
+mod text;
+mod tree;
+
+pub use buffer::Buffer;
+pub use error::WireError;
+pub use front::{check, front_len, front_len_at};
+pub use item::{Children, ItemRef};
+pub use kind::Kind;
+pub use laws::{one_tree, tree_computed};
+pub use list::{List, clone_items};
+pub use memory::{OutOfMemory, TryClone, clone_optional};
+pub use read::{read_tree, split_front};
+pub use tag::Tag;
+pub use text::{Blob, Text};
+pub use tree::{Node, Tree, Trees};

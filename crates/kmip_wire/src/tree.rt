@@ -1,0 +1,227 @@
+// A TTLV item, seen as a tree of the definitions.
+ghost use Rattle.kmip_wire.specs.Sees.{tree_of};
+ghost use Rattle.kmip_wire.specs.Same.{same_tree, same_trees};
+ghost use Rattle.kmip_wire.specs.Tree.{trees_of};
+ghost use Rattle.std.specs.Prelude.{◌≡◌, ℕ, ◌<◌, ◌^◌, List, [], ◌∷◌, ◌++◌, length, MatchOption, IfOk, ◌≤◌, is_ok, if◌then◌else◌, option_copied, slice_get};
+
+use crate::memory::{OutOfMemory, TryClone};
+use crate::tag::Tag;
+use crate::text::{Blob, Text};
+use std::alloc::Global;
+use std::marker::Model;
+
+#[cycle(tree)]
+#[derive(Drop)]
+pub struct Tree {
+    pub tag: Tag,
+    pub node: Node,
+}
+
+#[cycle(tree)]
+#[derive(Drop)]
+pub enum Node {
+    Structure(Trees),
+    Integer(i32),
+    LongInteger(i64),
+    BigInteger(Blob),
+    Enumeration(u32),
+    Boolean(bool),
+    TextString(Text),
+    ByteString(Blob),
+    DateTime(u64),
+    Interval(u32),
+}
+
+#[cycle(tree)]
+#[derive(Drop)]
+pub struct Trees {
+    items: Vec<Tree>,
+}
+
+impl Model for Tree {
+    ghost use Rattle.kmip_wire.specs.Tree.{Tree, tree_code};
+
+    ghost Value = { Tree };
+
+    ghost coded = { tree_code };
+
+    ghost use Rattle.kmip_wire.specs.Sees.{tree_of};
+    ghost use Rattle.kmip_wire.specs.Sizes.{tree_size};
+
+    ghost view = { λ a. tree_of a.tag a.node };
+
+    ghost size = { tree_size };
+
+    ghost use Rattle.kmip_wire.specs.Falls.{deep_le-tree_size};
+
+    ghost size_decreases = { λ a h. deep_le-tree_size a.tag a.node };
+}
+
+impl Model for Trees {
+    ghost use Rattle.std.specs.Prelude.{List};
+    ghost use Rattle.std.specs.Coded.{coded_list};
+    ghost use Rattle.std.proofs.Common.{arith};
+    ghost use Rattle.kmip_wire.specs.Tree.{Tree, tree_code, trees_of};
+    ghost use Rattle.kmip_wire.specs.Sizes.{trees_size, most_le-trees_size};
+
+    ghost Value = { List Tree };
+
+    ghost coded = { coded_list tree_code };
+
+    ghost view = { λ a. a.items.items };
+
+    ghost size = { λ ts. trees_size (trees_of ts) };
+
+    ghost size_decreases = { λ a h. Prim.omega (arith, most_le-trees_size a.items.items) };
+}
+
+impl Trees {
+    pub fn new(alloc: Global) -> Trees
+        ensures { result ≡ [] }
+    {
+        Trees {
+            items: Vec::new(alloc),
+        }
+    }
+
+    pub fn push(&mut self, item: Tree) -> Result<(), OutOfMemory>
+        ensures { self.new ≡ (if is_ok result then self.old ++ item ∷ [] else self.old) }
+    {
+        match self.items.push(item) {
+            Ok(()) => Ok(()),
+            Err(_) => Err(OutOfMemory),
+        }
+    }
+
+    pub fn len(&self) -> usize
+        ensures { result ≡ length self.now }
+    {
+        self.items.len()
+    }
+
+    pub fn get(&self, index: usize) -> Option<&Tree>
+        ensures { option_copied result ≡ slice_get self.now index }
+    {
+        self.items.get(index)
+    }
+
+    pub fn as_slice(&self) -> &[Tree]
+        ensures { result.now ≡ self.now }
+    {
+        self.items.as_slice()
+    }
+
+    pub fn into_vec(self) -> Vec<Tree>
+        ensures { result.items ≡ self }
+    {
+        self.items
+    }
+}
+
+impl PartialEq for Tree {
+    ghost use Rattle.kmip_wire.specs.Same.{same_tree, same_tree-per};
+
+    ghost eq = { same_tree };
+
+    ghost laws = { same_tree-per };
+
+    fn eq(&self, other: &Tree) -> bool {
+        are_same(self, other)
+    }
+}
+
+#[cycle(same)]
+fn are_same(left: &Tree, right: &Tree) -> bool
+    ensures { result ≡ same_tree left.now right.now }
+{
+    left.tag == right.tag && are_same_nodes(&left.node, &right.node)
+}
+
+#[cycle(same)]
+fn are_same_nodes(left: &Node, right: &Node) -> bool
+    ensures { result ≡ same_tree (tree_of 0 left.now) (tree_of 0 right.now) }
+{
+    match (left, right) {
+        (Node::Structure(left), Node::Structure(right)) => are_same_items(
+            &left.items,
+            &right.items,
+        ),
+        (Node::Integer(left), Node::Integer(right)) => left == right,
+        (Node::LongInteger(left), Node::LongInteger(right)) => left == right,
+        (Node::BigInteger(left), Node::BigInteger(right)) => left == right,
+        (Node::Enumeration(left), Node::Enumeration(right)) => left == right,
+        (Node::Boolean(left), Node::Boolean(right)) => left == right,
+        (Node::TextString(left), Node::TextString(right)) => left == right,
+        (Node::ByteString(left), Node::ByteString(right)) => left == right,
+        (Node::DateTime(left), Node::DateTime(right)) => left == right,
+        (Node::Interval(left), Node::Interval(right)) => left == right,
+        _ => false,
+    }
+}
+
+#[cycle(same)]
+fn are_same_items(left: &Vec<Tree>, right: &Vec<Tree>) -> bool
+    ensures { result ≡ same_trees (trees_of left.now.items) (trees_of right.now.items) }
+{
+    if left.len() != right.len() {
+        return false;
+    }
+    for index in 0..left.len() {
+        if !are_same(&left[index], &right[index]) {
+            return false;
+        }
+    }
+    true
+}
+
+#[cycle(copy)]
+fn copy_tree(alloc: Global, tree: &Tree) -> Result<Tree, OutOfMemory>
+    ensures { IfOk result (λ copy. copy ≡ tree.now) }
+{
+    let node = copy_node(alloc, &tree.node)?;
+    Ok(Tree {
+        tag: tree.tag,
+        node,
+    })
+}
+
+#[cycle(copy)]
+fn copy_node(alloc: Global, node: &Node) -> Result<Node, OutOfMemory>
+    ensures { IfOk result (λ copy. copy ≡ node.now) }
+{
+    match node {
+        Node::Structure(items) => Ok(Node::Structure(copy_items(alloc, &items.items)?)),
+        Node::Integer(number) => Ok(Node::Integer(*number)),
+        Node::LongInteger(number) => Ok(Node::LongInteger(*number)),
+        Node::BigInteger(bytes) => Ok(Node::BigInteger(bytes.try_clone(alloc)?)),
+        Node::Enumeration(number) => Ok(Node::Enumeration(*number)),
+        Node::Boolean(truth) => Ok(Node::Boolean(*truth)),
+        Node::TextString(text) => Ok(Node::TextString(text.try_clone(alloc)?)),
+        Node::ByteString(bytes) => Ok(Node::ByteString(bytes.try_clone(alloc)?)),
+        Node::DateTime(seconds) => Ok(Node::DateTime(*seconds)),
+        Node::Interval(seconds) => Ok(Node::Interval(*seconds)),
+    }
+}
+
+#[cycle(copy)]
+fn copy_items(alloc: Global, items: &Vec<Tree>) -> Result<Trees, OutOfMemory>
+    ensures { IfOk result (λ copy. copy ≡ items.now.items) }
+{
+    let mut copy = Trees::new(alloc);
+    for item in items {
+        copy.push(copy_tree(alloc, item)?)?;
+    }
+    Ok(copy)
+}
+
+impl TryClone for Tree {
+    fn try_clone(&self, alloc: Global) -> Result<Tree, OutOfMemory> {
+        copy_tree(alloc, self)
+    }
+}
+
+impl TryClone for Trees {
+    fn try_clone(&self, alloc: Global) -> Result<Trees, OutOfMemory> {
+        copy_items(alloc, &self.items)
+    }
+}
