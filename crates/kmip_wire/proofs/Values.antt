@@ -1,10 +1,10 @@
 -- The values of scalars, and the numbers of the types.
-use Rattle.std.proofs.Common.{◌≡◌, ℕ, ◌%◌, Bool, true, false, cond, eqb, List, length, Option, Some, None, Result, Ok, Err, refl, sym, ap, subst, ◌∙◌, inl, inr, ◌⊎◌}
+use Rattle.std.proofs.Common.{◌≡◌, ℕ, zero, suc, ◌%◌, ◌^◌, ◌<◌, ◌↔◌, ◌&&◌, ltb, arith, Bool, true, false, cond, eqb, List, length, Option, Some, None, refl, sym, ap, subst, ◌∙◌, inl, inr, ◌⊎◌}
 use Rattle.std.specs.Int.{w32, w64, from_be_bytes, cast_signed}
 use Rattle.std.specs.Str.{is_utf8, IsUtf8}
 use Rattle.std.specs.Option.{is_some}
-use Rattle.std.specs.Result.{MatchResult, is_ok}
-use Rattle.std.proofs.lemmas.Bool.{eqb-true, eq-eqb}
+use Rattle.std.specs.Bool.{IsTrue}
+use Rattle.std.proofs.lemmas.Bool.{eqb-true, eq-eqb, false≢true}
 use Rattle.std.proofs.lemmas.Str.{IsUtf8-from_is_utf8, is_utf8-from_IsUtf8}
 use Rattle.std.proofs.lemmas.Option.{cond_some, same_Some, none-some}
 use Rattle.kmip_wire.specs.declared.kind.Kind.{Kind}
@@ -42,6 +42,10 @@ code_of-kind_of n x e =
 pub chosen : {A : Type 0} (b : Bool) (x y z : A) → cond b x y ≡ z → ((b ≡ true) × (x ≡ z)) ⊎ ((b ≡ false) × (y ≡ z))
 chosen true x y z e = inl (refl, e)
 chosen false x y z e = inr (refl, e)
+
+sure : (b : Bool) → cond b true false ≡ b
+sure true = refl
+sure false = refl
 
 -- a value is read as the scalar that it stands for
 truth_at-sound : (n : ℕ) (s : Scalar) → truth_at n ≡ Some s → (b : Bool) × (s ≡ boolean b) × (n ≡ cond b 1 0)
@@ -122,11 +126,18 @@ scalar_at-complete (byte_string b) v h = ap (λ x. Some (byte_string x)) (sym h)
 scalar_at-complete (date_time n) v h = some_if _ _ _ (eq-eqb _ _ h.0) (ap date_time (sym h.1))
 scalar_at-complete (interval n) v h = some_if _ _ _ (eq-eqb _ _ h.0) (ap interval (sym h.1))
 
--- whether some bytes are a text
-pub is_text : {S E : Type 0} (v : List ℕ) (P : S → Type 0) (Q : E → Type 0) (r : Result S E) → MatchResult r (λ s. P s × IsUtf8 v) (λ e. (IsUtf8 v → ⊥) × Q e) → is_ok r ≡ is_some (scalar_at TextString v)
-is_text v P Q (Ok s) h = rw (is_utf8-from_IsUtf8 v h.1) refl
-is_text v P Q (Err e) h =
-    elim (chosen (is_utf8 v) (Some (text_string v)) None (scalar_at TextString v) refl) [
-      | inl p ↦ absurd (h.0 (IsUtf8-from_is_utf8 v p.0))
-      | inr p ↦ rw p.0 refl
+if_some : {A : Type 0} (b : Bool) (x : A) → is_some (cond b (Some x) None) ≡ b
+if_some true x = refl
+if_some false x = refl
+
+-- a test that says whether some bytes are a text
+says_utf8 : (r : Bool) (v : List ℕ) → IsTrue r ↔ IsUtf8 v → r ≡ is_utf8 v
+says_utf8 true v h = sym (is_utf8-from_IsUtf8 v (h.0 refl))
+says_utf8 false v h =
+    elim (chosen (is_utf8 v) true false (is_utf8 v) (sure (is_utf8 v))) [
+      | inl p ↦ absurd (false≢true (h.1 (IsUtf8-from_is_utf8 v p.0)))
+      | inr p ↦ sym p.0
     ]
+
+pub says_text : (r : Bool) (v : List ℕ) (k : Kind) → k ≡ TextString → IsTrue r ↔ IsUtf8 v → r ≡ is_some (scalar_at k v)
+says_text r v k e h = says_utf8 r v h ∙ sym (if_some (is_utf8 v) (text_string v)) ∙ ap (λ j. is_some (scalar_at j v)) (sym e)

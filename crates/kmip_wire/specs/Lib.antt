@@ -10,6 +10,8 @@ pub mod Reading
 pub mod Bytes
 pub mod Parts
 pub mod Room
+pub mod Lengths
+pub mod Open
 pub mod Whole
 pub mod Items
 pub mod Found

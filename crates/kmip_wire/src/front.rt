@@ -1,29 +1,22 @@
-// Which items stand in some bytes.
-ghost use Rattle.std.specs.Prelude.{◌≡◌, ◌+◌, ◌-◌, ◌≤◌, ◌<◌, ◌↔◌, ◌^◌, IsTrue, MatchOption, IfSome, length};
+// Which items stand in some bytes, by one loop over the structures that stand open.
+ghost use Rattle.std.specs.Prelude.{◌≡◌, ◌≤◌, ◌<◌, ◌^◌, ◌-◌, ◌↔◌, IsTrue, MatchOption, Some, length, take};
 ghost use Rattle.std.specs.Option.{is_some};
-ghost use Rattle.std.specs.Int.{w32, w64, from_be_bytes};
-ghost use Rattle.kmip_wire.specs.Head.{head_length, size_at, value_of};
-ghost use Rattle.kmip_wire.specs.Parses.{IsFront, NoFront, IsLevel, Parses};
-ghost use Rattle.kmip_wire.specs.Reading.{well_formed, scalar_at, items_of, front_of};
 ghost use Rattle.kmip_wire.specs.Tree.{Tree};
+ghost use Rattle.kmip_wire.specs.Head.{head_length, size_at};
+ghost use Rattle.kmip_wire.specs.Parses.{IsFront, NoFront, IsLevel, Parses};
+ghost use Rattle.kmip_wire.specs.Reading.{well_formed, items_of, front_of};
+ghost use Rattle.kmip_wire.specs.Open.{Tells, opened};
 
 use crate::kind::Kind;
-use std::str;
+use crate::value::is_value;
 
-pub(crate) fn number4(bytes: &[u8]) -> u32
-    requires { length bytes.now ≡ 4 }
-    ensures { result ≡ from_be_bytes w32 bytes.now }
+// What the head tells of the length of the value.
+#[tactic(auto, unfolding(crate::specs::Head::head_length))]
+pub(crate) fn head_length(bytes: &[u8]) -> u32
+    requires { 8 ≤ length bytes.now }
+    ensures { result ≡ head_length bytes.now }
 {
-    u32::from_be_bytes([bytes[0], bytes[1], bytes[2], bytes[3]])
-}
-
-pub(crate) fn number8(bytes: &[u8]) -> u64
-    requires { length bytes.now ≡ 8 }
-    ensures { result ≡ from_be_bytes w64 bytes.now }
-{
-    u64::from_be_bytes([
-        bytes[0], bytes[1], bytes[2], bytes[3], bytes[4], bytes[5], bytes[6], bytes[7],
-    ])
+    u32::from_be_bytes([bytes[4], bytes[5], bytes[6], bytes[7]])
 }
 
 // The whole length that the head tells.
@@ -35,95 +28,140 @@ pub(crate) fn whole_length(bytes: &[u8]) -> usize
     8 + length + (8 - length % 8) % 8
 }
 
-// Whether the bytes are a value of the type.
-pub(crate) fn is_scalar(kind: Kind, value: &[u8]) -> bool
-    ensures { result ≡ is_some (scalar_at kind value.now) }
-{
-    match kind {
-        Kind::Structure => false,
-        Kind::Integer | Kind::Enumeration | Kind::Interval => value.len() == 4,
-        Kind::LongInteger | Kind::DateTime => value.len() == 8,
-        Kind::BigInteger => value.len() % 8 == 0,
-        Kind::Boolean => value.len() == 8 && number8(value) < 2,
-        Kind::TextString => str::from_utf8(value).is_ok(),
-        Kind::ByteString => true,
-    }
-}
-
-// What the head tells of the length of the value.
-#[tactic(auto, unfolding(crate::specs::Head::head_length))]
-pub(crate) fn head_length(bytes: &[u8]) -> u32
-    requires { 8 ≤ length bytes.now }
-    ensures { result ≡ head_length bytes.now }
-{
-    u32::from_be_bytes([bytes[4], bytes[5], bytes[6], bytes[7]])
-}
-
 // The whole length that the head tells, where that many bytes are there.
-pub(crate) fn size_at(bytes: &[u8]) -> Option<usize>
-    ensures { MatchOption result ((8 ≤ length bytes.now) → length bytes.now < size_at bytes.now) (λ n. (8 ≤ length bytes.now) × (n ≡ size_at bytes.now) × (n ≤ length bytes.now)) }
+fn size_at(bytes: &[u8]) -> Option<usize>
+    ensures { MatchOption result (length bytes.now < size_at bytes.now) (λ n. (n ≡ size_at bytes.now) × (n ≤ length bytes.now)) }
 {
     if bytes.len() < 8 {
         return None;
     }
     let length = head_length(bytes) as usize;
-    let size = 8 + length + (8 - length % 8) % 8;
-    if size <= bytes.len() {
-        Some(size)
-    } else {
-        None
-    }
-}
-
-// How long the item at the front is, at a level up to 64. At level 65 there is none.
-#[cycle(front)]
-pub(crate) fn front_size(bytes: &[u8], level: u32) -> Option<usize>
-    requires { (1 ≤ level) × (level ≤ 65) }
-    ensures value { result ≡ front_of (65 - level) bytes.now }
-    ensures within { IfSome result (λ size. (8 ≤ size) × (size ≤ length bytes.now)) }
-{
-    if level > 64 {
+    let size = length + (8 - length % 8) % 8;
+    if size > bytes.len() - 8 {
         return None;
     }
-    let size = size_at(bytes)?;
-    let kind = Kind::from_code(bytes[3])?;
-    let value = &bytes[8..8 + head_length(bytes) as usize];
-    if is_node(kind, value, level) {
-        Some(size)
+    Some(8 + size)
+}
+
+// What stands at the front of a structure's contents: nothing well-formed, an item of so many bytes that is done with, or a structure with contents of so many bytes.
+#[derive(Clone, Copy)]
+enum Step {
+    Malformed,
+    Item(usize),
+    Opens(usize),
+}
+
+fn next(bytes: &[u8]) -> Step
+    requires { 0 < length bytes.now }
+    ensures { Tells result bytes.now }
+{
+    let Some(whole) = size_at(bytes) else {
+        return Step::Malformed;
+    };
+    let Some(kind) = Kind::from_code(bytes[3]) else {
+        return Step::Malformed;
+    };
+    let length = head_length(bytes) as usize;
+    match kind {
+        Kind::Structure => opened(length),
+        _ => {
+            if is_value(kind, &bytes[8..whole], length) {
+                Step::Item(whole)
+            } else {
+                Step::Malformed
+            }
+        }
+    }
+}
+
+fn opened(length: usize) -> Step
+    ensures { result ≡ opened length }
+{
+    if length == 0 {
+        Step::Item(8)
+    } else if length % 8 == 0 {
+        Step::Opens(length)
+    } else {
+        Step::Malformed
+    }
+}
+
+// Whether the bytes are items of at most so many levels, one after another, and nothing more.
+#[inline(never)]
+fn are_items(bytes: &[u8], levels: u32) -> bool
+    requires levels { levels ≤ 64 }
+    requires fits { length bytes.now < 2 ^ 32 }
+    ensures { result ≡ is_some (items_of levels bytes.now) }
+{
+    if levels == 0 {
+        return bytes.is_empty();
+    }
+    let deepest = (levels - 1) as usize;
+    let mut lefts = [0u32; 64];
+    let mut depth = 0;
+    let mut rest = bytes;
+    let mut left = bytes.len();
+    'items: loop {
+        if left == 0 {
+            if depth == 0 {
+                return true;
+            }
+            depth -= 1;
+            left = lefts[depth] as usize;
+        } else {
+            match next(&rest[..left]) {
+                Step::Malformed => return false,
+                Step::Item(whole) => {
+                    rest = &rest[whole..];
+                    left -= whole;
+                }
+                Step::Opens(length) => {
+                    if depth == deepest {
+                        return false;
+                    }
+                    lefts[depth] = (left - 8 - length) as u32;
+                    depth += 1;
+                    rest = &rest[8..];
+                    left = length;
+                }
+            }
+        }
+    }
+}
+
+// Whether the first `size` bytes are the value of an item of the type, which has at most so many levels inside.
+fn is_node(kind: Kind, padded: &[u8], size: usize, levels: u32) -> bool
+    requires levels { levels ≤ 64 }
+    requires within { size ≤ length padded.now }
+    requires fits { size < 2 ^ 32 }
+    ensures { result ≡ well_formed (is_some (items_of levels (take size padded.now))) (Some kind) (take size padded.now) }
+{
+    match kind {
+        Kind::Structure => are_items(&padded[..size], levels),
+        _ => is_value(kind, padded, size),
+    }
+}
+
+// How long the item at the front is that stands at the level.
+pub(crate) fn front_size(bytes: &[u8], level: u32) -> Option<usize>
+    requires { IsLevel level }
+    ensures { result ≡ front_of (65 - level) bytes.now }
+{
+    let Some(whole) = size_at(bytes) else {
+        return None;
+    };
+    let Some(kind) = Kind::from_code(bytes[3]) else {
+        return None;
+    };
+    let length = head_length(bytes) as usize;
+    if is_node(kind, &bytes[8..whole], length, 64 - level) {
+        Some(whole)
     } else {
         None
     }
 }
 
-// Whether the bytes are the value of an item of the type that stands at the level.
-#[cycle(front)]
-fn is_node(kind: Kind, value: &[u8], level: u32) -> bool
-    requires { (1 ≤ level) × (level ≤ 64) }
-    ensures { result ≡ well_formed (is_some (items_of (64 - level) value.now)) (Some kind) value.now }
-{
-    match kind {
-        Kind::Structure => are_items(value, level + 1),
-        _ => is_scalar(kind, value),
-    }
-}
-
-// Whether the bytes are items of the level, one after another, and nothing more.
-#[cycle(front)]
-fn are_items(bytes: &[u8], level: u32) -> bool
-    requires { (1 ≤ level) × (level ≤ 65) }
-    ensures { result ≡ is_some (items_of (65 - level) bytes.now) }
-{
-    let mut rest = bytes;
-    'rest: while !rest.is_empty() {
-        match front_size(rest, level) {
-            Some(size) => rest = &rest[size..],
-            None => return false,
-        }
-    }
-    true
-}
-
-/// The whole length of the item at the front that parses at the level.
+/// The whole length of the item at the front that parses at the level, from 1 to 64, and `None` exactly where there is none. It takes no memory.
 pub fn front_len_at(bytes: &[u8], level: u32) -> Option<usize>
     requires { IsLevel level }
     ensures { MatchOption result (NoFront level bytes.now) (IsFront level bytes.now) }
@@ -131,14 +169,14 @@ pub fn front_len_at(bytes: &[u8], level: u32) -> Option<usize>
     front_size(bytes, level)
 }
 
-/// The whole length of the well-formed item at the front, and `None` exactly where there is none.
+/// The whole length of the well-formed item at the front, and `None` exactly where there is none. It takes no memory.
 pub fn front_len(bytes: &[u8]) -> Option<usize>
     ensures { MatchOption result (NoFront 1 bytes.now) (IsFront 1 bytes.now) }
 {
     front_len_at(bytes, 1)
 }
 
-/// Whether the bytes are one item and nothing more.
+/// Whether the bytes are one well-formed item and nothing more. It takes no memory.
 pub fn check(bytes: &[u8]) -> bool
     ensures { IsTrue result ↔ ((tree : Tree) × Parses tree 1 bytes.now) }
 {

@@ -2,9 +2,10 @@
 ghost use Rattle.std.specs.Prelude.{IsTrue};
 ghost use Rattle.kmip_wire.specs.Whole.{is_tree, are_trees};
 
-use crate::front::{check, front_size, head_length, number4, number8, whole_length};
+use crate::front::{check, front_size, head_length, whole_length};
 use crate::kind::Kind;
 use crate::tag::Tag;
+use crate::value::{number4, number8};
 use std::str;
 
 /// A view of a well-formed item, which lends its parts. None of its calls takes memory.

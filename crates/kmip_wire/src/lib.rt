@@ -13,6 +13,7 @@ mod read;
 mod tag;
 mod text;
 mod tree;
+mod value;
 
 pub use buffer::Buffer;
 pub use error::WireError;

@@ -10,12 +10,13 @@ ghost use Rattle.kmip_wire.specs.Items.{item_tree, trees_left};
 ghost use Rattle.kmip_wire.specs.Found.{Finds};
 
 use crate::error::WireError;
-use crate::front::{front_len_at, number4, number8};
+use crate::front::front_len_at;
 use crate::item::{Children, ItemRef};
 use crate::kind::Kind;
 use crate::memory::OutOfMemory;
 use crate::text::{Blob, Text};
 use crate::tree::{Node, Tree, Trees};
+use crate::value::{number4, number8};
 use std::alloc::Global;
 use std::str;
 
