@@ -102,11 +102,11 @@ all_levels n = omega arith
 
 pub start : (levels : ℕ) (bytes : List ℕ) → 0 < levels → State levels bytes (replicate 64 0) 0 (length bytes) bytes
 start levels bytes some = record {
-    room = refl;
-    within = some;
-    sum = omega arith;
-    same = ap (λ k. are_open k (replicate 64 0) 0 (length bytes) bytes) (all_levels levels) ∙ one_region (is_some (items_of levels (take (length bytes) bytes))) ∙ ap (λ b. is_some (items_of levels b)) (take-length bytes);
-  }
+  room = refl;
+  within = some;
+  sum = omega arith;
+  same = ap (λ k. are_open k (replicate 64 0) 0 (length bytes) bytes) (all_levels levels) ∙ one_region (is_some (items_of levels (take (length bytes) bytes))) ∙ ap (λ b. is_some (items_of levels b)) (take-length bytes);
+}
 
 -- the steps of the check
 module _ (levels : ℕ) (bytes lefts : List ℕ) (depth left : ℕ) (rest : List ℕ) (most : levels ≤ 64) (s : State levels bytes lefts depth left rest) where

@@ -46,7 +46,7 @@ both false y e = absurd cc
 pub is_whole-says : (b : List ℕ) → is_whole b ≡ true → (8 ≤ length b) × (length b ≡ size_at b)
 is_whole-says b e = let p = both (leb 8 (length b)) (eqb (length b) (size_at b)) e in (leb-true _ _ p.0, eqb-true _ _ p.1)
 
-mapped : {A B : Type 0} (f : A → B) (o : Option A) (y : B) → option_map f o ≡ Some y → (x : A) × (o ≡ Some x) × (f x ≡ y)
+pub mapped : {A B : Type 0} (f : A → B) (o : Option A) (y : B) → option_map f o ≡ Some y → (x : A) × (o ≡ Some x) × (f x ≡ y)
 mapped f (Some x) y e = (x, refl, same_Some (f x) y e)
 mapped f None y e = absurd (none-some y e)
 

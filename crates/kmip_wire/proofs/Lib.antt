@@ -6,3 +6,4 @@ pub mod Owned
 pub mod Steps
 pub mod Closings
 pub mod Ascii
+pub mod Writing

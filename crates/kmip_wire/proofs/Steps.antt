@@ -170,8 +170,8 @@ module _ (b : List ℕ) (some : 0 < length b) where
       ragged : head_length b % 8 ≢ 0 → Tells Malformed b
       ragged n =
           at_each b some (λ levels.
-              structure_says levels
-              ∙ ap (λ t. t && after levels) (not_true (is_some (items_of levels (value_of b))) (λ t. n (ap (λ m. m % 8) (sym (value_length b le)) ∙ items_even levels (length (value_of b)) (value_of b) t))))
+          structure_says levels
+          ∙ ap (λ t. t && after levels) (not_true (is_some (items_of levels (value_of b))) (λ t. n (ap (λ m. m % 8) (sym (value_length b le)) ∙ items_even levels (length (value_of b)) (value_of b) t))))
 
       by_length : (zeroed even : Bool) → (zeroed ≡ true → head_length b ≡ 0) → (zeroed ≡ false → 0 < head_length b) → (even ≡ true → head_length b % 8 ≡ 0) → (even ≡ false → head_length b % 8 ≢ 0)
           → Tells (if zeroed then Item 8 else (if even then Opens (head_length b) else Malformed)) b

@@ -1,8 +1,6 @@
 -- The canonical bytes of a tree.
-use Rattle.std.specs.Prelude.{Bool, true, ◌&&◌, ◌≡◌, ℕ, ◌+◌, ◌%◌, ◌<◌, ◌^◌, max, ◌==◌, nat_lt, List, [], ◌∷◌, ◌++◌, length, drop, replicate, Option, Some, None, Result, Ok, Err, if◌then◌else◌, IsUtf8, FitsSigned}
+use Rattle.std.specs.Prelude.{Bool, true, ◌&&◌, ◌≡◌, ℕ, ◌+◌, ◌%◌, ◌<◌, ◌^◌, max, ◌==◌, nat_lt, List, [], ◌∷◌, ◌++◌, length, drop, replicate, Option, Some, None, if◌then◌else◌, IsUtf8, FitsSigned}
 use Rattle.std.specs.Int.{w32, w64, to_be_bytes, cast_unsigned}
-use Rattle.kmip_wire.specs.declared.error.WireError.{WireError}
-use Rattle.kmip_wire.specs.declared.error.WireError.TheVariants as errors
 use Rattle.kmip_wire.specs.Tree.{Tree, Trees, Scalar, scalar, structure, none, more, integer, long_integer, big_integer, enumeration, boolean, text_string, byte_string, date_time, interval}
 use Rattle.kmip_wire.specs.Kinds.{code_of, kind_of_scalar}
 use Rattle.kmip_wire.specs.Head.{pads}
@@ -83,10 +81,3 @@ abbrev mutual
   pub HaveRanges : Trees → Type 0
   HaveRanges none = Unit {0}
   HaveRanges (more t ts) = HasRanges t × HaveRanges ts
-
--- What a function wrote is what the definition gives, unless memory ran out. It has no form exactly where there are no bytes.
-abbrev pub Writes : {X : Type 0} → (X → List ℕ) → Result X WireError → Option (List ℕ) → Type 0
-Writes view (Ok x) b = b ≡ Some (view x)
-Writes view (Err errors.NoForm) b = b ≡ None
-Writes view (Err errors.Malformed) b = ⊥
-Writes view (Err errors.OutOfMemory) b = Unit {0}

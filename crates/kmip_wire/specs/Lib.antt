@@ -5,9 +5,11 @@ pub mod Falls
 pub mod Same
 pub mod Kinds
 pub mod Head
+pub mod Heads
 pub mod Parses
 pub mod Reading
 pub mod Bytes
+pub mod Contents
 pub mod Parts
 pub mod Room
 pub mod Lengths

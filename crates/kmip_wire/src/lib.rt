@@ -2,6 +2,7 @@
 #![tactic(auto)]
 
 mod buffer;
+mod config;
 mod error;
 mod front;
 mod item;
@@ -14,9 +15,11 @@ mod tag;
 mod text;
 mod tree;
 mod value;
+mod write;
 
 pub use buffer::Buffer;
-pub use error::WireError;
+pub use config::{Config, head};
+pub use error::{HeadError, WireError};
 pub use front::{check, front_len, front_len_at};
 pub use item::{Children, ItemRef};
 pub use kind::Kind;
@@ -27,3 +30,4 @@ pub use read::{read_tree, split_front};
 pub use tag::Tag;
 pub use text::{Blob, Text};
 pub use tree::{Node, Tree, Trees};
+pub use write::write_tree;

@@ -1,0 +1,15 @@
+use Rattle.std.proofs.Common.{◌≡◌, ◌+◌, ◌*◌, ◌++◌, length, drop, take}
+use Rattle.kmip_wire.specs.Tree.{trees_of}
+use Rattle.kmip_wire.specs.Sizes.{tree_size, trees_size}
+use Rattle.kmip_wire.specs.Bytes.{all_bytes}
+use Rattle.kmip_wire.proofs.Writing.{Rest}
+use Rattle.kmip_wire.proofs.write.+write.Given as goal
+
+abbrev pub decreases-put_tree : goal.decreases-put_tree
+decreases-put_tree l = 2 * tree_size l.tree.now
+
+abbrev pub decreases-put_structure : goal.decreases-put_structure
+decreases-put_structure l = 2 * trees_size (trees_of l.items.now) + 1
+
+abbrev pub invariant-put_structure-loop-item : goal.invariant-put_structure-loop-item
+invariant-put_structure-loop-item l = Rest l.items l.item-index l.initial.out l.out

@@ -1,0 +1,122 @@
+// The canonical bytes of a tree, written into one buffer after their lengths were summed.
+ghost use Rattle.std.specs.Prelude.{◌≡◌, ◌^◌, length, nat_lt, Option, Some, None, if◌then◌else◌, option_map};
+ghost use Rattle.kmip_wire.specs.Sees.{tree_of};
+ghost use Rattle.kmip_wire.specs.Tree.{structure, trees_of};
+ghost use Rattle.kmip_wire.specs.Bytes.{bytes, all_bytes};
+ghost use Rattle.kmip_wire.specs.Contents.{fitting, value_of_tree};
+ghost use Rattle.kmip_wire.specs.Room.{HasRoom, Writes as WritesInto};
+ghost use Rattle.kmip_wire.specs.Found.{Writes};
+
+use crate::buffer::Buffer;
+use crate::error::WireError;
+use crate::kind::Kind;
+use crate::tag::Tag;
+use crate::text::Blob;
+use crate::tree::{Node, Tree};
+use std::alloc::Global;
+
+// A length, where its field holds it.
+fn field_len(len: usize) -> Option<u64>
+    ensures { result ≡ (if nat_lt len (2 ^ 32) then Some len else None) }
+{
+    if len < 1 << 32 {
+        Some(len as u64)
+    } else {
+        None
+    }
+}
+
+// The whole length of the tree's bytes, where there are any.
+#[cycle(length)]
+fn tree_len(tree: &Tree) -> Option<u64>
+    ensures { result ≡ option_map length (bytes tree.now) }
+{
+    let Some(len) = value_len(&tree.node) else {
+        return None;
+    };
+    Some(8 + len + (8 - len % 8) % 8)
+}
+
+// The length of the value of an item, where it has a form.
+#[cycle(length)]
+fn value_len(node: &Node) -> Option<u64>
+    ensures { result ≡ option_map length (value_of_tree (tree_of 0 node.now)) }
+{
+    match node {
+        Node::Structure(items) => contents_len(items.as_slice()),
+        Node::Integer(_) | Node::Enumeration(_) | Node::Interval(_) => Some(4),
+        Node::LongInteger(_) | Node::Boolean(_) | Node::DateTime(_) => Some(8),
+        Node::BigInteger(bytes) if bytes.len() % 8 != 0 => None,
+        Node::BigInteger(bytes) | Node::ByteString(bytes) => field_len(bytes.len()),
+        Node::TextString(text) => field_len(text.as_str().len()),
+    }
+}
+
+// The length of the items' bytes one after another, where there are such and their length has a form.
+#[cycle(length)]
+fn contents_len(items: &[Tree]) -> Option<u64>
+    ensures { result ≡ option_map length (fitting (all_bytes (trees_of items.now))) }
+{
+    let mut total = 0;
+    for item in items {
+        let Some(len) = tree_len(item) else {
+            return None;
+        };
+        total += len;
+        if total >= 1 << 32 {
+            return None;
+        }
+    }
+    Some(total)
+}
+
+// Appends the tree's bytes, for which there is room.
+#[cycle(write)]
+fn put_tree(tree: &Tree, out: &mut Buffer)
+    requires { HasRoom (bytes tree.now) out.old.spare }
+    ensures { WritesInto (bytes tree.now) out.old out.new }
+{
+    let tag = tree.tag;
+    match &tree.node {
+        Node::Structure(items) => put_structure(tag, items.as_slice(), out),
+        Node::Integer(number) => out.put_item(tag, Kind::Integer, &number.to_be_bytes()),
+        Node::LongInteger(number) => out.put_item(tag, Kind::LongInteger, &number.to_be_bytes()),
+        Node::BigInteger(bytes) => out.put_item(tag, Kind::BigInteger, bytes.as_slice()),
+        Node::Enumeration(number) => out.put_item(tag, Kind::Enumeration, &number.to_be_bytes()),
+        Node::Boolean(truth) => out.put_item(tag, Kind::Boolean, &(*truth as u64).to_be_bytes()),
+        Node::TextString(text) => out.put_item(tag, Kind::TextString, text.as_str().as_bytes()),
+        Node::ByteString(bytes) => out.put_item(tag, Kind::ByteString, bytes.as_slice()),
+        Node::DateTime(seconds) => out.put_item(tag, Kind::DateTime, &seconds.to_be_bytes()),
+        Node::Interval(seconds) => out.put_item(tag, Kind::Interval, &seconds.to_be_bytes()),
+    }
+}
+
+// Appends a structure of the items.
+#[cycle(write)]
+fn put_structure(tag: Tag, items: &[Tree], out: &mut Buffer)
+    requires { HasRoom (bytes (structure tag (trees_of items.now))) out.old.spare }
+    ensures { WritesInto (bytes (structure tag (trees_of items.now))) out.old out.new }
+{
+    let Some(len) = contents_len(items) else {
+        return;
+    };
+    out.put_head(tag, Kind::Structure, len as u32);
+    for item in items {
+        put_tree(item, out);
+    }
+}
+
+/// The canonical bytes of the tree.
+///
+/// `NoForm` comes exactly where there are none: the length of an item reaches 2^32, or that of a Big Integer is no multiple of 8. `Malformed` never comes.
+pub fn write_tree(alloc: Global, tree: &Tree) -> Result<Blob, WireError>
+    ensures { Writes result (bytes tree.now) }
+{
+    let Some(len) = tree_len(tree) else {
+        return Err(WireError::NoForm);
+    };
+    let mut out = Buffer::new(alloc);
+    out.reserve(len as usize)?;
+    put_tree(tree, &mut out);
+    Ok(out.into_blob())
+}
