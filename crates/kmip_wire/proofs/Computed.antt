@@ -188,10 +188,10 @@ one_tree t u level b p q =
     let sum : level + (65 - level) ≡ 65 = omega (arith, l.0, l.1) in
     same_Some t u (sym (item_of-complete t level (65 - level) b sum p) ∙ item_of-complete u level (65 - level) b sum q)
 
-pub no_longer : (t u : Tree) (level : ℕ) (b rest : List ℕ) → Parses t level b → Parses u level (b ++ rest) → rest ≡ []
-no_longer t u level b rest p q =
+pub no_longer : (t u : Tree) (level other : ℕ) (b rest : List ℕ) → Parses t level b → Parses u other (b ++ rest) → rest ≡ []
+no_longer t u level other b rest p q =
     let s = sized t level b p in
-    let r = sized u level (b ++ rest) q in
+    let r = sized u other (b ++ rest) q in
     let front : take (length b) (b ++ rest) ≡ b = take_at b rest (length b) refl in
     let same : size_at (b ++ rest) ≡ size_at b = sym (size_at-take (length b) (b ++ rest) s.head) ∙ ap size_at front in
     empty_at rest (omega (arith, s.whole, r.whole, same, length-append b rest))

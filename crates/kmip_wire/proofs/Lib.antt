@@ -7,3 +7,5 @@ pub mod Steps
 pub mod Closings
 pub mod Ascii
 pub mod Writing
+pub mod Written
+pub mod Ranges

@@ -17,7 +17,7 @@ use Rattle.kmip_wire.specs.Reading.{scalar_at, item_of, front_at, front_of}
 use Rattle.kmip_wire.specs.Whole.{whole_tree, whole_trees, is_tree, are_trees, the_tree, the_trees}
 use Rattle.kmip_wire.specs.Parts.{tag_of, kind_of_tree, int_in, long_in, big_in, enumeration_in, flag_in, text_in, bytes_in, date_in, interval_in, children_in}
 use Rattle.kmip_wire.proofs.Values.{kind_of-code_of, scalar_at-complete, boolean_at}
-use Rattle.kmip_wire.proofs.Computed.{item_of-sound, item_of-complete, items_by-sound, items_by-complete, front_of-sound, front_of-complete, some_of, sized, size_at-take}
+use Rattle.kmip_wire.proofs.Computed.{item_of-sound, item_of-complete, items_by-sound, items_by-complete, front_of-sound, some_of, sized, size_at-take}
 use Rattle.std.proofs.lemmas.List.{length-take-le}
 
 -- ---- what the invariants say

@@ -1,5 +1,5 @@
 -- The bytes of trees in order, one tree at a time, and their lengths.
-use Rattle.std.proofs.Common.{◌≡◌, ℕ, zero, suc, ◌+◌, ◌*◌, ◌%◌, ◌<◌, ◌≤◌, ◌^◌, ◌&&◌, Bool, true, false, cond, ltb, List, [], ◌∷◌, ◌++◌, length, take, drop, get_or, replicate, Option, Some, None, refl, sym, ap, subst, ◌∙◌, arith, append_assoc, length-append, inl, inr}
+use Rattle.std.proofs.Common.{◌≡◌, ℕ, zero, suc, ◌+◌, ◌*◌, ◌%◌, ◌<◌, ◌≤◌, ◌^◌, ◌&&◌, Bool, true, false, cond, ltb, List, [], ◌∷◌, ◌++◌, length, take, drop, get_or, replicate, Option, Some, None, refl, sym, ap, subst, ◌∙◌, arith, append_assoc, length-append}
 use Rattle.std.specs.Option.{option_map}
 use Rattle.std.proofs.lemmas.Bool.{ltb-true, lt-ltb}
 use Rattle.std.proofs.lemmas.Option.{cond_some, same_Some, none-some}
@@ -18,7 +18,6 @@ use Rattle.kmip_wire.specs.Contents.{fitting, value_of_tree}
 use Rattle.kmip_wire.specs.Parts.{tag_of, kind_of_tree}
 use Rattle.kmip_wire.specs.Room.{Room, Appends, HasRoom, Writes}
 use Rattle.kmip_wire.proofs.Computed.{mapped}
-use Rattle.kmip_wire.proofs.Values.{chosen}
 
 -- ---- an item's bytes and its value
 
@@ -148,7 +147,7 @@ fitting_short None v e = absurd (none-some v e)
 fitting_short (Some w) v e =
     let p = cond_some (ltb (length w) (2 ^ 32)) w v e in omega (arith, ltb-true (length w) (2 ^ 32) p.0, ap length p.1)
 
-value_short : (t : Tree) (v : List ℕ) → value_of_tree t ≡ Some v → length v < 2 ^ 32
+pub value_short : (t : Tree) (v : List ℕ) → value_of_tree t ≡ Some v → length v < 2 ^ 32
 value_short (scalar tag s) v e =
     let p = cond_some (has_form s && ltb (length (value_bytes s)) (2 ^ 32)) (value_bytes s) v e in
     omega (arith, ltb-true (length (value_bytes s)) (2 ^ 32) (both_true (has_form s) (ltb (length (value_bytes s)) (2 ^ 32)) p.0), ap length p.1)

@@ -1,5 +1,5 @@
 -- The canonical bytes of a tree.
-use Rattle.std.specs.Prelude.{Bool, true, ◌&&◌, ◌≡◌, ℕ, ◌+◌, ◌%◌, ◌<◌, ◌^◌, max, ◌==◌, nat_lt, List, [], ◌∷◌, ◌++◌, length, drop, replicate, Option, Some, None, if◌then◌else◌, IsUtf8, FitsSigned}
+use Rattle.std.specs.Prelude.{Bool, true, ◌&&◌, ℕ, ◌+◌, ◌%◌, ◌<◌, ◌^◌, max, ◌==◌, nat_lt, List, [], ◌∷◌, ◌++◌, length, drop, slice_index, replicate, Option, Some, None, if◌then◌else◌, IsUtf8, FitsSigned}
 use Rattle.std.specs.Int.{w32, w64, to_be_bytes, cast_unsigned}
 use Rattle.kmip_wire.specs.Tree.{Tree, Trees, Scalar, scalar, structure, none, more, integer, long_integer, big_integer, enumeration, boolean, text_string, byte_string, date_time, interval}
 use Rattle.kmip_wire.specs.Kinds.{code_of, kind_of_scalar}
@@ -61,15 +61,19 @@ abbrev mutual
   levels_of_all none = 0
   levels_of_all (more t ts) = max (levels t) (levels_of_all ts)
 
+-- every one is a byte
+abbrev pub AreBytes : List ℕ → Type 0
+AreBytes b = (i : ℕ) → slice_index b i < 256
+
 -- the ranges of a tree's parts
 abbrev pub IsInRange : Scalar → Type 0
 IsInRange (integer z) = FitsSigned w32 z
 IsInRange (long_integer z) = FitsSigned w64 z
-IsInRange (big_integer b) = Unit {0}
+IsInRange (big_integer b) = AreBytes b
 IsInRange (enumeration n) = n < 2 ^ 32
 IsInRange (boolean b) = Unit {0}
 IsInRange (text_string b) = IsUtf8 b
-IsInRange (byte_string b) = Unit {0}
+IsInRange (byte_string b) = AreBytes b
 IsInRange (date_time n) = n < 2 ^ 64
 IsInRange (interval n) = n < 2 ^ 32
 

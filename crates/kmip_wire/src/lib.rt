@@ -23,7 +23,9 @@ pub use error::{HeadError, WireError};
 pub use front::{check, front_len, front_len_at};
 pub use item::{Children, ItemRef};
 pub use kind::Kind;
-pub use laws::{one_tree, tree_computed};
+pub use laws::{
+    equality, list_equality, one_text, one_tree, parsed_ranges, tree_computed, written_parses,
+};
 pub use list::{List, clone_items};
 pub use memory::{OutOfMemory, TryClone, clone_optional};
 pub use read::{read_tree, split_front};

@@ -8,6 +8,7 @@ ghost use Rattle.kmip_wire.specs.Head.{size_at};
 ghost use Rattle.kmip_wire.specs.Parses.{IsLevel};
 ghost use Rattle.kmip_wire.specs.Items.{item_tree, trees_left};
 ghost use Rattle.kmip_wire.specs.Found.{Finds};
+ghost use Rattle.kmip_wire.specs.Bytes.{HasRanges};
 
 use crate::error::WireError;
 use crate::front::front_len_at;
@@ -79,9 +80,12 @@ pub fn split_front(bytes: &[u8], level: u32) -> Option<(ItemRef<'_>, &[u8])>
     ItemRef::front(bytes, level)
 }
 
-/// The tree at the front, and its whole length.
+/// The tree of the well-formed item at the front, and its whole length. Bytes after it are not looked at.
+///
+/// `Malformed` comes exactly where no front is a well-formed item. `NoForm` never comes.
 pub fn read_tree(alloc: Global, bytes: &[u8]) -> Result<(Tree, usize), WireError>
-    ensures { Finds result bytes.now }
+    ensures found { Finds result bytes.now }
+    ensures ranges { IfOk result (λ x. HasRanges x.0) }
 {
     let Some(size) = front_len_at(bytes, 1) else {
         return Err(WireError::Malformed);

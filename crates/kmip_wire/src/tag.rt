@@ -1,5 +1,5 @@
 // Tags, seen as numbers below 2^24.
-ghost use Rattle.std.specs.Prelude.{◌≡◌, ℕ, ◌<◌, ◌≤◌, ◌^◌, [], ◌∷◌, MatchOption};
+ghost use Rattle.std.specs.Prelude.{◌≡◌, ℕ, ◌<◌, ◌≤◌, ◌^◌, [], ◌∷◌, ◌↔◌, IsTrue, MatchOption};
 ghost use Rattle.std.specs.Int.{w32, from_be_bytes};
 
 use std::marker::Model;
@@ -47,6 +47,13 @@ impl Tag {
         Tag {
             number: u32::from_be_bytes([0, high, middle, low]),
         }
+    }
+
+    /// Whether it is the other tag, as `==` says.
+    pub fn is(self, other: Tag) -> bool
+        ensures { IsTrue result ↔ (self ≡ other) }
+    {
+        self == other
     }
 
     /// Its number, which is below 2^24.

@@ -2,6 +2,7 @@
 ghost use Rattle.kmip_wire.specs.Sees.{tree_of};
 ghost use Rattle.kmip_wire.specs.Same.{same_tree, same_trees};
 ghost use Rattle.kmip_wire.specs.Tree.{trees_of};
+ghost use Rattle.kmip_wire.specs.Bytes.{AreBytes, HasRanges, HaveRanges};
 ghost use Rattle.std.specs.Prelude.{◌≡◌, ℕ, ◌<◌, ◌^◌, List, [], ◌∷◌, ◌++◌, length, MatchOption, IfOk, ◌≤◌, is_ok, if◌then◌else◌, option_copied, slice_get};
 
 use crate::memory::{OutOfMemory, TryClone};
@@ -118,6 +119,68 @@ impl Trees {
     }
 }
 
+// Trees have their ranges.
+
+fn byte_ranges(bytes: &[u8])
+    ensures { AreBytes bytes.now }
+{}
+
+#[cycle(ranges)]
+fn tree_ranges(tree: &Tree)
+    ensures { HasRanges tree.now }
+{
+    let _number = tree.tag.number();
+    node_ranges(&tree.node);
+}
+
+#[cycle(ranges)]
+fn node_ranges(node: &Node)
+    ensures { HasRanges (tree_of 0 node.now) }
+{
+    match node {
+        Node::Structure(items) => items_ranges(&items.items),
+        Node::Integer(number) => {
+            let _number = *number;
+        }
+        Node::LongInteger(number) => {
+            let _number = *number;
+        }
+        Node::BigInteger(bytes) => byte_ranges(bytes.as_slice()),
+        Node::Enumeration(number) => {
+            let _number = *number;
+        }
+        Node::Boolean(_) => {}
+        Node::TextString(text) => {
+            let _text = text.as_str();
+        }
+        Node::ByteString(bytes) => byte_ranges(bytes.as_slice()),
+        Node::DateTime(seconds) => {
+            let _seconds = *seconds;
+        }
+        Node::Interval(seconds) => {
+            let _seconds = *seconds;
+        }
+    }
+}
+
+#[cycle(ranges)]
+fn items_ranges(items: &Vec<Tree>)
+    ensures { HaveRanges (trees_of items.now.items) }
+{
+    for item in items {
+        tree_ranges(item);
+    }
+}
+
+impl Tree {
+    /// Does nothing but go through the tree: its contract says that the numbers, texts and bytes are in their ranges, as the laws of canonical bytes ask. It takes no memory.
+    pub fn ranges(&self)
+        ensures { HasRanges self.now }
+    {
+        tree_ranges(self)
+    }
+}
+
 impl PartialEq for Tree {
     ghost use Rattle.kmip_wire.specs.Same.{same_tree, same_tree-per};
 
@@ -128,6 +191,30 @@ impl PartialEq for Tree {
     fn eq(&self, other: &Tree) -> bool {
         are_same(self, other)
     }
+}
+
+impl Eq for Tree {
+    ghost use Rattle.kmip_wire.specs.Same.{same_tree-equiv};
+
+    ghost laws = { same_tree-equiv };
+}
+
+impl PartialEq for Trees {
+    ghost use Rattle.kmip_wire.specs.Same.{same_items, same_items-per};
+
+    ghost eq = { same_items };
+
+    ghost laws = { same_items-per };
+
+    fn eq(&self, other: &Trees) -> bool {
+        are_same_items(&self.items, &other.items)
+    }
+}
+
+impl Eq for Trees {
+    ghost use Rattle.kmip_wire.specs.Same.{same_items-equiv};
+
+    ghost laws = { same_items-equiv };
 }
 
 #[cycle(same)]

@@ -1,4 +1,4 @@
-use Rattle.std.proofs.Common.{refl, sym, subst, ◌∙◌, ap, arith, Some}
+use Rattle.std.proofs.Common.{sym, subst, ◌∙◌, ap, arith, Some}
 use Rattle.std.specs.Option.{is_some}
 use Rattle.kmip_wire.specs.Reading.{scalar_at}
 use Rattle.kmip_wire.specs.Open.{Tells, opened}

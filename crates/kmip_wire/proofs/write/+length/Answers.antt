@@ -2,7 +2,6 @@ use Rattle.std.proofs.Common.{sym, ap, ◌∙◌, ◌+◌, arith, Some, length}
 use Rattle.std.specs.Option.{option_map}
 use Rattle.kmip_wire.specs.Bytes.{bytes}
 use Rattle.kmip_wire.specs.Sees.{tree_of}
-use Rattle.kmip_wire.specs.Contents.{value_of_tree}
 use Rattle.kmip_wire.proofs.Writing.{child_smaller, bytes_length, bytes_short, sum_more, sum_over, sum_none, sum_all, value_at}
 use Rattle.kmip_wire.proofs.write.+length.Goals as goal
 

@@ -3,7 +3,7 @@ use Rattle.std.specs.Int.{w32, w64, to_be_bytes, cast_unsigned}
 use Rattle.std.proofs.lemmas.Int.{to_z-of_z}
 use Rattle.kmip_wire.specs.Tree.{trees_of, integer, long_integer, big_integer, enumeration, boolean, text_string, byte_string, date_time, interval}
 use Rattle.kmip_wire.specs.Sees.{tree_of}
-use Rattle.kmip_wire.proofs.Writing.{put_room, put_done, truth_byte, fits, fits_length, rest_start, rest_first, rest_next, structure_written, child_smaller}
+use Rattle.kmip_wire.proofs.Writing.{put_room, put_done, truth_byte, fits, rest_start, rest_first, rest_next, structure_written, child_smaller}
 use Rattle.kmip_wire.proofs.write.+write.Goals as goal
 
 pub put_tree-put_item-requires-clause-room : goal.put_tree-put_item-requires-clause-room

@@ -1,7 +1,6 @@
-use Rattle.std.proofs.Common.{◌≡◌, ◌+◌, ◌*◌, ◌++◌, length, drop, take}
+use Rattle.std.proofs.Common.{◌+◌, ◌*◌}
 use Rattle.kmip_wire.specs.Tree.{trees_of}
 use Rattle.kmip_wire.specs.Sizes.{tree_size, trees_size}
-use Rattle.kmip_wire.specs.Bytes.{all_bytes}
 use Rattle.kmip_wire.proofs.Writing.{Rest}
 use Rattle.kmip_wire.proofs.write.+write.Given as goal
 

@@ -1,4 +1,4 @@
-use Rattle.std.proofs.Common.{◌≡◌, ◌∙◌, ◌+◌, ◌-◌, ◌%◌, ◌∷◌, sym, ap, arith, length, take, drop}
+use Rattle.std.proofs.Common.{◌≡◌, ◌∙◌, ◌∷◌, sym, ap, arith, length, take, drop}
 use Rattle.kmip_wire.specs.Head.{size_at}
 use Rattle.kmip_wire.specs.Whole.{is_tree, are_trees, the_tree, the_trees}
 use Rattle.kmip_wire.specs.Items.{item_tree, trees_left}

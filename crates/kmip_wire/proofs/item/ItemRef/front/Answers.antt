@@ -1,7 +1,7 @@
-use Rattle.std.proofs.Common.{◌∙◌, sym, ap, Some, take}
+use Rattle.std.proofs.Common.{◌∙◌, sym, ap, Some}
 use Rattle.kmip_wire.specs.Whole.{is_tree, the_tree}
 use Rattle.kmip_wire.specs.Items.{item_tree}
-use Rattle.kmip_wire.proofs.Views.{a_front, no_front}
+use Rattle.kmip_wire.proofs.Views.{a_front}
 use Rattle.kmip_wire.proofs.item.ItemRef.front.Goals as goal
 
 pub invariant_of-result : goal.invariant_of-result
