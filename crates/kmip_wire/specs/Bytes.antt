@@ -1,4 +1,4 @@
--- The canonical bytes of a tree.
+-- The canonical bytes of a tree (KMIP 1.0, 9.1.1), and the ranges of its parts.
 use Rattle.std.specs.Prelude.{Bool, true, ◌&&◌, ℕ, ◌+◌, ◌%◌, ◌<◌, ◌^◌, max, ◌==◌, nat_lt, List, [], ◌∷◌, ◌++◌, length, drop, slice_index, replicate, Option, Some, None, if◌then◌else◌, IsUtf8, FitsSigned}
 use Rattle.std.specs.Int.{w32, w64, to_be_bytes, cast_unsigned}
 use Rattle.kmip_wire.specs.Tree.{Tree, Trees, Scalar, scalar, structure, none, more, integer, long_integer, big_integer, enumeration, boolean, text_string, byte_string, date_time, interval}

@@ -1,4 +1,4 @@
--- The tree of some bytes, computed.
+-- The tree of some bytes, computed: the twin of the relation in Parses, by the levels that are left.
 use Rattle.std.specs.Prelude.{◌-◌, ℕ, zero, suc, ◌%◌, ◌==◌, ◌&&◌, Bool, true, false, List, [], ◌∷◌, length, take, drop, Option, Some, None, if◌then◌else◌, nat_le}
 use Rattle.std.specs.Option.{option_map, is_some}
 use Rattle.std.specs.Int.{w32, w64, from_be_bytes, cast_signed}

@@ -12,6 +12,8 @@ mod list;
 mod memory;
 mod read;
 mod tag;
+#[cfg(test)]
+mod tests;
 mod text;
 mod tree;
 mod value;
