@@ -51,12 +51,15 @@ python3 "$top/bench/messages.py" "$work"
 rustc -O -o "$work/plain" "$top/bench/plain_check.rs"
 (cd "$work/crates/bench" && rt run -- 1 <"$work/small" >"$work/log" 2>&1) || { tail -20 "$work/log"; exit 1; }
 proved=$(find "$work/crates/bench/out" -maxdepth 1 -type f -perm -u+x -name 'bench*' | head -1)
-one() { # program, message, rounds: the best of five runs, in GB/s
-    size=$(wc -c <"$work/$2")
-    for _ in 1 2 3 4 5; do "$1" "$3" <"$work/$2"; done |
-        awk -v size="$size" -v rounds="$3" '$1 != rounds { print "not all good"; exit 1 } { g = size * rounds / $2; if (g > best) best = g } END { printf "%.2f", best }'
-}
+# Both in turn, nine times: a machine that does other work slows one run and not the next. The best of each counts.
 for row in 'small 1000000' 'middle 3000' 'large 12'; do
     set -- $row
-    echo "$1 ($(wc -c <"$work/$1") bytes): proved $(one "$proved" "$1" "$2") GB/s, plain $(one "$work/plain" "$1" "$2") GB/s"
+    size=$(wc -c <"$work/$1")
+    for _ in 1 2 3 4 5 6 7 8 9; do
+        echo "proved $("$proved" "$2" <"$work/$1")"
+        echo "plain $("$work/plain" "$2" <"$work/$1")"
+    done | awk -v name="$1" -v size="$size" -v rounds="$2" '
+        $2 != rounds { print "not all good"; exit 1 }
+        { speed = size * rounds / $3; if (speed > best[$1]) best[$1] = speed }
+        END { printf "%s, %d bytes: proved %.2f GB/s, plain %.2f GB/s, ratio %.2f\n", name, size, best["proved"], best["plain"], best["proved"] / best["plain"] }'
 done
