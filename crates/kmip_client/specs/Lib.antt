@@ -7,4 +7,5 @@ pub mod Headline
 pub mod Diagnostics
 pub mod Client
 pub mod Errors
+pub mod Calls
 pub mod Lending

@@ -106,6 +106,9 @@ impl<T: Link> Client<T> {
             (T.state self.old.link) (T.state self.new.link) (seen result) }
         ensures caused { Caused (request_bytes payload self.old.credential) (operation_of payload) self.old.limit
             (T.state self.old.link).faults (T.state self.new.link).faults (seen result) }
+        ensures headline { IsTrue (T.state self.old.link).tells →
+            Headline (request_bytes payload self.old.credential) (operation_of payload) self.old.limit (T.state self.old.link) (T.state self.new.link) (seen result) }
+        ensures variant { IfOk result (λ answer. IsOfOperation (operation_of payload) (response_payload_val answer)) }
         ensures keeps { Keeps (T.state self.old.link) (T.state self.new.link) }
         ensures settings { (self.new.credential ≡ self.old.credential) × (self.new.limit ≡ self.old.limit) × (self.new.buffered ≡ self.old.buffered) }
         ensures count { self.new.errors ≡ counted self.old.errors (loses_connection (seen result)) }

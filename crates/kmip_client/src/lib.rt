@@ -11,7 +11,10 @@ mod check;
 mod client;
 mod error;
 mod exchange;
+mod helpers;
 mod message;
+#[cfg(test)]
+mod tests;
 mod transfer;
 
 pub use builder::ClientBuilder;

@@ -1,0 +1,106 @@
+-- From how an exchange ended to what it did for a valid request.
+use Rattle.std.proofs.Common.{◌≡◌, ◌≢◌, ℕ, ◌+◌, ◌<◌, ◌≤◌, List, ◌++◌, length, refl, ◌∙◌, ap, sym, arith, subst, Option, Some, None, Result, Ok, Err, IfOk, codes}
+use Rattle.kmip_wire.specs.Tree.{Tree}
+use Rattle.kmip_wire.specs.Parses.{Parses}
+use Rattle.kmip_wire.specs.Reading.{item_of}
+use Rattle.kmip_wire.proofs.Computed.{tree_computed}
+use Rattle.kmip_shape.specs.Val.{Val}
+use Rattle.kmip_shape.specs.Reads.{root_read}
+use Rattle.kmip_enums.specs.declared.operation.Operation.{Operation}
+use Rattle.kmip_response.specs.Tables.{response_message}
+use Rattle.kmip_response.specs.Values.{response_payload_val}
+use Rattle.kmip_response.specs.declared.payload.ResponsePayload.{ResponsePayload}
+use Rattle.kmip_link.specs.State.{LinkState, Rose}
+use Rattle.kmip_client.specs.declared.error.Error.{Error}
+use Rattle.kmip_client.specs.declared.error.Error.TheVariants.{OutOfMemory}
+use Rattle.kmip_client.specs.Message.{Message, message_at, taken_for}
+use Rattle.kmip_client.specs.Check.{check_response}
+use Rattle.kmip_client.specs.Outcome.{Answer, Outcome, outcome_of, answer_of, read_answer, tree_answer, value_answer, response_tag, left_for, Moves, seen, Exchanged, completed, write_failed, read_failed, sending_cut, reading_cut, Caused, not_valid, given, no_memory}
+use Rattle.kmip_client.specs.Client.{IsOfOperation}
+use Rattle.kmip_client.proofs.Variants.{variant_of}
+use Rattle.kmip_client.specs.Headline.{IsValidResponse, IsSound, IsAnswered, Headline}
+
+error_payload : {error : Error} {payload : Val} {G : Type 0} → ◌≡◌ {A = Answer} (Err error) (Ok payload) → G
+error_payload e = absurd (cc)
+
+-- a value that answers with a payload
+from_value : (operation : Operation) (limit : Option ℕ) (rest m : List ℕ) (payload : Val) (tree : Tree) (value : Option Val) → message_at rest limit ≡ Message.Whole m → Parses tree 1 m →
+    root_read response_message response_tag tree ≡ value → value_answer operation value ≡ Ok payload → IsValidResponse operation limit rest m payload
+from_value operation limit rest m payload tree None front parses reads answers = error_payload answers
+from_value operation limit rest m payload tree (Some value) front parses reads answers =
+    record { tree = tree; value = value; front = front; parses = parses; reads = reads; checks = answers }
+
+parses_of : (tree : Tree) (m : List ℕ) → item_of 64 m ≡ Some tree → Parses tree 1 m
+parses_of tree m is = (tree_computed tree 1 m (omega arith, omega arith)).0 is
+
+computed_of : (tree : Tree) (m : List ℕ) → Parses tree 1 m → item_of 64 m ≡ Some tree
+computed_of tree m parses = (tree_computed tree 1 m (omega arith, omega arith)).1 parses
+
+from_tree : (operation : Operation) (limit : Option ℕ) (rest m : List ℕ) (payload : Val) (tree : Option Tree) → message_at rest limit ≡ Message.Whole m →
+    item_of 64 m ≡ tree → tree_answer operation tree ≡ Ok payload → IsValidResponse operation limit rest m payload
+from_tree operation limit rest m payload None front is answers = error_payload answers
+from_tree operation limit rest m payload (Some tree) front is answers =
+    from_value operation limit rest m payload tree (root_read response_message response_tag tree) front (parses_of tree m is) refl answers
+
+record IsTaken (operation : Operation) (limit : Option ℕ) (rest : List ℕ) (payload : Val) (taken : ℕ) : Type 0 where
+  m : List ℕ
+  valid : IsValidResponse operation limit rest m payload
+  all : taken ≡ length m
+
+-- a payload comes of a valid response alone, of which every byte is taken
+from_message : (operation : Operation) (limit : Option ℕ) (rest : List ℕ) (payload : Val) (here : Message) → message_at rest limit ≡ here → answer_of operation here ≡ Ok payload →
+    IsTaken operation limit rest payload (taken_for rest here)
+from_message operation limit rest payload Message.Ended front answers = error_payload answers
+from_message operation limit rest payload (Message.Refused error) front answers = error_payload answers
+from_message operation limit rest payload (Message.Whole m) front answers =
+    record { m = m; valid = from_tree operation limit rest m payload (item_of 64 m) front refl answers; all = refl }
+
+-- and wherever a valid response stands, its payload does
+to_message : {operation : Operation} {limit : Option ℕ} {rest m : List ℕ} {payload : Val} → IsValidResponse operation limit rest m payload → answer_of operation (message_at rest limit) ≡ Ok payload
+to_message {operation = operation} {limit = limit} {rest = rest} {m = m} {payload = payload} it =
+    ap (λ here. answer_of operation here) it.front
+    ∙ ap (λ tree. tree_answer operation tree) (computed_of it.tree m it.parses)
+    ∙ ap (λ value. value_answer operation value) it.reads
+    ∙ it.checks
+
+not_rose : {before after : LinkState} {G : Type 0} → IsSound before after → Rose before.faults after.faults → G
+not_rose sound rose = absurd (omega (arith, sound.same, sound.below, rose))
+
+pub headline_of : {before after : LinkState} (bytes : List ℕ) (operation : Operation) (limit : Option ℕ) (answer : Answer) →
+    Exchanged (outcome_of (Some bytes) operation limit (left_for before after)) before after answer → IsSound before after → answer ≢ Err OutOfMemory →
+    IsAnswered bytes operation limit before after answer
+headline_of {before = before} {after = after} bytes operation limit answer (completed is moves) sound room = record {
+  sent = moves.sent_is;
+  only = λ payload ok.
+      let it : IsTaken operation limit (left_for before after) payload (taken_for (left_for before after) (message_at (left_for before after) limit)) =
+          from_message operation limit (left_for before after) payload (message_at (left_for before after) limit) refl (sym is ∙ ok) in
+      (it.m, it.valid, moves.pos ∙ ap (λ n. before.pos + n) it.all);
+  whenever = λ m payload valid. is ∙ to_message valid;
+}
+headline_of bytes operation limit answer (write_failed is rose n within moves) sound room = not_rose sound rose
+headline_of bytes operation limit answer (read_failed is rose n within moves) sound room = not_rose sound rose
+headline_of bytes operation limit answer (sending_cut is n within moves) sound room = absurd (room is)
+headline_of bytes operation limit answer (reading_cut is n within moves) sound room = absurd (room is)
+
+pub headline : {before after : LinkState} (request : Option (List ℕ)) (operation : Operation) (limit : Option ℕ) (answer : Answer) →
+    Exchanged (outcome_of request operation limit (left_for before after)) before after answer → Headline request operation limit before after answer
+headline request operation limit answer exchanged = λ bytes has sound room.
+    headline_of bytes operation limit answer (rw has at exchanged) sound room
+
+-- over any link, a payload has the variant of the operation
+given_variant : (operation : Operation) (limit : Option ℕ) (rest : List ℕ) (payload : Val) → answer_of operation (message_at rest limit) ≡ Ok payload → IsOfOperation operation payload
+given_variant operation limit rest payload answers =
+    let it = from_message operation limit rest payload (message_at rest limit) refl answers in
+    variant_of operation it.valid.tree it.valid.value payload it.valid.reads it.valid.checks
+
+caused_variant : {before after : ℕ} (request : Option (List ℕ)) (operation : Operation) (limit : Option ℕ) (answer : Answer) (payload : Val) → Caused request operation limit before after answer → answer ≡ Ok payload → IsOfOperation operation payload
+caused_variant request operation limit answer payload (not_valid has is) ok = error_payload (sym is ∙ ok)
+caused_variant request operation limit answer payload (Caused.write_failed has is rose) ok = error_payload (sym is ∙ ok)
+caused_variant request operation limit answer payload (Caused.read_failed has is rose) ok = error_payload (sym is ∙ ok)
+caused_variant request operation limit answer payload (given has rest is) ok = given_variant operation limit rest payload (sym is ∙ ok)
+caused_variant request operation limit answer payload (no_memory is) ok = error_payload (sym is ∙ ok)
+
+pub seen_variant : {before after : ℕ} (request : Option (List ℕ)) (operation : Operation) (limit : Option ℕ) (result : Result ResponsePayload Error) → Caused request operation limit before after (seen result) →
+    IfOk result (λ answer. IsOfOperation operation (response_payload_val answer))
+seen_variant request operation limit (Ok answer) caused = caused_variant request operation limit (seen (Ok answer)) (response_payload_val answer) caused refl
+seen_variant request operation limit (Err error) caused = tt
