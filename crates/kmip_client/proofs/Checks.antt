@@ -3,7 +3,7 @@ use Rattle.std.proofs.Common.{◌≡◌, ◌≢◌, ℕ, suc, ◌∷◌, [], Lis
 use Rattle.kmip_shape.specs.Val.{Val, Vals, NoVal, AndVal}
 use Rattle.kmip_shape.specs.Writes.{vals}
 use Rattle.kmip_enums.specs.declared.operation.Operation.{Operation}
-use Rattle.kmip_response.specs.declared.message.BatchItem.{BatchItem}
+use Rattle.kmip_response.specs.declared.batch_item.BatchItem.{BatchItem}
 use Rattle.kmip_response.specs.Values.{batch_item_val}
 use Rattle.kmip_client.specs.declared.error.Error.TheVariants.{ServerError}
 use Rattle.kmip_client.specs.Check.{check_items, count_of, count_text}

@@ -11,28 +11,37 @@ use crate::text::{Blob, Text};
 use std::alloc::Global;
 use std::marker::Model;
 
+/// An item with its value or its children.
 #[cycle(tree)]
 #[derive(Drop)]
 pub struct Tree {
+    /// The tag.
     pub tag: Tag,
+    /// The type, with the value or the children.
     pub node: Node,
 }
 
+/// What an item holds, by its type.
 #[cycle(tree)]
 #[derive(Drop)]
 pub enum Node {
+    /// The children in order.
     Structure(Trees),
     Integer(i32),
     LongInteger(i64),
+    /// The bytes of the number. It has a wire form where they are a multiple of 8.
     BigInteger(Blob),
     Enumeration(u32),
     Boolean(bool),
     TextString(Text),
     ByteString(Blob),
+    /// The eight bytes of the signed seconds since 1970, as an unsigned number.
     DateTime(u64),
+    /// Seconds.
     Interval(u32),
 }
 
+/// A list of items.
 #[cycle(tree)]
 #[derive(Drop)]
 pub struct Trees {
@@ -77,6 +86,7 @@ impl Model for Trees {
 }
 
 impl Trees {
+    /// The empty list, which takes no memory.
     pub fn new(alloc: Global) -> Trees
         ensures { result ≡ [] }
     {
@@ -85,6 +95,7 @@ impl Trees {
         }
     }
 
+    /// Adds an item at the end. Where memory runs out, the list stays as it was and the item is dropped.
     pub fn push(&mut self, item: Tree) -> Result<(), OutOfMemory>
         ensures { self.new ≡ (if is_ok result then self.old ++ item ∷ [] else self.old) }
     {
@@ -94,24 +105,28 @@ impl Trees {
         }
     }
 
+    /// How many items there are.
     pub fn len(&self) -> usize
         ensures { result ≡ length self.now }
     {
         self.items.len()
     }
 
+    /// The item at the index, counted from 0, and `None` past the end.
     pub fn get(&self, index: usize) -> Option<&Tree>
         ensures { option_copied result ≡ slice_get self.now index }
     {
         self.items.get(index)
     }
 
+    /// The items in order.
     pub fn as_slice(&self) -> &[Tree]
         ensures { result.now ≡ self.now }
     {
         self.items.as_slice()
     }
 
+    /// The items in order, with no copy made.
     pub fn into_vec(self) -> Vec<Tree>
         ensures { result.items ≡ self }
     {
@@ -119,7 +134,7 @@ impl Trees {
     }
 }
 
-// Trees have their ranges.
+// The numbers, texts and bytes of a tree are in their ranges.
 
 fn byte_ranges(bytes: &[u8])
     ensures { AreBytes bytes.now }
