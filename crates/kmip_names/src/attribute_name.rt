@@ -54,11 +54,7 @@ impl WriteItem for AttributeName {
 }
 
 impl ReadItem for AttributeName {
-    fn read(
-        alloc: Global,
-        outer: Outer<'_>,
-        item: ItemRef<'_>,
-    ) -> Result<AttributeName, ReadError> {
+    fn read(alloc: Global, outer: Outer<'_>, item: ItemRef<'_>) -> Result<Self, ReadError> {
         Ok(AttributeName(Text::read(alloc, outer, item)?))
     }
 }

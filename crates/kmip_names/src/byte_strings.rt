@@ -44,7 +44,7 @@ impl WriteItem for Data {
 }
 
 impl ReadItem for Data {
-    fn read(alloc: Global, outer: Outer<'_>, item: ItemRef<'_>) -> Result<Data, ReadError> {
+    fn read(alloc: Global, outer: Outer<'_>, item: ItemRef<'_>) -> Result<Self, ReadError> {
         Ok(Data(Blob::read(alloc, outer, item)?))
     }
 }
@@ -97,11 +97,7 @@ impl WriteItem for UniqueBatchItemID {
 }
 
 impl ReadItem for UniqueBatchItemID {
-    fn read(
-        alloc: Global,
-        outer: Outer<'_>,
-        item: ItemRef<'_>,
-    ) -> Result<UniqueBatchItemID, ReadError> {
+    fn read(alloc: Global, outer: Outer<'_>, item: ItemRef<'_>) -> Result<Self, ReadError> {
         Ok(UniqueBatchItemID(Blob::read(alloc, outer, item)?))
     }
 }

@@ -47,11 +47,7 @@ impl WriteItem for AttributeIndex {
 }
 
 impl ReadItem for AttributeIndex {
-    fn read(
-        alloc: Global,
-        outer: Outer<'_>,
-        item: ItemRef<'_>,
-    ) -> Result<AttributeIndex, ReadError> {
+    fn read(alloc: Global, outer: Outer<'_>, item: ItemRef<'_>) -> Result<Self, ReadError> {
         Ok(AttributeIndex(i32::read(alloc, outer, item)?))
     }
 }
@@ -89,7 +85,7 @@ impl WriteItem for DataLength {
 }
 
 impl ReadItem for DataLength {
-    fn read(alloc: Global, outer: Outer<'_>, item: ItemRef<'_>) -> Result<DataLength, ReadError> {
+    fn read(alloc: Global, outer: Outer<'_>, item: ItemRef<'_>) -> Result<Self, ReadError> {
         Ok(DataLength(i32::read(alloc, outer, item)?))
     }
 }
@@ -127,11 +123,7 @@ impl WriteItem for CryptographicLength {
 }
 
 impl ReadItem for CryptographicLength {
-    fn read(
-        alloc: Global,
-        outer: Outer<'_>,
-        item: ItemRef<'_>,
-    ) -> Result<CryptographicLength, ReadError> {
+    fn read(alloc: Global, outer: Outer<'_>, item: ItemRef<'_>) -> Result<Self, ReadError> {
         Ok(CryptographicLength(i32::read(alloc, outer, item)?))
     }
 }
@@ -169,11 +161,7 @@ impl WriteItem for CompromiseOccurrenceDate {
 }
 
 impl ReadItem for CompromiseOccurrenceDate {
-    fn read(
-        alloc: Global,
-        outer: Outer<'_>,
-        item: ItemRef<'_>,
-    ) -> Result<CompromiseOccurrenceDate, ReadError> {
+    fn read(alloc: Global, outer: Outer<'_>, item: ItemRef<'_>) -> Result<Self, ReadError> {
         Ok(CompromiseOccurrenceDate(u64::read(alloc, outer, item)?))
     }
 }

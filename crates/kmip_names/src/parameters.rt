@@ -36,7 +36,7 @@ impl WriteItem for RandomIV {
 }
 
 impl ReadItem for RandomIV {
-    fn read(alloc: Global, outer: Outer<'_>, item: ItemRef<'_>) -> Result<RandomIV, ReadError> {
+    fn read(alloc: Global, outer: Outer<'_>, item: ItemRef<'_>) -> Result<Self, ReadError> {
         Ok(RandomIV(bool::read(alloc, outer, item)?))
     }
 }
@@ -74,7 +74,7 @@ impl WriteItem for IVLength {
 }
 
 impl ReadItem for IVLength {
-    fn read(alloc: Global, outer: Outer<'_>, item: ItemRef<'_>) -> Result<IVLength, ReadError> {
+    fn read(alloc: Global, outer: Outer<'_>, item: ItemRef<'_>) -> Result<Self, ReadError> {
         Ok(IVLength(i32::read(alloc, outer, item)?))
     }
 }
@@ -112,7 +112,7 @@ impl WriteItem for TagLength {
 }
 
 impl ReadItem for TagLength {
-    fn read(alloc: Global, outer: Outer<'_>, item: ItemRef<'_>) -> Result<TagLength, ReadError> {
+    fn read(alloc: Global, outer: Outer<'_>, item: ItemRef<'_>) -> Result<Self, ReadError> {
         Ok(TagLength(i32::read(alloc, outer, item)?))
     }
 }
@@ -150,11 +150,7 @@ impl WriteItem for FixedFieldLength {
 }
 
 impl ReadItem for FixedFieldLength {
-    fn read(
-        alloc: Global,
-        outer: Outer<'_>,
-        item: ItemRef<'_>,
-    ) -> Result<FixedFieldLength, ReadError> {
+    fn read(alloc: Global, outer: Outer<'_>, item: ItemRef<'_>) -> Result<Self, ReadError> {
         Ok(FixedFieldLength(i32::read(alloc, outer, item)?))
     }
 }
@@ -192,11 +188,7 @@ impl WriteItem for InvocationFieldLength {
 }
 
 impl ReadItem for InvocationFieldLength {
-    fn read(
-        alloc: Global,
-        outer: Outer<'_>,
-        item: ItemRef<'_>,
-    ) -> Result<InvocationFieldLength, ReadError> {
+    fn read(alloc: Global, outer: Outer<'_>, item: ItemRef<'_>) -> Result<Self, ReadError> {
         Ok(InvocationFieldLength(i32::read(alloc, outer, item)?))
     }
 }
@@ -234,11 +226,7 @@ impl WriteItem for CounterLength {
 }
 
 impl ReadItem for CounterLength {
-    fn read(
-        alloc: Global,
-        outer: Outer<'_>,
-        item: ItemRef<'_>,
-    ) -> Result<CounterLength, ReadError> {
+    fn read(alloc: Global, outer: Outer<'_>, item: ItemRef<'_>) -> Result<Self, ReadError> {
         Ok(CounterLength(i32::read(alloc, outer, item)?))
     }
 }
@@ -276,11 +264,7 @@ impl WriteItem for InitialCounterValue {
 }
 
 impl ReadItem for InitialCounterValue {
-    fn read(
-        alloc: Global,
-        outer: Outer<'_>,
-        item: ItemRef<'_>,
-    ) -> Result<InitialCounterValue, ReadError> {
+    fn read(alloc: Global, outer: Outer<'_>, item: ItemRef<'_>) -> Result<Self, ReadError> {
         Ok(InitialCounterValue(i32::read(alloc, outer, item)?))
     }
 }

@@ -31,6 +31,18 @@ fn comes_back<T: ReadItem + WriteItem + ShowItem>(
     Ok(())
 }
 
+/// What is read from the item has a copy that equals it.
+fn is_copied<T: ReadItem + TryClone + PartialEq>(
+    rt: &impl Abort,
+    alloc: Global,
+    bytes: &[u8],
+) -> Result<(), Fail> {
+    let item = ItemRef::root(bytes).ok_or("no item")?;
+    let value = T::read(alloc, Outer::none(), item)?;
+    assert!(rt; value.try_clone(alloc)? == value);
+    Ok(())
+}
+
 #[test]
 fn items(rt: HostRuntime) -> Result<(), Fail> {
     // 02 "k1"
@@ -181,13 +193,31 @@ fn items(rt: HostRuntime) -> Result<(), Fail> {
     Ok(())
 }
 
+// 94 "k1" and 93 xDEADBEEF
+const TEXT: &[u8] = b"\x42\x00\x94\x07\x00\x00\x00\x02\x6B\x31\x00\x00\x00\x00\x00\x00";
+
+const BYTES: &[u8] = b"\x42\x00\x93\x08\x00\x00\x00\x04\xDE\xAD\xBE\xEF\x00\x00\x00\x00";
+
+#[test]
+fn copies(rt: HostRuntime) -> Result<(), Fail> {
+    is_copied::<ApplicationData>(&rt, rt.alloc(), TEXT)?;
+    is_copied::<ApplicationNamespace>(&rt, rt.alloc(), TEXT)?;
+    is_copied::<AttributeName>(&rt, rt.alloc(), TEXT)?;
+    is_copied::<LinkedObjectIdentifier>(&rt, rt.alloc(), TEXT)?;
+    is_copied::<NameValue>(&rt, rt.alloc(), TEXT)?;
+    is_copied::<RevocationMessage>(&rt, rt.alloc(), TEXT)?;
+    is_copied::<UniqueIdentifier>(&rt, rt.alloc(), TEXT)?;
+    is_copied::<Data>(&rt, rt.alloc(), BYTES)?;
+    is_copied::<UniqueBatchItemID>(&rt, rt.alloc(), BYTES)?;
+    Ok(())
+}
+
 #[test]
 fn parts(rt: HostRuntime) -> Result<(), Fail> {
     let alloc = rt.alloc();
     let identifier = UniqueIdentifier(Text::of(alloc, "k1")?);
     assert_eq!(rt; identifier.as_str(), "k1");
     assert!(rt; identifier.is("k1") && !identifier.is("k12") && !identifier.is(""));
-    assert!(rt; identifier.try_clone(alloc)? == identifier);
     let name = AttributeName(Text::of(alloc, "State")?);
     assert!(rt; name.is("State") && !name.is("state"));
     assert!(rt; AttributeIndex(-1).is(-1) && !AttributeIndex(-1).is(1));

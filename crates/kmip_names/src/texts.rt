@@ -61,11 +61,7 @@ impl WriteItem for UniqueIdentifier {
 }
 
 impl ReadItem for UniqueIdentifier {
-    fn read(
-        alloc: Global,
-        outer: Outer<'_>,
-        item: ItemRef<'_>,
-    ) -> Result<UniqueIdentifier, ReadError> {
+    fn read(alloc: Global, outer: Outer<'_>, item: ItemRef<'_>) -> Result<Self, ReadError> {
         Ok(UniqueIdentifier(Text::read(alloc, outer, item)?))
     }
 }
@@ -117,7 +113,7 @@ impl WriteItem for NameValue {
 }
 
 impl ReadItem for NameValue {
-    fn read(alloc: Global, outer: Outer<'_>, item: ItemRef<'_>) -> Result<NameValue, ReadError> {
+    fn read(alloc: Global, outer: Outer<'_>, item: ItemRef<'_>) -> Result<Self, ReadError> {
         Ok(NameValue(Text::read(alloc, outer, item)?))
     }
 }
@@ -161,11 +157,7 @@ impl WriteItem for RevocationMessage {
 }
 
 impl ReadItem for RevocationMessage {
-    fn read(
-        alloc: Global,
-        outer: Outer<'_>,
-        item: ItemRef<'_>,
-    ) -> Result<RevocationMessage, ReadError> {
+    fn read(alloc: Global, outer: Outer<'_>, item: ItemRef<'_>) -> Result<Self, ReadError> {
         Ok(RevocationMessage(Text::read(alloc, outer, item)?))
     }
 }
@@ -209,11 +201,7 @@ impl WriteItem for LinkedObjectIdentifier {
 }
 
 impl ReadItem for LinkedObjectIdentifier {
-    fn read(
-        alloc: Global,
-        outer: Outer<'_>,
-        item: ItemRef<'_>,
-    ) -> Result<LinkedObjectIdentifier, ReadError> {
+    fn read(alloc: Global, outer: Outer<'_>, item: ItemRef<'_>) -> Result<Self, ReadError> {
         Ok(LinkedObjectIdentifier(Text::read(alloc, outer, item)?))
     }
 }
@@ -257,11 +245,7 @@ impl WriteItem for ApplicationNamespace {
 }
 
 impl ReadItem for ApplicationNamespace {
-    fn read(
-        alloc: Global,
-        outer: Outer<'_>,
-        item: ItemRef<'_>,
-    ) -> Result<ApplicationNamespace, ReadError> {
+    fn read(alloc: Global, outer: Outer<'_>, item: ItemRef<'_>) -> Result<Self, ReadError> {
         Ok(ApplicationNamespace(Text::read(alloc, outer, item)?))
     }
 }
@@ -305,11 +289,7 @@ impl WriteItem for ApplicationData {
 }
 
 impl ReadItem for ApplicationData {
-    fn read(
-        alloc: Global,
-        outer: Outer<'_>,
-        item: ItemRef<'_>,
-    ) -> Result<ApplicationData, ReadError> {
+    fn read(alloc: Global, outer: Outer<'_>, item: ItemRef<'_>) -> Result<Self, ReadError> {
         Ok(ApplicationData(Text::read(alloc, outer, item)?))
     }
 }

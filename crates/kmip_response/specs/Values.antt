@@ -1,14 +1,12 @@
 -- The typed values of a response, as contracts see them: each a record of its fields in the order of its table.
-use Rattle.std.specs.Prelude.{pos}
-use Rattle.std.specs.Int.{w64, cast_unsigned}
 use Rattle.kmip_shape.specs.Val.{Val, Number, Text, Bytes, Truth, Record, Case, AndField, NoField, One, Many}
 use Rattle.kmip_shape.specs.Writes.{optional, vals}
-use Rattle.kmip_shape.specs.Enumerations.{enumeration_val}
+use Rattle.kmip_shape.specs.Dates.{date_val}
 use Rattle.kmip_types.specs.Texts.{unique_identifier_val}
 use Rattle.kmip_types.specs.ByteStrings.{unique_batch_item_id_val}
-use Rattle.kmip_enums.specs.Operations.{operation_line}
-use Rattle.kmip_enums.specs.ResultStatuses.{result_status_line}
-use Rattle.kmip_enums.specs.ResultReasons.{result_reason_line}
+use Rattle.kmip_enums.specs.Operations.{operation_val}
+use Rattle.kmip_enums.specs.ResultStatuses.{result_status_val}
+use Rattle.kmip_enums.specs.ResultReasons.{result_reason_val}
 use Rattle.kmip_response.specs.declared.header.ProtocolVersion.{ProtocolVersion}
 use Rattle.kmip_response.specs.declared.header.ResponseHeader.{ResponseHeader}
 use Rattle.kmip_response.specs.declared.extension.MessageExtension.{MessageExtension}
@@ -28,7 +26,7 @@ protocol_version_val x = Record
 abbrev pub response_header_val : ResponseHeader → Val
 response_header_val x = Record
     (AndField (One (protocol_version_val x.protocol_version))
-    (AndField (One (Number (pos (cast_unsigned w64 x.timestamp))))
+    (AndField (One (date_val x.timestamp))
     (AndField (One (Number x.batch_count))
     NoField)))
 
@@ -55,10 +53,10 @@ response_payload_val (RNGRetrieve x) = Case 37 (rng_retrieve_payload_val x)
 
 abbrev pub batch_item_val : BatchItem → Val
 batch_item_val x = Record
-    (AndField (optional (enumeration_val operation_line) x.operation)
+    (AndField (optional operation_val x.operation)
     (AndField (optional unique_batch_item_id_val x.unique_batch_item_id)
-    (AndField (One (enumeration_val result_status_line x.result_status))
-    (AndField (optional (enumeration_val result_reason_line) x.result_reason)
+    (AndField (One (result_status_val x.result_status))
+    (AndField (optional result_reason_val x.result_reason)
     (AndField (optional Text x.result_message)
     (AndField (optional response_payload_val x.payload)
     (AndField (optional message_extension_val x.message_extension)

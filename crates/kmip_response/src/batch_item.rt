@@ -9,9 +9,8 @@ use crate::extension::MessageExtension;
 use crate::payload::ResponsePayload;
 use kmip_enums::{Operation, ResultReason, ResultStatus};
 use kmip_shape::columns::{ChosenOpt, One, Opt};
-use kmip_shape::read::{Outer, ReadError, ReadItem};
-use kmip_shape::record::{Choosing, End, Row, read_record};
-use kmip_shape::{Item, ReadRoot, known_optional};
+use kmip_shape::record::{Choosing, End, Row};
+use kmip_shape::{Item, Outer, ReadError, ReadItem, ReadRoot, known_record, read_record};
 use kmip_types::UniqueBatchItemID;
 use kmip_wire::{ItemRef, Tag, Text};
 use std::alloc::Global;
@@ -35,13 +34,22 @@ impl Item for BatchItem {
     ghost val = { batch_item_val };
 
     fn known(&self) {
-        known_optional(&self.operation);
-        known_optional(&self.unique_batch_item_id);
-        self.result_status.known();
-        known_optional(&self.result_reason);
-        known_optional(&self.result_message);
-        known_optional(&self.payload);
-        known_optional(&self.message_extension);
+        known_record::<BatchItemRows<'_>>((
+            &self.operation,
+            (
+                &self.unique_batch_item_id,
+                (
+                    &self.result_status,
+                    (
+                        &self.result_reason,
+                        (
+                            &self.result_message,
+                            (&self.payload, (&self.message_extension, ())),
+                        ),
+                    ),
+                ),
+            ),
+        ));
     }
 
     ghost same = { batch_item_same };
@@ -92,7 +100,7 @@ impl ReadItem for BatchItem {
 }
 
 impl ReadRoot for BatchItem {
-    ghost root_tag = { 0x42000F };
+    ghost tag = { 0x42000F };
 
     fn root_tag() -> Tag {
         Tag::of(0x42000F)

@@ -5,10 +5,9 @@ ghost use Rattle.kmip_response.specs.Tables.{message_extension};
 ghost use Rattle.kmip_response.specs.Values.{message_extension_val};
 ghost use Rattle.kmip_response.specs.Same.{message_extension_same};
 
-use kmip_shape::{Item, ReadRoot};
 use kmip_shape::columns::One;
-use kmip_shape::read::{Outer, ReadError, ReadItem};
-use kmip_shape::record::{End, Row, read_record};
+use kmip_shape::record::{End, Row};
+use kmip_shape::{Item, Outer, ReadError, ReadItem, ReadRoot, known_record, read_record};
 use kmip_wire::{ItemRef, Tag, Text};
 use std::alloc::Global;
 
@@ -31,8 +30,7 @@ impl Item for MessageExtension {
     ghost val = { message_extension_val };
 
     fn known(&self) {
-        self.vendor_identification.known();
-        self.criticality_indicator.known();
+        known_record::<MessageExtensionRows>((&self.vendor_identification, (&self.criticality_indicator, ())));
     }
 
     ghost same = { message_extension_same };
@@ -53,7 +51,7 @@ impl ReadItem for MessageExtension {
 }
 
 impl ReadRoot for MessageExtension {
-    ghost root_tag = { 0x420051 };
+    ghost tag = { 0x420051 };
 
     fn root_tag() -> Tag {
         Tag::of(0x420051)

@@ -1,12 +1,13 @@
 //! The head of a response.
 
-ghost use Rattle.std.specs.Prelude.{◌≡◌, FitsSigned};
-ghost use Rattle.std.specs.Int.{w64};
+ghost use Rattle.std.specs.Prelude.{◌≡◌};
+ghost use Rattle.kmip_response.specs.Tables.{protocol_version, response_header};
+ghost use Rattle.kmip_response.specs.Values.{protocol_version_val, response_header_val};
+ghost use Rattle.kmip_response.specs.Same.{protocol_version_same, response_header_same};
 
-use kmip_shape::{Item, ReadRoot};
 use kmip_shape::columns::One;
-use kmip_shape::read::{Outer, ReadError, ReadItem};
-use kmip_shape::record::{End, Row, read_record};
+use kmip_shape::record::{End, Row};
+use kmip_shape::{Item, Outer, ReadError, ReadItem, ReadRoot, Timestamp, known_record, read_record};
 use kmip_wire::{ItemRef, Tag};
 use std::alloc::Global;
 
@@ -17,24 +18,19 @@ pub struct ProtocolVersion {
     pub minor: i32,
 }
 
-impl Item for ProtocolVersion {
-    ghost use Rattle.kmip_response.specs.Tables.{protocol_version};
-    ghost use Rattle.kmip_response.specs.Values.{protocol_version_val};
-    ghost use Rattle.kmip_response.specs.Same.{protocol_version_same};
+type ProtocolVersionRows = Row<One<i32, 0x42006A>, Row<One<i32, 0x42006B>, End>>;
 
+impl Item for ProtocolVersion {
     ghost shape = { protocol_version };
 
     ghost val = { protocol_version_val };
 
     fn known(&self) {
-        self.major.known();
-        self.minor.known();
+        known_record::<ProtocolVersionRows>((&self.major, (&self.minor, ())));
     }
 
     ghost same = { protocol_version_same };
 }
-
-type ProtocolVersionRows = Row<One<i32, 0x42006A>, Row<One<i32, 0x42006B>, End>>;
 
 impl ReadItem for ProtocolVersion {
     fn read(alloc: Global, outer: Outer<'_>, item: ItemRef<'_>) -> Result<Self, ReadError> {
@@ -44,7 +40,7 @@ impl ReadItem for ProtocolVersion {
 }
 
 impl ReadRoot for ProtocolVersion {
-    ghost root_tag = { 0x420069 };
+    ghost tag = { 0x420069 };
 
     fn root_tag() -> Tag {
         Tag::of(0x420069)
@@ -52,51 +48,48 @@ impl ReadRoot for ProtocolVersion {
 }
 
 /// The head of a response: KMIP 1.0, 7.2.
-#[derive(PartialEq, Eq, Drop)]
+#[derive(Clone, Copy, PartialEq, Eq, Drop)]
 pub struct ResponseHeader {
     pub protocol_version: ProtocolVersion,
     /// When the response was made, in seconds since 1970.
     pub timestamp: i64,
     /// How many batch items the server says that there are.
     pub batch_count: i32,
-    ghost in_range: { FitsSigned w64 timestamp },
 }
 
-impl Item for ResponseHeader {
-    ghost use Rattle.kmip_response.specs.Tables.{response_header};
-    ghost use Rattle.kmip_response.specs.Values.{response_header_val};
-    ghost use Rattle.kmip_response.specs.Same.{response_header_same};
+type ResponseHeaderRows =
+    Row<One<ProtocolVersion, 0x420069>, Row<One<Timestamp, 0x420092>, Row<One<i32, 0x42000D>, End>>>;
 
+impl Item for ResponseHeader {
     ghost shape = { response_header };
 
     ghost val = { response_header_val };
 
     fn known(&self) {
-        self.protocol_version.known();
-        let _seconds = self.timestamp;
-        self.batch_count.known();
+        let timestamp = Timestamp(self.timestamp);
+        known_record::<ResponseHeaderRows>((
+            &self.protocol_version,
+            (&timestamp, (&self.batch_count, ())),
+        ));
     }
 
     ghost same = { response_header_same };
 }
 
-type ResponseHeaderRows =
-    Row<One<ProtocolVersion, 0x420069>, Row<One<u64, 0x420092>, Row<One<i32, 0x42000D>, End>>>;
-
 impl ReadItem for ResponseHeader {
     fn read(alloc: Global, outer: Outer<'_>, item: ItemRef<'_>) -> Result<Self, ReadError> {
-        let (protocol_version, (seconds, (batch_count, _))) =
+        let (protocol_version, (timestamp, (batch_count, _))) =
             read_record::<ResponseHeaderRows>(alloc, outer, item)?;
         Ok(ResponseHeader {
             protocol_version,
-            timestamp: seconds.cast_signed(),
+            timestamp: timestamp.0,
             batch_count,
         })
     }
 }
 
 impl ReadRoot for ResponseHeader {
-    ghost root_tag = { 0x42007A };
+    ghost tag = { 0x42007A };
 
     fn root_tag() -> Tag {
         Tag::of(0x42007A)

@@ -8,9 +8,8 @@ ghost use Rattle.kmip_response.specs.Same.{response_message_same};
 use crate::batch_item::BatchItem;
 use crate::header::ResponseHeader;
 use kmip_shape::columns::{NonEmpty, One};
-use kmip_shape::read::{Outer, ReadError, ReadItem};
-use kmip_shape::record::{End, Row, read_record};
-use kmip_shape::{Item, ReadRoot, known_list};
+use kmip_shape::record::{End, Row};
+use kmip_shape::{Item, Outer, ReadError, ReadItem, ReadRoot, known_record, read_record};
 use kmip_wire::{ItemRef, List, Tag};
 use std::alloc::Global;
 
@@ -28,8 +27,7 @@ impl Item for ResponseMessage {
     ghost val = { response_message_val };
 
     fn known(&self) {
-        self.header.known();
-        known_list(self.batch_items.as_slice());
+        known_record::<ResponseMessageRows>((&self.header, (&self.batch_items, ())));
     }
 
     ghost same = { response_message_same };
@@ -45,7 +43,7 @@ impl ReadItem for ResponseMessage {
 }
 
 impl ReadRoot for ResponseMessage {
-    ghost root_tag = { 0x42007B };
+    ghost tag = { 0x42007B };
 
     fn root_tag() -> Tag {
         Tag::of(0x42007B)

@@ -5,11 +5,12 @@ ghost use Rattle.kmip_response.specs.Tables.{unique_identifier_payload, rng_retr
 ghost use Rattle.kmip_response.specs.Values.{unique_identifier_payload_val, rng_retrieve_payload_val, response_payload_val};
 ghost use Rattle.kmip_response.specs.Same.{unique_identifier_payload_same, rng_retrieve_payload_same, response_payload_same};
 
-use kmip_shape::show::{ShowItem, show_one};
-use kmip_shape::{Item, ReadRoot, Sink};
 use kmip_shape::columns::One;
-use kmip_shape::read::{Outer, ReadError, ReadItem};
-use kmip_shape::record::{End, Row, read_record};
+use kmip_shape::record::{End, Row};
+use kmip_shape::{
+    Item, Outer, ReadError, ReadItem, ReadRoot, ShowItem, Sink, known_record, read_record,
+    show_record,
+};
 use kmip_types::UniqueIdentifier;
 use kmip_wire::{Blob, ItemRef, Tag};
 use std::alloc::Global;
@@ -29,7 +30,7 @@ impl Item for UniqueIdentifierResponsePayload {
     ghost val = { unique_identifier_payload_val };
 
     fn known(&self) {
-        self.unique_identifier.known();
+        known_record::<UniqueIdentifierRows>((&self.unique_identifier, ()));
     }
 
     ghost same = { unique_identifier_payload_same };
@@ -37,9 +38,11 @@ impl Item for UniqueIdentifierResponsePayload {
 
 impl ShowItem for UniqueIdentifierResponsePayload {
     fn show_into(&self, out: &mut Sink) {
-        out.put("{");
-        show_one(&self.unique_identifier, "unique_identifier", false, out);
-        out.put("}");
+        show_record::<UniqueIdentifierRows>(
+            (&self.unique_identifier, ()),
+            ("unique_identifier", ()),
+            out,
+        );
     }
 }
 
@@ -53,7 +56,7 @@ impl ReadItem for UniqueIdentifierResponsePayload {
 }
 
 impl ReadRoot for UniqueIdentifierResponsePayload {
-    ghost root_tag = { 0x42007C };
+    ghost tag = { 0x42007C };
 
     fn root_tag() -> Tag {
         Tag::of(0x42007C)
@@ -73,7 +76,7 @@ impl Item for RNGRetrieveResponsePayload {
     ghost val = { rng_retrieve_payload_val };
 
     fn known(&self) {
-        self.random_bytes.known();
+        known_record::<RNGRetrieveRows>((&self.random_bytes, ()));
     }
 
     ghost same = { rng_retrieve_payload_same };
@@ -81,9 +84,7 @@ impl Item for RNGRetrieveResponsePayload {
 
 impl ShowItem for RNGRetrieveResponsePayload {
     fn show_into(&self, out: &mut Sink) {
-        out.put("{");
-        show_one(&self.random_bytes, "random_bytes", false, out);
-        out.put("}");
+        show_record::<RNGRetrieveRows>((&self.random_bytes, ()), ("random_bytes", ()), out);
     }
 }
 
@@ -97,7 +98,7 @@ impl ReadItem for RNGRetrieveResponsePayload {
 }
 
 impl ReadRoot for RNGRetrieveResponsePayload {
-    ghost root_tag = { 0x42007C };
+    ghost tag = { 0x42007C };
 
     fn root_tag() -> Tag {
         Tag::of(0x42007C)

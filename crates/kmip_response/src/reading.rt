@@ -6,8 +6,7 @@ ghost use Rattle.kmip_wire.specs.Reading.{front_at};
 ghost use Rattle.kmip_shape.specs.Reads.{root_read};
 ghost use Rattle.kmip_response.specs.Reading.{front_structure};
 
-use kmip_shape::read::ReadError;
-use kmip_shape::{ReadRoot, read_root};
+use kmip_shape::{ReadError, ReadRoot, read_root};
 use kmip_wire::{Kind, split_front};
 use std::alloc::Global;
 
@@ -23,9 +22,9 @@ pub enum ResponseError {
 
 /// Reads the item at the front of the bytes. Bytes after it are not looked at.
 pub fn from_slice<T: ReadRoot>(alloc: Global, bytes: &[u8]) -> Result<T, ResponseError>
-    ensures ok { IfOk result (λ x. option_and_then (root_read T.shape T.root_tag) (front_structure bytes.now) ≡ Some (T.val x)) }
+    ensures ok { IfOk result (λ x. option_and_then (root_read T.shape T.tag) (front_structure bytes.now) ≡ Some (T.val x)) }
     ensures malformed { result ≡ Err ResponseError.Malformed ↔ (front_structure bytes.now ≡ None) }
-    ensures unread { result ≡ Err ResponseError.Unread → option_and_then (root_read T.shape T.root_tag) (front_structure bytes.now) ≡ None }
+    ensures unread { result ≡ Err ResponseError.Unread → option_and_then (root_read T.shape T.tag) (front_structure bytes.now) ≡ None }
 {
     let Some((item, _rest)) = split_front(bytes, 1) else {
         return Err(ResponseError::Malformed);

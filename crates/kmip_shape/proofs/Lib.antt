@@ -16,3 +16,5 @@ pub mod Growth
 pub mod Appended
 pub mod Escapes
 pub mod Variants
+pub mod Dated
+pub mod Examples

@@ -1,8 +1,8 @@
 -- What is written is the bytes of the tree.
 use Rattle.std.proofs.Common.{◌≡◌, ℕ, ◌+◌, ◌^◌, ◌<◌, Bool, true, false, cond, length, List, [], ◌∷◌, ◌++◌, Option, Some, None, refl, sym, ◌∙◌, ap, subst, lt-ltb, length-append, append-nil, append_assoc}
 use Rattle.kmip_wire.specs.Tree.{Scalar as Leaf, Tree, scalar, trees_of}
-use Rattle.kmip_wire.specs.Bytes.{item_bytes, bytes, all_bytes, in_order, value_bytes}
-use Rattle.kmip_shape.specs.Writes.{structure_head, leaf_form, leaf_has_form, leaf_size, leaf_text, len_of}
+use Rattle.kmip_wire.specs.Bytes.{head_bytes, item_bytes, bytes, all_bytes, in_order, value_bytes}
+use Rattle.kmip_shape.specs.Writes.{leaf_form, structure_head, leaf_has_form, leaf_size, leaf_text, len_of}
 use Rattle.std.specs.Option.{option_and_then}
 use Rattle.kmip_wire.specs.Kinds.{kind_of_scalar, code_of}
 use Rattle.kmip_wire.specs.declared.kind.Kind.TheVariants.{Enumeration}
@@ -47,9 +47,9 @@ maybe_then None b = refl
 maybe_then (Some ts) None = sym (then_stop (all_bytes (trees_of ts)))
 maybe_then (Some ts) (Some us) = all_append ts us
 
-pub head_len : (tag len : ℕ) → length (structure_head tag len) ≡ 8
+pub head_len : (tag size : ℕ) → length (structure_head tag size) ≡ 8
 unfolding structure_head
-head_len tag len = refl
+head_len tag size = refl
 
 abbrev pub tree_bytes : Option Tree → Option (List ℕ)
 tree_bytes o = option_and_then bytes o

@@ -41,3 +41,8 @@ some_same h = cc
 pub same_variant : {T : Type 0} (line : T → Entry) (variants : List T) → AreFound line variants → IsFaithful (enumeration_val line)
 same_variant line variants found x y h =
     some_same (sym (found x) ∙ (ap (variant_at line variants) (same_unsigned h) ∙ found y))
+
+-- two variants are one where the numbers are, or the names are
+abbrev pub AreDistinct : {T : Type 0} → (T → Entry) → Type 0
+AreDistinct {T} line =
+    ((x y : T) → (line x).number ≡ (line y).number → x ≡ y) × ((x y : T) → (line x).name ≡ (line y).name → x ≡ y)

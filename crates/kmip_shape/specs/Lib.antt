@@ -9,3 +9,4 @@ pub mod Codes
 pub mod Resume
 pub mod Shown
 pub mod Enumerations
+pub mod Dates

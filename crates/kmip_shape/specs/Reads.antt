@@ -1,4 +1,4 @@
-use Rattle.std.specs.Prelude.{ℕ, pos, nat_eq, List, [], ◌∷◌, Option, Some, None, filter, if◌then◌else◌}
+use Rattle.std.specs.Prelude.{ℕ, pos, List, [], ◌∷◌, Option, Some, None, filter, if◌then◌else◌, ◌==◌}
 use Rattle.std.specs.Option.{option_map, option_and_then}
 use Rattle.kmip_wire.specs.declared.kind.Kind.{Kind}
 use Rattle.kmip_wire.specs.Tree.{Tree}
@@ -94,6 +94,6 @@ abbrev mutual
 abbrev pub read_of : Shape → OuterValue → Tree → Option Val
 read_of shape outer tree = read_in shape NoCase outer tree
 
--- the value that a tree reads as with no chooser around it, where it has the tag
+-- the value of a structure that stands alone, under its tag
 abbrev pub root_read : Shape → ℕ → Tree → Option Val
-root_read shape tag tree = if nat_eq (tag_of tree) tag then read_of shape no_outer tree else None
+root_read shape tag tree = if tag_of tree == tag then read_of shape no_outer tree else None

@@ -29,6 +29,10 @@ leaf_text tag leaf = item_bytes tag (code_of (kind_of_scalar leaf)) (value_bytes
 abbrev pub leaf_size : Leaf → ℕ
 leaf_size leaf = 8 + len_of leaf + pads (len_of leaf)
 
+-- the head of a structure of so many bytes
+unfoldable pub structure_head : ℕ → ℕ → List ℕ
+structure_head tag size = head_bytes tag 1 size
+
 -- whether an item of it has a form
 abbrev pub leaf_form : Leaf → Type 0
 leaf_form (big_integer b) = (length b < 2 ^ 32) × (length b % 8 ≡ 0)
@@ -169,10 +173,6 @@ abbrev mutual
   pub list_form : Vals → Shape → Type 0
   list_form NoVal shape = Unit {0}
   list_form (AndVal val vals) shape = form_in val NoCase shape × list_form vals shape
-
--- the head of a structure whose contents have so many bytes
-unfoldable pub structure_head : ℕ → ℕ → List ℕ
-structure_head tag size = head_bytes tag 1 size
 
 -- What a value is written as, where it has a form.
 abbrev mutual

@@ -11,7 +11,8 @@ use crate::read::{Outer, ReadError, ReadItem};
 use kmip_wire::{ItemRef, List, Tag};
 use std::alloc::Global;
 
-/// The one child of the tag.
+/// The one child of the tag. `Unread` comes exactly where the parent does not have exactly one child of the tag, or that
+/// child is not read.
 pub fn read_one<T: ReadItem>(
     alloc: Global,
     outer: Outer<'_>,
@@ -34,7 +35,8 @@ pub fn read_one<T: ReadItem>(
     found.ok_or(ReadError::Unread)
 }
 
-/// The child of the tag, where there is one.
+/// The child of the tag, where there is one. `Unread` comes exactly where the parent is no Structure, or there are two or
+/// more children of the tag, or the one is not read.
 pub fn read_opt<T: ReadItem>(
     alloc: Global,
     outer: Outer<'_>,
@@ -45,19 +47,19 @@ pub fn read_opt<T: ReadItem>(
     ensures unread { result ≡ Err ReadError.Unread → read_row Optional T.shape (outer_of outer.entry) tag (item_tree parent.entry) ≡ None }
 {
     let children = parent.children().ok_or(ReadError::Unread)?;
-    let mut found: Option<T> = None;
+    let mut single: Option<T> = None;
     for child in children {
         if child.tag() == tag {
-            if found.is_some() {
+            if single.is_some() {
                 return Err(ReadError::Unread);
             }
-            found = Some(T::read(alloc, outer, child)?);
+            single = Some(T::read(alloc, outer, child)?);
         }
     }
-    Ok(found)
+    Ok(single)
 }
 
-/// All children of the tag.
+/// All children of the tag, in order. `Unread` comes exactly where the parent is no Structure or one is not read.
 #[tactic(auto, using(crate::proofs::Gathered::gathering))]
 pub fn read_list<T: ReadItem>(
     alloc: Global,

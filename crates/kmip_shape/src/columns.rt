@@ -16,25 +16,33 @@ use kmip_wire::{ItemRef, List};
 use std::alloc::Global;
 use std::marker::PhantomData;
 
-/// Collects the items of one row.
+/// The items of one row, gathered while a record's children are walked over.
 pub trait Column<'a>: Drop {
+    /// The field that the row makes.
     type Out: Drop;
 
+    /// The row, above the rows that follow it.
     ghost row_above: { RowList → RowList };
 
+    /// The field of these children, from the outer value of the record and the one that its chooser gives.
     ghost reads: { OuterValue → OuterValue → p.List Tree → Option Field };
 
+    /// The field, where some children were taken already and these are left.
     ghost resume: { Self → OuterValue → OuterValue → p.List Tree → Option Field };
 
+    /// A field as contracts see it.
     ghost shows: { Self.Out → Field };
 
+    /// Nothing taken yet.
     fn new(alloc: Global) -> Self
         ensures { (o c : OuterValue) (xs : p.List Tree) → resume result o c xs ≡ reads o c xs };
 
+    /// Takes a child, if it is one of the row's. `Unread` comes where the row makes no field of whatever follows.
     fn take(&mut self, alloc: Global, outer: Outer<'_>, child: ItemRef<'a>) -> Result<(), ReadError>
         ensures ok { IfOk result (λ _. (c : OuterValue) (xs : p.List Tree) → resume self.old (outer_of outer.entry) c (item_tree child.entry ∷ xs) ≡ resume self.new (outer_of outer.entry) c xs) }
         ensures unread { result ≡ Err ReadError.Unread → (c : OuterValue) (xs : p.List Tree) → resume self.old (outer_of outer.entry) c (item_tree child.entry ∷ xs) ≡ None };
 
+    /// The field, once all children were taken. `Unread` comes exactly where the row makes none of them.
     fn finish(
         self,
         alloc: Global,
@@ -44,6 +52,7 @@ pub trait Column<'a>: Drop {
         ensures ok { IfOk result (λ out. resume self (outer_of outer.entry) (outer_of chosen.entry) [] ≡ Some (shows out)) }
         ensures unread { result ≡ Err ReadError.Unread → resume self (outer_of outer.entry) (outer_of chosen.entry) [] ≡ None };
 
+    /// It reads what the row reads.
     ghost row_reads: { (rest : RowList) (o c : OuterValue) (xs : p.List Tree) → read_rows (row_above rest) o c xs ≡ with_field (reads o c xs) (λ f. read_rows rest o c xs) };
 }
 
@@ -422,11 +431,14 @@ pub trait Chooses: Item {
 
 /// A row whose value chooses.
 pub trait Chooser<'a>: Column<'a> {
+    /// The row as a chooser, above the rows that follow it.
     ghost chooser_above: { RowList → RowList };
 
+    /// The outer value of the rows below that are chosen.
     fn outer(out: &Self::Out) -> Outer<'_>
         ensures { outer_of result ≡ chosen_by (Self.shows out.now) };
 
+    /// It reads what the row reads, and the rows below are chosen by that.
     ghost chooser_reads: { (rest : RowList) (o c : OuterValue) (xs : p.List Tree) → read_rows (chooser_above rest) o c xs ≡ with_field (Self.reads o c xs) (λ f. read_rows rest o (chosen_by f) xs) };
 }
 
@@ -462,6 +474,7 @@ pub struct Case<'a, T, const NUMBER: u32, const TAG: u32> {
 }
 
 impl<'a, T: ReadItem, const NUMBER: u32, const TAG: u32> Case<'a, T, NUMBER, TAG> {
+    /// No item yet.
     pub fn new() -> Self
         ensures { (r : Tree → Option Val) (xs : p.List Tree) → resume_only r result.several (option_map item_tree result.item) (filter (has_tag TAG) xs) ≡ counted Required r (filter (has_tag TAG) xs) }
     {
@@ -472,6 +485,7 @@ impl<'a, T: ReadItem, const NUMBER: u32, const TAG: u32> Case<'a, T, NUMBER, TAG
         }
     }
 
+    /// Keeps a child under the tag.
     pub fn take(&mut self, child: ItemRef<'a>)
         ensures { (r : Tree → Option Val) (xs : p.List Tree) → resume_only r self.old.several (option_map item_tree self.old.item) (filter (has_tag TAG) (item_tree child.entry ∷ xs)) ≡ resume_only r self.new.several (option_map item_tree self.new.item) (filter (has_tag TAG) xs) }
     {

@@ -2,7 +2,7 @@
 
 ghost use Rattle.std.specs.Prelude.{◌≡◌, List, map, true};
 ghost use Rattle.kmip_shape.specs.Shape.{Entry, OneOf};
-ghost use Rattle.kmip_shape.specs.Enumerations.{variant_at, are_distinct, enumeration_val, AreFound, same_variant};
+ghost use Rattle.kmip_shape.specs.Enumerations.{variant_at, are_distinct, enumeration_val, AreFound, AreDistinct, same_variant};
 
 use crate::item::{Item, WriteItem};
 use crate::read::{Outer, ReadError, ReadItem};
@@ -73,4 +73,12 @@ impl<T: Enumeration> ShowItem for T {
     fn show_into(&self, out: &mut Sink) {
         out.put(self.name());
     }
+}
+
+/// No two variants of an enumeration have one number or one name, and each is found by its number. It does nothing.
+pub fn distinct<T: Enumeration>()
+    ensures distinct { AreDistinct T.line }
+    ensures table { are_distinct (map T.line T.variants) ≡ true }
+    ensures found { AreFound T.line T.variants }
+{
 }

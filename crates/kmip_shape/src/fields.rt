@@ -15,9 +15,10 @@ use crate::columns::{ChosenOne, ChosenOpt, Many, NonEmpty, One, Opt, OptMany};
 use crate::item::{Item, WriteItem};
 use crate::record::{Choosing, End, Row};
 use crate::rows::{known_list, known_optional, known_optional_list, list_len, optional_len, optional_list_len, plus_len, write_list, write_optional, write_optional_list};
+use crate::scalars::put_structure;
 use crate::show::{show_list, show_one, show_optional, show_optional_list, ShowItem};
 use crate::sink::Sink;
-use kmip_wire::{Buffer, Kind, List, Tag};
+use kmip_wire::{Buffer, List, Tag};
 
 /// A row, and the field that it stands for.
 pub trait FieldRow<'b> {
@@ -246,17 +247,17 @@ impl<'b, T: Item + 'b, const TAG: u32> FieldRow<'b> for Many<T, TAG> {
     ghost field = { λ x. many (vals T.val x.now) };
 
     fn known(lent: &'b List<T>) {
-        known_list(lent.as_slice());
+        known_list(lent);
     }
 }
 
 impl<'b, T: WriteItem + 'b, const TAG: u32> WriteRow<'b> for Many<T, TAG> {
     fn len(lent: &'b List<T>) -> Option<u64> {
-        list_len(lent.as_slice(), Tag::of(TAG))
+        list_len(lent, Tag::of(TAG))
     }
 
     fn write(lent: &'b List<T>, out: &mut Buffer) {
-        write_list(lent.as_slice(), Tag::of(TAG), out);
+        write_list(lent, Tag::of(TAG), out);
     }
 }
 
@@ -278,17 +279,17 @@ impl<'b, T: Item + 'b, const TAG: u32> FieldRow<'b> for NonEmpty<T, TAG> {
     ghost field = { λ x. many (vals T.val x.now) };
 
     fn known(lent: &'b List<T>) {
-        known_list(lent.as_slice());
+        known_list(lent);
     }
 }
 
 impl<'b, T: WriteItem + 'b, const TAG: u32> WriteRow<'b> for NonEmpty<T, TAG> {
     fn len(lent: &'b List<T>) -> Option<u64> {
-        list_len(lent.as_slice(), Tag::of(TAG))
+        list_len(lent, Tag::of(TAG))
     }
 
     fn write(lent: &'b List<T>, out: &mut Buffer) {
-        write_list(lent.as_slice(), Tag::of(TAG), out);
+        write_list(lent, Tag::of(TAG), out);
     }
 }
 
@@ -468,7 +469,7 @@ pub fn write_record<'b, R: WriteRows<'b>>(lent: R::Lent, tag: Tag, out: &mut Buf
     ensures { Appends out.old out.new (structure_head tag (fields_size (R.fields lent) R.row_list) ++ fields_text (R.fields lent) R.row_list) (8 + fields_size (R.fields lent) R.row_list) }
 {
     if let Some(len) = R::len(lent) {
-        out.put_head(tag, Kind::Structure, len as u32);
+        put_structure(tag, len as u32, out);
         R::write(lent, out);
     }
 }

@@ -1,28 +1,48 @@
-//! Shapes of items, and how values of a shape are written.
+//! Typed values as items: what a value of a type means, how the type stands in a tree, and the traits by which types
+//! of items are written, read and shown.
+//!
+//! A type implements `Item`, and then what it needs of `WriteItem`, `ReadItem` and `ShowItem`. The rows of a record are
+//! one type, as `Row<One<AttributeName, 0x42000A>, Row<Opt<AttributeIndex, 0x420009>, End>>`, by which it is read
+//! (`read_record`), written (`record_len`, `write_record`) and shown (`show_record`).
 #![tactic(auto)]
 
-mod item;
-mod laws;
-mod plain;
+pub mod big;
+pub mod by_tag;
 pub mod children;
 pub mod columns;
 mod enumeration;
 pub mod fields;
+mod item;
+mod laws;
+mod plain;
 pub mod read;
 pub mod record;
-mod root;
 mod rows;
 pub mod scalars;
 pub mod show;
 mod sink;
+mod wrapped;
 mod write;
 
-pub use enumeration::Enumeration;
+pub use big::{BigOne, BigOpt};
+pub use by_tag::{OfTag, TagOpt};
+pub use children::{read_list, read_one, read_opt};
+pub use enumeration::{Enumeration, distinct};
 pub use fields::{known_record, record_len, show_record, write_record};
+pub use item::{Item, WriteItem};
+pub use kmip_wire::{Blob, Buffer, List, OutOfMemory, Text, TryClone};
+pub use laws::{read_back, written};
+pub use read::{Outer, ReadError, ReadItem, ReadRoot, read_root};
+pub use record::read_record;
+pub use rows::{
+    begin_structure, known_bytes, known_items, known_list, known_optional, known_optional_list,
+    list_len, optional_len, optional_list_len, plus_len, structure_len, write_list, write_optional,
+    write_optional_list,
+};
 pub use show::ShowItem;
 pub use sink::Sink;
-pub use laws::{read_back, written};
-pub use item::{Item, WriteItem};
-pub use write::{item_len, write_item};
-pub use root::{ReadRoot, read_root};
-pub use rows::{begin_structure, known_bytes, known_list, known_optional, known_optional_list, optional_list_len, plus_len, write_optional_list, list_len, optional_len, structure_len, write_list, write_optional};
+pub use wrapped::{BigInteger, Timestamp};
+pub use write::{item_len, to_blob, write_item};
+
+#[cfg(test)]
+mod tests;

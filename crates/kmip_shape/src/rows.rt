@@ -7,7 +7,31 @@ ghost use Rattle.kmip_shape.specs.Shape.{NoCase, Optional, OptionalList};
 ghost use Rattle.kmip_shape.specs.Writes.{structure_head, list_form, list_size, list_text, list_len as len_of_list, field_form, field_size, field_text, field_len, optional, optional_list, vals, sum_len, structure_len as len_of_structure, plus_len, HasForm, size_of, wire_len_of};
 
 use crate::item::{Item, WriteItem};
-use kmip_wire::{Buffer, Kind, List, Tag};
+use crate::scalars::put_structure;
+use kmip_wire::{Buffer, List, Tag};
+
+/// The length of the items of a list, and `None` exactly where one has no canonical bytes or they reach 2^32 bytes.
+pub fn list_len<T: WriteItem>(items: &List<T>, tag: Tag) -> Option<u64>
+    ensures { result ≡ len_of_list (vals T.val items.now) T.shape }
+{
+    items_len(items.as_slice(), tag)
+}
+
+/// Appends the canonical bytes of the items of a list, in order. Each has such bytes, and there is room for all.
+pub fn write_list<T: WriteItem>(items: &List<T>, tag: Tag, out: &mut Buffer)
+    requires form { list_form (vals T.val items.now) T.shape }
+    requires room { list_size (vals T.val items.now) T.shape ≤ out.old.spare }
+    ensures { Appends out.old out.new (list_text (vals T.val items.now) T.shape tag) (list_size (vals T.val items.now) T.shape) }
+{
+    write_items(items.as_slice(), tag, out);
+}
+
+/// The items of a list fit their shape. It does nothing.
+pub fn known_list<T: Item>(items: &List<T>)
+    ensures { vals_fit (vals T.val items.now) NoCase T.shape }
+{
+    known_items(items.as_slice());
+}
 
 /// The length of an item that may be absent.
 pub fn optional_len<T: WriteItem>(item: &Option<T>, tag: Tag) -> Option<u64>
@@ -25,8 +49,8 @@ pub fn write_optional<T: WriteItem>(item: &Option<T>, tag: Tag, out: &mut Buffer
     requires room { field_size (optional T.val item.now) T.shape ≤ out.old.spare }
     ensures { Appends out.old out.new (field_text (optional T.val item.now) T.shape tag) (field_size (optional T.val item.now) T.shape) }
 {
-    if let Some(item) = item {
-        item.write_into(tag, out);
+    if let Some(value) = item {
+        value.write_into(tag, out);
     }
 }
 
@@ -40,7 +64,7 @@ pub fn plus_len(len: Option<u64>, more: Option<u64>) -> Option<u64>
 
 /// The length of the items of a list.
 #[tactic(auto, using(crate::proofs::Lens::plus_assoc, crate::proofs::Lens::list_len_zero, crate::proofs::Lens::plus_end))]
-pub fn list_len<T: WriteItem>(items: &[T], tag: Tag) -> Option<u64>
+pub fn items_len<T: WriteItem>(items: &[T], tag: Tag) -> Option<u64>
     ensures { result ≡ len_of_list (vals T.val items.now) T.shape }
 {
     let mut sum = 0;
@@ -54,7 +78,7 @@ pub fn list_len<T: WriteItem>(items: &[T], tag: Tag) -> Option<u64>
 
 /// Appends the items of a list.
 #[tactic(auto, using(std::proofs::lemmas::List::append_assoc))]
-pub fn write_list<T: WriteItem>(items: &[T], tag: Tag, out: &mut Buffer)
+pub fn write_items<T: WriteItem>(items: &[T], tag: Tag, out: &mut Buffer)
     requires form { list_form (vals T.val items.now) T.shape }
     requires room { list_size (vals T.val items.now) T.shape ≤ out.old.spare }
     ensures { Appends out.old out.new (list_text (vals T.val items.now) T.shape tag) (list_size (vals T.val items.now) T.shape) }
@@ -81,7 +105,7 @@ pub fn structure_len(rows: &[Option<u64>]) -> Option<u64>
 }
 
 /// Appends the head of a structure, for an item with a form and its length.
-#[tactic(auto, using(crate::proofs::Forms::len_law), unfolding(crate::specs::Writes::structure_head))]
+#[tactic(auto, using(crate::proofs::Forms::len_law))]
 pub fn begin_structure<T: Item>(item: &T, len: Option<u64>, tag: Tag, out: &mut Buffer)
     requires form { HasForm T.shape (T.val item.now) }
     requires len { len ≡ wire_len_of T.shape (T.val item.now) }
@@ -92,7 +116,7 @@ pub fn begin_structure<T: Item>(item: &T, len: Option<u64>, tag: Tag, out: &mut 
     ensures contents { (n : ℕ) → size_of T.shape (T.val item.now) ≡ 8 + n → Appends out.old out.new (structure_head tag n) 8 }
 {
     if let Some(len) = len {
-        out.put_head(tag, Kind::Structure, (len - 8) as u32);
+        put_structure(tag, (len - 8) as u32, out);
     }
 }
 
@@ -107,7 +131,7 @@ pub fn known_optional<T: Item>(item: &Option<T>)
 }
 
 /// The items of a list fit. It does nothing.
-pub fn known_list<T: Item>(items: &[T])
+pub fn known_items<T: Item>(items: &[T])
     ensures { vals_fit (vals T.val items.now) NoCase T.shape }
 {
     let mut rest = items;
@@ -122,7 +146,7 @@ pub fn optional_list_len<T: WriteItem>(items: &Option<List<T>>, tag: Tag) -> Opt
     ensures { result ≡ field_len (optional_list T.val items.now) T.shape }
 {
     match items {
-        Some(items) => list_len(items.as_slice(), tag),
+        Some(items) => list_len(items, tag),
         None => Some(0),
     }
 }
@@ -134,7 +158,7 @@ pub fn write_optional_list<T: WriteItem>(items: &Option<List<T>>, tag: Tag, out:
     ensures { Appends out.old out.new (field_text (optional_list T.val items.now) T.shape tag) (field_size (optional_list T.val items.now) T.shape) }
 {
     if let Some(items) = items {
-        write_list(items.as_slice(), tag, out);
+        write_list(items, tag, out);
     }
 }
 
@@ -144,7 +168,7 @@ pub fn known_optional_list<T: Item>(items: &Option<List<T>>)
     ensures field { field_fits (optional_list T.val items.now) NoCase T.shape }
 {
     if let Some(items) = items {
-        known_list(items.as_slice());
+        known_list(items);
     }
 }
 

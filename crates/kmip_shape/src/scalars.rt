@@ -3,13 +3,22 @@
 ghost use Rattle.std.specs.Prelude.{◌≡◌, ◌≤◌, ◌<◌, ◌^◌, ◌%◌, length};
 ghost use Rattle.kmip_wire.specs.Room.{Appends};
 ghost use Rattle.kmip_wire.specs.Tree.{integer, long_integer, big_integer, enumeration, boolean, text_string, byte_string, date_time, interval};
-ghost use Rattle.kmip_shape.specs.Writes.{leaf_size, leaf_text, maybe_len};
+ghost use Rattle.kmip_shape.specs.Writes.{structure_head, leaf_size, leaf_text, maybe_len};
 ghost use Rattle.std.specs.Prelude.{Some as some};
 
 use kmip_wire::{Buffer, Kind, Tag};
 
 /// The length of every item whose value has 4 or 8 bytes.
 pub const SCALAR_LEN: u64 = 16;
+
+/// Appends the head of a structure of so many bytes.
+#[tactic(auto, unfolding(crate::specs::Writes::structure_head))]
+pub fn put_structure(tag: Tag, len: u32, out: &mut Buffer)
+    requires { 8 ≤ out.old.spare }
+    ensures { Appends out.old out.new (structure_head tag len) 8 }
+{
+    out.put_head(tag, Kind::Structure, len);
+}
 
 /// Appends an Integer.
 pub fn put_integer(tag: Tag, value: i32, out: &mut Buffer)

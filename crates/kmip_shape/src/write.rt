@@ -3,10 +3,12 @@
 ghost use Rattle.std.specs.Prelude.{◌≡◌, ◌≤◌, ℕ, List, Some, length, IsSomeAnd, IfSome};
 ghost use Rattle.std.specs.Option.{option_map};
 ghost use Rattle.kmip_wire.specs.Room.{Appends};
+ghost use Rattle.kmip_wire.specs.Found.{Writes};
 ghost use Rattle.kmip_shape.specs.Writes.{bytes_of};
 
 use crate::item::WriteItem;
-use kmip_wire::{Buffer, Tag};
+use kmip_wire::{Blob, Buffer, Tag, WireError};
+use std::alloc::Global;
 
 /// The length of the canonical bytes of an item, where there are any.
 #[tactic(auto, using(crate::proofs::Lengths::wire_len_law))]
@@ -22,4 +24,17 @@ pub fn write_item<T: WriteItem>(item: &T, tag: Tag, out: &mut Buffer)
     ensures { IfSome (bytes_of T.shape tag (T.val item.now)) (λ bytes. Appends out.old out.new bytes (length bytes)) }
 {
     item.write_into(tag, out);
+}
+
+/// The canonical bytes of an item. `NoForm` comes exactly where there are none, and `Malformed` never.
+pub fn to_blob<T: WriteItem>(alloc: Global, item: &T, tag: Tag) -> Result<Blob, WireError>
+    ensures { Writes result (bytes_of T.shape tag (T.val item.now)) }
+{
+    let Some(len) = item_len(item, tag) else {
+        return Err(WireError::NoForm);
+    };
+    let mut out = Buffer::new(alloc);
+    out.reserve(len as usize)?;
+    write_item(item, tag, &mut out);
+    Ok(out.into_blob())
 }
