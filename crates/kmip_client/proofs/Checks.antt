@@ -1,6 +1,6 @@
 -- A response whose batch items are not one.
-use Rattle.std.proofs.Common.{◌≡◌, ◌≢◌, ℕ, suc, ◌∷◌, [], List, length, refl, ap, ◌∙◌, sym, arith, Bool, true, false, Err, rules}
-use Rattle.kmip_shape.specs.Val.{Val, Vals, NoVal, AndVal}
+use Rattle.std.proofs.Common.{◌≡◌, suc, ◌∷◌, [], List, length, refl, ap, Bool, true, false, Err}
+use Rattle.kmip_shape.specs.Val.{Val}
 use Rattle.kmip_shape.specs.Writes.{vals}
 use Rattle.kmip_enums.specs.declared.operation.Operation.{Operation}
 use Rattle.kmip_client.specs.declared.error.Error.TheVariants.{ServerError}

@@ -1,14 +1,13 @@
 -- How an exchange ended, at each of its ends.
-use Rattle.std.proofs.Common.{◌≡◌, ℕ, ◌+◌, ◌-◌, ◌<◌, ◌≤◌, List, [], ◌++◌, length, take, drop, refl, ◌∙◌, ap, sym, arith, append_assoc, IsTrue, rules, subst, true, false, Option, Some, None, Result, Ok, Err, IsErrOf, codes, ◌⊎◌, inl, inr}
+use Rattle.std.proofs.Common.{◌≡◌, ℕ, ◌+◌, ◌-◌, ◌≤◌, List, [], ◌++◌, take, refl, ◌∙◌, ap, sym, arith, subst, true, false, Option, Some, None, Result, Ok, Err, IsErrOf, codes, ◌⊎◌, inl, inr}
 use Rattle.std.proofs.lemmas.Grind.{common_steps}
-use Rattle.std.proofs.Math.Seq.{take-length}
 use Rattle.kmip_link.specs.State.{LinkState, left, Keeps, Writes, Rose}
 use Rattle.kmip_enums.specs.declared.operation.Operation.{Operation}
 use Rattle.kmip_client.specs.declared.error.Error.{Error}
 use Rattle.kmip_client.specs.declared.error.Error.TheVariants.{ConfigurationError, SerializeError, RequestWriteError, ResponseReadError, DeserializeError, ServerError, InternalError, ItemNotFound, Unknown, OutOfMemory}
 use Rattle.kmip_client.specs.declared.message.MessageStop.{MessageStop}
-use Rattle.kmip_client.specs.Transfer.{Takes, TakesPart, WritesPart}
-use Rattle.kmip_client.specs.Message.{Message, message_at, taken_for, Comes, StopsWithin, ReadsMessage, IsRead}
+use Rattle.kmip_client.specs.Transfer.{Takes, WritesPart}
+use Rattle.kmip_client.specs.Message.{Message, message_at, taken_for, Comes, ReadsMessage, IsRead}
 use Rattle.kmip_client.specs.Client.{lacks_memory}
 use Rattle.kmip_client.specs.Outcome.{Answer, Outcome, outcome_of, answer_of, left_for, Moves, Exchanged, completed, write_failed, read_failed, sending_cut, reading_cut, Gives, said, Caused, not_valid, given, no_memory}
 use Rattle.kmip_client.proofs.Messages.{message_short}
@@ -150,8 +149,9 @@ read_bytes after request operation limit taken (Err (MessageStop.Refused error))
 read_bytes after request operation limit taken (Err MessageStop.Fault) answer writes reads gives room = taken_is taken writes reads.1.takes reads.2
 read_bytes after request operation limit taken (Err MessageStop.OutOfMemory) answer writes reads gives room =
     elim (gives_cases (Err OutOfMemory) answer gives) [
-      inl is ↦ absurd (let e : true ≡ false = rw is at room in cc)
-    | inr is ↦ absurd (let e : true ≡ false = rw is at room in cc) ]
+      | inl is ↦ absurd (let e : true ≡ false = rw is at room in cc)
+      | inr is ↦ absurd (let e : true ≡ false = rw is at room in cc)
+    ]
 
 -- the request was not written out
 pub serialize_stopped : (request : Option (List ℕ)) (operation : Operation) (limit : Option ℕ) (rest : List ℕ) (a : LinkState) (error : Error) →

@@ -1,5 +1,5 @@
 -- From how an exchange ended to what it did for a valid request.
-use Rattle.std.proofs.Common.{◌≡◌, ◌≢◌, ℕ, ◌+◌, ◌<◌, ◌≤◌, List, ◌++◌, length, refl, ◌∙◌, ap, sym, arith, subst, Option, Some, None, Result, Ok, Err, IfOk, codes}
+use Rattle.std.proofs.Common.{◌≡◌, ◌≢◌, ℕ, ◌+◌, List, length, refl, ◌∙◌, ap, sym, arith, Option, Some, None, Result, Ok, Err, IfOk}
 use Rattle.kmip_wire.specs.Tree.{Tree}
 use Rattle.kmip_wire.specs.Parses.{Parses}
 use Rattle.kmip_wire.specs.Reading.{item_of}
@@ -14,8 +14,7 @@ use Rattle.kmip_link.specs.State.{LinkState, Rose}
 use Rattle.kmip_client.specs.declared.error.Error.{Error}
 use Rattle.kmip_client.specs.declared.error.Error.TheVariants.{OutOfMemory}
 use Rattle.kmip_client.specs.Message.{Message, message_at, taken_for}
-use Rattle.kmip_client.specs.Check.{check_response}
-use Rattle.kmip_client.specs.Outcome.{Answer, Outcome, outcome_of, answer_of, read_answer, tree_answer, value_answer, response_tag, left_for, Moves, seen, Exchanged, completed, write_failed, read_failed, sending_cut, reading_cut, Caused, not_valid, given, no_memory}
+use Rattle.kmip_client.specs.Outcome.{Answer, outcome_of, answer_of, tree_answer, value_answer, response_tag, left_for, seen, Exchanged, completed, write_failed, read_failed, sending_cut, reading_cut, Caused, not_valid, given, no_memory}
 use Rattle.kmip_client.specs.Client.{IsOfOperation}
 use Rattle.kmip_client.proofs.Variants.{variant_of}
 use Rattle.kmip_client.specs.Headline.{IsValidResponse, IsSound, IsAnswered, Headline}
@@ -73,7 +72,7 @@ headline_of {before = before} {after = after} bytes operation limit answer (comp
   sent = moves.sent_is;
   only = λ payload ok.
       let it : IsTaken operation limit (left_for before after) payload (taken_for (left_for before after) (message_at (left_for before after) limit)) =
-          from_message operation limit (left_for before after) payload (message_at (left_for before after) limit) refl (sym is ∙ ok) in
+      from_message operation limit (left_for before after) payload (message_at (left_for before after) limit) refl (sym is ∙ ok) in
       (it.m, it.valid, moves.pos ∙ ap (λ n. before.pos + n) it.all);
   whenever = λ m payload valid. is ∙ to_message valid;
 }

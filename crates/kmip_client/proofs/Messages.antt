@@ -1,17 +1,16 @@
 -- What stands at the front, by what its head says, and what each end of a reading says of that.
-use Rattle.std.proofs.Common.{◌≡◌, ℕ, ◌+◌, ◌-◌, ◌<◌, ◌≤◌, List, [], ◌++◌, length, take, drop, refl, ◌∙◌, ap, sym, arith, append_assoc, IsTrue, rules, subst, Bool, true, false, Option, Some, None, Result, Ok, Err, IsErrOf, min}
-use Rattle.std.proofs.lemmas.Grind.{common_steps}
-use Rattle.std.proofs.lemmas.List.{drop-drop, length-drop, length-take, length-take-le}
-use Rattle.std.proofs.Math.Seq.{take-add, take-length}
+use Rattle.std.proofs.Common.{◌≡◌, ℕ, ◌+◌, ◌<◌, ◌≤◌, List, ◌++◌, length, take, refl, ◌∙◌, ap, sym, arith, subst, Option, Result, Ok, Err, IsErrOf}
+use Rattle.std.proofs.lemmas.List.{length-take, length-take-le}
+use Rattle.std.proofs.Math.Seq.{take-length}
 use Rattle.kmip_wire.specs.Heads.{head_says}
 use Rattle.kmip_wire.specs.declared.error.HeadError.{HeadError}
-use Rattle.kmip_link.specs.State.{LinkState, left, Keeps}
+use Rattle.kmip_link.specs.State.{LinkState, left}
 use Rattle.kmip_client.specs.Transfer.{Takes, TakesPart}
-use Rattle.kmip_client.specs.Message.{Message, Ended, Refused, Whole, message_at, message_by, taken_for, Comes, StopsWithin, ReadsMessage, IsRead}
+use Rattle.kmip_client.specs.Message.{Message, Ended, Refused, Whole, message_at, message_by, taken_for, Comes, ReadsMessage, IsRead}
 use Rattle.kmip_client.specs.MessageStop.{message_stop_of, head_stop_of}
 use Rattle.kmip_client.specs.declared.transfer.ReadStop.{ReadStop}
 use Rattle.kmip_client.specs.declared.message.MessageStop.{MessageStop}
-use Rattle.kmip_client.proofs.Transfers.{takes_on, left_after, taken_all, bytes_from, left_length}
+use Rattle.kmip_client.proofs.Transfers.{takes_on, bytes_from, left_length}
 
 pub message_short : (rest : List ℕ) (limit : Option ℕ) → length rest < 8 → message_at rest limit ≡ Ended
 unfolding message_at

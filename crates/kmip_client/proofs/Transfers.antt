@@ -1,9 +1,9 @@
 -- Several calls of a link, one after the other.
-use Rattle.std.proofs.Common.{◌≡◌, ℕ, ◌+◌, ◌-◌, ◌<◌, ◌≤◌, List, [], ◌++◌, length, take, drop, refl, ◌∙◌, ap, sym, arith, append_assoc, IsTrue, rules, subst}
+use Rattle.std.proofs.Common.{◌≡◌, ℕ, ◌+◌, ◌-◌, ◌≤◌, List, [], ◌++◌, length, take, drop, refl, ◌∙◌, ap, sym, arith, append_assoc, subst}
 use Rattle.std.proofs.lemmas.Grind.{common_steps}
 use Rattle.std.proofs.lemmas.List.{drop-drop, length-drop, length-take, take-take}
 use Rattle.std.proofs.Math.Seq.{take-add, take-length}
-use Rattle.kmip_link.specs.State.{LinkState, Writes, Reads, IsIdle, Keeps, left}
+use Rattle.kmip_link.specs.State.{LinkState, Writes, Keeps, left}
 use Rattle.kmip_client.specs.Transfer.{Takes, TakesPart}
 
 pub keeps_self : (a : LinkState) → Keeps a a

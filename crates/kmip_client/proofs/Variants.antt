@@ -1,14 +1,13 @@
 -- A payload that is answered has the variant of the request's operation, since it was read by the operation of its batch item.
-use Rattle.std.proofs.Common.{◌≡◌, ℕ, filter, ℤ, pos, List, [], ◌∷◌, refl, ◌∙◌, ap, sym, arith, subst, Bool, true, false, cond, nat_eq, suc, ◌⊎◌, inl, inr, Option, Some, None, Result, Ok, Err, rules, codes, not, ◌||◌}
+use Rattle.std.proofs.Common.{◌≡◌, ℕ, filter, pos, List, [], ◌∷◌, refl, ◌∙◌, ap, sym, arith, subst, Bool, true, false, cond, suc, ◌⊎◌, inl, inr, Option, Some, None, Ok, Err, rules, codes, not}
 use Rattle.std.specs.Option.{option_map, option_and_then}
-use Rattle.std.specs.Ordering.{int_eq}
 use Rattle.std.proofs.lemmas.Grind.{common_steps}
 use Rattle.std.proofs.lemmas.Bool.Decides.{Decides-int_eq, nat_tests}
 use Rattle.kmip_wire.specs.Tree.{Tree}
-use Rattle.kmip_wire.specs.Parts.{children_in, tag_of}
-use Rattle.kmip_shape.specs.Val.{Val, Vals, Field, Fields, Number, Text, Bytes, Truth, Record, Case, Absent, One, Many, NoField, AndField, NoVal, AndVal}
+use Rattle.kmip_wire.specs.Parts.{children_in}
+use Rattle.kmip_shape.specs.Val.{Val, Vals, Field, Fields, Number, Text, Bytes, Truth, Record, Case, Absent, One, Many, AndField, NoVal, AndVal}
 use Rattle.kmip_shape.specs.Shape.{Shape, RowList, Cases, Rows, NoRow, AndRow, Mark, Required, Role, Plain, Custom, outer_for, chosen_after, in_place, matches, NoCase, AndCase, ByNumbers, OuterValue, no_outer, NumberKey, chosen_by, among, AtLeastOne, Optional}
-use Rattle.kmip_shape.specs.Reads.{each, counted, with_field, read_in, read_rows, read_case, read_of, root_read}
+use Rattle.kmip_shape.specs.Reads.{each, counted, with_field, read_in, read_rows, read_case, root_read}
 use Rattle.kmip_enums.specs.Operations.{operation_line}
 use Rattle.kmip_enums.specs.declared.operation.Operation.{Operation}
 use Rattle.kmip_response.specs.Tables.{response_message, batch_item, response_payload, response_payloads}
@@ -236,11 +235,12 @@ case_own : (cases around : Cases) (operation : Operation) (outer : OuterValue) (
 case_own NoCase around operation outer tree payload own h = absurd (cc)
 case_own (AndCase m name selector fixed shape cases) around operation outer tree payload own h =
     elim (split (matches (NumberKey (operation_line operation).number) selector) (option_map (Case m) (read_in shape around outer tree)) (read_case cases around (NumberKey (operation_line operation).number) outer tree) payload h) [
-      inl it ↦
-        let v = map_some (Case m) (read_in shape around outer tree) payload it.1 in
-        let key : among (operation_line operation).number (m ∷ []) ≡ true = ap (λ s. matches (NumberKey (operation_line operation).number) s) (sym own.0) ∙ it.0 in
-        subst (IsOfOperation operation) v.2 (among_one (operation_line operation).number m key)
-    | inr it ↦ case_own cases around operation outer tree payload own.1 it.1 ]
+      | inl it ↦
+          let v = map_some (Case m) (read_in shape around outer tree) payload it.1 in
+          let key : among (operation_line operation).number (m ∷ []) ≡ true = ap (λ s. matches (NumberKey (operation_line operation).number) s) (sym own.0) ∙ it.0 in
+          subst (IsOfOperation operation) v.2 (among_one (operation_line operation).number m key)
+      | inr it ↦ case_own cases around operation outer tree payload own.1 it.1
+    ]
 
 own_payloads : AreOwn response_payloads
 own_payloads = search rules
@@ -256,5 +256,5 @@ variant_of operation tree value payload reads checks =
     let held : one_of item.payload ≡ Some payload = ap one_of (sym item.sixth) ∙ ok.1 in
     let read = optional_some _ item.trees item.payload payload item.reads held in
     let own : read_in response_payload NoCase (chosen_by (One (Number (pos (operation_line operation).number)))) read.0 ≡ Some payload =
-        ap (λ f. read_in response_payload NoCase (chosen_by f) read.0) (sym named) ∙ read.1 in
+    ap (λ f. read_in response_payload NoCase (chosen_by f) read.0) (sym named) ∙ read.1 in
     case_own response_payloads response_payloads operation (chosen_by (One (Number (pos (operation_line operation).number)))) read.0 payload own_payloads own

@@ -1,5 +1,5 @@
 -- One call of a client as a whole, for the helpers that make one.
-use Rattle.std.specs.Prelude.{◌≡◌, ◌-◌, ℕ, List, take, Bool, false, Option, Some, None, Result, Ok, Err, IsTrue, ◌⊎◌}
+use Rattle.std.specs.Prelude.{◌≡◌, ◌-◌, take, false, None, Result, Ok, Err, IsTrue}
 use Rattle.kmip_link.specs.State.{LinkState, Keeps}
 use Rattle.kmip_request.specs.Message.{request_bytes, operation_of}
 use Rattle.kmip_request.specs.declared.payload.RequestPayload.{RequestPayload}

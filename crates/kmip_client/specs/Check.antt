@@ -1,8 +1,8 @@
 -- What a response message that was read answers to a request of an operation.
-use Rattle.std.specs.Prelude.{◌≡◌, ℕ, zero, suc, ℤ, pos, List, [], ◌∷◌, ◌++◌, Bool, true, false, not, Option, Some, None, if◌then◌else◌, Result, Ok, Err, codes}
+use Rattle.std.specs.Prelude.{ℕ, zero, suc, ℤ, pos, List, [], ◌++◌, Bool, true, false, not, Option, Some, None, if◌then◌else◌, Result, Ok, Err, codes}
 use Rattle.std.specs.Ordering.{int_eq}
 use Rattle.std.specs.Fmt.{decimal}
-use Rattle.kmip_shape.specs.Val.{Val, Vals, Field, Fields, Number, Text, Record, Case, Absent, One, Many, NoField, AndField, NoVal, AndVal}
+use Rattle.kmip_shape.specs.Val.{Val, Vals, Field, Fields, Number, Text, Record, Absent, One, Many, NoField, AndField, NoVal, AndVal}
 use Rattle.kmip_shape.specs.Shown.{entry_shown}
 use Rattle.kmip_enums.specs.Operations.{operation_line, operations}
 use Rattle.kmip_enums.specs.ResultStatuses.{result_status_line}
@@ -10,7 +10,6 @@ use Rattle.kmip_enums.specs.ResultReasons.{result_reason_line}
 use Rattle.kmip_enums.specs.declared.operation.Operation.{Operation}
 use Rattle.kmip_enums.specs.declared.result_status.ResultStatus.{ResultStatus}
 use Rattle.kmip_enums.specs.declared.result_status.ResultStatus.TheVariants.{OperationFailed, OperationPending, OperationUndone}
-use Rattle.kmip_enums.specs.declared.result_reason.ResultReason.{ResultReason}
 use Rattle.kmip_enums.specs.declared.result_reason.ResultReason.TheVariants as reasons
 use Rattle.kmip_client.specs.declared.error.Error.{Error}
 use Rattle.kmip_client.specs.declared.error.Error.TheVariants.{ServerError, InternalError, ItemNotFound}

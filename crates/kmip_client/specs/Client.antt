@@ -1,5 +1,5 @@
 -- A client, as a value.
-use Rattle.std.specs.Prelude.{◌≡◌, ℕ, ◌+◌, ◌%◌, List, Bool, true, false, Option, Some, None, Result, Ok, Err}
+use Rattle.std.specs.Prelude.{◌≡◌, ℕ, ◌+◌, ◌%◌, List, Bool, true, false, Option, Some, None, Ok, Err}
 use Rattle.kmip_shape.specs.Val.{Val, Case}
 use Rattle.kmip_enums.specs.Operations.{operation_line}
 use Rattle.kmip_enums.specs.declared.operation.Operation.{Operation}

@@ -1,5 +1,5 @@
 -- The diagnostics of a call.
-use Rattle.std.specs.Prelude.{◌≡◌, ℕ, List, Bool, true, false, Option, Some, None, Result, Ok, Err, ◌⊎◌}
+use Rattle.std.specs.Prelude.{◌≡◌, ℕ, List, Bool, true, false, Option, Some, None, Err, ◌⊎◌}
 use Rattle.kmip_diag.specs.Diagnostic.{diagnostic}
 use Rattle.kmip_client.specs.Outcome.{Answer}
 use Rattle.kmip_client.specs.declared.error.Error.TheVariants.{SerializeError, RequestWriteError, OutOfMemory}

@@ -1,5 +1,5 @@
 -- What one exchange sends, takes and answers, and what a call did to its link.
-use Rattle.std.specs.Prelude.{◌≡◌, ℕ, ◌+◌, ◌<◌, ◌≤◌, List, [], ◌∷◌, ◌++◌, length, take, drop, Option, Some, None, Result, Ok, Err, codes, IsTrue, IsSome}
+use Rattle.std.specs.Prelude.{◌≡◌, ℕ, ◌+◌, ◌<◌, ◌≤◌, List, [], ◌++◌, length, take, drop, Option, Some, None, Result, Ok, Err, codes, IsTrue, IsSome}
 use Rattle.std.specs.Fmt.{decimal}
 use Rattle.kmip_wire.specs.Tree.{Tree}
 use Rattle.kmip_wire.specs.Reading.{item_of}

@@ -8,8 +8,8 @@ use crate::error::Error;
 use crate::message::MessageStop;
 use kmip_enums::Operation;
 use kmip_response::{ResponseMessage, ResponsePayload};
-use kmip_shape::read_root;
 use kmip_shape::read::ReadError;
+use kmip_shape::read_root;
 use kmip_wire::{HeadError, ItemRef, Text};
 use std::alloc::Global;
 

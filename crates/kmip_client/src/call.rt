@@ -30,11 +30,7 @@ pub struct Diagnostics {
 }
 
 /// The diagnostic of these bytes, where the buffer is on.
-fn diagnostic_for(
-    alloc: Global,
-    config: &Config,
-    bytes: &[u8],
-) -> Result<Option<Text>, OutOfMemory>
+fn diagnostic_for(alloc: Global, config: &Config, bytes: &[u8]) -> Result<Option<Text>, OutOfMemory>
     ensures { IfOk result (λ text. text ≡ diagnostic_for config.now.has_buf bytes.now) }
 {
     if !config.has_buf() {

@@ -79,7 +79,9 @@ fn mismatch(
 {
     let text = match answered {
         Some(answered) => {
-            format!(in alloc; "Response operation Some({answered}) does not match request operation {asked}")?
+            format!(in alloc;
+                "Response operation Some({answered}) does not match request operation {asked}"
+            )?
         }
         None => {
             format!(in alloc; "Response operation None does not match request operation {asked}")?

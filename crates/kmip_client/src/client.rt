@@ -8,8 +8,8 @@ ghost use Rattle.kmip_client.specs.Outcome.{Exchanged, Caused, outcome, left_for
 ghost use Rattle.kmip_client.specs.Headline.{Headline};
 ghost use Rattle.kmip_client.specs.Diagnostics.{IsRequestText, IsResponseText};
 
-use crate::error::Error;
 use crate::call::{Diagnostics, Settings, call};
+use crate::error::Error;
 use kmip_link::Link;
 use kmip_request::{Authentication, RequestPayload};
 use kmip_response::ResponsePayload;

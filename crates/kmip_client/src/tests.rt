@@ -6,7 +6,8 @@ use std::alloc::Global;
 use std::test::Fail;
 
 /// A response to a request for random bytes: 152 bytes, of which the last item holds four.
-const RESPONSE: &[u8] = b"\x42\x00\x7B\x01\x00\x00\x00\x90\x42\x00\x7A\x01\x00\x00\x00\x48\x42\x00\x69\x01\
+const RESPONSE: &[u8] =
+    b"\x42\x00\x7B\x01\x00\x00\x00\x90\x42\x00\x7A\x01\x00\x00\x00\x48\x42\x00\x69\x01\
       \x00\x00\x00\x20\x42\x00\x6A\x02\x00\x00\x00\x04\x00\x00\x00\x01\x00\x00\x00\x00\
       \x42\x00\x6B\x02\x00\x00\x00\x04\x00\x00\x00\x02\x00\x00\x00\x00\x42\x00\x92\x09\
       \x00\x00\x00\x08\x00\x00\x00\x00\x00\x00\x00\x01\x42\x00\x0D\x02\x00\x00\x00\x04\
@@ -30,7 +31,10 @@ fn client_over(
 }
 
 /// What a request for random bytes answers: the bytes, or the printed error.
-fn random_bytes<L: Link>(alloc: Global, client: &mut Client<L>) -> Result<Result<Blob, String>, Fail> {
+fn random_bytes<L: Link>(
+    alloc: Global,
+    client: &mut Client<L>,
+) -> Result<Result<Blob, String>, Fail> {
     match client.rng_retrieve(alloc, 16) {
         Ok(payload) => Ok(Ok(payload.random_bytes)),
         Err(error) => Ok(Err(error.to_string(alloc)?)),
@@ -64,7 +68,11 @@ fn planned_faults(rt: HostRuntime) -> Result<(), Fail> {
         assert_eq!(rt; client.connection_error_count(), lost, "at {call}");
         let request = "78[77[69[6Ai6Bi]0Di]0F[5Ce25:79[C4i]]]";
         assert_eq!(rt; client.last_req_diag_str(), Some(request), "at {call}");
-        assert_eq!(rt; client.last_res_diag_str().is_none(), expected == Some(writing), "at {call}");
+        assert_eq!(rt;
+            client.last_res_diag_str().is_none(),
+            expected == Some(writing),
+            "at {call}"
+        );
         assert_eq!(rt; client.inner().inner().sent().len(), sent, "sent at {call}");
         assert_eq!(rt; client.inner().inner().rest().len(), left, "left at {call}");
     }
@@ -119,7 +127,10 @@ fn a_false_length_takes_room_piece_by_piece(rt: HostRuntime) -> Result<(), Fail>
     let rooms = Vec::new(rt.alloc());
     let mut client = ClientBuilder::new(Watched { rooms }).build();
     let answer = random_bytes(rt.alloc(), &mut client)?;
-    assert_eq!(rt; answer.err().as_deref(), Some("Response read error: end of input"));
+    assert_eq!(rt;
+        answer.err().as_deref(),
+        Some("Response read error: end of input")
+    );
     assert_eq!(rt; client.inner().rooms.as_slice(), [8, 65536].as_slice());
     Ok(())
 }
@@ -127,15 +138,51 @@ fn a_false_length_takes_room_piece_by_piece(rt: HostRuntime) -> Result<(), Fail>
 #[test]
 fn errors_are_printed_and_cloned(rt: HostRuntime) -> Result<(), Fail> {
     let rows = [
-        (Error::ConfigurationError(Text::of(rt.alloc(), "x")?), "Configuration error: x", false),
-        (Error::SerializeError(Text::of(rt.alloc(), "x")?), "Serialize error: x", false),
-        (Error::RequestWriteError(Text::of(rt.alloc(), "x")?), "Request send error: x", true),
-        (Error::ResponseReadError(Text::of(rt.alloc(), "x")?), "Response read error: x", true),
-        (Error::DeserializeError(Text::of(rt.alloc(), "x")?), "Deserialize error: x", false),
-        (Error::ServerError(Text::of(rt.alloc(), "x")?), "Server error: x", false),
-        (Error::InternalError(Text::of(rt.alloc(), "x")?), "Internal error: x", false),
-        (Error::ItemNotFound(Text::of(rt.alloc(), "x")?), "Item not found: x", false),
-        (Error::Unknown(Text::of(rt.alloc(), "x")?), "Unknown error: x", false),
+        (
+            Error::ConfigurationError(Text::of(rt.alloc(), "x")?),
+            "Configuration error: x",
+            false,
+        ),
+        (
+            Error::SerializeError(Text::of(rt.alloc(), "x")?),
+            "Serialize error: x",
+            false,
+        ),
+        (
+            Error::RequestWriteError(Text::of(rt.alloc(), "x")?),
+            "Request send error: x",
+            true,
+        ),
+        (
+            Error::ResponseReadError(Text::of(rt.alloc(), "x")?),
+            "Response read error: x",
+            true,
+        ),
+        (
+            Error::DeserializeError(Text::of(rt.alloc(), "x")?),
+            "Deserialize error: x",
+            false,
+        ),
+        (
+            Error::ServerError(Text::of(rt.alloc(), "x")?),
+            "Server error: x",
+            false,
+        ),
+        (
+            Error::InternalError(Text::of(rt.alloc(), "x")?),
+            "Internal error: x",
+            false,
+        ),
+        (
+            Error::ItemNotFound(Text::of(rt.alloc(), "x")?),
+            "Item not found: x",
+            false,
+        ),
+        (
+            Error::Unknown(Text::of(rt.alloc(), "x")?),
+            "Unknown error: x",
+            false,
+        ),
         (Error::OutOfMemory, "Out of memory", false),
     ];
     for (error, text, is_lost) in &rows {

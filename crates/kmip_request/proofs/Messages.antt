@@ -65,5 +65,5 @@ pub written_for : (result : Result (List ℕ) WireError) (payload : RequestPaylo
 written_for result payload credential version kept operation v k o w =
     let e : made_of version kept operation payload ≡ made_for payload credential = rw (v, k, o) refl in
     let all : bytes_of request_message 0x420078 (single_request_val (made_of version kept operation payload)) ≡ request_bytes payload (option_map credential_of credential) =
-        ap (λ m. bytes_of request_message 0x420078 (single_request_val m)) e ∙ bytes_are payload credential in
+    ap (λ m. bytes_of request_message 0x420078 (single_request_val m)) e ∙ bytes_are payload credential in
     subst (λ bytes. Writes result bytes) all w

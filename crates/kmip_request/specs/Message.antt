@@ -41,11 +41,11 @@ abbrev pub authentication_trees : Option CredentialType → List Tree
 authentication_trees None = []
 authentication_trees (Some (UsernameAndPassword c)) =
     structure 0x42000C (trees_of (
-        structure 0x420023 (trees_of (
-            scalar 0x420024 (enumeration 1)
-            ∷ structure 0x420025 (trees_of (scalar 0x420099 (text_string c.username) ∷ password_trees c.password))
-            ∷ []))
-        ∷ []))
+    structure 0x420023 (trees_of (
+    scalar 0x420024 (enumeration 1)
+    ∷ structure 0x420025 (trees_of (scalar 0x420099 (text_string c.username) ∷ password_trees c.password))
+    ∷ []))
+    ∷ []))
     ∷ []
 
 -- the credential that an item was built of
@@ -56,22 +56,22 @@ credential_of a = elim ((a.0).1) [ values.UsernameAndPassword username password 
 abbrev pub header_tree : ℕ → List Tree → Tree
 header_tree minor authentication =
     structure 0x420077 (trees_of (
-        structure 0x420069 (trees_of (scalar 0x42006A (integer (pos 1)) ∷ scalar 0x42006B (integer (pos minor)) ∷ []))
-        ∷ (authentication ++ scalar 0x42000D (integer (pos 1)) ∷ [])))
+    structure 0x420069 (trees_of (scalar 0x42006A (integer (pos 1)) ∷ scalar 0x42006B (integer (pos minor)) ∷ []))
+    ∷ (authentication ++ scalar 0x42000D (integer (pos 1)) ∷ [])))
 
 -- the message round the item of a payload
 abbrev pub message_tree : Tree → ℕ → Tree → Tree
 message_tree header operation payload =
     structure 0x420078 (trees_of (
-        header
-        ∷ structure 0x42000F (trees_of (scalar 0x42005C (enumeration operation) ∷ payload ∷ []))
-        ∷ []))
+    header
+    ∷ structure 0x42000F (trees_of (scalar 0x42005C (enumeration operation) ∷ payload ∷ []))
+    ∷ []))
 
 -- the request message round a payload and a credential, where the payload has a tree
 abbrev pub request_tree : RequestPayload → Option CredentialType → Option Tree
 request_tree payload credential =
     option_map (message_tree (header_tree (minor_of payload) (authentication_trees credential)) (operation_line (operation_of payload)).number)
-        (tree_of request_payload 0x420079 (request_payload_val payload))
+    (tree_of request_payload 0x420079 (request_payload_val payload))
 
 -- the one canonical message of a request, where it has one
 abbrev pub request_bytes : RequestPayload → Option CredentialType → Option (List ℕ)

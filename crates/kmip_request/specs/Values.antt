@@ -2,12 +2,17 @@
 use Rattle.std.specs.Prelude.{[], ◌∷◌}
 use Rattle.kmip_shape.specs.Val.{Val, Number, Text, Bytes, Record, Case, AndField, NoField, One, Many}
 use Rattle.kmip_shape.specs.Writes.{optional, vals}
-use Rattle.kmip_shape.specs.Enumerations.{enumeration_val}
 use Rattle.kmip_types.specs.Texts.{unique_identifier_val}
 use Rattle.kmip_types.specs.Numbers.{data_length_val}
 use Rattle.kmip_types.specs.ByteStrings.{unique_batch_item_id_val}
-use Rattle.kmip_enums.specs.Operations.{operation_line}
-use Rattle.kmip_enums.specs.CredentialTypes.{credential_type_line}
+use Rattle.kmip_enums.specs.Operations.{operation_val}
+use Rattle.kmip_enums.specs.CredentialTypes.{credential_type_val}
+use Rattle.kmip_request.specs.declared.numbers.ProtocolVersionMajor.{ProtocolVersionMajor}
+use Rattle.kmip_request.specs.declared.numbers.ProtocolVersionMinor.{ProtocolVersionMinor}
+use Rattle.kmip_request.specs.declared.numbers.MaximumResponseSize.{MaximumResponseSize}
+use Rattle.kmip_request.specs.declared.numbers.BatchCount.{BatchCount}
+use Rattle.kmip_request.specs.declared.authentication.Username.{Username}
+use Rattle.kmip_request.specs.declared.authentication.Password.{Password}
 use Rattle.kmip_request.specs.declared.header.ProtocolVersion.{ProtocolVersion}
 use Rattle.kmip_request.specs.declared.header.RequestHeader.{RequestHeader}
 use Rattle.kmip_request.specs.declared.authentication.CredentialValue.{CredentialValue}
@@ -20,21 +25,39 @@ use Rattle.kmip_request.specs.declared.message.BatchItem.{BatchItem}
 use Rattle.kmip_request.specs.declared.message.RequestMessage.{RequestMessage}
 use Rattle.kmip_request.specs.declared.writing.SingleRequest.{SingleRequest}
 
+abbrev pub major_val : ProtocolVersionMajor → Val
+major_val x = Number x.0
+
+abbrev pub minor_val : ProtocolVersionMinor → Val
+minor_val x = Number x.0
+
+abbrev pub size_val : MaximumResponseSize → Val
+size_val x = Number x.0
+
+abbrev pub count_val : BatchCount → Val
+count_val x = Number x.0
+
+abbrev pub username_val : Username → Val
+username_val x = Text x.0
+
+abbrev pub password_val : Password → Val
+password_val x = Text x.0
+
 abbrev pub protocol_version_val : ProtocolVersion → Val
 protocol_version_val x = Record
-    (AndField (One (Number (x.0).0))
-    (AndField (One (Number (x.1).0))
+    (AndField (One (major_val x.0))
+    (AndField (One (minor_val x.1))
     NoField))
 
 abbrev pub credential_value_val : CredentialValue → Val
 credential_value_val (UsernameAndPassword username password) = Case 1 (Record
-    (AndField (One (Text username.0))
-    (AndField (optional (λ p. Text p.0) password)
+    (AndField (One (username_val username))
+    (AndField (optional password_val password)
     NoField)))
 
 abbrev pub credential_val : Credential → Val
 credential_val x = Record
-    (AndField (One (enumeration_val credential_type_line x.0))
+    (AndField (One (credential_type_val x.0))
     (AndField (One (credential_value_val x.1))
     NoField))
 
@@ -46,9 +69,9 @@ authentication_val x = Record
 abbrev pub request_header_val : RequestHeader → Val
 request_header_val x = Record
     (AndField (One (protocol_version_val x.0))
-    (AndField (optional (λ n. Number n.0) x.1)
+    (AndField (optional size_val x.1)
     (AndField (optional authentication_val x.2)
-    (AndField (One (Number (x.3).0))
+    (AndField (One (count_val x.3))
     NoField))))
 
 -- a payload is the case of its operation's number
@@ -58,7 +81,7 @@ request_payload_val (RNGRetrieve length) = Case 37 (Record (AndField (One (data_
 
 abbrev pub batch_item_val : BatchItem → Val
 batch_item_val x = Record
-    (AndField (One (enumeration_val operation_line x.0))
+    (AndField (One (operation_val x.0))
     (AndField (optional unique_batch_item_id_val x.1)
     (AndField (One (request_payload_val x.2))
     NoField)))

@@ -1,20 +1,17 @@
 //! Who makes a request.
 
-ghost use Rattle.std.specs.Prelude.{◌≡◌, List, ℕ};
-ghost use Rattle.std.proofs.Common.{ap};
+ghost use Rattle.std.specs.Prelude.{◌≡◌};
 ghost use Rattle.kmip_wire.specs.declared.kind.Kind.TheVariants.{TextString};
-ghost use Rattle.kmip_shape.specs.Val.{Text as text};
 ghost use Rattle.kmip_shape.specs.Shape.{Scalar, Choice, OfNumber};
-ghost use Rattle.kmip_shape.specs.Same.{same_text};
 ghost use Rattle.kmip_request.specs.Tables.{authentication, credential, credential_values};
 ghost use Rattle.kmip_request.specs.Message.{credential_of};
-ghost use Rattle.kmip_request.specs.Values.{authentication_val, credential_val, credential_value_val};
-ghost use Rattle.kmip_request.specs.Same.{authentication_same, credential_same, credential_value_same};
+ghost use Rattle.kmip_request.specs.Values.{username_val, password_val, authentication_val, credential_val, credential_value_val};
+ghost use Rattle.kmip_request.specs.Same.{username_same, password_same, authentication_same, credential_same, credential_value_same};
 
 use kmip_enums::CredentialType;
-use kmip_shape::{
-    Item, WriteItem, begin_structure, known_optional, optional_len, structure_len, write_optional,
-};
+use kmip_shape::columns::{ChosenOne, One, Opt};
+use kmip_shape::record::{Choosing, End, Row};
+use kmip_shape::{Item, WriteItem, known_record, record_len, write_record};
 use kmip_types::auth;
 use kmip_wire::{Buffer, Tag, Text};
 
@@ -25,13 +22,13 @@ pub struct Username(pub Text);
 impl Item for Username {
     ghost shape = { Scalar TextString };
 
-    ghost val = { λ x. text x.0 };
+    ghost val = { username_val };
 
     fn known(&self) {
         self.0.known();
     }
 
-    ghost same = { λ x y h. ap (λ (s : List ℕ). record { 0 = s }) (same_text h) };
+    ghost same = { username_same };
 }
 
 impl WriteItem for Username {
@@ -51,13 +48,13 @@ pub struct Password(pub Text);
 impl Item for Password {
     ghost shape = { Scalar TextString };
 
-    ghost val = { λ x. text x.0 };
+    ghost val = { password_val };
 
     fn known(&self) {
         self.0.known();
     }
 
-    ghost same = { λ x y h. ap (λ (s : List ℕ). record { 0 = s }) (same_text h) };
+    ghost same = { password_same };
 }
 
 impl WriteItem for Password {
@@ -76,6 +73,8 @@ pub enum CredentialValue {
     UsernameAndPassword(Username, Option<Password>),
 }
 
+type UsernameAndPasswordRows = Row<One<Username, 0x420099>, Row<Opt<Password, 0x4200A1>, End>>;
+
 impl Item for CredentialValue {
     ghost shape = { Choice OfNumber credential_values };
 
@@ -84,8 +83,7 @@ impl Item for CredentialValue {
     fn known(&self) {
         match self {
             CredentialValue::UsernameAndPassword(username, password) => {
-                username.known();
-                known_optional(password);
+                known_record::<UsernameAndPasswordRows>((username, (password, ())));
             }
         }
     }
@@ -96,19 +94,16 @@ impl Item for CredentialValue {
 impl WriteItem for CredentialValue {
     fn wire_len(&self, _tag: Tag) -> Option<u64> {
         match self {
-            CredentialValue::UsernameAndPassword(username, password) => structure_len(&[
-                username.wire_len(Tag::of(0x420099)),
-                optional_len(password, Tag::of(0x4200A1)),
-            ]),
+            CredentialValue::UsernameAndPassword(username, password) => {
+                record_len::<UsernameAndPasswordRows>((username, (password, ())))
+            }
         }
     }
 
     fn write_into(&self, tag: Tag, out: &mut Buffer) {
-        begin_structure(self, self.wire_len(tag), tag, out);
         match self {
             CredentialValue::UsernameAndPassword(username, password) => {
-                username.write_into(Tag::of(0x420099), out);
-                write_optional(password, Tag::of(0x4200A1), out);
+                write_record::<UsernameAndPasswordRows>((username, (password, ())), tag, out);
             }
         }
     }
@@ -118,14 +113,18 @@ impl WriteItem for CredentialValue {
 #[derive(PartialEq, Eq, Drop)]
 pub struct Credential(pub CredentialType, pub CredentialValue);
 
+type CredentialRows<'a> = Choosing<
+    One<CredentialType, 0x420024>,
+    Row<ChosenOne<'a, CredentialValue, 0x420025>, End>,
+>;
+
 impl Item for Credential {
     ghost shape = { credential };
 
     ghost val = { credential_val };
 
     fn known(&self) {
-        self.0.known();
-        self.1.known();
+        known_record::<CredentialRows<'_>>((&self.0, (&self.1, ())));
     }
 
     ghost same = { credential_same };
@@ -133,16 +132,11 @@ impl Item for Credential {
 
 impl WriteItem for Credential {
     fn wire_len(&self, _tag: Tag) -> Option<u64> {
-        structure_len(&[
-            self.0.wire_len(Tag::of(0x420024)),
-            self.1.wire_len(Tag::of(0x420025)),
-        ])
+        record_len::<CredentialRows<'_>>((&self.0, (&self.1, ())))
     }
 
     fn write_into(&self, tag: Tag, out: &mut Buffer) {
-        begin_structure(self, self.wire_len(tag), tag, out);
-        self.0.write_into(Tag::of(0x420024), out);
-        self.1.write_into(Tag::of(0x420025), out);
+        write_record::<CredentialRows<'_>>((&self.0, (&self.1, ())), tag, out);
     }
 }
 
@@ -168,13 +162,15 @@ impl Authentication {
     }
 }
 
+type AuthenticationRows = Row<One<Credential, 0x420023>, End>;
+
 impl Item for Authentication {
     ghost shape = { authentication };
 
     ghost val = { authentication_val };
 
     fn known(&self) {
-        self.0.known();
+        known_record::<AuthenticationRows>((&self.0, ()));
     }
 
     ghost same = { authentication_same };
@@ -182,11 +178,10 @@ impl Item for Authentication {
 
 impl WriteItem for Authentication {
     fn wire_len(&self, _tag: Tag) -> Option<u64> {
-        structure_len(&[self.0.wire_len(Tag::of(0x420023))])
+        record_len::<AuthenticationRows>((&self.0, ()))
     }
 
     fn write_into(&self, tag: Tag, out: &mut Buffer) {
-        begin_structure(self, self.wire_len(tag), tag, out);
-        self.0.write_into(Tag::of(0x420023), out);
+        write_record::<AuthenticationRows>((&self.0, ()), tag, out);
     }
 }

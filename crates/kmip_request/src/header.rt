@@ -7,14 +7,19 @@ ghost use Rattle.kmip_request.specs.Same.{protocol_version_same, request_header_
 
 use crate::authentication::Authentication;
 use crate::numbers::{BatchCount, MaximumResponseSize, ProtocolVersionMajor, ProtocolVersionMinor};
-use kmip_shape::{
-    Item, WriteItem, begin_structure, known_optional, optional_len, structure_len, write_optional,
-};
+use kmip_shape::columns::{One, Opt};
+use kmip_shape::record::{End, Row};
+use kmip_shape::{Item, WriteItem, known_record, record_len, write_record};
 use kmip_wire::{Buffer, Tag};
 
 /// The version of KMIP that a request is made in: KMIP 1.0, 6.1.
 #[derive(Clone, Copy, PartialEq, Eq, Drop)]
 pub struct ProtocolVersion(pub ProtocolVersionMajor, pub ProtocolVersionMinor);
+
+type ProtocolVersionRows = Row<
+    One<ProtocolVersionMajor, 0x42006A>,
+    Row<One<ProtocolVersionMinor, 0x42006B>, End>,
+>;
 
 impl Item for ProtocolVersion {
     ghost shape = { protocol_version };
@@ -22,8 +27,7 @@ impl Item for ProtocolVersion {
     ghost val = { protocol_version_val };
 
     fn known(&self) {
-        self.0.known();
-        self.1.known();
+        known_record::<ProtocolVersionRows>((&self.0, (&self.1, ())));
     }
 
     ghost same = { protocol_version_same };
@@ -31,16 +35,11 @@ impl Item for ProtocolVersion {
 
 impl WriteItem for ProtocolVersion {
     fn wire_len(&self, _tag: Tag) -> Option<u64> {
-        structure_len(&[
-            self.0.wire_len(Tag::of(0x42006A)),
-            self.1.wire_len(Tag::of(0x42006B)),
-        ])
+        record_len::<ProtocolVersionRows>((&self.0, (&self.1, ())))
     }
 
     fn write_into(&self, tag: Tag, out: &mut Buffer) {
-        begin_structure(self, self.wire_len(tag), tag, out);
-        self.0.write_into(Tag::of(0x42006A), out);
-        self.1.write_into(Tag::of(0x42006B), out);
+        write_record::<ProtocolVersionRows>((&self.0, (&self.1, ())), tag, out);
     }
 }
 
@@ -53,16 +52,21 @@ pub struct RequestHeader(
     pub BatchCount,
 );
 
+type RequestHeaderRows = Row<
+    One<ProtocolVersion, 0x420069>,
+    Row<
+        Opt<MaximumResponseSize, 0x420050>,
+        Row<Opt<Authentication, 0x42000C>, Row<One<BatchCount, 0x42000D>, End>>,
+    >,
+>;
+
 impl Item for RequestHeader {
     ghost shape = { request_header };
 
     ghost val = { request_header_val };
 
     fn known(&self) {
-        self.0.known();
-        known_optional(&self.1);
-        known_optional(&self.2);
-        self.3.known();
+        known_record::<RequestHeaderRows>((&self.0, (&self.1, (&self.2, (&self.3, ())))));
     }
 
     ghost same = { request_header_same };
@@ -70,19 +74,10 @@ impl Item for RequestHeader {
 
 impl WriteItem for RequestHeader {
     fn wire_len(&self, _tag: Tag) -> Option<u64> {
-        structure_len(&[
-            self.0.wire_len(Tag::of(0x420069)),
-            optional_len(&self.1, Tag::of(0x420050)),
-            optional_len(&self.2, Tag::of(0x42000C)),
-            self.3.wire_len(Tag::of(0x42000D)),
-        ])
+        record_len::<RequestHeaderRows>((&self.0, (&self.1, (&self.2, (&self.3, ())))))
     }
 
     fn write_into(&self, tag: Tag, out: &mut Buffer) {
-        begin_structure(self, self.wire_len(tag), tag, out);
-        self.0.write_into(Tag::of(0x420069), out);
-        write_optional(&self.1, Tag::of(0x420050), out);
-        write_optional(&self.2, Tag::of(0x42000C), out);
-        self.3.write_into(Tag::of(0x42000D), out);
+        write_record::<RequestHeaderRows>((&self.0, (&self.1, (&self.2, (&self.3, ())))), tag, out);
     }
 }

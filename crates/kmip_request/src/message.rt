@@ -8,10 +8,9 @@ ghost use Rattle.kmip_request.specs.Same.{batch_item_same, request_message_same}
 use crate::header::RequestHeader;
 use crate::payload::RequestPayload;
 use kmip_enums::Operation;
-use kmip_shape::{
-    Item, WriteItem, begin_structure, known_list, known_optional, list_len, optional_len,
-    structure_len, write_list, write_optional,
-};
+use kmip_shape::columns::{ChosenOne, Many, One, Opt};
+use kmip_shape::record::{Choosing, End, Row};
+use kmip_shape::{Item, WriteItem, known_record, record_len, write_record};
 use kmip_types::UniqueBatchItemID;
 use kmip_wire::{Buffer, List, Tag};
 
@@ -23,15 +22,18 @@ pub struct BatchItem(
     pub RequestPayload,
 );
 
+type BatchItemRows<'a> = Choosing<
+    One<Operation, 0x42005C>,
+    Row<Opt<UniqueBatchItemID, 0x420093>, Row<ChosenOne<'a, RequestPayload, 0x420079>, End>>,
+>;
+
 impl Item for BatchItem {
     ghost shape = { batch_item };
 
     ghost val = { batch_item_val };
 
     fn known(&self) {
-        self.0.known();
-        known_optional(&self.1);
-        self.2.known();
+        known_record::<BatchItemRows<'_>>((&self.0, (&self.1, (&self.2, ()))));
     }
 
     ghost same = { batch_item_same };
@@ -39,18 +41,11 @@ impl Item for BatchItem {
 
 impl WriteItem for BatchItem {
     fn wire_len(&self, _tag: Tag) -> Option<u64> {
-        structure_len(&[
-            self.0.wire_len(Tag::of(0x42005C)),
-            optional_len(&self.1, Tag::of(0x420093)),
-            self.2.wire_len(Tag::of(0x420079)),
-        ])
+        record_len::<BatchItemRows<'_>>((&self.0, (&self.1, (&self.2, ()))))
     }
 
     fn write_into(&self, tag: Tag, out: &mut Buffer) {
-        begin_structure(self, self.wire_len(tag), tag, out);
-        self.0.write_into(Tag::of(0x42005C), out);
-        write_optional(&self.1, Tag::of(0x420093), out);
-        self.2.write_into(Tag::of(0x420079), out);
+        write_record::<BatchItemRows<'_>>((&self.0, (&self.1, (&self.2, ()))), tag, out);
     }
 }
 
@@ -58,14 +53,15 @@ impl WriteItem for BatchItem {
 #[derive(Drop)]
 pub struct RequestMessage(pub RequestHeader, pub List<BatchItem>);
 
+type RequestMessageRows = Row<One<RequestHeader, 0x420077>, Row<Many<BatchItem, 0x42000F>, End>>;
+
 impl Item for RequestMessage {
     ghost shape = { request_message };
 
     ghost val = { request_message_val };
 
     fn known(&self) {
-        self.0.known();
-        known_list(self.1.as_slice());
+        known_record::<RequestMessageRows>((&self.0, (&self.1, ())));
     }
 
     ghost same = { request_message_same };
@@ -73,15 +69,10 @@ impl Item for RequestMessage {
 
 impl WriteItem for RequestMessage {
     fn wire_len(&self, _tag: Tag) -> Option<u64> {
-        structure_len(&[
-            self.0.wire_len(Tag::of(0x420077)),
-            list_len(self.1.as_slice(), Tag::of(0x42000F)),
-        ])
+        record_len::<RequestMessageRows>((&self.0, (&self.1, ())))
     }
 
     fn write_into(&self, tag: Tag, out: &mut Buffer) {
-        begin_structure(self, self.wire_len(tag), tag, out);
-        self.0.write_into(Tag::of(0x420077), out);
-        write_list(self.1.as_slice(), Tag::of(0x42000F), out);
+        write_record::<RequestMessageRows>((&self.0, (&self.1, ())), tag, out);
     }
 }

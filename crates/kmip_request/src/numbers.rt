@@ -1,11 +1,10 @@
 //! The numbers in the head of a request.
 
-ghost use Rattle.std.specs.Prelude.{◌≡◌, ℤ};
-ghost use Rattle.std.proofs.Common.{ap};
+ghost use Rattle.std.specs.Prelude.{◌≡◌};
 ghost use Rattle.kmip_wire.specs.declared.kind.Kind.TheVariants.{Integer};
-ghost use Rattle.kmip_shape.specs.Val.{Number};
 ghost use Rattle.kmip_shape.specs.Shape.{Scalar};
-ghost use Rattle.kmip_shape.specs.Same.{same_number};
+ghost use Rattle.kmip_request.specs.Values.{major_val, minor_val, size_val, count_val};
+ghost use Rattle.kmip_request.specs.Same.{major_same, minor_same, size_same, count_same};
 
 use kmip_shape::{Item, WriteItem};
 use kmip_wire::{Buffer, Tag};
@@ -17,13 +16,13 @@ pub struct ProtocolVersionMajor(pub i32);
 impl Item for ProtocolVersionMajor {
     ghost shape = { Scalar Integer };
 
-    ghost val = { λ x. Number x.0 };
+    ghost val = { major_val };
 
     fn known(&self) {
         self.0.known();
     }
 
-    ghost same = { λ x y h. ap (λ (n : ℤ). record { 0 = n }) (same_number h) };
+    ghost same = { major_same };
 }
 
 impl WriteItem for ProtocolVersionMajor {
@@ -43,13 +42,13 @@ pub struct ProtocolVersionMinor(pub i32);
 impl Item for ProtocolVersionMinor {
     ghost shape = { Scalar Integer };
 
-    ghost val = { λ x. Number x.0 };
+    ghost val = { minor_val };
 
     fn known(&self) {
         self.0.known();
     }
 
-    ghost same = { λ x y h. ap (λ (n : ℤ). record { 0 = n }) (same_number h) };
+    ghost same = { minor_same };
 }
 
 impl WriteItem for ProtocolVersionMinor {
@@ -69,13 +68,13 @@ pub struct MaximumResponseSize(pub i32);
 impl Item for MaximumResponseSize {
     ghost shape = { Scalar Integer };
 
-    ghost val = { λ x. Number x.0 };
+    ghost val = { size_val };
 
     fn known(&self) {
         self.0.known();
     }
 
-    ghost same = { λ x y h. ap (λ (n : ℤ). record { 0 = n }) (same_number h) };
+    ghost same = { size_same };
 }
 
 impl WriteItem for MaximumResponseSize {
@@ -95,13 +94,13 @@ pub struct BatchCount(pub i32);
 impl Item for BatchCount {
     ghost shape = { Scalar Integer };
 
-    ghost val = { λ x. Number x.0 };
+    ghost val = { count_val };
 
     fn known(&self) {
         self.0.known();
     }
 
-    ghost same = { λ x y h. ap (λ (n : ℤ). record { 0 = n }) (same_number h) };
+    ghost same = { count_same };
 }
 
 impl WriteItem for BatchCount {

@@ -9,9 +9,9 @@ ghost use Rattle.kmip_request.specs.Message.{operation_of, version_of};
 use crate::header::ProtocolVersion;
 use crate::numbers::{ProtocolVersionMajor, ProtocolVersionMinor};
 use kmip_enums::Operation;
-use kmip_shape::{
-    Item, WriteItem, begin_structure, known_optional, optional_len, structure_len, write_optional,
-};
+use kmip_shape::columns::{One, Opt};
+use kmip_shape::record::{End, Row};
+use kmip_shape::{Item, WriteItem, known_record, record_len, write_record};
 use kmip_types::{DataLength, UniqueIdentifier};
 use kmip_wire::{Buffer, Tag};
 
@@ -47,6 +47,10 @@ impl RequestPayload {
     }
 }
 
+type ActivateRows = Row<Opt<UniqueIdentifier, 0x420094>, End>;
+
+type RNGRetrieveRows = Row<One<DataLength, 0x4200C4>, End>;
+
 impl Item for RequestPayload {
     ghost shape = { request_payload };
 
@@ -54,8 +58,8 @@ impl Item for RequestPayload {
 
     fn known(&self) {
         match self {
-            RequestPayload::Activate(id) => known_optional(id),
-            RequestPayload::RNGRetrieve(length) => length.known(),
+            RequestPayload::Activate(id) => known_record::<ActivateRows>((id, ())),
+            RequestPayload::RNGRetrieve(length) => known_record::<RNGRetrieveRows>((length, ())),
         }
     }
 
@@ -65,16 +69,17 @@ impl Item for RequestPayload {
 impl WriteItem for RequestPayload {
     fn wire_len(&self, _tag: Tag) -> Option<u64> {
         match self {
-            RequestPayload::Activate(id) => structure_len(&[optional_len(id, Tag::of(0x420094))]),
-            RequestPayload::RNGRetrieve(length) => structure_len(&[length.wire_len(Tag::of(0x4200C4))]),
+            RequestPayload::Activate(id) => record_len::<ActivateRows>((id, ())),
+            RequestPayload::RNGRetrieve(length) => record_len::<RNGRetrieveRows>((length, ())),
         }
     }
 
     fn write_into(&self, tag: Tag, out: &mut Buffer) {
-        begin_structure(self, self.wire_len(tag), tag, out);
         match self {
-            RequestPayload::Activate(id) => write_optional(id, Tag::of(0x420094), out),
-            RequestPayload::RNGRetrieve(length) => length.write_into(Tag::of(0x4200C4), out),
+            RequestPayload::Activate(id) => write_record::<ActivateRows>((id, ()), tag, out),
+            RequestPayload::RNGRetrieve(length) => {
+                write_record::<RNGRetrieveRows>((length, ()), tag, out);
+            }
         }
     }
 }

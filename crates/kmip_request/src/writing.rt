@@ -14,7 +14,7 @@ use crate::header::RequestHeader;
 use crate::message::BatchItem;
 use crate::numbers::BatchCount;
 use crate::payload::RequestPayload;
-use kmip_shape::{Item, WriteItem, begin_structure, item_len, structure_len, write_item};
+use kmip_shape::{Item, WriteItem, begin_structure, structure_len, to_blob};
 use kmip_types::auth;
 use kmip_wire::{Blob, Buffer, Tag, WireError};
 use std::alloc::Global;
@@ -58,14 +58,7 @@ impl WriteItem for SingleRequest {
 fn written(alloc: Global, message: &SingleRequest) -> Result<Blob, WireError>
     ensures { Writes result (bytes_of request_message 0x420078 (single_request_val message.now)) }
 {
-    let tag = Tag::of(0x420078);
-    let Some(len) = item_len(message, tag) else {
-        return Err(WireError::NoForm);
-    };
-    let mut out = Buffer::new(alloc);
-    out.reserve(len as usize)?;
-    write_item(message, tag, &mut out);
-    Ok(out.into_blob())
+    to_blob(alloc, message, Tag::of(0x420078))
 }
 
 /// What `to_vec` gives, for a credential that the caller keeps: it is lent, not copied.

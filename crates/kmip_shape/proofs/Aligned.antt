@@ -5,7 +5,7 @@ use Rattle.kmip_wire.specs.Tree.{Tree, Trees, scalar, structure, none, more}
 use Rattle.kmip_wire.specs.Kinds.{code_of, kind_of_scalar}
 use Rattle.kmip_wire.specs.Head.{pads}
 use Rattle.kmip_shape.specs.Writes.{structure_head}
-use Rattle.kmip_wire.specs.Bytes.{bytes, all_bytes, framed, in_order, head_bytes, item_bytes, value_bytes, has_form}
+use Rattle.kmip_wire.specs.Bytes.{bytes, all_bytes, framed, in_order, item_bytes, value_bytes, has_form}
 
 pub item_len : (tag code : ℕ) (v : List ℕ) → length (item_bytes tag code v) ≡ 8 + length v + pads (length v)
 unfolding item_bytes

@@ -1,11 +1,11 @@
 -- A date's number.
-use Rattle.std.proofs.Common.{◌≡◌, ℕ, ◌+◌, ◌-◌, ◌^◌, ◌<◌, ◌≤◌, ◌≤ℤ◌, ℤ, pos, negsuc, suc, Bool, true, false, cond, nat_lt, refl, ap, ◌∙◌, arith, lt-ltb, ltb-true, ltb-false, FitsSigned, w64}
+use Rattle.std.proofs.Common.{◌≡◌, ℕ, ◌^◌, ◌<◌, ℤ, pos, negsuc, refl, ap, ◌∙◌, arith, lt-ltb, FitsSigned, w64}
 use Rattle.std.specs.Int.{cast_unsigned, cast_signed}
 use Rattle.std.proofs.lemmas.Int.{of_z-to_z}
 use Rattle.std.proofs.Math.Facts.{sfits_to_z}
 use Rattle.kmip_wire.specs.declared.kind.Kind.TheVariants.{DateTime}
 use Rattle.kmip_shape.specs.Fits.{kind_fits}
-use Rattle.kmip_shape.specs.Val.{Val, Number}
+use Rattle.kmip_shape.specs.Val.{Number}
 use Rattle.kmip_shape.specs.Dates.{date_number, date_val}
 
 pub dated : (z : ℤ) → FitsSigned w64 z → date_number z ≡ pos (cast_unsigned w64 z)

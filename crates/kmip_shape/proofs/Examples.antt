@@ -1,18 +1,18 @@
 -- The definitions on worked examples: each line computes.
-use Rattle.std.proofs.Common.{◌≡◌, ℕ, pos, List, [], ◌∷◌, Option, Some, None, true, false, refl, arith}
+use Rattle.std.proofs.Common.{◌≡◌, ℕ, pos, List, [], ◌∷◌, Some, None, true, refl, arith}
 use Rattle.std.specs.Prelude.{codes}
 use Rattle.kmip_wire.specs.declared.kind.Kind.TheVariants as kind
 use Rattle.kmip_wire.specs.Tree.{Tree, scalar, structure, trees_of, integer, enumeration, text_string, byte_string, interval}
 use Rattle.kmip_wire.specs.Bytes.{item_bytes}
 use Rattle.std.proofs.lemmas.Fmt.{decimal_digit}
 use Rattle.kmip_shape.specs.Val.{Val, Number, Text, Bytes, Record, Case, Absent, One, Many, NoField, AndField, NoVal, AndVal}
-use Rattle.kmip_shape.specs.Shape.{Shape, Scalar, OneOf, Rows, RowsOrBytes, Choice, Custom, NoRow, AndRow, Under, ByCase, Required, Optional, AnyNumber, AtLeastOne, OptionalList, Plain, Chooser, Chosen, Cases, NoCase, AndCase, ByNumbers, ByNames, ByKind, ByTag, Formless, OfNumber, OfName, OfTag, OuterValue, no_outer}
+use Rattle.kmip_shape.specs.Shape.{Shape, Scalar, OneOf, Rows, RowsOrBytes, Choice, Custom, NoRow, AndRow, Under, ByCase, Required, Optional, AtLeastOne, OptionalList, Plain, Chooser, Chosen, Cases, NoCase, AndCase, ByNumbers, ByNames, ByKind, ByTag, Formless, OfNumber, OfName, OfTag, OuterValue, no_outer}
 use Rattle.kmip_shape.specs.Enumerations.{entry}
 use Rattle.kmip_shape.specs.Reads.{read_of, root_read}
 use Rattle.kmip_shape.specs.Trees.{tree_of}
 use Rattle.kmip_shape.specs.Writes.{bytes_of}
 use Rattle.kmip_shape.specs.Shown.{shown}
-use Rattle.kmip_shape.specs.Fits.{tags_once, choosers_stand, are_tags}
+use Rattle.kmip_shape.specs.Fits.{tags_once, choosers_stand}
 
 abbrev named : List ℕ → OuterValue
 named s = record { number = None; name = Some s }

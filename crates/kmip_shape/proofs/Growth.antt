@@ -14,11 +14,11 @@ all_added old new text h = record { part = text; rest = []; whole = append-nil t
 
 pub grown : {a b c : Growing} {x y : List ℕ} → Grows a b x → Grows b c y → Grows a c (x ++ y)
 grown {a} {b} {c} {x} {y} p q = record {
-    stays = λ h. p.stays (q.stays h);
-    all = λ h. q.all h ∙ (ap (λ z. z ++ y) (p.all (q.stays h)) ∙ append_assoc a.text x y);
-    closed = λ h. q.closed (shut h) ∙ p.closed h;
-    part = go b.live refl;
-  }
+  stays = λ h. p.stays (q.stays h);
+  all = λ h. q.all h ∙ (ap (λ z. z ++ y) (p.all (q.stays h)) ∙ append_assoc a.text x y);
+  closed = λ h. q.closed (shut h) ∙ p.closed h;
+  part = go b.live refl;
+}
   where
     shut : a.live ≡ false → b.live ≡ false
     shut h = at b.live refl
@@ -29,17 +29,17 @@ grown {a} {b} {c} {x} {y} p q = record {
 
     go : (o : Bool) → b.live ≡ o → AddsPart a.text c.text (x ++ y)
     go true e = record {
-        part = x ++ q.part.part;
-        rest = q.part.rest;
-        whole = append_assoc x q.part.part q.part.rest ∙ ap (λ z. x ++ z) q.part.whole;
-        added = q.part.added ∙ (ap (λ z. z ++ q.part.part) (p.all e) ∙ append_assoc a.text x q.part.part);
-      }
+      part = x ++ q.part.part;
+      rest = q.part.rest;
+      whole = append_assoc x q.part.part q.part.rest ∙ ap (λ z. x ++ z) q.part.whole;
+      added = q.part.added ∙ (ap (λ z. z ++ q.part.part) (p.all e) ∙ append_assoc a.text x q.part.part);
+    }
     go false e = record {
-        part = p.part.part;
-        rest = p.part.rest ++ y;
-        whole = sym (append_assoc p.part.part p.part.rest y) ∙ ap (λ z. z ++ y) p.part.whole;
-        added = q.closed e ∙ p.part.added;
-      }
+      part = p.part.part;
+      rest = p.part.rest ++ y;
+      whole = sym (append_assoc p.part.part p.part.rest y) ∙ ap (λ z. z ++ y) p.part.whole;
+      added = q.closed e ∙ p.part.added;
+    }
 
 pub nothing : {a : Growing} → Grows a a []
 nothing {a} = record { stays = λ h. h; all = λ h. sym (append-nil a.text); closed = λ h. refl; part = none_added a.text [] }

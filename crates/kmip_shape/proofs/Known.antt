@@ -101,9 +101,9 @@ mutual
       ((p.0, rw p.1 p.2), rw p.1 s.2)
   value_known (Record fs) around (RowsOrBytes m rows) n h =
       bytes_known m fs around rows n h (λ k.
-        let s = structure_known (fields_len fs rows) n k in
-        let p = fields_known fs rows s.0 s.1 in
-        ((p.0, rw p.1 p.2), rw p.1 s.2))
+      let s = structure_known (fields_len fs rows) n k in
+      let p = fields_known fs rows s.0 s.1 in
+      ((p.0, rw p.1 p.2), rw p.1 s.2))
   value_known (Record fs) around Custom n h = custom_known around fs n h
   value_known (Record fs) around (Scalar k) n h = none_some _ h
   value_known (Record fs) around (OneOf k) n h = none_some _ h

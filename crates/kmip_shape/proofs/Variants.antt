@@ -1,11 +1,11 @@
 -- The variants of an enumeration and its table.
 use Rattle.std.proofs.Common.{arith, ap, sym, ◌∙◌}
 use Rattle.std.proofs.lemmas.Bool.Decides.{nat_tests}
-use Rattle.std.specs.Prelude.{ℕ, pos, Bool, true, false, List, [], ◌∷◌, map, Option, Some, None, nat_eq, cond, if◌then◌else◌, ◌≡◌, refl}
+use Rattle.std.specs.Prelude.{ℕ, pos, true, List, [], ◌∷◌, map, Option, Some, None, cond, if◌then◌else◌, ◌≡◌, refl}
 use Rattle.std.specs.Option.{option_map}
 use Rattle.std.specs.Str.{bytes_eq}
 use Rattle.std.proofs.lemmas.Slice.Eq.{bytes_eq-Decides}
-use Rattle.kmip_shape.specs.Val.{Val, Number}
+use Rattle.kmip_shape.specs.Val.{Number}
 use Rattle.kmip_shape.specs.Shape.{Entry, in_table}
 use Rattle.kmip_shape.specs.Shown.{entry_shown}
 use Rattle.kmip_shape.specs.Enumerations.{variant_at, enumeration_val, has_name, are_distinct, AreFound, AreDistinct}
@@ -40,6 +40,7 @@ some_same : {T : Type 0} {x y : T} → Some x ≡ Some y → x ≡ y
 some_same h = cc
 
 pub variants_distinct : {T : Type 0} (line : T → Entry) (xs : List T) → AreFound line xs → are_distinct (map line xs) ≡ true → AreDistinct line
-variants_distinct line xs found d =
-    ((λ x y h. some_same (sym (found x) ∙ (ap (variant_at line xs) h ∙ found y))),
-     (λ x y h. some_same (sym (found_named line xs _ x d (found x)) ∙ (ap (named line xs) h ∙ found_named line xs _ y d (found y)))))
+variants_distinct line xs found d = (
+  (λ x y h. some_same (sym (found x) ∙ (ap (variant_at line xs) h ∙ found y))),
+  (λ x y h. some_same (sym (found_named line xs _ x d (found x)) ∙ (ap (named line xs) h ∙ found_named line xs _ y d (found y)))),
+)

@@ -1,7 +1,7 @@
 -- What is written is the bytes of the tree.
 use Rattle.std.proofs.Common.{◌≡◌, ℕ, ◌+◌, ◌^◌, ◌<◌, Bool, true, false, cond, length, List, [], ◌∷◌, ◌++◌, Option, Some, None, refl, sym, ◌∙◌, ap, subst, lt-ltb, length-append, append-nil, append_assoc}
 use Rattle.kmip_wire.specs.Tree.{Scalar as Leaf, Tree, scalar, trees_of}
-use Rattle.kmip_wire.specs.Bytes.{head_bytes, item_bytes, bytes, all_bytes, in_order, value_bytes}
+use Rattle.kmip_wire.specs.Bytes.{item_bytes, bytes, all_bytes, in_order, value_bytes}
 use Rattle.kmip_shape.specs.Writes.{leaf_form, structure_head, leaf_has_form, leaf_size, leaf_text, len_of}
 use Rattle.std.specs.Option.{option_and_then}
 use Rattle.kmip_wire.specs.Kinds.{kind_of_scalar, code_of}

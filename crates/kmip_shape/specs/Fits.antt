@@ -44,13 +44,15 @@ abbrev mutual
   fits_in (Bytes b) around shape = leaf_fits shape (Bytes b)
   fits_in (Truth b) around shape = leaf_fits shape (Truth b)
   fits_in (Record fields) around shape = elim shape [
-      Rows rows ↦ fields_fit fields NoCase rows
+    | Rows rows ↦ fields_fit fields NoCase rows
     | RowsOrBytes n rows ↦ fields_fit fields NoCase rows
     | Custom ↦ fields_fit fields NoCase (AndRow [] (Under attribute_value) AnyNumber Plain (Choice OfName around) NoRow)
-    | _ ↦ ⊥ ]
+    | _ ↦ ⊥
+  ]
   fits_in (Case n val) around shape = elim shape [
-      Choice rule cases ↦ elim (case_at cases n) [ None ↦ ⊥ | Some c ↦ fits_in val cases c.shape ]
-    | _ ↦ ⊥ ]
+    | Choice rule cases ↦ elim (case_at cases n) [ None ↦ ⊥ | Some c ↦ fits_in val cases c.shape ]
+    | _ ↦ ⊥
+  ]
 
   pub fields_fit : Fields → Cases → RowList → Type 0
   fields_fit NoField around NoRow = Unit {0}
@@ -98,16 +100,19 @@ abbrev mutual
   selected_in (Bytes b) around shape outer tag = Unit {0}
   selected_in (Truth b) around shape outer tag = Unit {0}
   selected_in (Record fields) around shape outer tag = elim shape [
-      Rows rows ↦ fields_selected fields NoCase rows outer no_outer
+    | Rows rows ↦ fields_selected fields NoCase rows outer no_outer
     | RowsOrBytes n rows ↦ elim (byte_form n fields) [ None ↦ fields_selected fields NoCase rows outer no_outer | Some b ↦ Unit {0} ]
     | Custom ↦ custom_selected around fields
-    | _ ↦ Unit {0} ]
+    | _ ↦ Unit {0}
+  ]
   selected_in (Case n val) around shape outer tag = elim shape [
-      Choice rule cases ↦ elim (case_at cases n) [
-          None ↦ Unit {0}
-        | Some c ↦ IfSome (tree_in val cases c.shape (tag_or c.tag tag)) (λ t. selected_case (key_of rule cases outer t) cases ≡ Some n)
-            × selected_in val cases c.shape outer (tag_or c.tag tag) ]
-    | _ ↦ Unit {0} ]
+    | Choice rule cases ↦ elim (case_at cases n) [
+      | None ↦ Unit {0}
+      | Some c ↦ IfSome (tree_in val cases c.shape (tag_or c.tag tag)) (λ t. selected_case (key_of rule cases outer t) cases ≡ Some n)
+          × selected_in val cases c.shape outer (tag_or c.tag tag)
+    ]
+    | _ ↦ Unit {0}
+  ]
 
   pub fields_selected : Fields → Cases → RowList → OuterValue → OuterValue → Type 0
   fields_selected NoField around rows outer chosen = Unit {0}

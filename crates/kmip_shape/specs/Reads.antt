@@ -71,8 +71,9 @@ abbrev mutual
   read_in (Rows rows) around outer tree =
       option_and_then (λ trees. option_map Record (read_rows rows outer no_outer trees)) (children_in tree)
   read_in (RowsOrBytes n rows) around outer tree = elim (bytes_in tree) [
-      Some b ↦ bytes_record n rows b
-    | None ↦ option_and_then (λ trees. option_map Record (read_rows rows outer no_outer trees)) (children_in tree) ]
+    | Some b ↦ bytes_record n rows b
+    | None ↦ option_and_then (λ trees. option_map Record (read_rows rows outer no_outer trees)) (children_in tree)
+  ]
   read_in (Choice rule cases) around outer tree = read_case cases cases (key_of rule cases outer tree) outer tree
   read_in Custom around outer tree =
       option_and_then (λ trees. option_map (λ vals. Record (AndField (Many vals) NoField)) (each (read_plain around) trees)) (children_in tree)

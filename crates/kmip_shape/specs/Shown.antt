@@ -61,13 +61,15 @@ abbrev mutual
   shown_in (Bytes b) around shape = bytes_shown b
   shown_in (Truth b) around shape = truth_shown b
   shown_in (Record fields) around shape = elim shape [
-      Rows rows ↦ 123 ∷ (fields_shown fields NoCase rows false ++ 125 ∷ [])
+    | Rows rows ↦ 123 ∷ (fields_shown fields NoCase rows false ++ 125 ∷ [])
     | RowsOrBytes n rows ↦ 123 ∷ (fields_shown fields NoCase rows false ++ 125 ∷ [])
     | Custom ↦ members_shown fields around
-    | _ ↦ [] ]
+    | _ ↦ []
+  ]
   shown_in (Case n val) around shape = elim shape [
-      Choice rule cases ↦ elim (case_at cases n) [ None ↦ [] | Some c ↦ c.name ++ in_case val (shown_in val cases c.shape) ]
-    | _ ↦ [] ]
+    | Choice rule cases ↦ elim (case_at cases n) [ None ↦ [] | Some c ↦ c.name ++ in_case val (shown_in val cases c.shape) ]
+    | _ ↦ []
+  ]
 
   -- the fields, after others or not
   pub fields_shown : Fields → Cases → RowList → Bool → List ℕ

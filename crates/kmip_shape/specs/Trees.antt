@@ -68,15 +68,18 @@ abbrev mutual
   tree_in (Bytes b) around shape tag = leaf_tree shape tag (Bytes b)
   tree_in (Truth b) around shape tag = leaf_tree shape tag (Truth b)
   tree_in (Record fields) around shape tag = elim shape [
-      Rows rows ↦ structure_of tag (field_trees fields NoCase rows)
+    | Rows rows ↦ structure_of tag (field_trees fields NoCase rows)
     | RowsOrBytes n rows ↦ bytes_or tag (byte_form n fields) (structure_of tag (field_trees fields NoCase rows))
     | Custom ↦ structure_of tag (custom_trees around fields)
-    | _ ↦ None ]
+    | _ ↦ None
+  ]
   tree_in (Case n val) around shape tag = elim shape [
-      Choice rule cases ↦ elim (case_at cases n) [
-          None ↦ None
-        | Some c ↦ cond (has_wire_form c.selector) (tree_in val cases c.shape (tag_or c.tag tag)) None ]
-    | _ ↦ None ]
+    | Choice rule cases ↦ elim (case_at cases n) [
+      | None ↦ None
+      | Some c ↦ cond (has_wire_form c.selector) (tree_in val cases c.shape (tag_or c.tag tag)) None
+    ]
+    | _ ↦ None
+  ]
 
   pub field_trees : Fields → Cases → RowList → Option (List Tree)
   field_trees NoField around NoRow = Some []

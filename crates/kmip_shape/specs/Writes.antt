@@ -119,13 +119,15 @@ abbrev mutual
   size_in (Bytes b) around shape = maybe_size (leaf_at shape (Bytes b))
   size_in (Truth b) around shape = maybe_size (leaf_at shape (Truth b))
   size_in (Record fields) around shape = elim shape [
-      Rows rows ↦ 8 + fields_size fields rows
+    | Rows rows ↦ 8 + fields_size fields rows
     | RowsOrBytes n rows ↦ elim (byte_form n fields) [ None ↦ 8 + fields_size fields rows | Some b ↦ leaf_size (byte_string b) ]
     | Custom ↦ 8 + plains_size around (many_of fields)
-    | _ ↦ 0 ]
+    | _ ↦ 0
+  ]
   size_in (Case n val) around shape = elim shape [
-      Choice rule cases ↦ elim (case_at cases n) [ None ↦ 0 | Some c ↦ size_in val cases c.shape ]
-    | _ ↦ 0 ]
+    | Choice rule cases ↦ elim (case_at cases n) [ None ↦ 0 | Some c ↦ size_in val cases c.shape ]
+    | _ ↦ 0
+  ]
 
   pub fields_size : Fields → RowList → ℕ
   fields_size NoField rows = 0
@@ -149,15 +151,18 @@ abbrev mutual
   form_in (Bytes b) around shape = maybe_form (leaf_at shape (Bytes b))
   form_in (Truth b) around shape = maybe_form (leaf_at shape (Truth b))
   form_in (Record fields) around shape = elim shape [
-      Rows rows ↦ fields_form fields rows × (fields_size fields rows < 2 ^ 32)
+    | Rows rows ↦ fields_form fields rows × (fields_size fields rows < 2 ^ 32)
     | RowsOrBytes n rows ↦ elim (byte_form n fields) [ None ↦ fields_form fields rows × (fields_size fields rows < 2 ^ 32) | Some b ↦ leaf_form (byte_string b) ]
     | Custom ↦ custom_form around fields
-    | _ ↦ ⊥ ]
+    | _ ↦ ⊥
+  ]
   form_in (Case n val) around shape = elim shape [
-      Choice rule cases ↦ elim (case_at cases n) [
-          None ↦ ⊥
-        | Some c ↦ elim (has_wire_form c.selector) [ true ↦ form_in val cases c.shape | false ↦ ⊥ ] ]
-    | _ ↦ ⊥ ]
+    | Choice rule cases ↦ elim (case_at cases n) [
+      | None ↦ ⊥
+      | Some c ↦ elim (has_wire_form c.selector) [ true ↦ form_in val cases c.shape | false ↦ ⊥ ]
+    ]
+    | _ ↦ ⊥
+  ]
 
   pub fields_form : Fields → RowList → Type 0
   fields_form NoField NoRow = Unit {0}
@@ -182,13 +187,15 @@ abbrev mutual
   text_in (Bytes b) around shape tag = maybe_text tag (leaf_at shape (Bytes b))
   text_in (Truth b) around shape tag = maybe_text tag (leaf_at shape (Truth b))
   text_in (Record fields) around shape tag = elim shape [
-      Rows rows ↦ structure_head tag (fields_size fields rows) ++ fields_text fields rows
+    | Rows rows ↦ structure_head tag (fields_size fields rows) ++ fields_text fields rows
     | RowsOrBytes n rows ↦ elim (byte_form n fields) [ None ↦ structure_head tag (fields_size fields rows) ++ fields_text fields rows | Some b ↦ leaf_text tag (byte_string b) ]
     | Custom ↦ structure_head tag (plains_size around (many_of fields)) ++ plains_text around (many_of fields)
-    | _ ↦ [] ]
+    | _ ↦ []
+  ]
   text_in (Case n val) around shape tag = elim shape [
-      Choice rule cases ↦ elim (case_at cases n) [ None ↦ [] | Some c ↦ text_in val cases c.shape (tag_or c.tag tag) ]
-    | _ ↦ [] ]
+    | Choice rule cases ↦ elim (case_at cases n) [ None ↦ [] | Some c ↦ text_in val cases c.shape (tag_or c.tag tag) ]
+    | _ ↦ []
+  ]
 
   pub fields_text : Fields → RowList → List ℕ
   fields_text NoField rows = []
@@ -212,15 +219,18 @@ abbrev mutual
   len_in (Bytes b) around shape = maybe_len (leaf_at shape (Bytes b))
   len_in (Truth b) around shape = maybe_len (leaf_at shape (Truth b))
   len_in (Record fields) around shape = elim shape [
-      Rows rows ↦ structure_len (fields_len fields rows)
+    | Rows rows ↦ structure_len (fields_len fields rows)
     | RowsOrBytes n rows ↦ elim (byte_form n fields) [ None ↦ structure_len (fields_len fields rows) | Some b ↦ maybe_len (Some (byte_string b)) ]
     | Custom ↦ custom_len around fields
-    | _ ↦ None ]
+    | _ ↦ None
+  ]
   len_in (Case n val) around shape = elim shape [
-      Choice rule cases ↦ elim (case_at cases n) [
-          None ↦ None
-        | Some c ↦ cond (has_wire_form c.selector) (len_in val cases c.shape) None ]
-    | _ ↦ None ]
+    | Choice rule cases ↦ elim (case_at cases n) [
+      | None ↦ None
+      | Some c ↦ cond (has_wire_form c.selector) (len_in val cases c.shape) None
+    ]
+    | _ ↦ None
+  ]
 
   pub fields_len : Fields → RowList → Option ℕ
   fields_len NoField NoRow = Some 0

@@ -63,7 +63,12 @@ impl<'a, const TAG: u32> Column<'a> for BigOne<TAG> {
         Ok(())
     }
 
-    fn finish(self, _alloc: Global, _outer: Outer<'_>, _chosen: Outer<'_>) -> Result<Blob, ReadError> {
+    fn finish(
+        self,
+        _alloc: Global,
+        _outer: Outer<'_>,
+        _chosen: Outer<'_>,
+    ) -> Result<Blob, ReadError> {
         self.slot.ok_or(ReadError::Unread)
     }
 }

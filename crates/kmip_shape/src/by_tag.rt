@@ -17,7 +17,7 @@ use crate::fields::{FieldRow, ShowRow, WriteRow};
 use crate::item::{Item, WriteItem};
 use crate::read::{Outer, ReadError, ReadItem};
 use crate::rows::{known_optional, optional_len, write_optional};
-use crate::show::{show_optional, ShowItem};
+use crate::show::{ShowItem, show_optional};
 use crate::sink::Sink;
 use kmip_wire::{Buffer, ItemRef, Tag};
 use std::alloc::Global;

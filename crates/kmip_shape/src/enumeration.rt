@@ -80,5 +80,4 @@ pub fn distinct<T: Enumeration>()
     ensures distinct { AreDistinct T.line }
     ensures table { are_distinct (map T.line T.variants) ≡ true }
     ensures found { AreFound T.line T.variants }
-{
-}
+{}

@@ -14,9 +14,12 @@ ghost use Rattle.kmip_shape.specs.Shown.{Grows, shown, row_shown, fields_shown, 
 use crate::columns::{ChosenOne, ChosenOpt, Many, NonEmpty, One, Opt, OptMany};
 use crate::item::{Item, WriteItem};
 use crate::record::{Choosing, End, Row};
-use crate::rows::{known_list, known_optional, known_optional_list, list_len, optional_len, optional_list_len, plus_len, write_list, write_optional, write_optional_list};
+use crate::rows::{
+    known_list, known_optional, known_optional_list, list_len, optional_len, optional_list_len,
+    plus_len, write_list, write_optional, write_optional_list,
+};
 use crate::scalars::put_structure;
-use crate::show::{show_list, show_one, show_optional, show_optional_list, ShowItem};
+use crate::show::{ShowItem, show_list, show_one, show_optional, show_optional_list};
 use crate::sink::Sink;
 use kmip_wire::{Buffer, List, Tag};
 

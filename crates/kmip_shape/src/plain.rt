@@ -13,7 +13,10 @@ ghost use Rattle.kmip_shape.specs.Same.{same_text, same_bytes, same_number, same
 use crate::item::{Item, WriteItem};
 use crate::read::{Outer, ReadError, ReadItem};
 use crate::rows::known_bytes;
-use crate::scalars::{SCALAR_LEN, bytes_len, put_boolean, put_bytes, put_date, put_integer, put_interval, put_long_integer, put_text, text_len};
+use crate::scalars::{
+    SCALAR_LEN, bytes_len, put_boolean, put_bytes, put_date, put_integer, put_interval,
+    put_long_integer, put_text, text_len,
+};
 use crate::show::ShowItem;
 use crate::sink::Sink;
 use kmip_wire::{Blob, Buffer, ItemRef, Tag, Text};

@@ -101,7 +101,11 @@ pub fn text_len(value: &str) -> Option<u64>
     ensures { result ≡ maybe_len (some (text_string value.now)) }
 {
     let len = value.len() as u64;
-    if len < 1 << 32 { Some(8 + len + (8 - len % 8) % 8) } else { None }
+    if len < 1 << 32 {
+        Some(8 + len + (8 - len % 8) % 8)
+    } else {
+        None
+    }
 }
 
 /// The whole length of a Byte String, and `None` from 2^32 bytes on.
@@ -109,7 +113,11 @@ pub fn bytes_len(value: &[u8]) -> Option<u64>
     ensures { result ≡ maybe_len (some (byte_string value.now)) }
 {
     let len = value.len() as u64;
-    if len < 1 << 32 { Some(8 + len + (8 - len % 8) % 8) } else { None }
+    if len < 1 << 32 {
+        Some(8 + len + (8 - len % 8) % 8)
+    } else {
+        None
+    }
 }
 
 /// The whole length of a Big Integer, and `None` from 2^32 bytes on or where the length is no multiple of 8.
@@ -117,5 +125,9 @@ pub fn big_integer_len(value: &[u8]) -> Option<u64>
     ensures { result ≡ maybe_len (some (big_integer value.now)) }
 {
     let len = value.len() as u64;
-    if len % 8 == 0 && len < 1 << 32 { Some(8 + len) } else { None }
+    if len % 8 == 0 && len < 1 << 32 {
+        Some(8 + len)
+    } else {
+        None
+    }
 }

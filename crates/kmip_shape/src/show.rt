@@ -81,7 +81,12 @@ pub fn show_list<T: ShowItem>(items: &List<T>, name: &str, after: bool, out: &mu
 }
 
 /// A field of a list that may be absent.
-pub fn show_optional_list<T: ShowItem>(items: &Option<List<T>>, name: &str, after: bool, out: &mut Sink) -> bool
+pub fn show_optional_list<T: ShowItem>(
+    items: &Option<List<T>>,
+    name: &str,
+    after: bool,
+    out: &mut Sink,
+) -> bool
     ensures after { (a : Bool) → after ≡ a → result ≡ (a || stands (optional_list T.val items.now)) }
     ensures text { (a : Bool) → after ≡ a → Grows out.old out.new (row_shown (optional_list T.val items.now) NoCase name.now T.shape a) }
 {

@@ -1,43 +1,75 @@
 use crate::{Outer, ReadError, ShowItem, Timestamp, read_list, read_one, read_opt, to_blob};
 use kmip_wire::{Blob, ItemRef, Tag, Text};
 
-const TAG: u32 = 0x42005C;
-
 // 7C{5C i1,5C i24}
-const TWO: [u8; 40] = [0x42, 0x00, 0x7C, 0x01, 0x00, 0x00, 0x00, 0x20, 0x42, 0x00, 0x5C, 0x02, 0x00, 0x00, 0x00, 0x04, 0x00, 0x00, 0x00, 0x01, 0x00, 0x00, 0x00, 0x00, 0x42, 0x00, 0x5C, 0x02, 0x00, 0x00, 0x00, 0x04, 0x00, 0x00, 0x00, 0x18, 0x00, 0x00, 0x00, 0x00];
+const TWO: [u8; 40] = [
+    0x42, 0x00, 0x7C, 0x01, 0x00, 0x00, 0x00, 0x20, 0x42, 0x00, 0x5C, 0x02, 0x00, 0x00, 0x00, 0x04,
+    0x00, 0x00, 0x00, 0x01, 0x00, 0x00, 0x00, 0x00, 0x42, 0x00, 0x5C, 0x02, 0x00, 0x00, 0x00, 0x04,
+    0x00, 0x00, 0x00, 0x18, 0x00, 0x00, 0x00, 0x00,
+];
 
 // 7C{5C i1}
-const ONE: [u8; 24] = [0x42, 0x00, 0x7C, 0x01, 0x00, 0x00, 0x00, 0x10, 0x42, 0x00, 0x5C, 0x02, 0x00, 0x00, 0x00, 0x04, 0x00, 0x00, 0x00, 0x01, 0x00, 0x00, 0x00, 0x00];
+const ONE: [u8; 24] = [
+    0x42, 0x00, 0x7C, 0x01, 0x00, 0x00, 0x00, 0x10, 0x42, 0x00, 0x5C, 0x02, 0x00, 0x00, 0x00, 0x04,
+    0x00, 0x00, 0x00, 0x01, 0x00, 0x00, 0x00, 0x00,
+];
 
 // 7C{}
 const NONE: [u8; 8] = [0x42, 0x00, 0x7C, 0x01, 0x00, 0x00, 0x00, 0x00];
 
 // 5C i1
-const ITEM: [u8; 16] = [0x42, 0x00, 0x5C, 0x02, 0x00, 0x00, 0x00, 0x04, 0x00, 0x00, 0x00, 0x01, 0x00, 0x00, 0x00, 0x00];
+const ITEM: [u8; 16] = [
+    0x42, 0x00, 0x5C, 0x02, 0x00, 0x00, 0x00, 0x04, 0x00, 0x00, 0x00, 0x01, 0x00, 0x00, 0x00, 0x00,
+];
 
 // 7C{5C e1}
-const OTHER: [u8; 24] = [0x42, 0x00, 0x7C, 0x01, 0x00, 0x00, 0x00, 0x10, 0x42, 0x00, 0x5C, 0x05, 0x00, 0x00, 0x00, 0x04, 0x00, 0x00, 0x00, 0x01, 0x00, 0x00, 0x00, 0x00];
+const OTHER: [u8; 24] = [
+    0x42, 0x00, 0x7C, 0x01, 0x00, 0x00, 0x00, 0x10, 0x42, 0x00, 0x5C, 0x05, 0x00, 0x00, 0x00, 0x04,
+    0x00, 0x00, 0x00, 0x01, 0x00, 0x00, 0x00, 0x00,
+];
 
 #[test]
 fn children_of_a_tag(rt: HostRuntime) {
-    let unread = Err(ReadError::Unread);
     for (bytes, one, optional, list) in [
-        (&TWO[..], unread, unread, Ok(&[1, 24][..])),
-        (&ONE[..], Ok(1), Ok(Some(1)), Ok(&[1][..])),
-        (&NONE[..], unread, Ok(None), Ok(&[][..])),
-        (&ITEM[..], unread, unread, Err(ReadError::Unread)),
-        (&OTHER[..], unread, unread, Err(ReadError::Unread)),
+        (&TWO[..], None, None, Some(&[1, 24][..])),
+        (&ONE[..], Some(1), Some(Some(1)), Some(&[1][..])),
+        (&NONE[..], None, Some(None), Some(&[][..])),
+        (&ITEM[..], None, None, None),
+        (&OTHER[..], None, None, None),
     ] {
         let Some(view) = ItemRef::root(bytes) else {
             panic!(rt; "no item")
         };
-        let tag = Tag::of(TAG);
-        assert!(rt; read_one::<i32>(rt.alloc(), Outer::none(), view, tag) == one);
-        assert!(rt; read_opt::<i32>(rt.alloc(), Outer::none(), view, tag) == optional);
-        match (read_list::<i32>(rt.alloc(), Outer::none(), view, tag), list) {
-            (Ok(read), Ok(want)) => assert!(rt; read.as_slice() == want),
-            (Err(error), Err(want)) => assert!(rt; error == want),
-            _ => panic!(rt; "another answer"),
+        let tag = Tag::of(0x42005C);
+        match read_one::<i32>(rt.alloc(), Outer::none(), view, tag) {
+            Ok(read) => assert!(rt; one == Some(read)),
+            Err(error) => assert!(rt; one.is_none() && error == ReadError::Unread),
+        }
+        match read_opt::<i32>(rt.alloc(), Outer::none(), view, tag) {
+            Ok(read) => assert!(rt; optional == Some(read)),
+            Err(error) => assert!(rt; optional.is_none() && error == ReadError::Unread),
+        }
+        match read_list::<i32>(rt.alloc(), Outer::none(), view, tag) {
+            Ok(read) => assert!(rt; list == Some(read.as_slice())),
+            Err(error) => assert!(rt; list.is_none() && error == ReadError::Unread),
         }
     }
+}
+
+#[test]
+fn shown_and_written(rt: HostRuntime) {
+    let alloc = rt.alloc();
+    let mut out = Text::new(alloc);
+    let text = Text::of(alloc, "a\"b\\c\n\u{7f}\u{e9}").expect(&rt, "memory");
+    let bytes = Blob::of(alloc, &[0x0A, 0xFF]).expect(&rt, "memory");
+    text.show(alloc, &mut out).expect(&rt, "memory");
+    bytes.show(alloc, &mut out).expect(&rt, "memory");
+    (-5i32).show(alloc, &mut out).expect(&rt, "memory");
+    Timestamp(-1).show(alloc, &mut out).expect(&rt, "memory");
+    true.show(alloc, &mut out).expect(&rt, "memory");
+    assert!(rt;
+        out.as_str() == "\"a\\\"b\\\\c\\x0A\\x7F\u{e9}\"x\"0AFF\"-518446744073709551615true"
+    );
+    let written = to_blob(alloc, &1i32, Tag::of(0x42005C)).expect(&rt, "a form");
+    assert!(rt; written.as_slice() == &ITEM[..]);
 }

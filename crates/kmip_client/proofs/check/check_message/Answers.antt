@@ -1,4 +1,4 @@
-use Rattle.std.proofs.Common.{◌≡◌, ◌∙◌, sym, ap, false, Err, List, ℕ, length, subst, suc}
+use Rattle.std.proofs.Common.{◌≡◌, ◌∙◌, sym, ap, Err, length, subst}
 use Rattle.kmip_shape.specs.Writes.{vals}
 use Rattle.kmip_response.specs.Values.{batch_item_val, response_message_val}
 use Rattle.kmip_client.specs.declared.error.Error.TheVariants.{ServerError}
@@ -10,9 +10,9 @@ use Rattle.kmip_client.proofs.check.check_message.Goals as goal
 pub returns-then-not-counts_one : goal.returns-then-not-counts_one
 returns-then-not-counts_one c =
     let e : check_response c.args.operation (response_message_val c.args.message) ≡ Err (ServerError (count_text c.len-count.result)) =
-        ap (λ told. check_items c.args.operation told (vals batch_item_val c.args.message.batch_items)) (sym c.counts_one.ensures ∙ c.if-not-counts_one.true)
-        ∙ not_told c.args.operation batch_item_val c.args.message.batch_items
-        ∙ ap (λ n. Err (ServerError (count_text n))) (sym c.len-count.ensures) in
+    ap (λ told. check_items c.args.operation told (vals batch_item_val c.args.message.batch_items)) (sym c.counts_one.ensures ∙ c.if-not-counts_one.true)
+    ∙ not_told c.args.operation batch_item_val c.args.message.batch_items
+    ∙ ap (λ n. Err (ServerError (count_text n))) (sym c.len-count.ensures) in
     let P : Answer → Type 0 = λ expected. Gives expected (seen c.not_single.result) in
     subst P (sym e) c.not_single.ensures
 
@@ -20,7 +20,7 @@ pub returns-then-count-ne1 : goal.returns-then-count-ne1
 returns-then-count-ne1 c =
     let other : length c.args.message.batch_items ≡ 1 → ⊥ = λ one. c.if-count-ne1.true (c.len-count.ensures ∙ one) in
     let e : check_response c.args.operation (response_message_val c.args.message) ≡ Err (ServerError (count_text c.len-count.result)) =
-        not_one c.args.operation _ batch_item_val c.args.message.batch_items other
-        ∙ ap (λ n. Err (ServerError (count_text n))) (sym c.len-count.ensures) in
+    not_one c.args.operation _ batch_item_val c.args.message.batch_items other
+    ∙ ap (λ n. Err (ServerError (count_text n))) (sym c.len-count.ensures) in
     let P : Answer → Type 0 = λ expected. Gives expected (seen c.not_single-then-count-ne1.result) in
     subst P (sym e) c.not_single-then-count-ne1.ensures

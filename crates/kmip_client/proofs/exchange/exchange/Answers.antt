@@ -1,5 +1,5 @@
-use Rattle.std.proofs.Common.{◌≡◌, List, ℕ, arith, refl}
-use Rattle.kmip_client.proofs.Exchanges.{send_stopped, read_ended, read_caused, read_bytes}
+use Rattle.std.proofs.Common.{arith}
+use Rattle.kmip_client.proofs.Exchanges.{send_stopped, read_ended, read_caused}
 use Rattle.kmip_client.proofs.exchange.exchange.Goals as goal
 
 pub returns-in-Err-clause-exchange : goal.returns-in-Err-clause-exchange

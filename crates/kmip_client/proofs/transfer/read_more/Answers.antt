@@ -1,4 +1,4 @@
-use Rattle.std.proofs.Common.{◌≤◌, ◌+◌, ◌-◌, arith, ◌∙◌}
+use Rattle.std.proofs.Common.{◌≤◌, ◌+◌, arith}
 use Rattle.kmip_client.proofs.Transfers.{keeps_on, takes_on, bytes_on, takes_part_on, kept_on}
 use Rattle.kmip_client.proofs.transfer.read_more.Goals as goal
 

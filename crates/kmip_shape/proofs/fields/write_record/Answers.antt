@@ -1,4 +1,4 @@
-use Rattle.std.proofs.Common.{◌≡◌, ℕ, Some, ◌∙◌, subst}
+use Rattle.std.proofs.Common.{◌≡◌, ℕ, ◌∙◌, subst}
 use Rattle.kmip_wire.specs.Room.{Appends}
 use Rattle.kmip_shape.specs.Writes.{fields_size, structure_head}
 use Rattle.kmip_shape.proofs.Appended.{appended}

@@ -1,4 +1,3 @@
-use Rattle.std.proofs.Common.{◌≡◌, IsTrue}
 use Rattle.kmip_request.specs.Message.{request_bytes, operation_of}
 use Rattle.kmip_client.proofs.Headlines.{headline, seen_variant}
 use Rattle.kmip_client.proofs.client.Client.do_request.Goals as goal

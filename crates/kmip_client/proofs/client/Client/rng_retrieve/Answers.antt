@@ -1,4 +1,4 @@
-use Rattle.std.proofs.Common.{◌≡◌, ◌∙◌, ap, ℤ, subst, Result, Ok, to_z, of_z, w32}
+use Rattle.std.proofs.Common.{◌∙◌, ap, ℤ, subst, Result, Ok, to_z, of_z, w32}
 use Rattle.std.proofs.lemmas.Int.{to_z-of_z}
 use Rattle.kmip_request.specs.declared.payload.RequestPayload.{RequestPayload}
 use Rattle.kmip_response.specs.declared.payload.ResponsePayload.{ResponsePayload}
@@ -13,9 +13,17 @@ returns-in-Ok-RNGRetrieve g c =
     let e = c.do_request.ensures in
     let P : ℤ → Type 0 = λ n. IsCall g.T.Link.state (RequestPayload.RNGRetrieve (record { 0 = n })) c.args.self.now c.do_request.new.self (seen c.do_request.result) in
     let made : P (to_z w32 (of_z w32 c.args.num_bytes)) = record {
-      exchange = e.exchange; caused = e.caused; headline = e.headline; keeps = e.keeps;
-      credential = e.settings.0; limit = e.settings.1; buffered = e.settings.2; count = e.count;
-      request_text = e.request_text; response_text = e.response_text; quiet = e.quiet
+      exchange = e.exchange;
+      caused = e.caused;
+      headline = e.headline;
+      keeps = e.keeps;
+      credential = e.settings.0;
+      limit = e.settings.1;
+      buffered = e.settings.2;
+      count = e.count;
+      request_text = e.request_text;
+      response_text = e.response_text;
+      quiet = e.quiet;
     } in
     let call : P c.args.num_bytes = subst P (to_z-of_z w32 c.args.num_bytes c.ranges.num_bytes) made in
     let Q : Result ResponsePayload Error → Type 0 = λ answer. IsCall g.T.Link.state (RequestPayload.RNGRetrieve (record { 0 = c.args.num_bytes })) c.args.self.now c.do_request.new.self (seen answer) in
@@ -26,9 +34,17 @@ returns-in-Err g c =
     let e = c.do_request.ensures in
     let P : ℤ → Type 0 = λ n. IsCall g.T.Link.state (RequestPayload.RNGRetrieve (record { 0 = n })) c.args.self.now c.do_request.new.self (seen c.do_request.result) in
     let made : P (to_z w32 (of_z w32 c.args.num_bytes)) = record {
-      exchange = e.exchange; caused = e.caused; headline = e.headline; keeps = e.keeps;
-      credential = e.settings.0; limit = e.settings.1; buffered = e.settings.2; count = e.count;
-      request_text = e.request_text; response_text = e.response_text; quiet = e.quiet
+      exchange = e.exchange;
+      caused = e.caused;
+      headline = e.headline;
+      keeps = e.keeps;
+      credential = e.settings.0;
+      limit = e.settings.1;
+      buffered = e.settings.2;
+      count = e.count;
+      request_text = e.request_text;
+      response_text = e.response_text;
+      quiet = e.quiet;
     } in
     let call : P c.args.num_bytes = subst P (to_z-of_z w32 c.args.num_bytes c.ranges.num_bytes) made in
     let Q : Result ResponsePayload Error → Type 0 = λ answer. IsCall g.T.Link.state (RequestPayload.RNGRetrieve (record { 0 = c.args.num_bytes })) c.args.self.now c.do_request.new.self (seen answer) in
