@@ -96,6 +96,21 @@ impl<T: Link> Client<T> {
     }
 
     /// Sends a request, and answers what its response says.
+    ///
+    /// It sends the one canonical message of the request, with the credential where the client has one, reads the
+    /// 8 bytes of a head and then exactly the contents that the head tells. Link faults and want of memory aside,
+    /// it answers a payload exactly where the bytes left begin with a valid response to the request, of which it
+    /// then took every byte and no other. Both diagnostics are those of this call. Its errors are:
+    ///
+    /// - `SerializeError`: the request has no wire form. Nothing was sent or taken.
+    /// - `RequestWriteError`: the link failed. A part of the request was sent, and nothing was taken.
+    /// - `ResponseReadError`: the link failed, or ended within a message. The request was sent, as after each error
+    ///   below.
+    /// - `DeserializeError`: the head is not that of a structure or tells of more than the limit, and its 8 bytes
+    ///   were taken; or the message is not well formed, and was taken whole, as after the next three.
+    /// - `ServerError`, `ItemNotFound`: the server refused the request, or there is not one batch item.
+    /// - `InternalError`: the message is no success of the request's operation.
+    /// - `OutOfMemory`: a part of the request was sent and nothing taken, or all of it and a part of one message.
     pub fn do_request(
         &mut self,
         alloc: Global,
@@ -134,7 +149,7 @@ impl<T: Link> Client<T> {
 }
 
 /// Whether the connection failed.
-pub fn loses_connection(answer: &Result<ResponsePayload, Error>) -> bool
+fn loses_connection(answer: &Result<ResponsePayload, Error>) -> bool
     ensures { result ≡ loses_connection (seen answer.now) }
 {
     match answer {

@@ -100,7 +100,7 @@ impl ReadItem for BatchItem {
 }
 
 impl ReadRoot for BatchItem {
-    ghost tag = { 0x42000F };
+    ghost root_tag = { 0x42000F };
 
     fn root_tag() -> Tag {
         Tag::of(0x42000F)

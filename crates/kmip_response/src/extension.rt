@@ -51,7 +51,7 @@ impl ReadItem for MessageExtension {
 }
 
 impl ReadRoot for MessageExtension {
-    ghost tag = { 0x420051 };
+    ghost root_tag = { 0x420051 };
 
     fn root_tag() -> Tag {
         Tag::of(0x420051)

@@ -40,7 +40,7 @@ impl ReadItem for ProtocolVersion {
 }
 
 impl ReadRoot for ProtocolVersion {
-    ghost tag = { 0x420069 };
+    ghost root_tag = { 0x420069 };
 
     fn root_tag() -> Tag {
         Tag::of(0x420069)
@@ -89,7 +89,7 @@ impl ReadItem for ResponseHeader {
 }
 
 impl ReadRoot for ResponseHeader {
-    ghost tag = { 0x42007A };
+    ghost root_tag = { 0x42007A };
 
     fn root_tag() -> Tag {
         Tag::of(0x42007A)

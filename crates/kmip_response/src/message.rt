@@ -43,7 +43,7 @@ impl ReadItem for ResponseMessage {
 }
 
 impl ReadRoot for ResponseMessage {
-    ghost tag = { 0x42007B };
+    ghost root_tag = { 0x42007B };
 
     fn root_tag() -> Tag {
         Tag::of(0x42007B)

@@ -56,7 +56,7 @@ impl ReadItem for UniqueIdentifierResponsePayload {
 }
 
 impl ReadRoot for UniqueIdentifierResponsePayload {
-    ghost tag = { 0x42007C };
+    ghost root_tag = { 0x42007C };
 
     fn root_tag() -> Tag {
         Tag::of(0x42007C)
@@ -98,7 +98,7 @@ impl ReadItem for RNGRetrieveResponsePayload {
 }
 
 impl ReadRoot for RNGRetrieveResponsePayload {
-    ghost tag = { 0x42007C };
+    ghost root_tag = { 0x42007C };
 
     fn root_tag() -> Tag {
         Tag::of(0x42007C)

@@ -4,8 +4,7 @@ use Rattle.std.specs.List.{starts_with}
 use Rattle.std.proofs.lemmas.Slice.Eq.{starts_is, bytes_eq-Decides}
 use Rattle.std.proofs.lemmas.Bool.Decides.{Decides-eqb}
 use Rattle.kmip_run.specs.Values.{number_of}
-use Rattle.kmip_run.specs.Commands.{Given, given, given_after, replay_with, replay_limited, replay_of, command_of}
-use Rattle.kmip_run.specs.declared.command.Command.{Command}
+use Rattle.kmip_run.specs.Commands.{Given, given, given_after, replay_with, replay_of, command_of}
 use Rattle.kmip_run.specs.declared.command.Command.TheVariants.{Replay}
 
 -- a list that is not empty

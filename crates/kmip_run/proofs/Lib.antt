@@ -1,4 +1,5 @@
 pub mod Calls
+pub mod Exchanges
 pub mod Given
 pub mod Lines
 pub mod Moves

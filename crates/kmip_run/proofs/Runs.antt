@@ -1,12 +1,11 @@
 -- The lines, one after the other.
-use Rattle.std.proofs.Common.{◌≡◌, ℕ, ◌+◌, ◌-◌, ◌<◌, ◌≤◌, Bool, List, [], ◌∷◌, ◌++◌, length, take, drop, refl, ◌∙◌, ap, sym, arith, append_assoc, Option, Some, None, codes, min}
+use Rattle.std.proofs.Common.{◌≡◌, ℕ, ◌+◌, Bool, List, [], ◌∷◌, ◌++◌, length, drop, refl, ◌∙◌, ap, sym, arith, append_assoc, Some, None}
 use Rattle.std.proofs.lemmas.Grind.{common_steps}
-use Rattle.std.proofs.lemmas.List.{length-take, take_all}
 use Rattle.kmip_link.specs.Plan.{MemoryState}
 use Rattle.kmip_run.specs.Script.{lines_of}
 use Rattle.kmip_run.specs.Calls.{call_of, response_of}
 use Rattle.kmip_run.specs.Exchange.{Settings, Step, step}
-use Rattle.kmip_run.specs.Transcript.{Transcript, only_text, call_text, status_after, bad_line, then_later, replayed, RunsCall, Replays, most_script, replay_transcript}
+use Rattle.kmip_run.specs.Transcript.{Transcript, only_text, call_text, status_after, bad_line, then_later, replayed, RunsCall, Replays}
 use Rattle.kmip_run.specs.declared.call.Call.{Call}
 
 pub append_none : (xs : List ℕ) → xs ≡ xs ++ []
@@ -53,7 +52,7 @@ one_more {before = before} {now = now} {old = old} fed s rest so_far line = reco
 pub replayed_call : (settings : Settings) (line : List ℕ) (lines : List (List ℕ)) (number status : ℕ) (rest : List ℕ) (call : Call) → Some call ≡ call_of line →
     replayed settings (line ∷ lines) number status rest ≡
     then_later (response_of call) (step settings call (rest ++ response_of call))
-      (replayed settings lines (number + 1) (status_after status (step settings call (rest ++ response_of call)).failed) (drop (step settings call (rest ++ response_of call)).taken (rest ++ response_of call)))
+    (replayed settings lines (number + 1) (status_after status (step settings call (rest ++ response_of call)).failed) (drop (step settings call (rest ++ response_of call)).taken (rest ++ response_of call)))
 unfolding replayed
 replayed_call settings line lines number status rest call is = rw (sym is, replayed) refl
 

@@ -1,5 +1,5 @@
 -- Words, and what was unescaped of one so far.
-use Rattle.std.proofs.Common.{◌≡◌, ◌≢◌, ◌+◌, ◌-◌, ◌<◌, ◌≤◌, drop, slice_index, arith, cond, eqb, true, false, ◌==◌, ℕ, List, [], ◌∷◌, ◌++◌, Option, None, Some, refl, ap, sym, append_assoc, length, map, Bor, ◌||◌}
+use Rattle.std.proofs.Common.{◌≡◌, ◌≢◌, ◌<◌, ◌≤◌, drop, slice_index, arith, cond, eqb, true, false, ◌==◌, ℕ, List, [], ◌∷◌, ◌++◌, Option, None, Some, refl, ap, sym, append_assoc, length, map, Bor, ◌||◌}
 use Rattle.std.proofs.lemmas.Grind.{common_steps}
 use Rattle.std.specs.List.{list_any}
 use Rattle.std.proofs.lemmas.Bool.Decides.{Decides-eqb}

@@ -1,5 +1,5 @@
 -- What the program does with its words and its script.
-use Rattle.std.proofs.Common.{◌≡◌, ◌≢◌, ℕ, ◌+◌, ◌<◌, ◌≤◌, ◌⊎◌, List, [], ◌∷◌, ◌++◌, length, take, drop, min, refl, ◌∙◌, ap, sym, arith, codes, Option, Some, None, Bool, true, false, IsSome}
+use Rattle.std.proofs.Common.{◌≡◌, ◌≢◌, ℕ, ◌+◌, ◌<◌, ◌≤◌, ◌⊎◌, List, [], ◌∷◌, ◌++◌, length, take, drop, min, refl, ◌∙◌, ap, sym, arith, codes, Some, None, Bool, true, false, IsSome}
 use Rattle.std.proofs.lemmas.Bool.Decides.{nat_tests}
 use Rattle.std.proofs.lemmas.List.{length-take, take_all}
 use Rattle.std.specs.List.{All}
@@ -12,8 +12,6 @@ use Rattle.kmip_run.specs.Commands.{command_of}
 use Rattle.kmip_run.specs.Exchange.{Settings, settings_for, Step, step}
 use Rattle.kmip_run.specs.Streams.{WrotePart}
 use Rattle.kmip_run.specs.Transcript.{Transcript, only_text, status_after, replayed, most_script, replay_transcript, command_transcript, transcript, IsOfGrammar, Replays}
-use Rattle.kmip_run.specs.declared.call.Call.{Call}
-use Rattle.kmip_run.specs.declared.command.Options.{Options}
 use Rattle.kmip_run.specs.declared.command.Command.{Command}
 use Rattle.kmip_run.specs.declared.command.Command.TheVariants.{Replay}
 use Rattle.kmip_run.proofs.Runs.{append_none, replayed_call, replayed_none}

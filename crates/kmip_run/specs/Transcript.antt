@@ -1,5 +1,5 @@
 -- What the program writes, and with which status it ends.
-use Rattle.std.specs.Prelude.{◌≡◌, ℕ, ◌+◌, ◌<◌, ◌≤◌, List, [], ◌∷◌, ◌++◌, length, drop, min, Bool, true, false, Option, Some, None, IsSome, if◌then◌else◌, nat_lt, codes}
+use Rattle.std.specs.Prelude.{◌≡◌, ℕ, ◌+◌, ◌≤◌, List, [], ◌∷◌, ◌++◌, length, drop, min, Bool, true, false, Option, Some, None, IsSome, if◌then◌else◌, nat_lt, codes}
 use Rattle.std.specs.Fmt.{decimal}
 use Rattle.std.specs.List.{All}
 use Rattle.hex.specs.Hex.{encode_upper}
@@ -8,7 +8,6 @@ use Rattle.kmip_run.specs.Script.{lines_of}
 use Rattle.kmip_run.specs.Calls.{call_of, response_of}
 use Rattle.kmip_run.specs.Commands.{command_of}
 use Rattle.kmip_run.specs.Exchange.{Settings, settings_for, Step, step}
-use Rattle.kmip_run.specs.declared.call.Call.{Call}
 use Rattle.kmip_run.specs.declared.command.Command.{Command}
 use Rattle.kmip_run.specs.declared.command.Command.TheVariants.{Replay}
 

@@ -72,9 +72,10 @@ fn replay_with(
     limit: Option<u32>,
 ) -> Result<Option<Command>, OutOfMemory>
     ensures { IfOk result (λ command. command ≡ Some (Replay (record {
-        user = option_map (λ text. text.now) user.entry;
-        password = option_map (λ text. text.now) password.entry;
-        limit = limit }))) }
+      user = option_map (λ text. text.now) user.entry;
+      password = option_map (λ text. text.now) password.entry;
+      limit = limit;
+    }))) }
 {
     let user = copied(alloc, user)?;
     let password = copied(alloc, password)?;

@@ -1,16 +1,21 @@
 //! The calls of the client.
 ghost use Rattle.std.specs.Prelude.{◌≡◌, ◌≢◌, ◌++◌, ◌+◌, ◌≤◌, drop, length, codes, true, false, None, IfOk, OnOk};
 ghost use Rattle.hex.specs.Hex.{encode_upper};
-ghost use Rattle.kmip_client.specs.Client.{credential_for, error_shown};
-ghost use Rattle.kmip_client.specs.Outcome.{shown};
+ghost use Rattle.kmip_shape.specs.Shown.{shown};
+ghost use Rattle.kmip_response.specs.Tables.{rng_retrieve_payload};
+ghost use Rattle.kmip_response.specs.Values.{rng_retrieve_payload_val};
+ghost use Rattle.kmip_client.specs.Client.{credential_for};
+ghost use Rattle.kmip_client.specs.Errors.{error_shown};
 ghost use Rattle.kmip_run.specs.Calls.{response_of};
 ghost use Rattle.kmip_run.specs.Exchange.{Settings, settings_of, settings_for, rng_step, activate_step, step, Answers};
 ghost use Rattle.kmip_run.specs.Transcript.{RunsCall};
 
 use crate::call::Call;
 use crate::command::Options;
-use kmip_client::{Client, ClientBuilder, Error, RngRetrieved};
+use kmip_client::{Client, ClientBuilder, Error};
 use kmip_link::MemoryLink;
+use kmip_response::RNGRetrieveResponsePayload;
+use kmip_shape::ShowItem;
 use kmip_wire::{Config, OutOfMemory, Text};
 use std::alloc::Global;
 
@@ -33,10 +38,7 @@ fn with_user(
 }
 
 /// A builder with the limit of the words.
-fn with_limit(
-    builder: ClientBuilder<MemoryLink>,
-    limit: Option<u32>,
-) -> ClientBuilder<MemoryLink>
+fn with_limit(builder: ClientBuilder<MemoryLink>, limit: Option<u32>) -> ClientBuilder<MemoryLink>
     requires { builder.limit ≡ None }
     ensures link { result.link ≡ builder.link }
     ensures limit { result.limit ≡ limit }
@@ -73,12 +75,12 @@ fn show_error(alloc: Global, error: &Error, line: &mut Text) -> Result<bool, Out
 
 /// Adds `= ` and the payload as a line.
 #[tactic(auto, using(std::proofs::lemmas::List::append_assoc))]
-fn show_bytes(
+fn show_payload(
     alloc: Global,
-    payload: &RngRetrieved,
+    payload: &RNGRetrieveResponsePayload,
     line: &mut Text,
 ) -> Result<bool, OutOfMemory>
-    ensures shown { OnOk result (line.new ≡ line.old ++ (codes "= " ++ (shown payload.now.random_bytes ++ codes "\n"))) }
+    ensures shown { OnOk result (line.new ≡ line.old ++ (codes "= " ++ (shown rng_retrieve_payload (rng_retrieve_payload_val payload.now) ++ codes "\n"))) }
     ensures failed { IfOk result (λ failed. failed ≡ false) }
 {
     line.push_str("= ")?;
@@ -100,7 +102,7 @@ fn rng(
         client.old.link client.new.link failed line.old line.new) }
 {
     match client.rng_retrieve(alloc, num_bytes) {
-        Ok(payload) => show_bytes(alloc, &payload, line),
+        Ok(payload) => show_payload(alloc, &payload, line),
         Err(error) => show_error(alloc, &error, line),
     }
 }
@@ -117,7 +119,7 @@ fn activate(
     ensures answers { IfOk result (λ failed. Answers (activate_step (settings_of client.old) id (drop client.old.link.pos client.old.link.ever))
         client.old.link client.new.link failed line.old line.new) }
 {
-    match client.activate_key(alloc, id) {
+    match client.activate_key(alloc, id.as_str()) {
         Ok(()) => {
             line.push_str("= ()\n")?;
             Ok(false)

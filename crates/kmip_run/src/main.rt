@@ -11,6 +11,8 @@ mod program;
 mod replay;
 mod script;
 mod streams;
+#[cfg(test)]
+mod tests;
 mod values;
 mod words;
 
@@ -38,11 +40,5 @@ fn main(rt: HostRuntime) -> ExitCode {
     let mut source = StdSource::new(rt.stdin());
     let mut sink = StdSink::new(rt.stdout());
     let mut link = MemoryLink::new(rt.alloc());
-    ExitCode::from(program::run(
-        rt.alloc(),
-        &words,
-        &mut source,
-        &mut sink,
-        &mut link,
-    ))
+    ExitCode::from(program::run(rt.alloc(), &words, &mut source, &mut sink, &mut link))
 }

@@ -1,4 +1,4 @@
-use Rattle.std.proofs.Common.{◌≡◌, ◌∙◌, ap, sym, None}
+use Rattle.std.proofs.Common.{◌∙◌, sym}
 use Rattle.kmip_run.proofs.Lines.{rest_is}
 use Rattle.kmip_run.proofs.Given.{command_of_replay, command_of_other, command_of_none}
 use Rattle.kmip_run.proofs.command.command_of.Goals as goal

@@ -1,5 +1,4 @@
-use Rattle.std.proofs.Common.{◌≡◌, ◌∷◌, ◌∙◌, sym, ap, length, drop, arith, ◌++◌, refl}
-use Rattle.kmip_run.specs.Commands.{Given, given}
+use Rattle.std.proofs.Common.{refl}
 use Rattle.kmip_run.proofs.Given.{given_first, given_other}
 use Rattle.kmip_run.proofs.Lines.{rest_is}
 use Rattle.kmip_run.proofs.command.given.Goals as goal

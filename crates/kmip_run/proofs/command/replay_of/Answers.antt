@@ -1,4 +1,4 @@
-use Rattle.std.proofs.Common.{◌≡◌, ◌∙◌, ap, sym, option_map, Some, None, List, ℕ, Bor}
+use Rattle.std.proofs.Common.{◌∙◌, ap, sym, option_map, List, ℕ, Bor}
 use Rattle.kmip_run.proofs.Given.{replay_of_is, with_more, with_limit, with_bad_limit, with_no_limit}
 use Rattle.kmip_run.proofs.command.replay_of.Goals as goal
 

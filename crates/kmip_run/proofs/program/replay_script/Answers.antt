@@ -1,7 +1,7 @@
-use Rattle.std.proofs.Common.{◌≡◌, ℕ, ◌+◌, ◌<◌, ◌≤◌, ◌++◌, List, [], length, take, IsTrue, arith, sym, ◌∙◌, ap}
+use Rattle.std.proofs.Common.{◌≡◌, ℕ, ◌+◌, ◌<◌, ◌≤◌, List, [], length, take, IsTrue, arith, sym, ap}
 use Rattle.kmip_link.specs.State.{source_left}
 use Rattle.kmip_run.specs.Exchange.{settings_for}
-use Rattle.kmip_run.specs.Transcript.{most_script, replay_transcript, Replays}
+use Rattle.kmip_run.specs.Transcript.{replay_transcript, Replays}
 use Rattle.kmip_run.proofs.Whole.{most, transcript_long, transcript_fits, script_long, script_whole, onto, nothing_written, status_left}
 use Rattle.kmip_run.proofs.program.replay_script.Goals as goal
 

@@ -1,4 +1,4 @@
-use Rattle.std.proofs.Common.{◌≡◌, ◌∙◌, sym, codes}
+use Rattle.std.proofs.Common.{◌≡◌, codes}
 use Rattle.kmip_link.specs.State.{source_left}
 use Rattle.kmip_run.specs.Transcript.{transcript}
 use Rattle.kmip_run.proofs.Whole.{transcript_words, transcript_command, text_alone, grammar_status, completes, status_left}
@@ -21,8 +21,8 @@ returns-in-Ok-Some-clause-complete g c = λ source sink sound steady good.
     let no3 = λ (e : c.perform.result ≡ 3). sound (c.perform.ensures.read_fault e) in
     let no4 = λ (e : c.perform.result ≡ 4). steady (c.perform.ensures.write_fault e) in
     completes c.perform.result (transcript c.args.words.now left).status no3 no4
-        (λ no5. rw (transcript_command c.args.words.now left c.in-Ok-Some.command is) (c.perform.ensures.replays source sink no3 no4 no5).status_is)
-        (grammar_status c.args.words.now left good)
+    (λ no5. rw (transcript_command c.args.words.now left c.in-Ok-Some.command is) (c.perform.ensures.replays source sink no3 no4 no5).status_is)
+    (grammar_status c.args.words.now left good)
 
 pub returns-in-Ok-None-clause-transcript : goal.returns-in-Ok-None-clause-transcript
 returns-in-Ok-None-clause-transcript g c = λ source sink no3 no4 no5.

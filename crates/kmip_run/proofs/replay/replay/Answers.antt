@@ -1,4 +1,4 @@
-use Rattle.std.proofs.Common.{◌≡◌, ◌+◌, ◌∙◌, sym, arith, refl, length}
+use Rattle.std.proofs.Common.{◌≡◌, ◌+◌, ◌∙◌, arith, refl, length}
 use Rattle.std.proofs.lemmas.Bool.Decides.{nat_tests}
 use Rattle.kmip_run.specs.Exchange.{settings_of}
 use Rattle.kmip_run.proofs.Runs.{nothing_yet, next_call, next_bad, no_more}
@@ -25,7 +25,7 @@ returns-in_default-clause-replays c =
     let is = rw c.in_default.is at c.in_ok-call.ensures in
     rw c.in_ok-show_bad_line.ensures
     (next_bad (settings_of c.args.client.now) c.loop-rest.rest.now c.first_line.result.0.now c.first_line.result.1.now
-        (c.loop-rest.number + 1) c.loop-rest.status c.first_line.ensures.lines is c.loop-rest.invariant.so_far)
+    (c.loop-rest.number + 1) c.loop-rest.status c.first_line.ensures.lines is c.loop-rest.invariant.so_far)
 
 pub returns-clause-replays : goal.returns-clause-replays
 returns-clause-replays c =

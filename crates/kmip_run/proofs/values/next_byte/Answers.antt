@@ -1,5 +1,4 @@
-use Rattle.std.proofs.Common.{◌≡◌, ◌∙◌, arith, sym, ap, None, Some}
-use Rattle.kmip_run.specs.Values.{unescaped, then_rest, escaped_byte, upper_digit}
+use Rattle.std.proofs.Common.{sym}
 use Rattle.kmip_run.proofs.Lines.{rest_is}
 use Rattle.kmip_run.proofs.Texts.{at_plain, at_escape, at_short}
 use Rattle.kmip_run.proofs.values.next_byte.Goals as goal

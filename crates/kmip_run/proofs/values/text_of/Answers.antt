@@ -1,6 +1,5 @@
-use Rattle.std.proofs.Common.{◌≡◌, ◌∙◌, ap, sym, refl, List, ℕ, Some, None}
-use Rattle.std.specs.Str.{IsUtf8}
-use Rattle.kmip_run.specs.Values.{text_from, unescaped}
+use Rattle.std.proofs.Common.{◌∙◌, ap, sym}
+use Rattle.kmip_run.specs.Values.{text_from}
 use Rattle.kmip_run.proofs.Calls.{text_from_utf8, text_from_other, text_of_other, text_of_none}
 use Rattle.kmip_run.proofs.values.text_of.Goals as goal
 

@@ -1,4 +1,4 @@
-use Rattle.std.proofs.Common.{◌≡◌, length, Some}
+use Rattle.std.proofs.Common.{◌≡◌, length}
 use Rattle.kmip_run.specs.Values.{unescaped}
 use Rattle.kmip_run.proofs.Texts.{onto}
 use Rattle.kmip_run.proofs.values.unescaped.Given as goal

@@ -1,5 +1,4 @@
-use Rattle.std.proofs.Common.{◌≡◌, ◌==◌, map, length, rules, tests, List, ℕ, ◌∙◌, Bor}
-use Rattle.std.specs.List.{list_any}
+use Rattle.std.proofs.Common.{◌==◌, length, rules, tests, ◌∙◌}
 use Rattle.std.proofs.lemmas.Iterator.{YieldsList-from_slice}
 use Rattle.std.proofs.lemmas.Iterator.Search.{any_from_yields_List}
 use Rattle.kmip_run.proofs.Texts.{list_any_map}
