@@ -1,5 +1,5 @@
 -- What is written is the request message round the payload and the credential.
-use Rattle.std.specs.Prelude.{ℕ, ℤ, pos, List, [], ◌∷◌, ◌++◌, Option, Some, None, ◌≡◌, refl}
+use Rattle.std.specs.Prelude.{ℕ, pos, List, [], ◌∷◌, Option, Some, None, ◌≡◌, refl}
 use Rattle.std.specs.Prelude.{Result}
 use Rattle.std.proofs.Common.{ap, subst, ◌∙◌}
 use Rattle.kmip_wire.specs.Found.{Writes}
@@ -7,9 +7,8 @@ use Rattle.kmip_wire.specs.declared.error.WireError.{WireError}
 use Rattle.kmip_enums.specs.declared.operation.Operation.{Operation}
 use Rattle.kmip_request.specs.declared.header.ProtocolVersion.{ProtocolVersion}
 use Rattle.std.specs.Option.{option_map, option_and_then}
-use Rattle.kmip_wire.specs.Tree.{Tree, Trees, scalar, structure, none, more, trees_of, integer, enumeration}
+use Rattle.kmip_wire.specs.Tree.{Tree, scalar, enumeration}
 use Rattle.kmip_wire.specs.Bytes.{bytes}
-use Rattle.kmip_shape.specs.Val.{Val}
 use Rattle.kmip_shape.specs.Trees.{tree_of, structure_of, then_trees, one_tree}
 use Rattle.kmip_shape.specs.Writes.{bytes_of}
 use Rattle.kmip_enums.specs.Operations.{operation_line}

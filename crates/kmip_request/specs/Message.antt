@@ -1,10 +1,9 @@
 -- The message of a request (KMIP 1.0, 7.1), and when there is one.
-use Rattle.std.specs.Prelude.{ℕ, ℤ, pos, List, [], ◌∷◌, ◌++◌, Option, Some, None, IsSome}
-use Rattle.std.specs.Option.{option_map, option_and_then, is_some}
+use Rattle.std.specs.Prelude.{ℕ, pos, List, [], ◌∷◌, ◌++◌, Option, Some, None, IsSome}
+use Rattle.std.specs.Option.{option_map, option_and_then}
 use Rattle.kmip_wire.specs.Tree.{Tree, scalar, structure, trees_of, integer, enumeration, text_string}
 use Rattle.kmip_wire.specs.Bytes.{bytes}
 use Rattle.kmip_shape.specs.Trees.{tree_of}
-use Rattle.kmip_shape.specs.Enumerations.{enumeration_val}
 use Rattle.kmip_types.specs.declared.auth.CredentialType.{CredentialType}
 use Rattle.kmip_types.specs.declared.auth.CredentialType.TheVariants.{UsernameAndPassword}
 use Rattle.kmip_enums.specs.Operations.{operation_line}

@@ -1,9 +1,9 @@
 -- Equal values make equal typed values.
-use Rattle.std.specs.Prelude.{ℕ, ℤ, List, Option, ◌≡◌, refl, [], ◌∷◌}
+use Rattle.std.specs.Prelude.{ℕ, ℤ, List, Option, ◌≡◌, [], ◌∷◌}
 use Rattle.std.proofs.Common.{ap}
 use Rattle.kmip_shape.specs.Val.{Many}
 use Rattle.kmip_shape.specs.Writes.{vals}
-use Rattle.kmip_shape.specs.Same.{IsFaithful, same_record, same_list, same_number, same_text, same_case, one_row, optional_row, list_row, and_row, no_row}
+use Rattle.kmip_shape.specs.Same.{IsFaithful, same_record, same_number, same_text, same_case, one_row, optional_row, list_row, and_row, no_row}
 use Rattle.kmip_enums.specs.Operations.{operation_same}
 use Rattle.kmip_enums.specs.CredentialTypes.{credential_type_same}
 use Rattle.kmip_enums.specs.declared.operation.Operation.{Operation}

@@ -1,6 +1,6 @@
 -- The typed values of a request, as contracts see them: each a record of its fields in the order of its table.
 use Rattle.std.specs.Prelude.{[], ◌∷◌}
-use Rattle.kmip_shape.specs.Val.{Val, Number, Text, Bytes, Record, Case, AndField, NoField, One, Many}
+use Rattle.kmip_shape.specs.Val.{Val, Number, Text, Record, Case, AndField, NoField, One, Many}
 use Rattle.kmip_shape.specs.Writes.{optional, vals}
 use Rattle.kmip_types.specs.Texts.{unique_identifier_val}
 use Rattle.kmip_types.specs.Numbers.{data_length_val}

@@ -1,8 +1,8 @@
 -- Equal values make equal typed values.
-use Rattle.std.specs.Prelude.{ℕ, ℤ, Bool, List, Option, ◌≡◌}
+use Rattle.std.specs.Prelude.{ℕ, ℤ, Bool, List, Option}
 use Rattle.std.proofs.Common.{ap}
-use Rattle.kmip_shape.specs.Val.{Val, Number, Text, Bytes, Truth}
-use Rattle.kmip_shape.specs.Dates.{date_val, date_same}
+use Rattle.kmip_shape.specs.Val.{Number, Text, Bytes, Truth}
+use Rattle.kmip_shape.specs.Dates.{date_same}
 use Rattle.kmip_shape.specs.Same.{IsFaithful, same_record, same_number, same_text, same_bytes, same_truth, same_case, one_row, optional_row, list_row, and_row, no_row}
 use Rattle.kmip_enums.specs.Operations.{operation_same}
 use Rattle.kmip_enums.specs.ResultStatuses.{result_status_same}
@@ -43,7 +43,7 @@ version t = record { major = t.0; minor = (t.1).0 }
 pub protocol_version_same : IsFaithful protocol_version_val
 protocol_version_same x y h =
     ap version (and_row (one_row number) (and_row (one_row number) no_row)
-      (x.major, (x.minor, tt)) (y.major, (y.minor, tt)) (same_record h))
+    (x.major, (x.minor, tt)) (y.major, (y.minor, tt)) (same_record h))
 
 abbrev header : ProtocolVersion × (ℤ × (ℤ × Unit {0})) → ResponseHeader
 header t = record { protocol_version = t.0; timestamp = (t.1).0; batch_count = ((t.1).1).0 }
@@ -51,7 +51,7 @@ header t = record { protocol_version = t.0; timestamp = (t.1).0; batch_count = (
 pub response_header_same : IsFaithful response_header_val
 response_header_same x y h =
     ap header (and_row (one_row protocol_version_same) (and_row (one_row date_same) (and_row (one_row number) no_row))
-      (x.protocol_version, (x.timestamp, (x.batch_count, tt))) (y.protocol_version, (y.timestamp, (y.batch_count, tt))) (same_record h))
+    (x.protocol_version, (x.timestamp, (x.batch_count, tt))) (y.protocol_version, (y.timestamp, (y.batch_count, tt))) (same_record h))
 
 abbrev extension : List ℕ × (Bool × Unit {0}) → MessageExtension
 extension t = record { vendor_identification = t.0; criticality_indicator = (t.1).0; vendor_extension = record {} }
@@ -59,7 +59,7 @@ extension t = record { vendor_identification = t.0; criticality_indicator = (t.1
 pub message_extension_same : IsFaithful message_extension_val
 message_extension_same x y h =
     ap extension (and_row (one_row text) (and_row (one_row truth) no_row)
-      (x.vendor_identification, (x.criticality_indicator, tt)) (y.vendor_identification, (y.criticality_indicator, tt)) (same_record h))
+    (x.vendor_identification, (x.criticality_indicator, tt)) (y.vendor_identification, (y.criticality_indicator, tt)) (same_record h))
 
 abbrev identified : UniqueIdentifier × Unit {0} → UniqueIdentifierResponsePayload
 identified t = record { unique_identifier = t.0 }
@@ -87,9 +87,9 @@ item t = record { operation = t.0; unique_batch_item_id = (t.1).0; result_status
 pub batch_item_same : IsFaithful batch_item_val
 batch_item_same x y h =
     ap item (and_row (optional_row operation_same) (and_row (optional_row unique_batch_item_id_same) (and_row (one_row result_status_same)
-        (and_row (optional_row result_reason_same) (and_row (optional_row text) (and_row (optional_row response_payload_same) (and_row (optional_row message_extension_same) no_row))))))
-      (x.operation, (x.unique_batch_item_id, (x.result_status, (x.result_reason, (x.result_message, (x.payload, (x.message_extension, tt)))))))
-      (y.operation, (y.unique_batch_item_id, (y.result_status, (y.result_reason, (y.result_message, (y.payload, (y.message_extension, tt))))))) (same_record h))
+    (and_row (optional_row result_reason_same) (and_row (optional_row text) (and_row (optional_row response_payload_same) (and_row (optional_row message_extension_same) no_row))))))
+    (x.operation, (x.unique_batch_item_id, (x.result_status, (x.result_reason, (x.result_message, (x.payload, (x.message_extension, tt)))))))
+    (y.operation, (y.unique_batch_item_id, (y.result_status, (y.result_reason, (y.result_message, (y.payload, (y.message_extension, tt))))))) (same_record h))
 
 abbrev message : ResponseHeader × (List BatchItem × Unit {0}) → ResponseMessage
 message t = record { header = t.0; batch_items = (t.1).0 }
@@ -97,4 +97,4 @@ message t = record { header = t.0; batch_items = (t.1).0 }
 pub response_message_same : IsFaithful response_message_val
 response_message_same x y h =
     ap message (and_row (one_row response_header_same) (and_row (list_row batch_item_same) no_row)
-      (x.header, (x.batch_items, tt)) (y.header, (y.batch_items, tt)) (same_record h))
+    (x.header, (x.batch_items, tt)) (y.header, (y.batch_items, tt)) (same_record h))

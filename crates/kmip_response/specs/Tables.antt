@@ -1,7 +1,7 @@
 -- The tables of a response: for each type its fields in order, with their tags, marks and types.
-use Rattle.std.specs.Prelude.{ℕ, List, [], ◌∷◌, Option, Some, None, codes}
+use Rattle.std.specs.Prelude.{[], ◌∷◌, None, codes}
 use Rattle.kmip_wire.specs.declared.kind.Kind.TheVariants.{Integer, Boolean, TextString, ByteString, DateTime}
-use Rattle.kmip_shape.specs.Shape.{Shape, RowList, Scalar, OneOf, Rows, NoRow, AndRow, Required, Optional, AtLeastOne, Plain, Chooser, Chosen, Under, Cases, NoCase, AndCase, Choice, OfNumber, ByNumbers}
+use Rattle.kmip_shape.specs.Shape.{Shape, Scalar, OneOf, Rows, NoRow, AndRow, Required, Optional, AtLeastOne, Plain, Chooser, Chosen, Under, Cases, NoCase, AndCase, Choice, OfNumber, ByNumbers}
 use Rattle.kmip_enums.specs.Operations.{operations}
 use Rattle.kmip_enums.specs.ResultStatuses.{result_statuses}
 use Rattle.kmip_enums.specs.ResultReasons.{result_reasons}

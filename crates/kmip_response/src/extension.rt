@@ -30,7 +30,10 @@ impl Item for MessageExtension {
     ghost val = { message_extension_val };
 
     fn known(&self) {
-        known_record::<MessageExtensionRows>((&self.vendor_identification, (&self.criticality_indicator, ())));
+        known_record::<MessageExtensionRows>((
+            &self.vendor_identification,
+            (&self.criticality_indicator, ()),
+        ));
     }
 
     ghost same = { message_extension_same };
@@ -40,8 +43,9 @@ type MessageExtensionRows = Row<One<Text, 0x42009D>, Row<One<bool, 0x420026>, En
 
 impl ReadItem for MessageExtension {
     fn read(alloc: Global, outer: Outer<'_>, item: ItemRef<'_>) -> Result<Self, ReadError> {
-        let (vendor_identification, (criticality_indicator, _)) =
-            read_record::<MessageExtensionRows>(alloc, outer, item)?;
+        let (vendor_identification, (criticality_indicator, _)) = read_record::<
+            MessageExtensionRows,
+        >(alloc, outer, item)?;
         Ok(MessageExtension {
             vendor_identification,
             criticality_indicator,

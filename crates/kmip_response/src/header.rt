@@ -7,7 +7,9 @@ ghost use Rattle.kmip_response.specs.Same.{protocol_version_same, response_heade
 
 use kmip_shape::columns::One;
 use kmip_shape::record::{End, Row};
-use kmip_shape::{Item, Outer, ReadError, ReadItem, ReadRoot, Timestamp, known_record, read_record};
+use kmip_shape::{
+    Item, Outer, ReadError, ReadItem, ReadRoot, Timestamp, known_record, read_record,
+};
 use kmip_wire::{ItemRef, Tag};
 use std::alloc::Global;
 
@@ -57,8 +59,10 @@ pub struct ResponseHeader {
     pub batch_count: i32,
 }
 
-type ResponseHeaderRows =
-    Row<One<ProtocolVersion, 0x420069>, Row<One<Timestamp, 0x420092>, Row<One<i32, 0x42000D>, End>>>;
+type ResponseHeaderRows = Row<
+    One<ProtocolVersion, 0x420069>,
+    Row<One<Timestamp, 0x420092>, Row<One<i32, 0x42000D>, End>>,
+>;
 
 impl Item for ResponseHeader {
     ghost shape = { response_header };
@@ -78,8 +82,9 @@ impl Item for ResponseHeader {
 
 impl ReadItem for ResponseHeader {
     fn read(alloc: Global, outer: Outer<'_>, item: ItemRef<'_>) -> Result<Self, ReadError> {
-        let (protocol_version, (timestamp, (batch_count, _))) =
-            read_record::<ResponseHeaderRows>(alloc, outer, item)?;
+        let (protocol_version, (timestamp, (batch_count, _))) = read_record::<ResponseHeaderRows>(
+            alloc, outer, item,
+        )?;
         Ok(ResponseHeader {
             protocol_version,
             timestamp: timestamp.0,

@@ -33,12 +33,18 @@ impl Item for ResponseMessage {
     ghost same = { response_message_same };
 }
 
-type ResponseMessageRows = Row<One<ResponseHeader, 0x42007A>, Row<NonEmpty<BatchItem, 0x42000F>, End>>;
+type ResponseMessageRows = Row<
+    One<ResponseHeader, 0x42007A>,
+    Row<NonEmpty<BatchItem, 0x42000F>, End>,
+>;
 
 impl ReadItem for ResponseMessage {
     fn read(alloc: Global, outer: Outer<'_>, item: ItemRef<'_>) -> Result<Self, ReadError> {
         let (header, (batch_items, _)) = read_record::<ResponseMessageRows>(alloc, outer, item)?;
-        Ok(ResponseMessage { header, batch_items })
+        Ok(ResponseMessage {
+            header,
+            batch_items,
+        })
     }
 }
 

@@ -130,8 +130,12 @@ impl Item for ResponsePayload {
 impl ReadItem for ResponsePayload {
     fn read(alloc: Global, outer: Outer<'_>, item: ItemRef<'_>) -> Result<Self, ReadError> {
         match outer.number {
-            Some(18) => Ok(ResponsePayload::Activate(ActivateResponsePayload::read(alloc, outer, item)?)),
-            Some(37) => Ok(ResponsePayload::RNGRetrieve(RNGRetrieveResponsePayload::read(alloc, outer, item)?)),
+            Some(18) => Ok(ResponsePayload::Activate(ActivateResponsePayload::read(
+                alloc, outer, item,
+            )?)),
+            Some(37) => Ok(ResponsePayload::RNGRetrieve(RNGRetrieveResponsePayload::read(
+                alloc, outer, item,
+            )?)),
             _ => Err(ReadError::Unread),
         }
     }
