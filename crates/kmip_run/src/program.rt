@@ -127,6 +127,14 @@ fn perform<S: Source, K: Sink>(
 }
 
 /// Runs the program on the words after its name, and answers its status.
+///
+/// 0: each line was answered. 1: some line answered an error. 2: the words, or a line, are not of the
+/// grammar. 3: the source failed, and nothing is written. 4: the sink failed, and a first part of the text is
+/// written. 5: memory ran out, and a first part of the text is written. 6: the script is longer than
+/// 16,777,216 bytes, and nothing is written.
+///
+/// The link gets the recorded responses and keeps what was sent. Where the words are not of the grammar, and
+/// after 3 and 6, it is as it was; after 4 and 5 under words of the grammar nothing is said of it.
 pub fn run<S: Source, K: Sink>(
     alloc: Global,
     words: &List<Text>,
