@@ -3,6 +3,7 @@ use crate::program::run;
 use kmip_link::{MemoryLink, MemorySink, MemorySource};
 use kmip_wire::{List, Text};
 use std::alloc::Global;
+use std::process::Abort;
 use std::test::Fail;
 
 /// What the program writes for these words over this script, and with which status it ends.
@@ -14,7 +15,8 @@ struct Row {
     status: u8,
 }
 
-const ROWS: &[Row] = &[
+/// The first path, and words and lines out of the grammar.
+const FIRST_PATH: &[Row] = &[
     Row {
         shows: "random bytes are shown",
         words: &["replay"],
@@ -57,6 +59,10 @@ const ROWS: &[Row] = &[
         written: "> 42007801000000704200770100000038420069010000002042006A0200000004000000010000000042006B0200000004000000020000000042000D0200000004000000010000000042000F010000002842005C0500000004000000250000000042007901000000104200C402000000040000001000000000\n= {random_bytes=x\"DEADBEEF\"}\n",
         status: 0,
     },
+];
+
+/// Responses too deep, leftovers and words.
+const DEPTHS: &[Row] = &[
     Row {
         shows: "65 levels",
         words: &["replay"],
@@ -85,6 +91,10 @@ const ROWS: &[Row] = &[
         written: "> 42007801000000704200770100000038420069010000002042006A0200000004000000010000000042006B0200000004000000020000000042000D0200000004000000010000000042000F010000002842005C0500000004000000250000000042007901000000104200C402000000040000001000000000\n= {random_bytes=x\"DEADBEEF\"}\n! line 2\n",
         status: 2,
     },
+];
+
+/// What the client checks of a response.
+const CHECKS: &[Row] = &[
     Row {
         shows: "an empty text",
         words: &["replay"],
@@ -148,6 +158,10 @@ const ROWS: &[Row] = &[
         written: "> 42007801000000704200770100000038420069010000002042006A0200000004000000010000000042006B0200000004000000000000000042000D0200000004000000010000000042000F010000002842005C05000000040000001200000000420079010000001042009407000000026B31000000000000\n- Internal error: Response operation None does not match request operation Activate\n",
         status: 1,
     },
+];
+
+/// Headers, limits and credentials.
+const LIMITS: &[Row] = &[
     Row {
         shows: "no payload",
         words: &["replay"],
@@ -218,6 +232,10 @@ const ROWS: &[Row] = &[
         written: "> 42007801000000704200770100000038420069010000002042006A0200000004000000010000000042006B0200000004000000000000000042000D0200000004000000010000000042000F010000002842005C05000000040000001200000000420079010000001042009407000000026B31000000000000\n- Internal error: Response operation Some(RNGRetrieve) does not match request operation Activate\n",
         status: 1,
     },
+];
+
+/// The grammar of words and of lines.
+const GRAMMAR: &[Row] = &[
     Row {
         shows: "two spaces between two words",
         words: &["replay"],
@@ -355,23 +373,53 @@ fn list_of(alloc: Global, words: &[&str]) -> Result<List<Text>, Fail> {
     Ok(list)
 }
 
-#[test]
-fn scripts_are_replayed(rt: HostRuntime) -> Result<(), Fail> {
-    for row in ROWS {
-        let words = list_of(rt.alloc(), row.words)?;
-        let mut source = MemorySource::new(rt.alloc(), row.script, &[])?;
-        let mut sink = MemorySink::new(rt.alloc(), &[])?;
-        let mut link = MemoryLink::new(rt.alloc());
-        let status = run(rt.alloc(), &words, &mut source, &mut sink, &mut link);
+/// Whether the program answers each row as it says.
+fn rows_hold(rt: &impl Abort, alloc: Global, rows: &[Row]) -> Result<(), Fail> {
+    for row in rows {
+        let words = list_of(alloc, row.words)?;
+        let mut source = MemorySource::new(alloc, row.script, &[])?;
+        let mut sink = MemorySink::new(alloc, &[])?;
+        let mut link = MemoryLink::new(alloc);
+        let status = run(alloc, &words, &mut source, &mut sink, &mut link);
         assert_eq!(rt; sink.written(), row.written.as_bytes(), "{}", row.shows);
         assert_eq!(rt; status, row.status, "{}", row.shows);
     }
     Ok(())
 }
 
+#[test]
+fn scripts_are_replayed(rt: HostRuntime) -> Result<(), Fail> {
+    rows_hold(&rt, rt.alloc(), FIRST_PATH)
+}
+
+#[test]
+fn depth_and_leftovers(rt: HostRuntime) -> Result<(), Fail> {
+    rows_hold(&rt, rt.alloc(), DEPTHS)
+}
+
+#[test]
+fn responses_are_checked(rt: HostRuntime) -> Result<(), Fail> {
+    rows_hold(&rt, rt.alloc(), CHECKS)
+}
+
+#[test]
+fn limits_and_credentials(rt: HostRuntime) -> Result<(), Fail> {
+    rows_hold(&rt, rt.alloc(), LIMITS)
+}
+
+#[test]
+fn the_grammar_is_kept(rt: HostRuntime) -> Result<(), Fail> {
+    rows_hold(&rt, rt.alloc(), GRAMMAR)
+}
+
 /// Runs the program on `replay` over this script, where these reads and writes fail: its status, and how many
 /// bytes it wrote.
-fn replayed(alloc: Global, script: &[u8], reads: &[u64], writes: &[u64]) -> Result<(u8, usize), Fail> {
+fn replayed(
+    alloc: Global,
+    script: &[u8],
+    reads: &[u64],
+    writes: &[u64],
+) -> Result<(u8, usize), Fail> {
     let words = list_of(alloc, &["replay"])?;
     let mut source = MemorySource::new(alloc, script, reads)?;
     let mut sink = MemorySink::new(alloc, writes)?;
