@@ -1,5 +1,5 @@
 -- A payload that is answered has the variant of the request's operation, since it was read by the operation of its batch item.
-use Rattle.std.proofs.Common.{◌≡◌, ℕ, filter, pos, List, [], ◌∷◌, refl, ◌∙◌, ap, sym, arith, subst, Bool, true, false, cond, suc, ◌⊎◌, inl, inr, Option, Some, None, Ok, Err, rules, codes, not}
+use Rattle.std.proofs.Common.{◌≡◌, ℕ, filter, pos, List, [], ◌∷◌, refl, ◌∙◌, ap, sym, arith, subst, Bool, true, false, cond, suc, ◌⊎◌, inl, inr, Option, Some, None, Ok, Err, codes, not}
 use Rattle.std.specs.Option.{option_map, option_and_then}
 use Rattle.std.proofs.lemmas.Grind.{common_steps}
 use Rattle.std.proofs.lemmas.Bool.Decides.{Decides-int_eq, nat_tests}
@@ -243,7 +243,7 @@ case_own (AndCase m name selector fixed shape cases) around operation outer tree
     ]
 
 own_payloads : AreOwn response_payloads
-own_payloads = search rules
+own_payloads = (refl, (refl, (refl, (refl, (refl, (refl, (refl, (refl, (refl, (refl, (refl, (refl, (refl, (refl, (refl, (refl, (refl, tt)))))))))))))))))
 
 pub variant_of : (operation : Operation) (tree : Tree) (value payload : Val) → root_read response_message response_tag tree ≡ Some value → check_response operation value ≡ Ok payload → IsOfOperation operation payload
 variant_of operation tree value payload reads checks =

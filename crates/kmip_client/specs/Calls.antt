@@ -4,7 +4,7 @@ use Rattle.kmip_link.specs.State.{LinkState, Keeps}
 use Rattle.kmip_request.specs.Message.{request_bytes, operation_of}
 use Rattle.kmip_request.specs.declared.payload.RequestPayload.{RequestPayload}
 use Rattle.kmip_response.specs.Values.{response_payload_val}
-use Rattle.kmip_response.specs.declared.payload.RNGRetrieveResponsePayload.{RNGRetrieveResponsePayload}
+use Rattle.kmip_response.specs.declared.payloads.cryptography.RNGRetrieveResponsePayload.{RNGRetrieveResponsePayload}
 use Rattle.kmip_response.specs.declared.payload.ResponsePayload.TheVariants.{RNGRetrieve}
 use Rattle.kmip_client.specs.declared.error.Error.{Error}
 use Rattle.kmip_client.specs.declared.error.Error.TheVariants.{OutOfMemory}

@@ -94,63 +94,63 @@ fn items(rt: HostRuntime) -> Result<(), Fail> {
         b"\x42\x00\x94\x07\x00\x00\x00\x02\x6B\x31\x00\x00\x00\x00\x00\x00",
         "\"k1\"",
     )?;
-    // 09 i-5
+    // tag 420009, Integer -5
     comes_back::<AttributeIndex>(
         &rt,
         rt.alloc(),
         b"\x42\x00\x09\x02\x00\x00\x00\x04\xFF\xFF\xFF\xFB\x00\x00\x00\x00",
         "-5",
     )?;
-    // D0 i-5
+    // tag 4200D0, Integer -5
     comes_back::<CounterLength>(
         &rt,
         rt.alloc(),
         b"\x42\x00\xD0\x02\x00\x00\x00\x04\xFF\xFF\xFF\xFB\x00\x00\x00\x00",
         "-5",
     )?;
-    // 2A i-5
+    // tag 42002A, Integer -5
     comes_back::<CryptographicLength>(
         &rt,
         rt.alloc(),
         b"\x42\x00\x2A\x02\x00\x00\x00\x04\xFF\xFF\xFF\xFB\x00\x00\x00\x00",
         "-5",
     )?;
-    // C4 i-5
+    // tag 4200C4, Integer -5
     comes_back::<DataLength>(
         &rt,
         rt.alloc(),
         b"\x42\x00\xC4\x02\x00\x00\x00\x04\xFF\xFF\xFF\xFB\x00\x00\x00\x00",
         "-5",
     )?;
-    // CF i-5
+    // tag 4200CF, Integer -5
     comes_back::<FixedFieldLength>(
         &rt,
         rt.alloc(),
         b"\x42\x00\xCF\x02\x00\x00\x00\x04\xFF\xFF\xFF\xFB\x00\x00\x00\x00",
         "-5",
     )?;
-    // CD i-5
+    // tag 4200CD, Integer -5
     comes_back::<IVLength>(
         &rt,
         rt.alloc(),
         b"\x42\x00\xCD\x02\x00\x00\x00\x04\xFF\xFF\xFF\xFB\x00\x00\x00\x00",
         "-5",
     )?;
-    // D1 i-5
+    // tag 4200D1, Integer -5
     comes_back::<InitialCounterValue>(
         &rt,
         rt.alloc(),
         b"\x42\x00\xD1\x02\x00\x00\x00\x04\xFF\xFF\xFF\xFB\x00\x00\x00\x00",
         "-5",
     )?;
-    // D2 i-5
+    // tag 4200D2, Integer -5
     comes_back::<InvocationFieldLength>(
         &rt,
         rt.alloc(),
         b"\x42\x00\xD2\x02\x00\x00\x00\x04\xFF\xFF\xFF\xFB\x00\x00\x00\x00",
         "-5",
     )?;
-    // CE i-5
+    // tag 4200CE, Integer -5
     comes_back::<TagLength>(
         &rt,
         rt.alloc(),

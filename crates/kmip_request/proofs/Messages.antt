@@ -1,6 +1,7 @@
 -- What is written is the request message round the payload and the credential.
 use Rattle.std.specs.Prelude.{ℕ, pos, List, [], ◌∷◌, Option, Some, None, ◌≡◌, refl}
-use Rattle.std.specs.Prelude.{Result}
+use Rattle.std.specs.Prelude.{Result, Ok, Err, IfOk, IsErrOf}
+use Rattle.kmip_wire.specs.declared.error.WireError.TheVariants.{NoForm, Malformed, OutOfMemory}
 use Rattle.std.proofs.Common.{ap, subst, ◌∙◌}
 use Rattle.kmip_wire.specs.Found.{Writes}
 use Rattle.kmip_wire.specs.declared.error.WireError.{WireError}
@@ -66,3 +67,14 @@ written_for result payload credential version kept operation v k o w =
     let all : bytes_of request_message 0x420078 (single_request_val (made_of version kept operation payload)) ≡ request_bytes payload (option_map credential_of credential) =
     ap (λ m. bytes_of request_message 0x420078 (single_request_val m)) e ∙ bytes_are payload credential in
     subst (λ bytes. Writes result bytes) all w
+
+-- what `Writes` says of each answer
+pub writes_ok : (result : Result (List ℕ) WireError) (bytes : Option (List ℕ)) → Writes result bytes → IfOk result (λ b. bytes ≡ Some b)
+writes_ok (Ok b) bytes w = w
+writes_ok (Err e) bytes w = tt
+
+pub writes_no_form : (result : Result (List ℕ) WireError) (bytes : Option (List ℕ)) → Writes result bytes → IsErrOf result NoForm → bytes ≡ None
+writes_no_form (Ok b) bytes w is = absurd (cc)
+writes_no_form (Err NoForm) bytes w is = w
+writes_no_form (Err Malformed) bytes w is = absurd w
+writes_no_form (Err OutOfMemory) bytes w is = absurd (cc)

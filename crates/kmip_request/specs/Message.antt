@@ -13,19 +13,37 @@ use Rattle.kmip_request.specs.declared.authentication.Authentication.{Authentica
 use Rattle.kmip_request.specs.declared.authentication.CredentialValue.TheVariants as values
 use Rattle.kmip_request.specs.declared.header.ProtocolVersion.{ProtocolVersion}
 use Rattle.kmip_request.specs.declared.payload.RequestPayload.{RequestPayload}
-use Rattle.kmip_request.specs.declared.payload.RequestPayload.TheVariants.{Activate, RNGRetrieve}
+use Rattle.kmip_request.specs.declared.payload.RequestPayload.TheVariants.{Create, CreateKeyPair, Register, Locate, Get, GetAttributes, GetAttributeList, AddAttribute, ModifyAttribute, DeleteAttribute, Activate, Revoke, Destroy, Query, DiscoverVersions, Sign, RNGRetrieve}
 use Rattle.kmip_request.specs.Tables.{request_payload}
 use Rattle.kmip_request.specs.Values.{request_payload_val}
 
 -- the operation of a payload's name
 abbrev pub operation_of : RequestPayload → Operation
+operation_of (Create object_type template) = operations.Create
+operation_of (CreateKeyPair common private_key public_key) = operations.CreateKeyPair
+operation_of (Register object_type template object) = operations.Register
+operation_of (Locate attributes) = operations.Locate
+operation_of (Get id format compression specification) = operations.Get
+operation_of (GetAttributes id names) = operations.GetAttributes
+operation_of (GetAttributeList id) = operations.GetAttributeList
+operation_of (AddAttribute id attribute) = operations.AddAttribute
+operation_of (ModifyAttribute id attribute) = operations.ModifyAttribute
+operation_of (DeleteAttribute id name index) = operations.DeleteAttribute
 operation_of (Activate id) = operations.Activate
+operation_of (Revoke id reason date) = operations.Revoke
+operation_of (Destroy id) = operations.Destroy
+operation_of (Query functions) = operations.Query
+operation_of (DiscoverVersions versions) = operations.DiscoverVersions
+operation_of (Sign id parameters contents) = operations.Sign
 operation_of (RNGRetrieve length) = operations.RNGRetrieve
 
 -- the minor number of the version of KMIP 1 that a payload needs
 abbrev pub minor_of : RequestPayload → ℕ
-minor_of (Activate id) = 0
+minor_of (Query functions) = 2
+minor_of (DiscoverVersions versions) = 1
+minor_of (Sign id parameters contents) = 2
 minor_of (RNGRetrieve length) = 2
+minor_of _ = 0
 
 -- the version of KMIP that a payload needs
 abbrev pub version_of : RequestPayload → ProtocolVersion

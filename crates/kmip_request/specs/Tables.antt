@@ -1,7 +1,18 @@
 -- The tables of a request: for each type its fields in order, with their tags, marks and types.
-use Rattle.std.specs.Prelude.{[], ◌∷◌, None, codes}
-use Rattle.kmip_wire.specs.declared.kind.Kind.TheVariants.{Integer, TextString, ByteString}
-use Rattle.kmip_shape.specs.Shape.{Shape, Scalar, OneOf, Rows, NoRow, AndRow, Required, Optional, AnyNumber, Plain, Chooser, Chosen, Under, Cases, NoCase, AndCase, Choice, OfNumber, ByNumbers}
+use Rattle.std.specs.Prelude.{[], ◌∷◌, None, Some, codes}
+use Rattle.kmip_wire.specs.declared.kind.Kind.TheVariants.{Integer, TextString, ByteString, DateTime}
+use Rattle.kmip_shape.specs.Shape.{Shape, Scalar, OneOf, Rows, NoRow, AndRow, Required, Optional, AnyNumber, OptionalList, Plain, Chooser, Chosen, Under, ByCase, Cases, NoCase, AndCase, Choice, OfNumber, OfTag, ByNumbers, ByTag}
+use Rattle.kmip_enums.specs.NameTypes.{name_types}
+use Rattle.kmip_types.specs.AttributeValues.{attribute_value}
+use Rattle.kmip_types.specs.Parameters.{cryptographic_parameters}
+use Rattle.kmip_types.specs.WrappingMethods.{wrapping_methods}
+use Rattle.kmip_types.specs.KeyMaterials.{key_material}
+use Rattle.kmip_types.specs.KeyFormatTypes.{key_format_types}
+use Rattle.kmip_types.specs.KeyCompressionTypes.{key_compression_types}
+use Rattle.kmip_types.specs.CryptographicAlgorithms.{cryptographic_algorithms}
+use Rattle.kmip_enums.specs.RevocationReasonCodes.{revocation_reason_codes}
+use Rattle.kmip_enums.specs.ObjectTypes.{object_types}
+use Rattle.kmip_enums.specs.QueryFunctions.{query_functions}
 use Rattle.kmip_enums.specs.Operations.{operations}
 use Rattle.kmip_enums.specs.CredentialTypes.{credential_types}
 
@@ -47,11 +58,232 @@ request_header = Rows
     (AndRow (codes "batch_count") (Under 0x42000D) Required Plain (Scalar Integer)
     NoRow))))
 
+-- Name (KMIP 1.0, 3.2)
+abbrev pub name : Shape
+name = Rows
+    (AndRow (codes "name_value") (Under 0x420055) Required Plain (Scalar TextString)
+    (AndRow (codes "name_type") (Under 0x420054) Required Plain (OneOf name_types)
+    NoRow))
+
+-- Attribute (KMIP 1.0, 2.1.1)
+abbrev pub attribute : Shape
+attribute = Rows
+    (AndRow (codes "attribute_name") (Under 0x42000A) Required Chooser (Scalar TextString)
+    (AndRow (codes "attribute_index") (Under 0x420009) Optional Plain (Scalar Integer)
+    (AndRow (codes "attribute_value") (Under 0x42000B) Required Chosen attribute_value
+    NoRow)))
+
+-- Template-Attribute, Common Template-Attribute, Private Key Template-Attribute and Public Key Template-Attribute (KMIP 1.0, 2.1.8)
+abbrev pub template_attribute : Shape
+template_attribute = Rows
+    (AndRow (codes "names") (Under 0x420053) OptionalList Plain name
+    (AndRow (codes "attributes") (Under 0x420008) OptionalList Plain attribute
+    NoRow))
+
+-- Encryption Key Information (KMIP 1.0, 2.1.5)
+abbrev pub encryption_key_information : Shape
+encryption_key_information = Rows
+    (AndRow (codes "unique_identifier") (Under 0x420094) Required Plain (Scalar TextString)
+    (AndRow (codes "cryptographic_parameters") (Under 0x42002B) Optional Plain cryptographic_parameters
+    NoRow))
+
+-- MAC/Signature Key Information (KMIP 1.0, 2.1.5)
+abbrev pub mac_or_signature_key_information : Shape
+mac_or_signature_key_information = Rows
+    (AndRow (codes "unique_identifier") (Under 0x420094) Required Plain (Scalar TextString)
+    (AndRow (codes "cryptographic_parameters") (Under 0x42002B) Optional Plain cryptographic_parameters
+    NoRow))
+
+-- Key Wrapping Data (KMIP 1.0, 2.1.5)
+abbrev pub key_wrapping_data : Shape
+key_wrapping_data = Rows
+    (AndRow (codes "wrapping_method") (Under 0x42009E) Required Plain (OneOf wrapping_methods)
+    (AndRow (codes "encryption_key_information") (Under 0x420036) Optional Plain encryption_key_information
+    (AndRow (codes "mac_or_signature_key_information") (Under 0x42004E) Optional Plain mac_or_signature_key_information
+    (AndRow (codes "mac_or_signature") (Under 0x42004D) Optional Plain (Scalar ByteString)
+    (AndRow (codes "iv_or_counter_or_nonce") (Under 0x42003D) Optional Plain (Scalar ByteString)
+    (AndRow (codes "attributes") (Under 0x420008) OptionalList Plain attribute
+    NoRow))))))
+
+-- Key Wrapping Specification (KMIP 1.0, 2.1.6)
+abbrev pub key_wrapping_specification : Shape
+key_wrapping_specification = Rows
+    (AndRow (codes "wrapping_method") (Under 0x42009E) Required Plain (OneOf wrapping_methods)
+    (AndRow (codes "encryption_key_information") (Under 0x420036) Optional Plain encryption_key_information
+    (AndRow (codes "mac_or_signature_key_information") (Under 0x42004E) Optional Plain mac_or_signature_key_information
+    (AndRow (codes "attributes") (Under 0x420008) OptionalList Plain attribute
+    NoRow))))
+
+-- Key Value (KMIP 1.0, 2.1.4)
+abbrev pub key_value : Shape
+key_value = Rows
+    (AndRow (codes "key_material") (Under 0x420043) Required Plain key_material
+    (AndRow (codes "attributes") (Under 0x420008) OptionalList Plain attribute
+    NoRow))
+
+-- Key Block (KMIP 1.0, 2.1.3)
+abbrev pub key_block : Shape
+key_block = Rows
+    (AndRow (codes "key_format_type") (Under 0x420042) Required Chooser (OneOf key_format_types)
+    (AndRow (codes "key_compression_type") (Under 0x420041) Optional Plain (OneOf key_compression_types)
+    (AndRow (codes "key_value") (Under 0x420045) Optional Chosen key_value
+    (AndRow (codes "cryptographic_algorithm") (Under 0x420028) Optional Plain (OneOf cryptographic_algorithms)
+    (AndRow (codes "cryptographic_length") (Under 0x42002A) Optional Plain (Scalar Integer)
+    (AndRow (codes "key_wrapping_data") (Under 0x420046) Optional Plain key_wrapping_data
+    NoRow))))))
+
+-- Symmetric Key (KMIP 1.0, 2.2.2)
+abbrev pub symmetric_key : Shape
+symmetric_key = Rows
+    (AndRow (codes "key_block") (Under 0x420040) Required Plain key_block
+    NoRow)
+
+-- Public Key (KMIP 1.0, 2.2.3)
+abbrev pub public_key : Shape
+public_key = Rows
+    (AndRow (codes "key_block") (Under 0x420040) Required Plain key_block
+    NoRow)
+
+-- Private Key (KMIP 1.0, 2.2.4)
+abbrev pub private_key : Shape
+private_key = Rows
+    (AndRow (codes "key_block") (Under 0x420040) Required Plain key_block
+    NoRow)
+
+-- Template (KMIP 1.0, 2.2.6)
+abbrev pub template : Shape
+template = Rows
+    (AndRow (codes "attributes") (Under 0x420008) AnyNumber Plain attribute
+    NoRow)
+
+-- the object that is registered is chosen by its own tag (KMIP 1.0, 2.2)
+abbrev pub managed_objects : Cases
+managed_objects =
+    AndCase 1 (codes "SymmetricKey") (ByTag 0x42008F) (Some 0x42008F) symmetric_key
+    (AndCase 2 (codes "PublicKey") (ByTag 0x42006D) (Some 0x42006D) public_key
+    (AndCase 3 (codes "PrivateKey") (ByTag 0x420064) (Some 0x420064) private_key
+    (AndCase 4 (codes "Template") (ByTag 0x420090) (Some 0x420090) template
+    NoCase)))
+
+-- Revocation Reason (KMIP 1.0, 3.26)
+abbrev pub revocation_reason : Shape
+revocation_reason = Rows
+    (AndRow (codes "revocation_reason_code") (Under 0x420082) Required Plain (OneOf revocation_reason_codes)
+    (AndRow (codes "revocation_message") (Under 0x420080) Optional Plain (Scalar TextString)
+    NoRow))
+
+-- the payload of Create (KMIP 1.0, 4.1)
+abbrev pub create : Shape
+create = Rows
+    (AndRow (codes "object_type") (Under 0x420057) Required Plain (OneOf object_types)
+    (AndRow (codes "template_attribute") (Under 0x420091) Required Plain template_attribute
+    NoRow))
+
+-- the payload of Create Key Pair (KMIP 1.0, 4.2)
+abbrev pub create_key_pair : Shape
+create_key_pair = Rows
+    (AndRow (codes "common_template_attribute") (Under 0x42001F) Optional Plain template_attribute
+    (AndRow (codes "private_key_template_attribute") (Under 0x420065) Optional Plain template_attribute
+    (AndRow (codes "public_key_template_attribute") (Under 0x42006E) Optional Plain template_attribute
+    NoRow)))
+
+-- the payload of Register (KMIP 1.0, 4.3)
+abbrev pub register : Shape
+register = Rows
+    (AndRow (codes "object_type") (Under 0x420057) Required Plain (OneOf object_types)
+    (AndRow (codes "template_attribute") (Under 0x420091) Required Plain template_attribute
+    (AndRow (codes "managed_object") ByCase Optional Plain (Choice OfTag managed_objects)
+    NoRow)))
+
+-- the payload of Locate (KMIP 1.0, 4.8)
+abbrev pub locate : Shape
+locate = Rows
+    (AndRow (codes "attributes") (Under 0x420008) AnyNumber Plain attribute
+    NoRow)
+
+-- the payload of Get (KMIP 1.0, 4.10)
+abbrev pub get : Shape
+get = Rows
+    (AndRow (codes "unique_identifier") (Under 0x420094) Optional Plain (Scalar TextString)
+    (AndRow (codes "key_format_type") (Under 0x420042) Optional Plain (OneOf key_format_types)
+    (AndRow (codes "key_compression_type") (Under 0x420041) Optional Plain (OneOf key_compression_types)
+    (AndRow (codes "key_wrapping_specification") (Under 0x420047) Optional Plain key_wrapping_specification
+    NoRow))))
+
+-- the payload of Get Attributes (KMIP 1.0, 4.11)
+abbrev pub get_attributes : Shape
+get_attributes = Rows
+    (AndRow (codes "unique_identifier") (Under 0x420094) Optional Plain (Scalar TextString)
+    (AndRow (codes "attribute_names") (Under 0x42000A) OptionalList Plain (Scalar TextString)
+    NoRow))
+
+-- the payload of Get Attribute List (KMIP 1.0, 4.12)
+abbrev pub get_attribute_list : Shape
+get_attribute_list = Rows
+    (AndRow (codes "unique_identifier") (Under 0x420094) Optional Plain (Scalar TextString)
+    NoRow)
+
+-- the payload of Add Attribute (KMIP 1.0, 4.13)
+abbrev pub add_attribute : Shape
+add_attribute = Rows
+    (AndRow (codes "unique_identifier") (Under 0x420094) Optional Plain (Scalar TextString)
+    (AndRow (codes "attribute") (Under 0x420008) Required Plain attribute
+    NoRow))
+
+-- the payload of Modify Attribute (KMIP 1.0, 4.14)
+abbrev pub modify_attribute : Shape
+modify_attribute = Rows
+    (AndRow (codes "unique_identifier") (Under 0x420094) Optional Plain (Scalar TextString)
+    (AndRow (codes "attribute") (Under 0x420008) Required Plain attribute
+    NoRow))
+
+-- the payload of Delete Attribute (KMIP 1.0, 4.15)
+abbrev pub delete_attribute : Shape
+delete_attribute = Rows
+    (AndRow (codes "unique_identifier") (Under 0x420094) Optional Plain (Scalar TextString)
+    (AndRow (codes "attribute_name") (Under 0x42000A) Required Plain (Scalar TextString)
+    (AndRow (codes "attribute_index") (Under 0x420009) Optional Plain (Scalar Integer)
+    NoRow)))
+
 -- the payload of Activate (KMIP 1.0, 4.18)
 abbrev pub activate : Shape
 activate = Rows
     (AndRow (codes "unique_identifier") (Under 0x420094) Optional Plain (Scalar TextString)
     NoRow)
+
+-- the payload of Revoke (KMIP 1.0, 4.19)
+abbrev pub revoke : Shape
+revoke = Rows
+    (AndRow (codes "unique_identifier") (Under 0x420094) Optional Plain (Scalar TextString)
+    (AndRow (codes "revocation_reason") (Under 0x420081) Required Plain revocation_reason
+    (AndRow (codes "compromise_occurrence_date") (Under 0x420021) Optional Plain (Scalar DateTime)
+    NoRow)))
+
+-- the payload of Destroy (KMIP 1.0, 4.20)
+abbrev pub destroy : Shape
+destroy = Rows
+    (AndRow (codes "unique_identifier") (Under 0x420094) Optional Plain (Scalar TextString)
+    NoRow)
+
+-- the payload of Query (KMIP 1.0, 4.24)
+abbrev pub query : Shape
+query = Rows
+    (AndRow (codes "query_functions") (Under 0x420074) AnyNumber Plain (OneOf query_functions)
+    NoRow)
+
+-- the payload of Discover Versions (KMIP 1.1, 4.26)
+abbrev pub discover_versions : Shape
+discover_versions = Rows
+    (AndRow (codes "protocol_versions") (Under 0x420069) AnyNumber Plain protocol_version
+    NoRow)
+
+-- the payload of Sign (KMIP 1.2, 4.31)
+abbrev pub sign : Shape
+sign = Rows
+    (AndRow (codes "unique_identifier") (Under 0x420094) Optional Plain (Scalar TextString)
+    (AndRow (codes "cryptographic_parameters") (Under 0x42002B) Optional Plain cryptographic_parameters
+    (AndRow (codes "data") (Under 0x4200C2) Required Plain (Scalar ByteString)
+    NoRow)))
 
 -- the payload of RNG Retrieve (KMIP 1.2, 4.35)
 abbrev pub rng_retrieve : Shape
@@ -62,9 +294,24 @@ rng_retrieve = Rows
 -- a payload is chosen by the number of its batch item's operation
 abbrev pub request_payloads : Cases
 request_payloads =
-    AndCase 18 (codes "Activate") (ByNumbers (18 ∷ [])) None activate
+    AndCase 1 (codes "Create") (ByNumbers (1 ∷ [])) None create
+    (AndCase 2 (codes "CreateKeyPair") (ByNumbers (2 ∷ [])) None create_key_pair
+    (AndCase 3 (codes "Register") (ByNumbers (3 ∷ [])) None register
+    (AndCase 8 (codes "Locate") (ByNumbers (8 ∷ [])) None locate
+    (AndCase 10 (codes "Get") (ByNumbers (10 ∷ [])) None get
+    (AndCase 11 (codes "GetAttributes") (ByNumbers (11 ∷ [])) None get_attributes
+    (AndCase 12 (codes "GetAttributeList") (ByNumbers (12 ∷ [])) None get_attribute_list
+    (AndCase 13 (codes "AddAttribute") (ByNumbers (13 ∷ [])) None add_attribute
+    (AndCase 14 (codes "ModifyAttribute") (ByNumbers (14 ∷ [])) None modify_attribute
+    (AndCase 15 (codes "DeleteAttribute") (ByNumbers (15 ∷ [])) None delete_attribute
+    (AndCase 18 (codes "Activate") (ByNumbers (18 ∷ [])) None activate
+    (AndCase 19 (codes "Revoke") (ByNumbers (19 ∷ [])) None revoke
+    (AndCase 20 (codes "Destroy") (ByNumbers (20 ∷ [])) None destroy
+    (AndCase 24 (codes "Query") (ByNumbers (24 ∷ [])) None query
+    (AndCase 30 (codes "DiscoverVersions") (ByNumbers (30 ∷ [])) None discover_versions
+    (AndCase 33 (codes "Sign") (ByNumbers (33 ∷ [])) None sign
     (AndCase 37 (codes "RNGRetrieve") (ByNumbers (37 ∷ [])) None rng_retrieve
-    NoCase)
+    NoCase))))))))))))))))
 
 abbrev pub request_payload : Shape
 request_payload = Choice OfNumber request_payloads

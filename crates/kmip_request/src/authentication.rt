@@ -11,13 +11,20 @@ ghost use Rattle.kmip_request.specs.Same.{username_same, password_same, authenti
 use kmip_enums::CredentialType;
 use kmip_shape::columns::{ChosenOne, One, Opt};
 use kmip_shape::record::{Choosing, End, Row};
-use kmip_shape::{Item, WriteItem, known_record, record_len, write_record};
+use kmip_shape::{Item, WriteItem, fields, known_record, record_len, write_record};
 use kmip_types::auth;
-use kmip_wire::{Buffer, Tag, Text};
+use kmip_wire::{Buffer, OutOfMemory, Tag, Text, TryClone, clone_optional};
+use std::alloc::Global;
 
 /// The name of who makes a request: KMIP 1.0, 2.1.2.
 #[derive(PartialEq, Eq, Drop)]
 pub struct Username(pub Text);
+
+impl TryClone for Username {
+    fn try_clone(&self, alloc: Global) -> Result<Username, OutOfMemory> {
+        Ok(Username(self.0.try_clone(alloc)?))
+    }
+}
 
 impl Item for Username {
     ghost shape = { Scalar TextString };
@@ -44,6 +51,12 @@ impl WriteItem for Username {
 /// The secret of who makes a request: KMIP 1.0, 2.1.2.
 #[derive(PartialEq, Eq, Drop)]
 pub struct Password(pub Text);
+
+impl TryClone for Password {
+    fn try_clone(&self, alloc: Global) -> Result<Password, OutOfMemory> {
+        Ok(Password(self.0.try_clone(alloc)?))
+    }
+}
 
 impl Item for Password {
     ghost shape = { Scalar TextString };
@@ -75,6 +88,19 @@ pub enum CredentialValue {
 
 type UsernameAndPasswordRows = Row<One<Username, 0x420099>, Row<Opt<Password, 0x4200A1>, End>>;
 
+impl TryClone for CredentialValue {
+    fn try_clone(&self, alloc: Global) -> Result<CredentialValue, OutOfMemory> {
+        match self {
+            CredentialValue::UsernameAndPassword(username, password) => {
+                Ok(CredentialValue::UsernameAndPassword(
+                    username.try_clone(alloc)?,
+                    clone_optional(password, alloc)?,
+                ))
+            }
+        }
+    }
+}
+
 impl Item for CredentialValue {
     ghost shape = { Choice OfNumber credential_values };
 
@@ -83,7 +109,7 @@ impl Item for CredentialValue {
     fn known(&self) {
         match self {
             CredentialValue::UsernameAndPassword(username, password) => {
-                known_record::<UsernameAndPasswordRows>((username, (password, ())));
+                known_record::<UsernameAndPasswordRows>(fields![username, password]);
             }
         }
     }
@@ -95,7 +121,7 @@ impl WriteItem for CredentialValue {
     fn wire_len(&self, _tag: Tag) -> Option<u64> {
         match self {
             CredentialValue::UsernameAndPassword(username, password) => {
-                record_len::<UsernameAndPasswordRows>((username, (password, ())))
+                record_len::<UsernameAndPasswordRows>(fields![username, password])
             }
         }
     }
@@ -103,7 +129,7 @@ impl WriteItem for CredentialValue {
     fn write_into(&self, tag: Tag, out: &mut Buffer) {
         match self {
             CredentialValue::UsernameAndPassword(username, password) => {
-                write_record::<UsernameAndPasswordRows>((username, (password, ())), tag, out);
+                write_record::<UsernameAndPasswordRows>(fields![username, password], tag, out);
             }
         }
     }
@@ -118,13 +144,19 @@ type CredentialRows<'a> = Choosing<
     Row<ChosenOne<'a, CredentialValue, 0x420025>, End>,
 >;
 
+impl TryClone for Credential {
+    fn try_clone(&self, alloc: Global) -> Result<Credential, OutOfMemory> {
+        Ok(Credential(self.0, self.1.try_clone(alloc)?))
+    }
+}
+
 impl Item for Credential {
     ghost shape = { credential };
 
     ghost val = { credential_val };
 
     fn known(&self) {
-        known_record::<CredentialRows<'_>>((&self.0, (&self.1, ())));
+        known_record::<CredentialRows<'_>>(fields![&self.0, &self.1]);
     }
 
     ghost same = { credential_same };
@@ -132,11 +164,11 @@ impl Item for Credential {
 
 impl WriteItem for Credential {
     fn wire_len(&self, _tag: Tag) -> Option<u64> {
-        record_len::<CredentialRows<'_>>((&self.0, (&self.1, ())))
+        record_len::<CredentialRows<'_>>(fields![&self.0, &self.1])
     }
 
     fn write_into(&self, tag: Tag, out: &mut Buffer) {
-        write_record::<CredentialRows<'_>>((&self.0, (&self.1, ())), tag, out);
+        write_record::<CredentialRows<'_>>(fields![&self.0, &self.1], tag, out);
     }
 }
 
@@ -164,13 +196,19 @@ impl Authentication {
 
 type AuthenticationRows = Row<One<Credential, 0x420023>, End>;
 
+impl TryClone for Authentication {
+    fn try_clone(&self, alloc: Global) -> Result<Authentication, OutOfMemory> {
+        Ok(Authentication(self.0.try_clone(alloc)?))
+    }
+}
+
 impl Item for Authentication {
     ghost shape = { authentication };
 
     ghost val = { authentication_val };
 
     fn known(&self) {
-        known_record::<AuthenticationRows>((&self.0, ()));
+        known_record::<AuthenticationRows>(fields![&self.0]);
     }
 
     ghost same = { authentication_same };
@@ -178,10 +216,10 @@ impl Item for Authentication {
 
 impl WriteItem for Authentication {
     fn wire_len(&self, _tag: Tag) -> Option<u64> {
-        record_len::<AuthenticationRows>((&self.0, ()))
+        record_len::<AuthenticationRows>(fields![&self.0])
     }
 
     fn write_into(&self, tag: Tag, out: &mut Buffer) {
-        write_record::<AuthenticationRows>((&self.0, ()), tag, out);
+        write_record::<AuthenticationRows>(fields![&self.0], tag, out);
     }
 }

@@ -9,8 +9,9 @@ use crate::authentication::Authentication;
 use crate::numbers::{BatchCount, MaximumResponseSize, ProtocolVersionMajor, ProtocolVersionMinor};
 use kmip_shape::columns::{One, Opt};
 use kmip_shape::record::{End, Row};
-use kmip_shape::{Item, WriteItem, known_record, record_len, write_record};
-use kmip_wire::{Buffer, Tag};
+use kmip_shape::{Item, WriteItem, fields, known_record, record_len, write_record};
+use kmip_wire::{Buffer, OutOfMemory, Tag, TryClone, clone_optional};
+use std::alloc::Global;
 
 /// The version of KMIP that a request is made in: KMIP 1.0, 6.1.
 #[derive(Clone, Copy, PartialEq, Eq, Drop)]
@@ -27,7 +28,7 @@ impl Item for ProtocolVersion {
     ghost val = { protocol_version_val };
 
     fn known(&self) {
-        known_record::<ProtocolVersionRows>((&self.0, (&self.1, ())));
+        known_record::<ProtocolVersionRows>(fields![&self.0, &self.1]);
     }
 
     ghost same = { protocol_version_same };
@@ -35,16 +36,16 @@ impl Item for ProtocolVersion {
 
 impl WriteItem for ProtocolVersion {
     fn wire_len(&self, _tag: Tag) -> Option<u64> {
-        record_len::<ProtocolVersionRows>((&self.0, (&self.1, ())))
+        record_len::<ProtocolVersionRows>(fields![&self.0, &self.1])
     }
 
     fn write_into(&self, tag: Tag, out: &mut Buffer) {
-        write_record::<ProtocolVersionRows>((&self.0, (&self.1, ())), tag, out);
+        write_record::<ProtocolVersionRows>(fields![&self.0, &self.1], tag, out);
     }
 }
 
 /// The head of a request: KMIP 1.0, 7.2.
-#[derive(Drop)]
+#[derive(PartialEq, Eq, Drop)]
 pub struct RequestHeader(
     pub ProtocolVersion,
     pub Option<MaximumResponseSize>,
@@ -60,13 +61,19 @@ type RequestHeaderRows = Row<
     >,
 >;
 
+impl TryClone for RequestHeader {
+    fn try_clone(&self, alloc: Global) -> Result<RequestHeader, OutOfMemory> {
+        Ok(RequestHeader(self.0, self.1, clone_optional(&self.2, alloc)?, self.3))
+    }
+}
+
 impl Item for RequestHeader {
     ghost shape = { request_header };
 
     ghost val = { request_header_val };
 
     fn known(&self) {
-        known_record::<RequestHeaderRows>((&self.0, (&self.1, (&self.2, (&self.3, ())))));
+        known_record::<RequestHeaderRows>(fields![&self.0, &self.1, &self.2, &self.3]);
     }
 
     ghost same = { request_header_same };
@@ -74,10 +81,10 @@ impl Item for RequestHeader {
 
 impl WriteItem for RequestHeader {
     fn wire_len(&self, _tag: Tag) -> Option<u64> {
-        record_len::<RequestHeaderRows>((&self.0, (&self.1, (&self.2, (&self.3, ())))))
+        record_len::<RequestHeaderRows>(fields![&self.0, &self.1, &self.2, &self.3])
     }
 
     fn write_into(&self, tag: Tag, out: &mut Buffer) {
-        write_record::<RequestHeaderRows>((&self.0, (&self.1, (&self.2, (&self.3, ())))), tag, out);
+        write_record::<RequestHeaderRows>(fields![&self.0, &self.1, &self.2, &self.3], tag, out);
     }
 }

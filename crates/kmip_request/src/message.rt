@@ -10,9 +10,10 @@ use crate::payload::RequestPayload;
 use kmip_enums::Operation;
 use kmip_shape::columns::{ChosenOne, Many, One, Opt};
 use kmip_shape::record::{Choosing, End, Row};
-use kmip_shape::{Item, WriteItem, known_record, record_len, write_record};
+use kmip_shape::{Item, WriteItem, fields, known_record, record_len, write_record};
 use kmip_types::UniqueBatchItemID;
-use kmip_wire::{Buffer, List, Tag};
+use kmip_wire::{Buffer, List, OutOfMemory, Tag, TryClone, clone_optional};
+use std::alloc::Global;
 
 /// One operation with its payload: KMIP 1.0, 7.2.
 #[derive(PartialEq, Eq, Drop)]
@@ -27,13 +28,23 @@ type BatchItemRows<'a> = Choosing<
     Row<Opt<UniqueBatchItemID, 0x420093>, Row<ChosenOne<'a, RequestPayload, 0x420079>, End>>,
 >;
 
+impl TryClone for BatchItem {
+    fn try_clone(&self, alloc: Global) -> Result<BatchItem, OutOfMemory> {
+        Ok(BatchItem(
+            self.0,
+            clone_optional(&self.1, alloc)?,
+            self.2.try_clone(alloc)?,
+        ))
+    }
+}
+
 impl Item for BatchItem {
     ghost shape = { batch_item };
 
     ghost val = { batch_item_val };
 
     fn known(&self) {
-        known_record::<BatchItemRows<'_>>((&self.0, (&self.1, (&self.2, ()))));
+        known_record::<BatchItemRows<'_>>(fields![&self.0, &self.1, &self.2]);
     }
 
     ghost same = { batch_item_same };
@@ -41,19 +52,25 @@ impl Item for BatchItem {
 
 impl WriteItem for BatchItem {
     fn wire_len(&self, _tag: Tag) -> Option<u64> {
-        record_len::<BatchItemRows<'_>>((&self.0, (&self.1, (&self.2, ()))))
+        record_len::<BatchItemRows<'_>>(fields![&self.0, &self.1, &self.2])
     }
 
     fn write_into(&self, tag: Tag, out: &mut Buffer) {
-        write_record::<BatchItemRows<'_>>((&self.0, (&self.1, (&self.2, ()))), tag, out);
+        write_record::<BatchItemRows<'_>>(fields![&self.0, &self.1, &self.2], tag, out);
     }
 }
 
 /// A request: KMIP 1.0, 7.1.
-#[derive(Drop)]
+#[derive(PartialEq, Eq, Drop)]
 pub struct RequestMessage(pub RequestHeader, pub List<BatchItem>);
 
 type RequestMessageRows = Row<One<RequestHeader, 0x420077>, Row<Many<BatchItem, 0x42000F>, End>>;
+
+impl TryClone for RequestMessage {
+    fn try_clone(&self, alloc: Global) -> Result<RequestMessage, OutOfMemory> {
+        Ok(RequestMessage(self.0.try_clone(alloc)?, self.1.try_clone(alloc)?))
+    }
+}
 
 impl Item for RequestMessage {
     ghost shape = { request_message };
@@ -61,7 +78,7 @@ impl Item for RequestMessage {
     ghost val = { request_message_val };
 
     fn known(&self) {
-        known_record::<RequestMessageRows>((&self.0, (&self.1, ())));
+        known_record::<RequestMessageRows>(fields![&self.0, &self.1]);
     }
 
     ghost same = { request_message_same };
@@ -69,10 +86,10 @@ impl Item for RequestMessage {
 
 impl WriteItem for RequestMessage {
     fn wire_len(&self, _tag: Tag) -> Option<u64> {
-        record_len::<RequestMessageRows>((&self.0, (&self.1, ())))
+        record_len::<RequestMessageRows>(fields![&self.0, &self.1])
     }
 
     fn write_into(&self, tag: Tag, out: &mut Buffer) {
-        write_record::<RequestMessageRows>((&self.0, (&self.1, ())), tag, out);
+        write_record::<RequestMessageRows>(fields![&self.0, &self.1], tag, out);
     }
 }

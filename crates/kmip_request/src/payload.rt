@@ -1,25 +1,81 @@
 //! What a request asks for.
 
 ghost use Rattle.std.specs.Prelude.{◌≡◌};
-ghost use Rattle.kmip_request.specs.Tables.{request_payload};
+ghost use Rattle.kmip_request.specs.Message.{operation_of, version_of};
+ghost use Rattle.kmip_request.specs.Tables.{attribute, name, public_key, private_key, template, request_payload};
 ghost use Rattle.kmip_request.specs.Values.{request_payload_val};
 ghost use Rattle.kmip_request.specs.Same.{request_payload_same};
-ghost use Rattle.kmip_request.specs.Message.{operation_of, version_of};
 
+use crate::attribute::Attribute;
 use crate::header::ProtocolVersion;
+use crate::key_wrapping::KeyWrappingSpecification;
+use crate::managed_object::ManagedObject;
 use crate::numbers::{ProtocolVersionMajor, ProtocolVersionMinor};
-use kmip_enums::Operation;
-use kmip_shape::columns::{One, Opt};
+use crate::revocation_reason::RevocationReason;
+use crate::template_attribute::{
+    CommonTemplateAttribute, PrivateKeyTemplateAttribute, PublicKeyTemplateAttribute,
+    TemplateAttribute,
+};
+use kmip_enums::{ObjectType, Operation, QueryFunction};
+use kmip_shape::columns::{Many, One, Opt, OptMany};
 use kmip_shape::record::{End, Row};
-use kmip_shape::{Item, WriteItem, known_record, record_len, write_record};
-use kmip_types::{DataLength, UniqueIdentifier};
-use kmip_wire::{Buffer, Tag};
+use kmip_shape::{
+    Item, TagOpt, WriteItem, copy_list, fields, known_record, record_len, write_record,
+};
+use kmip_types::{
+    AttributeIndex, AttributeName, CompromiseOccurrenceDate, CryptographicParameters, Data,
+    DataLength, KeyCompressionType, KeyFormatType, UniqueIdentifier,
+};
+use kmip_wire::{Buffer, List, OutOfMemory, Tag, TryClone, clone_optional};
+use std::alloc::Global;
 
 /// What a request asks for: one variant an operation, with the operation's fields in order.
+///
+/// Where the identifier of the object is absent, the server takes the object that it last made or located in the same
+/// session: KMIP 1.0, 4.
 #[derive(PartialEq, Eq, Drop)]
 pub enum RequestPayload {
-    /// Makes an object ready for use, the one that was last made where none is named: KMIP 1.0, 4.18.
+    /// Makes an object on the server: KMIP 1.0, 4.1.
+    Create(ObjectType, TemplateAttribute),
+    /// Makes a pair of a private and a public key: KMIP 1.0, 4.2.
+    CreateKeyPair(
+        Option<CommonTemplateAttribute>,
+        Option<PrivateKeyTemplateAttribute>,
+        Option<PublicKeyTemplateAttribute>,
+    ),
+    /// Hands an object to the server, under its own tag: KMIP 1.0, 4.3.
+    Register(ObjectType, TemplateAttribute, Option<ManagedObject>),
+    /// Asks which objects have all these attributes: KMIP 1.0, 4.8.
+    Locate(List<Attribute>),
+    /// Asks for an object: KMIP 1.0, 4.10.
+    Get(
+        Option<UniqueIdentifier>,
+        Option<KeyFormatType>,
+        Option<KeyCompressionType>,
+        Option<KeyWrappingSpecification>,
+    ),
+    /// Asks for the attributes of these names, and for all where there is none: KMIP 1.0, 4.11.
+    GetAttributes(Option<UniqueIdentifier>, Option<List<AttributeName>>),
+    /// Asks for the names of the attributes: KMIP 1.0, 4.12.
+    GetAttributeList(Option<UniqueIdentifier>),
+    /// Adds an attribute: KMIP 1.0, 4.13.
+    AddAttribute(Option<UniqueIdentifier>, Attribute),
+    /// Changes the attribute of that name and index: KMIP 1.0, 4.14.
+    ModifyAttribute(Option<UniqueIdentifier>, Attribute),
+    /// Takes an attribute away: KMIP 1.0, 4.15.
+    DeleteAttribute(Option<UniqueIdentifier>, AttributeName, Option<AttributeIndex>),
+    /// Makes an object ready for use: KMIP 1.0, 4.18.
     Activate(Option<UniqueIdentifier>),
+    /// Takes an object out of use, and says when a compromise came about: KMIP 1.0, 4.19.
+    Revoke(Option<UniqueIdentifier>, RevocationReason, Option<CompromiseOccurrenceDate>),
+    /// Destroys an object: KMIP 1.0, 4.20.
+    Destroy(Option<UniqueIdentifier>),
+    /// Asks what the server can do: KMIP 1.0, 4.24.
+    Query(List<QueryFunction>),
+    /// Asks which of these versions the server speaks: KMIP 1.1, 4.26.
+    DiscoverVersions(List<ProtocolVersion>),
+    /// Asks for a signature of the data: KMIP 1.2, 4.31.
+    Sign(Option<UniqueIdentifier>, Option<CryptographicParameters>, Data),
     /// Asks for that many random bytes: KMIP 1.2, 4.35.
     RNGRetrieve(DataLength),
 }
@@ -30,24 +86,94 @@ impl RequestPayload {
         ensures { result ≡ operation_of self.now }
     {
         match self {
-            RequestPayload::Activate(_) => Operation::Activate,
-            RequestPayload::RNGRetrieve(_) => Operation::RNGRetrieve,
+            RequestPayload::Create(..) => Operation::Create,
+            RequestPayload::CreateKeyPair(..) => Operation::CreateKeyPair,
+            RequestPayload::Register(..) => Operation::Register,
+            RequestPayload::Locate(..) => Operation::Locate,
+            RequestPayload::Get(..) => Operation::Get,
+            RequestPayload::GetAttributes(..) => Operation::GetAttributes,
+            RequestPayload::GetAttributeList(..) => Operation::GetAttributeList,
+            RequestPayload::AddAttribute(..) => Operation::AddAttribute,
+            RequestPayload::ModifyAttribute(..) => Operation::ModifyAttribute,
+            RequestPayload::DeleteAttribute(..) => Operation::DeleteAttribute,
+            RequestPayload::Activate(..) => Operation::Activate,
+            RequestPayload::Revoke(..) => Operation::Revoke,
+            RequestPayload::Destroy(..) => Operation::Destroy,
+            RequestPayload::Query(..) => Operation::Query,
+            RequestPayload::DiscoverVersions(..) => Operation::DiscoverVersions,
+            RequestPayload::Sign(..) => Operation::Sign,
+            RequestPayload::RNGRetrieve(..) => Operation::RNGRetrieve,
         }
     }
 
-    /// The first version of KMIP that has the operation: 1.2 for RNG Retrieve, 1.0 for Activate. It takes no memory.
+    /// The first version of KMIP that has the operation in its present form: 1.2 for Query, Sign and RNG Retrieve, 1.1
+    /// for Discover Versions, 1.0 for the others. It takes no memory.
     pub fn protocol_version(&self) -> ProtocolVersion
         ensures { result ≡ version_of self.now }
     {
         let minor = match self {
-            RequestPayload::Activate(_) => 0,
-            RequestPayload::RNGRetrieve(_) => 2,
+            RequestPayload::Query(..)
+            | RequestPayload::Sign(..)
+            | RequestPayload::RNGRetrieve(..) => 2,
+            RequestPayload::DiscoverVersions(..) => 1,
+            _ => 0,
         };
         ProtocolVersion(ProtocolVersionMajor(1), ProtocolVersionMinor(minor))
     }
 }
 
-type ActivateRows = Row<Opt<UniqueIdentifier, 0x420094>, End>;
+type CreateRows = Row<One<ObjectType, 0x420057>, Row<One<TemplateAttribute, 0x420091>, End>>;
+
+type CreateKeyPairRows = Row<
+    Opt<CommonTemplateAttribute, 0x42001F>,
+    Row<
+        Opt<PrivateKeyTemplateAttribute, 0x420065>,
+        Row<Opt<PublicKeyTemplateAttribute, 0x42006E>, End>,
+    >,
+>;
+
+type RegisterRows = Row<
+    One<ObjectType, 0x420057>,
+    Row<One<TemplateAttribute, 0x420091>, Row<TagOpt<ManagedObject>, End>>,
+>;
+
+type LocateRows = Row<Many<Attribute, 0x420008>, End>;
+
+type GetRows = Row<
+    Opt<UniqueIdentifier, 0x420094>,
+    Row<
+        Opt<KeyFormatType, 0x420042>,
+        Row<Opt<KeyCompressionType, 0x420041>, Row<Opt<KeyWrappingSpecification, 0x420047>, End>>,
+    >,
+>;
+
+type GetAttributesRows = Row<
+    Opt<UniqueIdentifier, 0x420094>,
+    Row<OptMany<AttributeName, 0x42000A>, End>,
+>;
+
+type IdentifierRows = Row<Opt<UniqueIdentifier, 0x420094>, End>;
+
+type EditRows = Row<Opt<UniqueIdentifier, 0x420094>, Row<One<Attribute, 0x420008>, End>>;
+
+type DeleteAttributeRows = Row<
+    Opt<UniqueIdentifier, 0x420094>,
+    Row<One<AttributeName, 0x42000A>, Row<Opt<AttributeIndex, 0x420009>, End>>,
+>;
+
+type RevokeRows = Row<
+    Opt<UniqueIdentifier, 0x420094>,
+    Row<One<RevocationReason, 0x420081>, Row<Opt<CompromiseOccurrenceDate, 0x420021>, End>>,
+>;
+
+type QueryRows = Row<Many<QueryFunction, 0x420074>, End>;
+
+type DiscoverVersionsRows = Row<Many<ProtocolVersion, 0x420069>, End>;
+
+type SignRows = Row<
+    Opt<UniqueIdentifier, 0x420094>,
+    Row<Opt<CryptographicParameters, 0x42002B>, Row<One<Data, 0x4200C2>, End>>,
+>;
 
 type RNGRetrieveRows = Row<One<DataLength, 0x4200C4>, End>;
 
@@ -58,8 +184,46 @@ impl Item for RequestPayload {
 
     fn known(&self) {
         match self {
-            RequestPayload::Activate(id) => known_record::<ActivateRows>((id, ())),
-            RequestPayload::RNGRetrieve(length) => known_record::<RNGRetrieveRows>((length, ())),
+            RequestPayload::Create(object_type, template) => known_record::<CreateRows>(fields![
+                object_type,
+                template
+            ]),
+            RequestPayload::CreateKeyPair(common, private_key, public_key) => known_record::<
+                CreateKeyPairRows,
+            >(fields![common, private_key, public_key]),
+            RequestPayload::Register(object_type, template, object) => known_record::<RegisterRows>(
+                fields![object_type, template, object],
+            ),
+            RequestPayload::Locate(attributes) => known_record::<LocateRows>(fields![attributes]),
+            RequestPayload::Get(id, format, compression, specification) => known_record::<GetRows>(
+                fields![id, format, compression, specification],
+            ),
+            RequestPayload::GetAttributes(id, names) => known_record::<GetAttributesRows>(fields![
+                id, names
+            ]),
+            RequestPayload::GetAttributeList(id) => known_record::<IdentifierRows>(fields![id]),
+            RequestPayload::AddAttribute(id, attribute) => known_record::<EditRows>(fields![
+                id, attribute
+            ]),
+            RequestPayload::ModifyAttribute(id, attribute) => known_record::<EditRows>(fields![
+                id, attribute
+            ]),
+            RequestPayload::DeleteAttribute(id, name, index) => known_record::<DeleteAttributeRows>(
+                fields![id, name, index],
+            ),
+            RequestPayload::Activate(id) => known_record::<IdentifierRows>(fields![id]),
+            RequestPayload::Revoke(id, reason, date) => known_record::<RevokeRows>(fields![
+                id, reason, date
+            ]),
+            RequestPayload::Destroy(id) => known_record::<IdentifierRows>(fields![id]),
+            RequestPayload::Query(functions) => known_record::<QueryRows>(fields![functions]),
+            RequestPayload::DiscoverVersions(versions) => known_record::<DiscoverVersionsRows>(
+                fields![versions],
+            ),
+            RequestPayload::Sign(id, parameters, data) => known_record::<SignRows>(fields![
+                id, parameters, data
+            ]),
+            RequestPayload::RNGRetrieve(length) => known_record::<RNGRetrieveRows>(fields![length]),
         }
     }
 
@@ -69,17 +233,201 @@ impl Item for RequestPayload {
 impl WriteItem for RequestPayload {
     fn wire_len(&self, _tag: Tag) -> Option<u64> {
         match self {
-            RequestPayload::Activate(id) => record_len::<ActivateRows>((id, ())),
-            RequestPayload::RNGRetrieve(length) => record_len::<RNGRetrieveRows>((length, ())),
+            RequestPayload::Create(object_type, template) => record_len::<CreateRows>(fields![
+                object_type,
+                template
+            ]),
+            RequestPayload::CreateKeyPair(common, private_key, public_key) => record_len::<
+                CreateKeyPairRows,
+            >(fields![common, private_key, public_key]),
+            RequestPayload::Register(object_type, template, object) => record_len::<RegisterRows>(
+                fields![object_type, template, object],
+            ),
+            RequestPayload::Locate(attributes) => record_len::<LocateRows>(fields![attributes]),
+            RequestPayload::Get(id, format, compression, specification) => record_len::<GetRows>(
+                fields![id, format, compression, specification],
+            ),
+            RequestPayload::GetAttributes(id, names) => record_len::<GetAttributesRows>(fields![
+                id, names
+            ]),
+            RequestPayload::GetAttributeList(id) => record_len::<IdentifierRows>(fields![id]),
+            RequestPayload::AddAttribute(id, attribute) => record_len::<EditRows>(fields![
+                id, attribute
+            ]),
+            RequestPayload::ModifyAttribute(id, attribute) => record_len::<EditRows>(fields![
+                id, attribute
+            ]),
+            RequestPayload::DeleteAttribute(id, name, index) => record_len::<DeleteAttributeRows>(
+                fields![id, name, index],
+            ),
+            RequestPayload::Activate(id) => record_len::<IdentifierRows>(fields![id]),
+            RequestPayload::Revoke(id, reason, date) => record_len::<RevokeRows>(fields![
+                id, reason, date
+            ]),
+            RequestPayload::Destroy(id) => record_len::<IdentifierRows>(fields![id]),
+            RequestPayload::Query(functions) => record_len::<QueryRows>(fields![functions]),
+            RequestPayload::DiscoverVersions(versions) => record_len::<DiscoverVersionsRows>(
+                fields![versions],
+            ),
+            RequestPayload::Sign(id, parameters, data) => record_len::<SignRows>(fields![
+                id, parameters, data
+            ]),
+            RequestPayload::RNGRetrieve(length) => record_len::<RNGRetrieveRows>(fields![length]),
         }
     }
 
     fn write_into(&self, tag: Tag, out: &mut Buffer) {
         match self {
-            RequestPayload::Activate(id) => write_record::<ActivateRows>((id, ()), tag, out),
-            RequestPayload::RNGRetrieve(length) => {
-                write_record::<RNGRetrieveRows>((length, ()), tag, out);
-            }
+            RequestPayload::Create(object_type, template) => write_record::<CreateRows>(
+                fields![object_type, template],
+                tag,
+                out,
+            ),
+            RequestPayload::CreateKeyPair(common, private_key, public_key) => write_record::<
+                CreateKeyPairRows,
+            >(fields![common, private_key, public_key], tag, out),
+            RequestPayload::Register(object_type, template, object) => write_record::<RegisterRows>(
+                fields![object_type, template, object],
+                tag,
+                out,
+            ),
+            RequestPayload::Locate(attributes) => write_record::<LocateRows>(
+                fields![attributes],
+                tag,
+                out,
+            ),
+            RequestPayload::Get(id, format, compression, specification) => write_record::<GetRows>(
+                fields![id, format, compression, specification],
+                tag,
+                out,
+            ),
+            RequestPayload::GetAttributes(id, names) => write_record::<GetAttributesRows>(
+                fields![id, names],
+                tag,
+                out,
+            ),
+            RequestPayload::GetAttributeList(id) => write_record::<IdentifierRows>(
+                fields![id],
+                tag,
+                out,
+            ),
+            RequestPayload::AddAttribute(id, attribute) => write_record::<EditRows>(
+                fields![id, attribute],
+                tag,
+                out,
+            ),
+            RequestPayload::ModifyAttribute(id, attribute) => write_record::<EditRows>(
+                fields![id, attribute],
+                tag,
+                out,
+            ),
+            RequestPayload::DeleteAttribute(id, name, index) => write_record::<DeleteAttributeRows>(
+                fields![id, name, index],
+                tag,
+                out,
+            ),
+            RequestPayload::Activate(id) => write_record::<IdentifierRows>(fields![id], tag, out),
+            RequestPayload::Revoke(id, reason, date) => write_record::<RevokeRows>(
+                fields![id, reason, date],
+                tag,
+                out,
+            ),
+            RequestPayload::Destroy(id) => write_record::<IdentifierRows>(fields![id], tag, out),
+            RequestPayload::Query(functions) => write_record::<QueryRows>(
+                fields![functions],
+                tag,
+                out,
+            ),
+            RequestPayload::DiscoverVersions(versions) => write_record::<DiscoverVersionsRows>(
+                fields![versions],
+                tag,
+                out,
+            ),
+            RequestPayload::Sign(id, parameters, data) => write_record::<SignRows>(
+                fields![id, parameters, data],
+                tag,
+                out,
+            ),
+            RequestPayload::RNGRetrieve(length) => write_record::<RNGRetrieveRows>(
+                fields![length],
+                tag,
+                out,
+            ),
+        }
+    }
+}
+
+impl TryClone for RequestPayload {
+    fn try_clone(&self, alloc: Global) -> Result<RequestPayload, OutOfMemory> {
+        match self {
+            RequestPayload::Create(object_type, template) => Ok(RequestPayload::Create(
+                *object_type,
+                template.try_clone(alloc)?,
+            )),
+            RequestPayload::CreateKeyPair(common, private_key, public_key) => Ok(
+                RequestPayload::CreateKeyPair(
+                    clone_optional(common, alloc)?,
+                    clone_optional(private_key, alloc)?,
+                    clone_optional(public_key, alloc)?,
+                ),
+            ),
+            RequestPayload::Register(object_type, template, object) => Ok(
+                RequestPayload::Register(
+                    *object_type,
+                    template.try_clone(alloc)?,
+                    clone_optional(object, alloc)?,
+                ),
+            ),
+            RequestPayload::Locate(attributes) => Ok(RequestPayload::Locate(attributes.try_clone(
+                alloc,
+            )?)),
+            RequestPayload::Get(id, format, compression, specification) => Ok(RequestPayload::Get(
+                clone_optional(id, alloc)?,
+                *format,
+                *compression,
+                clone_optional(specification, alloc)?,
+            )),
+            RequestPayload::GetAttributes(id, names) => Ok(RequestPayload::GetAttributes(
+                clone_optional(id, alloc)?,
+                clone_optional(names, alloc)?,
+            )),
+            RequestPayload::GetAttributeList(id) => Ok(RequestPayload::GetAttributeList(
+                clone_optional(id, alloc)?,
+            )),
+            RequestPayload::AddAttribute(id, attribute) => Ok(RequestPayload::AddAttribute(
+                clone_optional(id, alloc)?,
+                attribute.try_clone(alloc)?,
+            )),
+            RequestPayload::ModifyAttribute(id, attribute) => Ok(RequestPayload::ModifyAttribute(
+                clone_optional(id, alloc)?,
+                attribute.try_clone(alloc)?,
+            )),
+            RequestPayload::DeleteAttribute(id, name, index) => Ok(RequestPayload::DeleteAttribute(
+                clone_optional(id, alloc)?,
+                name.try_clone(alloc)?,
+                *index,
+            )),
+            RequestPayload::Activate(id) => Ok(RequestPayload::Activate(clone_optional(
+                id, alloc,
+            )?)),
+            RequestPayload::Revoke(id, reason, date) => Ok(RequestPayload::Revoke(
+                clone_optional(id, alloc)?,
+                reason.try_clone(alloc)?,
+                *date,
+            )),
+            RequestPayload::Destroy(id) => Ok(RequestPayload::Destroy(clone_optional(id, alloc)?)),
+            RequestPayload::Query(functions) => Ok(RequestPayload::Query(copy_list(
+                functions, alloc,
+            )?)),
+            RequestPayload::DiscoverVersions(versions) => Ok(RequestPayload::DiscoverVersions(
+                copy_list(versions, alloc)?,
+            )),
+            RequestPayload::Sign(id, parameters, data) => Ok(RequestPayload::Sign(
+                clone_optional(id, alloc)?,
+                *parameters,
+                data.try_clone(alloc)?,
+            )),
+            RequestPayload::RNGRetrieve(length) => Ok(RequestPayload::RNGRetrieve(*length)),
         }
     }
 }

@@ -1,4 +1,5 @@
 pub mod Tables
 pub mod Values
 pub mod Same
+pub mod Skipped
 pub mod Reading

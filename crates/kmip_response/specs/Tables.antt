@@ -1,10 +1,12 @@
 -- The tables of a response: for each type its fields in order, with their tags, marks and types.
 use Rattle.std.specs.Prelude.{[], ◌∷◌, None, codes}
 use Rattle.kmip_wire.specs.declared.kind.Kind.TheVariants.{Integer, Boolean, TextString, ByteString, DateTime}
-use Rattle.kmip_shape.specs.Shape.{Shape, Scalar, OneOf, Rows, NoRow, AndRow, Required, Optional, AtLeastOne, Plain, Chooser, Chosen, Under, Cases, NoCase, AndCase, Choice, OfNumber, ByNumbers}
+use Rattle.kmip_shape.specs.Shape.{Shape, Scalar, OneOf, Rows, NoRow, AndRow, Required, Optional, AnyNumber, AtLeastOne, OptionalList, Plain, Chooser, Chosen, Under, ByCase, Cases, NoCase, AndCase, Choice, OfNumber, ByNumbers}
 use Rattle.kmip_enums.specs.Operations.{operations}
 use Rattle.kmip_enums.specs.ResultStatuses.{result_statuses}
 use Rattle.kmip_enums.specs.ResultReasons.{result_reasons}
+use Rattle.kmip_enums.specs.ObjectTypes.{object_types}
+use Rattle.kmip_objects.specs.Tables.{attribute, template_attribute, managed_objects}
 
 -- Protocol Version (KMIP 1.0, 6.1)
 abbrev pub protocol_version : Shape
@@ -28,11 +30,89 @@ message_extension = Rows
     (AndRow (codes "criticality_indicator") (Under 0x420026) Required Plain (Scalar Boolean)
     NoRow))
 
--- the payload of Activate, and of the other operations that answer an identifier alone (KMIP 1.0, 4.18)
+-- the payload of Create (KMIP 1.0, 4.1)
+abbrev pub create_payload : Shape
+create_payload = Rows
+    (AndRow (codes "object_type") (Under 0x420057) Required Plain (OneOf object_types)
+    (AndRow (codes "unique_identifier") (Under 0x420094) Required Plain (Scalar TextString)
+    (AndRow (codes "object_attributes") (Under 0x420008) OptionalList Plain attribute
+    NoRow)))
+
+-- the payload of Create Key Pair (KMIP 1.0, 4.2)
+abbrev pub create_key_pair_payload : Shape
+create_key_pair_payload = Rows
+    (AndRow (codes "private_key_unique_identifier") (Under 0x420066) Required Plain (Scalar TextString)
+    (AndRow (codes "public_key_unique_identifier") (Under 0x42006F) Required Plain (Scalar TextString)
+    NoRow))
+
+-- the payload of Register (KMIP 1.0, 4.3)
+abbrev pub register_payload : Shape
+register_payload = Rows
+    (AndRow (codes "unique_identifier") (Under 0x420094) Required Plain (Scalar TextString)
+    (AndRow (codes "template_attributes") (Under 0x420091) OptionalList Plain template_attribute
+    NoRow))
+
+-- the payload of Locate (KMIP 1.0, 4.8)
+abbrev pub locate_payload : Shape
+locate_payload = Rows
+    (AndRow (codes "unique_identifiers") (Under 0x420094) AnyNumber Plain (Scalar TextString)
+    NoRow)
+
+-- the payload of Get (KMIP 1.0, 4.10)
+abbrev pub get_payload : Shape
+get_payload = Rows
+    (AndRow (codes "object_type") (Under 0x420057) Required Chooser (OneOf object_types)
+    (AndRow (codes "unique_identifier") (Under 0x420094) Required Plain (Scalar TextString)
+    (AndRow (codes "cryptographic_object") ByCase Required Chosen (Choice OfNumber managed_objects)
+    NoRow)))
+
+-- the payload of Get Attributes (KMIP 1.0, 4.11)
+abbrev pub get_attributes_payload : Shape
+get_attributes_payload = Rows
+    (AndRow (codes "unique_identifier") (Under 0x420094) Required Plain (Scalar TextString)
+    (AndRow (codes "attributes") (Under 0x420008) OptionalList Plain attribute
+    NoRow))
+
+-- the payload of Get Attribute List (KMIP 1.0, 4.12)
+abbrev pub get_attribute_list_payload : Shape
+get_attribute_list_payload = Rows
+    (AndRow (codes "unique_identifier") (Under 0x420094) Required Plain (Scalar TextString)
+    (AndRow (codes "attributes") (Under 0x42000A) AtLeastOne Plain (Scalar TextString)
+    NoRow))
+
+-- the payload of Add Attribute, Modify Attribute and Delete Attribute (KMIP 1.0, 4.13 to 4.15)
+abbrev pub attribute_edit_payload : Shape
+attribute_edit_payload = Rows
+    (AndRow (codes "unique_identifier") (Under 0x420094) Required Plain (Scalar TextString)
+    (AndRow (codes "attribute") (Under 0x420008) Required Plain attribute
+    NoRow))
+
+-- the payload of Activate, Revoke and Destroy (KMIP 1.0, 4.18 to 4.20)
 abbrev pub unique_identifier_payload : Shape
 unique_identifier_payload = Rows
     (AndRow (codes "unique_identifier") (Under 0x420094) Required Plain (Scalar TextString)
     NoRow)
+
+-- the payload of Query (KMIP 1.0, 4.24); Server Information is skipped
+abbrev pub query_payload : Shape
+query_payload = Rows
+    (AndRow (codes "operations") (Under 0x42005C) OptionalList Plain (OneOf operations)
+    (AndRow (codes "object_types") (Under 0x420057) OptionalList Plain (OneOf object_types)
+    (AndRow (codes "vendor_identification") (Under 0x42009D) Optional Plain (Scalar TextString)
+    NoRow)))
+
+-- the payload of Discover Versions (KMIP 1.1, 4.26)
+abbrev pub discover_versions_payload : Shape
+discover_versions_payload = Rows
+    (AndRow (codes "supported_versions") (Under 0x420069) OptionalList Plain protocol_version
+    NoRow)
+
+-- the payload of Sign (KMIP 1.2, 4.31)
+abbrev pub sign_payload : Shape
+sign_payload = Rows
+    (AndRow (codes "unique_identifier") (Under 0x420094) Required Plain (Scalar TextString)
+    (AndRow (codes "signature_data") (Under 0x4200C3) Required Plain (Scalar ByteString)
+    NoRow))
 
 -- the payload of RNG Retrieve (KMIP 1.2, 4.35)
 abbrev pub rng_retrieve_payload : Shape
@@ -43,9 +123,24 @@ rng_retrieve_payload = Rows
 -- a payload is chosen by the number of its batch item's operation
 abbrev pub response_payloads : Cases
 response_payloads =
-    AndCase 18 (codes "Activate") (ByNumbers (18 ∷ [])) None unique_identifier_payload
+    AndCase 1 (codes "Create") (ByNumbers (1 ∷ [])) None create_payload
+    (AndCase 2 (codes "CreateKeyPair") (ByNumbers (2 ∷ [])) None create_key_pair_payload
+    (AndCase 3 (codes "Register") (ByNumbers (3 ∷ [])) None register_payload
+    (AndCase 8 (codes "Locate") (ByNumbers (8 ∷ [])) None locate_payload
+    (AndCase 10 (codes "Get") (ByNumbers (10 ∷ [])) None get_payload
+    (AndCase 11 (codes "GetAttributes") (ByNumbers (11 ∷ [])) None get_attributes_payload
+    (AndCase 12 (codes "GetAttributeList") (ByNumbers (12 ∷ [])) None get_attribute_list_payload
+    (AndCase 13 (codes "AddAttribute") (ByNumbers (13 ∷ [])) None attribute_edit_payload
+    (AndCase 14 (codes "ModifyAttribute") (ByNumbers (14 ∷ [])) None attribute_edit_payload
+    (AndCase 15 (codes "DeleteAttribute") (ByNumbers (15 ∷ [])) None attribute_edit_payload
+    (AndCase 18 (codes "Activate") (ByNumbers (18 ∷ [])) None unique_identifier_payload
+    (AndCase 19 (codes "Revoke") (ByNumbers (19 ∷ [])) None unique_identifier_payload
+    (AndCase 20 (codes "Destroy") (ByNumbers (20 ∷ [])) None unique_identifier_payload
+    (AndCase 24 (codes "Query") (ByNumbers (24 ∷ [])) None query_payload
+    (AndCase 30 (codes "DiscoverVersions") (ByNumbers (30 ∷ [])) None discover_versions_payload
+    (AndCase 33 (codes "Sign") (ByNumbers (33 ∷ [])) None sign_payload
     (AndCase 37 (codes "RNGRetrieve") (ByNumbers (37 ∷ [])) None rng_retrieve_payload
-    NoCase)
+    NoCase))))))))))))))))
 
 abbrev pub response_payload : Shape
 response_payload = Choice OfNumber response_payloads

@@ -10,9 +10,9 @@ use crate::payload::ResponsePayload;
 use kmip_enums::{Operation, ResultReason, ResultStatus};
 use kmip_shape::columns::{ChosenOpt, One, Opt};
 use kmip_shape::record::{Choosing, End, Row};
-use kmip_shape::{Item, Outer, ReadError, ReadItem, ReadRoot, known_record, read_record};
+use kmip_shape::{Item, Outer, ReadError, ReadItem, ReadRoot, fields, known_record, read_record};
 use kmip_types::UniqueBatchItemID;
-use kmip_wire::{ItemRef, Tag, Text};
+use kmip_wire::{ItemRef, OutOfMemory, Tag, Text, TryClone, clone_optional};
 use std::alloc::Global;
 
 /// What one operation came to: KMIP 1.0, 7.2.
@@ -28,28 +28,40 @@ pub struct BatchItem {
     pub message_extension: Option<MessageExtension>,
 }
 
+impl TryClone for BatchItem {
+    fn try_clone(&self, alloc: Global) -> Result<BatchItem, OutOfMemory> {
+        let unique_batch_item_id = clone_optional(&self.unique_batch_item_id, alloc)?;
+        let result_message = clone_optional(&self.result_message, alloc)?;
+        let message_extension = clone_optional(&self.message_extension, alloc)?;
+        // last, so that no other copy can be refused while this one is there to be dropped
+        let payload = clone_optional(&self.payload, alloc)?;
+        Ok(BatchItem {
+            operation: self.operation,
+            unique_batch_item_id,
+            result_status: self.result_status,
+            result_reason: self.result_reason,
+            result_message,
+            payload,
+            message_extension,
+        })
+    }
+}
+
 impl Item for BatchItem {
     ghost shape = { batch_item };
 
     ghost val = { batch_item_val };
 
     fn known(&self) {
-        known_record::<BatchItemRows<'_>>((
+        known_record::<BatchItemRows<'_>>(fields![
             &self.operation,
-            (
-                &self.unique_batch_item_id,
-                (
-                    &self.result_status,
-                    (
-                        &self.result_reason,
-                        (
-                            &self.result_message,
-                            (&self.payload, (&self.message_extension, ())),
-                        ),
-                    ),
-                ),
-            ),
-        ));
+            &self.unique_batch_item_id,
+            &self.result_status,
+            &self.result_reason,
+            &self.result_message,
+            &self.payload,
+            &self.message_extension,
+        ]);
     }
 
     ghost same = { batch_item_same };
@@ -77,16 +89,15 @@ type BatchItemRows<'a> = Choosing<
 
 impl ReadItem for BatchItem {
     fn read(alloc: Global, outer: Outer<'_>, item: ItemRef<'_>) -> Result<Self, ReadError> {
-        let (
+        let fields![
             operation,
-            (
-                unique_batch_item_id,
-                (
-                    result_status,
-                    (result_reason, (result_message, (payload, (message_extension, _)))),
-                ),
-            ),
-        ) = read_record::<BatchItemRows<'_>>(alloc, outer, item)?;
+            unique_batch_item_id,
+            result_status,
+            result_reason,
+            result_message,
+            payload,
+            message_extension,
+        ] = read_record::<BatchItemRows<'_>>(alloc, outer, item)?;
         Ok(BatchItem {
             operation,
             unique_batch_item_id,

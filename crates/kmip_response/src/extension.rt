@@ -7,8 +7,8 @@ ghost use Rattle.kmip_response.specs.Same.{message_extension_same};
 
 use kmip_shape::columns::One;
 use kmip_shape::record::{End, Row};
-use kmip_shape::{Item, Outer, ReadError, ReadItem, ReadRoot, known_record, read_record};
-use kmip_wire::{ItemRef, Tag, Text};
+use kmip_shape::{Item, Outer, ReadError, ReadItem, ReadRoot, fields, known_record, read_record};
+use kmip_wire::{ItemRef, OutOfMemory, Tag, Text, TryClone};
 use std::alloc::Global;
 
 /// The contents of a vendor's extension, which are skipped.
@@ -24,16 +24,26 @@ pub struct MessageExtension {
     pub vendor_extension: VendorExtension,
 }
 
+impl TryClone for MessageExtension {
+    fn try_clone(&self, alloc: Global) -> Result<MessageExtension, OutOfMemory> {
+        Ok(MessageExtension {
+            vendor_identification: self.vendor_identification.try_clone(alloc)?,
+            criticality_indicator: self.criticality_indicator,
+            vendor_extension: VendorExtension,
+        })
+    }
+}
+
 impl Item for MessageExtension {
     ghost shape = { message_extension };
 
     ghost val = { message_extension_val };
 
     fn known(&self) {
-        known_record::<MessageExtensionRows>((
+        known_record::<MessageExtensionRows>(fields![
             &self.vendor_identification,
-            (&self.criticality_indicator, ()),
-        ));
+            &self.criticality_indicator,
+        ]);
     }
 
     ghost same = { message_extension_same };
@@ -43,7 +53,7 @@ type MessageExtensionRows = Row<One<Text, 0x42009D>, Row<One<bool, 0x420026>, En
 
 impl ReadItem for MessageExtension {
     fn read(alloc: Global, outer: Outer<'_>, item: ItemRef<'_>) -> Result<Self, ReadError> {
-        let (vendor_identification, (criticality_indicator, _)) = read_record::<
+        let fields![vendor_identification, criticality_indicator] = read_record::<
             MessageExtensionRows,
         >(alloc, outer, item)?;
         Ok(MessageExtension {

@@ -8,7 +8,8 @@ ghost use Rattle.kmip_response.specs.Same.{protocol_version_same, response_heade
 use kmip_shape::columns::One;
 use kmip_shape::record::{End, Row};
 use kmip_shape::{
-    Item, Outer, ReadError, ReadItem, ReadRoot, Timestamp, known_record, read_record,
+    Item, Outer, ReadError, ReadItem, ReadRoot, ShowItem, Sink, Timestamp, fields, known_record,
+    read_record, show_record,
 };
 use kmip_wire::{ItemRef, Tag};
 use std::alloc::Global;
@@ -28,7 +29,7 @@ impl Item for ProtocolVersion {
     ghost val = { protocol_version_val };
 
     fn known(&self) {
-        known_record::<ProtocolVersionRows>((&self.major, (&self.minor, ())));
+        known_record::<ProtocolVersionRows>(fields![&self.major, &self.minor]);
     }
 
     ghost same = { protocol_version_same };
@@ -36,8 +37,18 @@ impl Item for ProtocolVersion {
 
 impl ReadItem for ProtocolVersion {
     fn read(alloc: Global, outer: Outer<'_>, item: ItemRef<'_>) -> Result<Self, ReadError> {
-        let (major, (minor, _)) = read_record::<ProtocolVersionRows>(alloc, outer, item)?;
+        let fields![major, minor] = read_record::<ProtocolVersionRows>(alloc, outer, item)?;
         Ok(ProtocolVersion { major, minor })
+    }
+}
+
+impl ShowItem for ProtocolVersion {
+    fn show_into(&self, out: &mut Sink) {
+        show_record::<ProtocolVersionRows>(
+            fields![&self.major, &self.minor],
+            fields!["major", "minor"],
+            out,
+        );
     }
 }
 
@@ -71,10 +82,11 @@ impl Item for ResponseHeader {
 
     fn known(&self) {
         let timestamp = Timestamp(self.timestamp);
-        known_record::<ResponseHeaderRows>((
+        known_record::<ResponseHeaderRows>(fields![
             &self.protocol_version,
-            (&timestamp, (&self.batch_count, ())),
-        ));
+            &timestamp,
+            &self.batch_count,
+        ]);
     }
 
     ghost same = { response_header_same };
@@ -82,7 +94,7 @@ impl Item for ResponseHeader {
 
 impl ReadItem for ResponseHeader {
     fn read(alloc: Global, outer: Outer<'_>, item: ItemRef<'_>) -> Result<Self, ReadError> {
-        let (protocol_version, (timestamp, (batch_count, _))) = read_record::<ResponseHeaderRows>(
+        let fields![protocol_version, timestamp, batch_count] = read_record::<ResponseHeaderRows>(
             alloc, outer, item,
         )?;
         Ok(ResponseHeader {

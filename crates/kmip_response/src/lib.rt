@@ -10,14 +10,33 @@ mod extension;
 mod header;
 mod message;
 mod payload;
+mod payloads;
 mod reading;
 
 pub use batch_item::BatchItem;
 pub use extension::{MessageExtension, VendorExtension};
 pub use header::{ProtocolVersion, ResponseHeader};
+pub use kmip_objects::{
+    Attribute, Certificate, EncryptionKeyInformation, KeyBlock, KeyValue, KeyWrappingData,
+    MACOrSignatureKeyInformation, ManagedObject, Name, PrivateKey, PublicKey, SymmetricKey,
+    TemplateAttribute,
+};
 pub use message::ResponseMessage;
-pub use payload::{
-    ActivateResponsePayload, RNGRetrieveResponsePayload, ResponsePayload,
+pub use payload::ResponsePayload;
+pub use payloads::attributes::{
+    AddAttributeResponsePayload, AttributeEditResponsePayload, DeleteAttributeResponsePayload,
+    GetAttributeListResponsePayload, GetAttributesResponsePayload, ModifyAttributeResponsePayload,
+};
+pub use payloads::cryptography::{RNGRetrieveResponsePayload, SignResponsePayload};
+pub use payloads::get::GetResponsePayload;
+pub use payloads::identifiers::{
+    ActivateResponsePayload, CreateKeyPairResponsePayload, CreateResponsePayload,
+    DestroyResponsePayload, LocateResponsePayload, RegisterResponsePayload, RevokeResponsePayload,
     UniqueIdentifierResponsePayload,
 };
+pub use payloads::query::DiscoverVersionsResponsePayload;
+pub use payloads::server::{QueryResponsePayload, ServerInformation};
 pub use reading::{ResponseError, from_slice};
+
+#[cfg(test)]
+mod tests;

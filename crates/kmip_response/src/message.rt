@@ -9,8 +9,8 @@ use crate::batch_item::BatchItem;
 use crate::header::ResponseHeader;
 use kmip_shape::columns::{NonEmpty, One};
 use kmip_shape::record::{End, Row};
-use kmip_shape::{Item, Outer, ReadError, ReadItem, ReadRoot, known_record, read_record};
-use kmip_wire::{ItemRef, List, Tag};
+use kmip_shape::{Item, Outer, ReadError, ReadItem, ReadRoot, fields, known_record, read_record};
+use kmip_wire::{ItemRef, List, OutOfMemory, Tag, TryClone};
 use std::alloc::Global;
 
 /// A response: KMIP 1.0, 7.1.
@@ -21,13 +21,22 @@ pub struct ResponseMessage {
     pub batch_items: List<BatchItem>,
 }
 
+impl TryClone for ResponseMessage {
+    fn try_clone(&self, alloc: Global) -> Result<ResponseMessage, OutOfMemory> {
+        Ok(ResponseMessage {
+            header: self.header,
+            batch_items: self.batch_items.try_clone(alloc)?,
+        })
+    }
+}
+
 impl Item for ResponseMessage {
     ghost shape = { response_message };
 
     ghost val = { response_message_val };
 
     fn known(&self) {
-        known_record::<ResponseMessageRows>((&self.header, (&self.batch_items, ())));
+        known_record::<ResponseMessageRows>(fields![&self.header, &self.batch_items]);
     }
 
     ghost same = { response_message_same };
@@ -40,7 +49,7 @@ type ResponseMessageRows = Row<
 
 impl ReadItem for ResponseMessage {
     fn read(alloc: Global, outer: Outer<'_>, item: ItemRef<'_>) -> Result<Self, ReadError> {
-        let (header, (batch_items, _)) = read_record::<ResponseMessageRows>(alloc, outer, item)?;
+        let fields![header, batch_items] = read_record::<ResponseMessageRows>(alloc, outer, item)?;
         Ok(ResponseMessage {
             header,
             batch_items,

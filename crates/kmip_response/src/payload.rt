@@ -1,115 +1,99 @@
-//! The payloads of responses.
+//! The payload of a response.
 
 ghost use Rattle.std.specs.Prelude.{◌≡◌};
-ghost use Rattle.kmip_response.specs.Tables.{unique_identifier_payload, rng_retrieve_payload, response_payload};
-ghost use Rattle.kmip_response.specs.Values.{unique_identifier_payload_val, rng_retrieve_payload_val, response_payload_val};
-ghost use Rattle.kmip_response.specs.Same.{unique_identifier_payload_same, rng_retrieve_payload_same, response_payload_same};
+ghost use Rattle.kmip_response.specs.Tables.{response_payload};
+ghost use Rattle.kmip_response.specs.Values.{response_payload_val};
+ghost use Rattle.kmip_response.specs.Same.{response_payload_same};
 
-use kmip_shape::columns::One;
-use kmip_shape::record::{End, Row};
-use kmip_shape::{
-    Item, Outer, ReadError, ReadItem, ReadRoot, ShowItem, Sink, known_record, read_record,
-    show_record,
+use crate::payloads::attributes::{
+    AttributeEditResponsePayload, GetAttributeListResponsePayload, GetAttributesResponsePayload,
 };
-use kmip_types::UniqueIdentifier;
-use kmip_wire::{Blob, ItemRef, Tag};
+use crate::payloads::cryptography::{RNGRetrieveResponsePayload, SignResponsePayload};
+use crate::payloads::get::GetResponsePayload;
+use crate::payloads::identifiers::{
+    CreateKeyPairResponsePayload, CreateResponsePayload, LocateResponsePayload,
+    RegisterResponsePayload, UniqueIdentifierResponsePayload,
+};
+use crate::payloads::query::DiscoverVersionsResponsePayload;
+use crate::payloads::server::QueryResponsePayload;
+use kmip_shape::{Item, Outer, ReadError, ReadItem, ShowItem, Sink, show_case};
+use kmip_wire::{ItemRef, OutOfMemory, TryClone};
 use std::alloc::Global;
-
-/// The identifier of the object that an operation was made on.
-#[derive(PartialEq, Eq, Drop)]
-pub struct UniqueIdentifierResponsePayload {
-    pub unique_identifier: UniqueIdentifier,
-}
-
-/// What Activate answers: KMIP 1.0, 4.18.
-pub type ActivateResponsePayload = UniqueIdentifierResponsePayload;
-
-impl Item for UniqueIdentifierResponsePayload {
-    ghost shape = { unique_identifier_payload };
-
-    ghost val = { unique_identifier_payload_val };
-
-    fn known(&self) {
-        known_record::<UniqueIdentifierRows>((&self.unique_identifier, ()));
-    }
-
-    ghost same = { unique_identifier_payload_same };
-}
-
-impl ShowItem for UniqueIdentifierResponsePayload {
-    fn show_into(&self, out: &mut Sink) {
-        show_record::<UniqueIdentifierRows>(
-            (&self.unique_identifier, ()),
-            ("unique_identifier", ()),
-            out,
-        );
-    }
-}
-
-type UniqueIdentifierRows = Row<One<UniqueIdentifier, 0x420094>, End>;
-
-impl ReadItem for UniqueIdentifierResponsePayload {
-    fn read(alloc: Global, outer: Outer<'_>, item: ItemRef<'_>) -> Result<Self, ReadError> {
-        let (unique_identifier, _) = read_record::<UniqueIdentifierRows>(alloc, outer, item)?;
-        Ok(UniqueIdentifierResponsePayload { unique_identifier })
-    }
-}
-
-impl ReadRoot for UniqueIdentifierResponsePayload {
-    ghost root_tag = { 0x42007C };
-
-    fn root_tag() -> Tag {
-        Tag::of(0x42007C)
-    }
-}
-
-/// What RNG Retrieve answers: KMIP 1.2, 4.35.
-#[derive(PartialEq, Eq, Drop)]
-pub struct RNGRetrieveResponsePayload {
-    /// The random bytes; a server may give another number than was asked for.
-    pub random_bytes: Blob,
-}
-
-impl Item for RNGRetrieveResponsePayload {
-    ghost shape = { rng_retrieve_payload };
-
-    ghost val = { rng_retrieve_payload_val };
-
-    fn known(&self) {
-        known_record::<RNGRetrieveRows>((&self.random_bytes, ()));
-    }
-
-    ghost same = { rng_retrieve_payload_same };
-}
-
-impl ShowItem for RNGRetrieveResponsePayload {
-    fn show_into(&self, out: &mut Sink) {
-        show_record::<RNGRetrieveRows>((&self.random_bytes, ()), ("random_bytes", ()), out);
-    }
-}
-
-type RNGRetrieveRows = Row<One<Blob, 0x4200C2>, End>;
-
-impl ReadItem for RNGRetrieveResponsePayload {
-    fn read(alloc: Global, outer: Outer<'_>, item: ItemRef<'_>) -> Result<Self, ReadError> {
-        let (random_bytes, _) = read_record::<RNGRetrieveRows>(alloc, outer, item)?;
-        Ok(RNGRetrieveResponsePayload { random_bytes })
-    }
-}
-
-impl ReadRoot for RNGRetrieveResponsePayload {
-    ghost root_tag = { 0x42007C };
-
-    fn root_tag() -> Tag {
-        Tag::of(0x42007C)
-    }
-}
 
 /// What an operation answers, chosen by the operation of its batch item.
 #[derive(PartialEq, Eq, Drop)]
 pub enum ResponsePayload {
-    Activate(ActivateResponsePayload),
+    Create(CreateResponsePayload),
+    CreateKeyPair(CreateKeyPairResponsePayload),
+    Register(RegisterResponsePayload),
+    Locate(LocateResponsePayload),
+    Get(GetResponsePayload),
+    GetAttributes(GetAttributesResponsePayload),
+    GetAttributeList(GetAttributeListResponsePayload),
+    AddAttribute(AttributeEditResponsePayload),
+    ModifyAttribute(AttributeEditResponsePayload),
+    DeleteAttribute(AttributeEditResponsePayload),
+    Activate(UniqueIdentifierResponsePayload),
+    Revoke(UniqueIdentifierResponsePayload),
+    Destroy(UniqueIdentifierResponsePayload),
+    Query(QueryResponsePayload),
+    DiscoverVersions(DiscoverVersionsResponsePayload),
+    Sign(SignResponsePayload),
     RNGRetrieve(RNGRetrieveResponsePayload),
+}
+
+impl TryClone for ResponsePayload {
+    fn try_clone(&self, alloc: Global) -> Result<ResponsePayload, OutOfMemory> {
+        match self {
+            ResponsePayload::Create(payload) => Ok(ResponsePayload::Create(payload.try_clone(
+                alloc,
+            )?)),
+            ResponsePayload::CreateKeyPair(payload) => Ok(ResponsePayload::CreateKeyPair(
+                payload.try_clone(alloc)?,
+            )),
+            ResponsePayload::Register(payload) => Ok(ResponsePayload::Register(payload.try_clone(
+                alloc,
+            )?)),
+            ResponsePayload::Locate(payload) => Ok(ResponsePayload::Locate(payload.try_clone(
+                alloc,
+            )?)),
+            ResponsePayload::Get(payload) => Ok(ResponsePayload::Get(payload.try_clone(alloc)?)),
+            ResponsePayload::GetAttributes(payload) => Ok(ResponsePayload::GetAttributes(
+                payload.try_clone(alloc)?,
+            )),
+            ResponsePayload::GetAttributeList(payload) => Ok(ResponsePayload::GetAttributeList(
+                payload.try_clone(alloc)?,
+            )),
+            ResponsePayload::AddAttribute(payload) => Ok(ResponsePayload::AddAttribute(
+                payload.try_clone(alloc)?,
+            )),
+            ResponsePayload::ModifyAttribute(payload) => Ok(ResponsePayload::ModifyAttribute(
+                payload.try_clone(alloc)?,
+            )),
+            ResponsePayload::DeleteAttribute(payload) => Ok(ResponsePayload::DeleteAttribute(
+                payload.try_clone(alloc)?,
+            )),
+            ResponsePayload::Activate(payload) => Ok(ResponsePayload::Activate(payload.try_clone(
+                alloc,
+            )?)),
+            ResponsePayload::Revoke(payload) => Ok(ResponsePayload::Revoke(payload.try_clone(
+                alloc,
+            )?)),
+            ResponsePayload::Destroy(payload) => Ok(ResponsePayload::Destroy(payload.try_clone(
+                alloc,
+            )?)),
+            ResponsePayload::Query(payload) => Ok(ResponsePayload::Query(payload.try_clone(
+                alloc,
+            )?)),
+            ResponsePayload::DiscoverVersions(payload) => Ok(ResponsePayload::DiscoverVersions(
+                payload.try_clone(alloc)?,
+            )),
+            ResponsePayload::Sign(payload) => Ok(ResponsePayload::Sign(payload.try_clone(alloc)?)),
+            ResponsePayload::RNGRetrieve(payload) => Ok(ResponsePayload::RNGRetrieve(
+                payload.try_clone(alloc)?,
+            )),
+        }
+    }
 }
 
 impl Item for ResponsePayload {
@@ -119,7 +103,22 @@ impl Item for ResponsePayload {
 
     fn known(&self) {
         match self {
+            ResponsePayload::Create(payload) => payload.known(),
+            ResponsePayload::CreateKeyPair(payload) => payload.known(),
+            ResponsePayload::Register(payload) => payload.known(),
+            ResponsePayload::Locate(payload) => payload.known(),
+            ResponsePayload::Get(payload) => payload.known(),
+            ResponsePayload::GetAttributes(payload) => payload.known(),
+            ResponsePayload::GetAttributeList(payload) => payload.known(),
+            ResponsePayload::AddAttribute(payload) => payload.known(),
+            ResponsePayload::ModifyAttribute(payload) => payload.known(),
+            ResponsePayload::DeleteAttribute(payload) => payload.known(),
             ResponsePayload::Activate(payload) => payload.known(),
+            ResponsePayload::Revoke(payload) => payload.known(),
+            ResponsePayload::Destroy(payload) => payload.known(),
+            ResponsePayload::Query(payload) => payload.known(),
+            ResponsePayload::DiscoverVersions(payload) => payload.known(),
+            ResponsePayload::Sign(payload) => payload.known(),
             ResponsePayload::RNGRetrieve(payload) => payload.known(),
         }
     }
@@ -130,9 +129,48 @@ impl Item for ResponsePayload {
 impl ReadItem for ResponsePayload {
     fn read(alloc: Global, outer: Outer<'_>, item: ItemRef<'_>) -> Result<Self, ReadError> {
         match outer.number {
-            Some(18) => Ok(ResponsePayload::Activate(ActivateResponsePayload::read(
+            Some(1) => Ok(ResponsePayload::Create(CreateResponsePayload::read(
                 alloc, outer, item,
             )?)),
+            Some(2) => Ok(ResponsePayload::CreateKeyPair(CreateKeyPairResponsePayload::read(
+                alloc, outer, item,
+            )?)),
+            Some(3) => Ok(ResponsePayload::Register(RegisterResponsePayload::read(
+                alloc, outer, item,
+            )?)),
+            Some(8) => Ok(ResponsePayload::Locate(LocateResponsePayload::read(
+                alloc, outer, item,
+            )?)),
+            Some(10) => Ok(ResponsePayload::Get(GetResponsePayload::read(alloc, outer, item)?)),
+            Some(11) => Ok(ResponsePayload::GetAttributes(GetAttributesResponsePayload::read(
+                alloc, outer, item,
+            )?)),
+            Some(12) => Ok(ResponsePayload::GetAttributeList(GetAttributeListResponsePayload::read(
+                alloc, outer, item,
+            )?)),
+            Some(13) => Ok(ResponsePayload::AddAttribute(AttributeEditResponsePayload::read(
+                alloc, outer, item,
+            )?)),
+            Some(14) => Ok(ResponsePayload::ModifyAttribute(AttributeEditResponsePayload::read(
+                alloc, outer, item,
+            )?)),
+            Some(15) => Ok(ResponsePayload::DeleteAttribute(AttributeEditResponsePayload::read(
+                alloc, outer, item,
+            )?)),
+            Some(18) => Ok(ResponsePayload::Activate(UniqueIdentifierResponsePayload::read(
+                alloc, outer, item,
+            )?)),
+            Some(19) => Ok(ResponsePayload::Revoke(UniqueIdentifierResponsePayload::read(
+                alloc, outer, item,
+            )?)),
+            Some(20) => Ok(ResponsePayload::Destroy(UniqueIdentifierResponsePayload::read(
+                alloc, outer, item,
+            )?)),
+            Some(24) => Ok(ResponsePayload::Query(QueryResponsePayload::read(alloc, outer, item)?)),
+            Some(30) => Ok(ResponsePayload::DiscoverVersions(DiscoverVersionsResponsePayload::read(
+                alloc, outer, item,
+            )?)),
+            Some(33) => Ok(ResponsePayload::Sign(SignResponsePayload::read(alloc, outer, item)?)),
             Some(37) => Ok(ResponsePayload::RNGRetrieve(RNGRetrieveResponsePayload::read(
                 alloc, outer, item,
             )?)),
@@ -144,14 +182,31 @@ impl ReadItem for ResponsePayload {
 impl ShowItem for ResponsePayload {
     fn show_into(&self, out: &mut Sink) {
         match self {
-            ResponsePayload::Activate(payload) => {
-                out.put("Activate");
-                payload.show_into(out);
-            }
-            ResponsePayload::RNGRetrieve(payload) => {
-                out.put("RNGRetrieve");
-                payload.show_into(out);
-            }
+            ResponsePayload::Create(payload) => show_case("Create", payload, out),
+            ResponsePayload::CreateKeyPair(payload) => show_case("CreateKeyPair", payload, out),
+            ResponsePayload::Register(payload) => show_case("Register", payload, out),
+            ResponsePayload::Locate(payload) => show_case("Locate", payload, out),
+            ResponsePayload::Get(payload) => show_case("Get", payload, out),
+            ResponsePayload::GetAttributes(payload) => show_case("GetAttributes", payload, out),
+            ResponsePayload::GetAttributeList(payload) => show_case(
+                "GetAttributeList",
+                payload,
+                out,
+            ),
+            ResponsePayload::AddAttribute(payload) => show_case("AddAttribute", payload, out),
+            ResponsePayload::ModifyAttribute(payload) => show_case("ModifyAttribute", payload, out),
+            ResponsePayload::DeleteAttribute(payload) => show_case("DeleteAttribute", payload, out),
+            ResponsePayload::Activate(payload) => show_case("Activate", payload, out),
+            ResponsePayload::Revoke(payload) => show_case("Revoke", payload, out),
+            ResponsePayload::Destroy(payload) => show_case("Destroy", payload, out),
+            ResponsePayload::Query(payload) => show_case("Query", payload, out),
+            ResponsePayload::DiscoverVersions(payload) => show_case(
+                "DiscoverVersions",
+                payload,
+                out,
+            ),
+            ResponsePayload::Sign(payload) => show_case("Sign", payload, out),
+            ResponsePayload::RNGRetrieve(payload) => show_case("RNGRetrieve", payload, out),
         }
     }
 }

@@ -10,6 +10,7 @@ pub mod big;
 pub mod by_tag;
 pub mod children;
 pub mod columns;
+mod copies;
 mod enumeration;
 pub mod fields;
 mod item;
@@ -27,6 +28,7 @@ mod write;
 pub use big::{BigOne, BigOpt};
 pub use by_tag::{OfTag, TagOpt};
 pub use children::{read_list, read_one, read_opt};
+pub use copies::{copy_list, copy_optional_list};
 pub use enumeration::{Enumeration, distinct};
 pub use fields::{known_record, record_len, show_record, write_record};
 pub use item::{Item, WriteItem};
@@ -39,7 +41,7 @@ pub use rows::{
     list_len, optional_len, optional_list_len, plus_len, structure_len, write_list, write_optional,
     write_optional_list,
 };
-pub use show::ShowItem;
+pub use show::{ShowItem, show_case, show_in_brackets};
 pub use sink::Sink;
 pub use wrapped::{BigInteger, Timestamp};
 pub use write::{item_len, to_blob, write_item};

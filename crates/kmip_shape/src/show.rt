@@ -1,6 +1,6 @@
 //! Values shown as text.
 
-ghost use Rattle.std.specs.Prelude.{◌≡◌, ◌++◌, Bool, ◌||◌, false, true, OnOk};
+ghost use Rattle.std.specs.Prelude.{◌≡◌, ◌++◌, ◌∷◌, [], Bool, ◌||◌, false, true, OnOk};
 ghost use Rattle.kmip_shape.specs.Val.{One as one, Many as many};
 ghost use Rattle.kmip_shape.specs.Shape.{NoCase};
 ghost use Rattle.kmip_shape.specs.Writes.{optional, optional_list, vals};
@@ -94,4 +94,22 @@ pub fn show_optional_list<T: ShowItem>(
         Some(items) => show_list(items, name, after, out),
         None => after,
     }
+}
+
+/// A case whose value is a record or a list: its name, and the value itself.
+pub fn show_case<T: ShowItem>(name: &str, item: &T, out: &mut Sink)
+    ensures { Grows out.old out.new (name.now ++ shown T.shape (T.val item.now)) }
+{
+    out.put(name);
+    item.show_into(out);
+}
+
+/// A case of another value: its name, and the value in round brackets.
+pub fn show_in_brackets<T: ShowItem>(name: &str, item: &T, out: &mut Sink)
+    ensures { Grows out.old out.new (name.now ++ 40 ∷ (shown T.shape (T.val item.now) ++ 41 ∷ [])) }
+{
+    out.put(name);
+    out.put("(");
+    item.show_into(out);
+    out.put(")");
 }

@@ -1,6 +1,34 @@
-//! The types that requests and responses share, with those of kmip_names under this crate's own name.
+//! The types that requests and responses share, with those of kmip_codes, kmip_names and kmip_keys under this crate's
+//! own name.
 #![tactic(auto)]
 
+mod attribute_copying;
+mod attribute_equality;
+mod attribute_reading;
+mod attribute_showing;
+mod attribute_value;
+mod attribute_writing;
 pub mod auth;
+mod cryptographic_parameters;
 
-pub use kmip_names::{Data, DataLength, UniqueBatchItemID, UniqueIdentifier};
+pub use attribute_value::{AttributeValue, Values};
+pub use cryptographic_parameters::CryptographicParameters;
+pub use kmip_codes::{
+    BlockCipherMode, CryptographicAlgorithm, CryptographicUsageMask, DigitalSignatureAlgorithm,
+    HashingAlgorithm, KeyCompressionType, KeyFormatType, KeyRoleType, PaddingMethod,
+    WrappingMethod,
+};
+pub use kmip_keys::{
+    KeyMaterial, TransparentDHPrivateKey, TransparentDHPublicKey, TransparentDSAPrivateKey,
+    TransparentDSAPublicKey, TransparentRSAPrivateKey, TransparentRSAPublicKey,
+    TransparentSymmetricKey,
+};
+pub use kmip_names::{
+    ApplicationData, ApplicationNamespace, AttributeIndex, AttributeName, CompromiseOccurrenceDate,
+    CounterLength, CryptographicLength, Data, DataLength, FixedFieldLength, IVLength,
+    InitialCounterValue, InvocationFieldLength, LinkedObjectIdentifier, NameValue, RandomIV,
+    RevocationMessage, TagLength, UniqueBatchItemID, UniqueIdentifier,
+};
+
+#[cfg(test)]
+mod tests;

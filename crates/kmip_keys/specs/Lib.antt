@@ -1,0 +1,2 @@
+pub mod TransparentKeys
+pub mod KeyMaterials

@@ -1,0 +1,195 @@
+-- Keys whose parts are told.
+use Rattle.std.specs.Prelude.{codes, ℕ, List, Option}
+use Rattle.kmip_wire.specs.declared.kind.Kind.TheVariants.{BigInteger, ByteString}
+use Rattle.kmip_shape.specs.Shape.{Shape, Scalar, Rows, NoRow, AndRow, Required, Optional, Plain, Under}
+use Rattle.kmip_shape.specs.Val.{Val, Bytes, Record, AndField, NoField, One}
+use Rattle.kmip_shape.specs.Writes.{optional}
+use Rattle.std.proofs.Common.{ap}
+use Rattle.kmip_shape.specs.Same.{IsFaithful, same_record, same_bytes, one_row, optional_row, and_row, no_row}
+use Rattle.kmip_keys.specs.declared.transparent_keys.TransparentSymmetricKey.{TransparentSymmetricKey}
+use Rattle.kmip_keys.specs.declared.transparent_keys.TransparentDSAPrivateKey.{TransparentDSAPrivateKey}
+use Rattle.kmip_keys.specs.declared.transparent_keys.TransparentDSAPublicKey.{TransparentDSAPublicKey}
+use Rattle.kmip_keys.specs.declared.transparent_keys.TransparentRSAPrivateKey.{TransparentRSAPrivateKey}
+use Rattle.kmip_keys.specs.declared.transparent_keys.TransparentRSAPublicKey.{TransparentRSAPublicKey}
+use Rattle.kmip_keys.specs.declared.transparent_keys.TransparentDHPrivateKey.{TransparentDHPrivateKey}
+use Rattle.kmip_keys.specs.declared.transparent_keys.TransparentDHPublicKey.{TransparentDHPublicKey}
+
+-- Transparent Symmetric Key (KMIP 1.0, 2.1.7.1)
+abbrev pub transparent_symmetric_key : Shape
+transparent_symmetric_key = Rows
+    (AndRow (codes "key") (Under 0x42003F) Required Plain (Scalar ByteString)
+    NoRow)
+
+-- Transparent DSA Private Key (KMIP 1.0, 2.1.7.2)
+abbrev pub transparent_dsa_private_key : Shape
+transparent_dsa_private_key = Rows
+    (AndRow (codes "p") (Under 0x42005E) Required Plain (Scalar BigInteger)
+    (AndRow (codes "q") (Under 0x420071) Required Plain (Scalar BigInteger)
+    (AndRow (codes "g") (Under 0x420037) Required Plain (Scalar BigInteger)
+    (AndRow (codes "x") (Under 0x42009F) Required Plain (Scalar BigInteger)
+    NoRow))))
+
+-- Transparent DSA Public Key (KMIP 1.0, 2.1.7.3)
+abbrev pub transparent_dsa_public_key : Shape
+transparent_dsa_public_key = Rows
+    (AndRow (codes "p") (Under 0x42005E) Required Plain (Scalar BigInteger)
+    (AndRow (codes "q") (Under 0x420071) Required Plain (Scalar BigInteger)
+    (AndRow (codes "g") (Under 0x420037) Required Plain (Scalar BigInteger)
+    (AndRow (codes "y") (Under 0x4200A0) Required Plain (Scalar BigInteger)
+    NoRow))))
+
+-- Transparent RSA Private Key (KMIP 1.0, 2.1.7.4)
+abbrev pub transparent_rsa_private_key : Shape
+transparent_rsa_private_key = Rows
+    (AndRow (codes "modulus") (Under 0x420052) Required Plain (Scalar BigInteger)
+    (AndRow (codes "private_exponent") (Under 0x420063) Optional Plain (Scalar BigInteger)
+    (AndRow (codes "public_exponent") (Under 0x42006C) Optional Plain (Scalar BigInteger)
+    (AndRow (codes "p") (Under 0x42005E) Optional Plain (Scalar BigInteger)
+    (AndRow (codes "q") (Under 0x420071) Optional Plain (Scalar BigInteger)
+    (AndRow (codes "prime_exponent_p") (Under 0x420060) Optional Plain (Scalar BigInteger)
+    (AndRow (codes "prime_exponent_q") (Under 0x420061) Optional Plain (Scalar BigInteger)
+    (AndRow (codes "crt_coefficient") (Under 0x420027) Optional Plain (Scalar BigInteger)
+    NoRow))))))))
+
+-- Transparent RSA Public Key (KMIP 1.0, 2.1.7.5)
+abbrev pub transparent_rsa_public_key : Shape
+transparent_rsa_public_key = Rows
+    (AndRow (codes "modulus") (Under 0x420052) Required Plain (Scalar BigInteger)
+    (AndRow (codes "public_exponent") (Under 0x42006C) Required Plain (Scalar BigInteger)
+    NoRow))
+
+-- Transparent DH Private Key (KMIP 1.0, 2.1.7.6)
+abbrev pub transparent_dh_private_key : Shape
+transparent_dh_private_key = Rows
+    (AndRow (codes "p") (Under 0x42005E) Required Plain (Scalar BigInteger)
+    (AndRow (codes "q") (Under 0x420071) Optional Plain (Scalar BigInteger)
+    (AndRow (codes "g") (Under 0x420037) Required Plain (Scalar BigInteger)
+    (AndRow (codes "j") (Under 0x42003E) Optional Plain (Scalar BigInteger)
+    (AndRow (codes "x") (Under 0x42009F) Required Plain (Scalar BigInteger)
+    NoRow)))))
+
+-- Transparent DH Public Key (KMIP 1.0, 2.1.7.7)
+abbrev pub transparent_dh_public_key : Shape
+transparent_dh_public_key = Rows
+    (AndRow (codes "p") (Under 0x42005E) Required Plain (Scalar BigInteger)
+    (AndRow (codes "q") (Under 0x420071) Optional Plain (Scalar BigInteger)
+    (AndRow (codes "g") (Under 0x420037) Required Plain (Scalar BigInteger)
+    (AndRow (codes "j") (Under 0x42003E) Optional Plain (Scalar BigInteger)
+    (AndRow (codes "y") (Under 0x4200A0) Required Plain (Scalar BigInteger)
+    NoRow)))))
+
+abbrev pub transparent_symmetric_key_val : TransparentSymmetricKey → Val
+transparent_symmetric_key_val x = Record
+    (AndField (One (Bytes x.key))
+    NoField)
+
+abbrev pub transparent_dsa_private_key_val : TransparentDSAPrivateKey → Val
+transparent_dsa_private_key_val x = Record
+    (AndField (One (Bytes x.p))
+    (AndField (One (Bytes x.q))
+    (AndField (One (Bytes x.g))
+    (AndField (One (Bytes x.x))
+    NoField))))
+
+abbrev pub transparent_dsa_public_key_val : TransparentDSAPublicKey → Val
+transparent_dsa_public_key_val x = Record
+    (AndField (One (Bytes x.p))
+    (AndField (One (Bytes x.q))
+    (AndField (One (Bytes x.g))
+    (AndField (One (Bytes x.y))
+    NoField))))
+
+abbrev pub transparent_rsa_private_key_val : TransparentRSAPrivateKey → Val
+transparent_rsa_private_key_val x = Record
+    (AndField (One (Bytes x.modulus))
+    (AndField (optional Bytes x.private_exponent)
+    (AndField (optional Bytes x.public_exponent)
+    (AndField (optional Bytes x.p)
+    (AndField (optional Bytes x.q)
+    (AndField (optional Bytes x.prime_exponent_p)
+    (AndField (optional Bytes x.prime_exponent_q)
+    (AndField (optional Bytes x.crt_coefficient)
+    NoField))))))))
+
+abbrev pub transparent_rsa_public_key_val : TransparentRSAPublicKey → Val
+transparent_rsa_public_key_val x = Record
+    (AndField (One (Bytes x.modulus))
+    (AndField (One (Bytes x.public_exponent))
+    NoField))
+
+abbrev pub transparent_dh_private_key_val : TransparentDHPrivateKey → Val
+transparent_dh_private_key_val x = Record
+    (AndField (One (Bytes x.p))
+    (AndField (optional Bytes x.q)
+    (AndField (One (Bytes x.g))
+    (AndField (optional Bytes x.j)
+    (AndField (One (Bytes x.x))
+    NoField)))))
+
+abbrev pub transparent_dh_public_key_val : TransparentDHPublicKey → Val
+transparent_dh_public_key_val x = Record
+    (AndField (One (Bytes x.p))
+    (AndField (optional Bytes x.q)
+    (AndField (One (Bytes x.g))
+    (AndField (optional Bytes x.j)
+    (AndField (One (Bytes x.y))
+    NoField)))))
+
+bytes : IsFaithful Bytes
+bytes x y h = same_bytes h
+
+abbrev whole_transparent_symmetric_key : List ℕ × Unit {0} → TransparentSymmetricKey
+whole_transparent_symmetric_key t = record { key = t.0 }
+
+pub transparent_symmetric_key_same : IsFaithful transparent_symmetric_key_val
+transparent_symmetric_key_same x y h =
+    ap whole_transparent_symmetric_key (and_row (one_row bytes) no_row
+    (x.key, tt) (y.key, tt) (same_record h))
+
+abbrev whole_transparent_dsa_private_key : List ℕ × (List ℕ × (List ℕ × (List ℕ × Unit {0}))) → TransparentDSAPrivateKey
+whole_transparent_dsa_private_key t = record { p = t.0; q = (t.1).0; g = ((t.1).1).0; x = (((t.1).1).1).0 }
+
+pub transparent_dsa_private_key_same : IsFaithful transparent_dsa_private_key_val
+transparent_dsa_private_key_same x y h =
+    ap whole_transparent_dsa_private_key (and_row (one_row bytes) (and_row (one_row bytes) (and_row (one_row bytes) (and_row (one_row bytes) no_row)))
+    (x.p, (x.q, (x.g, (x.x, tt)))) (y.p, (y.q, (y.g, (y.x, tt)))) (same_record h))
+
+abbrev whole_transparent_dsa_public_key : List ℕ × (List ℕ × (List ℕ × (List ℕ × Unit {0}))) → TransparentDSAPublicKey
+whole_transparent_dsa_public_key t = record { p = t.0; q = (t.1).0; g = ((t.1).1).0; y = (((t.1).1).1).0 }
+
+pub transparent_dsa_public_key_same : IsFaithful transparent_dsa_public_key_val
+transparent_dsa_public_key_same x y h =
+    ap whole_transparent_dsa_public_key (and_row (one_row bytes) (and_row (one_row bytes) (and_row (one_row bytes) (and_row (one_row bytes) no_row)))
+    (x.p, (x.q, (x.g, (x.y, tt)))) (y.p, (y.q, (y.g, (y.y, tt)))) (same_record h))
+
+abbrev whole_transparent_rsa_private_key : List ℕ × (Option (List ℕ) × (Option (List ℕ) × (Option (List ℕ) × (Option (List ℕ) × (Option (List ℕ) × (Option (List ℕ) × (Option (List ℕ) × Unit {0}))))))) → TransparentRSAPrivateKey
+whole_transparent_rsa_private_key t = record { modulus = t.0; private_exponent = (t.1).0; public_exponent = ((t.1).1).0; p = (((t.1).1).1).0; q = ((((t.1).1).1).1).0; prime_exponent_p = (((((t.1).1).1).1).1).0; prime_exponent_q = ((((((t.1).1).1).1).1).1).0; crt_coefficient = (((((((t.1).1).1).1).1).1).1).0 }
+
+pub transparent_rsa_private_key_same : IsFaithful transparent_rsa_private_key_val
+transparent_rsa_private_key_same x y h =
+    ap whole_transparent_rsa_private_key (and_row (one_row bytes) (and_row (optional_row bytes) (and_row (optional_row bytes) (and_row (optional_row bytes) (and_row (optional_row bytes) (and_row (optional_row bytes) (and_row (optional_row bytes) (and_row (optional_row bytes) no_row)))))))
+    (x.modulus, (x.private_exponent, (x.public_exponent, (x.p, (x.q, (x.prime_exponent_p, (x.prime_exponent_q, (x.crt_coefficient, tt)))))))) (y.modulus, (y.private_exponent, (y.public_exponent, (y.p, (y.q, (y.prime_exponent_p, (y.prime_exponent_q, (y.crt_coefficient, tt)))))))) (same_record h))
+
+abbrev whole_transparent_rsa_public_key : List ℕ × (List ℕ × Unit {0}) → TransparentRSAPublicKey
+whole_transparent_rsa_public_key t = record { modulus = t.0; public_exponent = (t.1).0 }
+
+pub transparent_rsa_public_key_same : IsFaithful transparent_rsa_public_key_val
+transparent_rsa_public_key_same x y h =
+    ap whole_transparent_rsa_public_key (and_row (one_row bytes) (and_row (one_row bytes) no_row)
+    (x.modulus, (x.public_exponent, tt)) (y.modulus, (y.public_exponent, tt)) (same_record h))
+
+abbrev whole_transparent_dh_private_key : List ℕ × (Option (List ℕ) × (List ℕ × (Option (List ℕ) × (List ℕ × Unit {0})))) → TransparentDHPrivateKey
+whole_transparent_dh_private_key t = record { p = t.0; q = (t.1).0; g = ((t.1).1).0; j = (((t.1).1).1).0; x = ((((t.1).1).1).1).0 }
+
+pub transparent_dh_private_key_same : IsFaithful transparent_dh_private_key_val
+transparent_dh_private_key_same x y h =
+    ap whole_transparent_dh_private_key (and_row (one_row bytes) (and_row (optional_row bytes) (and_row (one_row bytes) (and_row (optional_row bytes) (and_row (one_row bytes) no_row))))
+    (x.p, (x.q, (x.g, (x.j, (x.x, tt))))) (y.p, (y.q, (y.g, (y.j, (y.x, tt))))) (same_record h))
+
+abbrev whole_transparent_dh_public_key : List ℕ × (Option (List ℕ) × (List ℕ × (Option (List ℕ) × (List ℕ × Unit {0})))) → TransparentDHPublicKey
+whole_transparent_dh_public_key t = record { p = t.0; q = (t.1).0; g = ((t.1).1).0; j = (((t.1).1).1).0; y = ((((t.1).1).1).1).0 }
+
+pub transparent_dh_public_key_same : IsFaithful transparent_dh_public_key_val
+transparent_dh_public_key_same x y h =
+    ap whole_transparent_dh_public_key (and_row (one_row bytes) (and_row (optional_row bytes) (and_row (one_row bytes) (and_row (optional_row bytes) (and_row (one_row bytes) no_row))))
+    (x.p, (x.q, (x.g, (x.j, (x.y, tt))))) (y.p, (y.q, (y.g, (y.j, (y.y, tt))))) (same_record h))

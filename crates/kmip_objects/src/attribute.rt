@@ -1,0 +1,78 @@
+//! Attributes of objects.
+
+ghost use Rattle.std.specs.Prelude.{◌≡◌};
+ghost use Rattle.kmip_objects.specs.Tables.{attribute, name};
+ghost use Rattle.kmip_objects.specs.Values.{attribute_val};
+ghost use Rattle.kmip_objects.specs.Same.{attribute_same};
+
+use kmip_shape::columns::{ChosenOne, One, Opt};
+use kmip_shape::record::{Choosing, End, Row};
+use kmip_shape::{
+    Item, Outer, ReadError, ReadItem, ReadRoot, ShowItem, Sink, fields, known_record, read_record,
+    show_record,
+};
+use kmip_types::{AttributeIndex, AttributeName, AttributeValue};
+use kmip_wire::{ItemRef, OutOfMemory, Tag, TryClone};
+use std::alloc::Global;
+
+/// An attribute of an object: KMIP 1.0, 2.1.1.
+#[derive(PartialEq, Eq, Drop)]
+pub struct Attribute {
+    pub name: AttributeName,
+    /// Which of the attributes of this name it is, from 0.
+    pub index: Option<AttributeIndex>,
+    /// Chosen by `name`, and under a name of no variant by the type of the item.
+    pub value: AttributeValue,
+}
+
+type AttributeRows<'a> = Choosing<
+    One<AttributeName, 0x42000A>,
+    Row<Opt<AttributeIndex, 0x420009>, Row<ChosenOne<'a, AttributeValue, 0x42000B>, End>>,
+>;
+
+impl TryClone for Attribute {
+    fn try_clone(&self, alloc: Global) -> Result<Attribute, OutOfMemory> {
+        Ok(Attribute {
+            name: self.name.try_clone(alloc)?,
+            index: self.index,
+            value: self.value.try_clone(alloc)?,
+        })
+    }
+}
+
+impl Item for Attribute {
+    ghost shape = { attribute };
+
+    ghost val = { attribute_val };
+
+    fn known(&self) {
+        known_record::<AttributeRows<'_>>(fields![&self.name, &self.index, &self.value]);
+    }
+
+    ghost same = { attribute_same };
+}
+
+impl ReadItem for Attribute {
+    fn read(alloc: Global, outer: Outer<'_>, item: ItemRef<'_>) -> Result<Self, ReadError> {
+        let fields![name, index, value] = read_record::<AttributeRows<'_>>(alloc, outer, item)?;
+        Ok(Attribute { name, index, value })
+    }
+}
+
+impl ReadRoot for Attribute {
+    ghost root_tag = { 0x420008 };
+
+    fn root_tag() -> Tag {
+        Tag::of(0x420008)
+    }
+}
+
+impl ShowItem for Attribute {
+    fn show_into(&self, out: &mut Sink) {
+        show_record::<AttributeRows<'_>>(
+            fields![&self.name, &self.index, &self.value],
+            fields!["name", "index", "value"],
+            out,
+        );
+    }
+}

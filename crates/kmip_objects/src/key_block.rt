@@ -1,0 +1,187 @@
+//! Keys with their format, algorithm and length.
+
+ghost use Rattle.std.specs.Prelude.{◌≡◌};
+ghost use Rattle.kmip_objects.specs.Tables.{key_wrapping_data, key_value, key_block};
+ghost use Rattle.kmip_objects.specs.Values.{key_value_val, key_block_val};
+ghost use Rattle.kmip_objects.specs.Same.{key_value_same, key_block_same};
+
+use crate::attribute::Attribute;
+use crate::key_wrapping::KeyWrappingData;
+use kmip_shape::columns::{ChosenOne, One, Opt, OptMany};
+use kmip_shape::record::{Choosing, End, Row};
+use kmip_shape::{
+    Item, Outer, ReadError, ReadItem, ReadRoot, ShowItem, Sink, fields, known_record, read_record,
+    show_record,
+};
+use kmip_types::{CryptographicAlgorithm, KeyCompressionType, KeyFormatType, KeyMaterial};
+use kmip_wire::{Blob, ItemRef, List, OutOfMemory, Tag, TryClone, clone_optional};
+use std::alloc::Global;
+
+/// Key material, and attributes of the key: KMIP 1.0, 2.1.4.
+#[derive(PartialEq, Eq, Drop)]
+pub struct KeyValue {
+    /// `Wrapped` where the key value is one Byte String, else of the key block's format.
+    pub key_material: KeyMaterial,
+    pub attributes: Option<List<Attribute>>,
+}
+
+type KeyValueRows = Row<One<KeyMaterial, 0x420043>, Row<OptMany<Attribute, 0x420008>, End>>;
+
+impl TryClone for KeyValue {
+    fn try_clone(&self, alloc: Global) -> Result<KeyValue, OutOfMemory> {
+        Ok(KeyValue {
+            key_material: self.key_material.try_clone(alloc)?,
+            attributes: clone_optional(&self.attributes, alloc)?,
+        })
+    }
+}
+
+impl Item for KeyValue {
+    ghost shape = { key_value };
+
+    ghost val = { key_value_val };
+
+    fn known(&self) {
+        known_record::<KeyValueRows>(fields![&self.key_material, &self.attributes]);
+    }
+
+    ghost same = { key_value_same };
+}
+
+impl ReadItem for KeyValue {
+    fn read(alloc: Global, outer: Outer<'_>, item: ItemRef<'_>) -> Result<Self, ReadError> {
+        if let Some(bytes) = item.bytes() {
+            return Ok(KeyValue {
+                key_material: KeyMaterial::Wrapped(Blob::of(alloc, bytes)?),
+                attributes: None,
+            });
+        }
+        let fields![key_material, attributes] = read_record::<KeyValueRows>(alloc, outer, item)?;
+        Ok(KeyValue {
+            key_material,
+            attributes,
+        })
+    }
+}
+
+impl ShowItem for KeyValue {
+    fn show_into(&self, out: &mut Sink) {
+        show_record::<KeyValueRows>(
+            fields![&self.key_material, &self.attributes],
+            fields!["key_material", "attributes"],
+            out,
+        );
+    }
+}
+
+/// A key with its format, algorithm and length: KMIP 1.0, 2.1.3.
+#[derive(PartialEq, Eq, Drop)]
+pub struct KeyBlock {
+    pub key_format_type: KeyFormatType,
+    pub key_compression_type: Option<KeyCompressionType>,
+    /// In the form of `key_format_type`.
+    pub key_value: KeyValue,
+    pub cryptographic_algorithm: Option<CryptographicAlgorithm>,
+    /// The length of the key in bits.
+    pub cryptographic_length: Option<i32>,
+    pub key_wrapping_data: Option<KeyWrappingData>,
+}
+
+type KeyBlockRows<'a> = Choosing<
+    One<KeyFormatType, 0x420042>,
+    Row<
+        Opt<KeyCompressionType, 0x420041>,
+        Row<
+            ChosenOne<'a, KeyValue, 0x420045>,
+            Row<
+                Opt<CryptographicAlgorithm, 0x420028>,
+                Row<Opt<i32, 0x42002A>, Row<Opt<KeyWrappingData, 0x420046>, End>>,
+            >,
+        >,
+    >,
+>;
+
+impl TryClone for KeyBlock {
+    fn try_clone(&self, alloc: Global) -> Result<KeyBlock, OutOfMemory> {
+        Ok(KeyBlock {
+            key_format_type: self.key_format_type,
+            key_compression_type: self.key_compression_type,
+            key_value: self.key_value.try_clone(alloc)?,
+            cryptographic_algorithm: self.cryptographic_algorithm,
+            cryptographic_length: self.cryptographic_length,
+            key_wrapping_data: clone_optional(&self.key_wrapping_data, alloc)?,
+        })
+    }
+}
+
+impl Item for KeyBlock {
+    ghost shape = { key_block };
+
+    ghost val = { key_block_val };
+
+    fn known(&self) {
+        known_record::<KeyBlockRows<'_>>(fields![
+            &self.key_format_type,
+            &self.key_compression_type,
+            &self.key_value,
+            &self.cryptographic_algorithm,
+            &self.cryptographic_length,
+            &self.key_wrapping_data
+        ]);
+    }
+
+    ghost same = { key_block_same };
+}
+
+impl ReadItem for KeyBlock {
+    fn read(alloc: Global, outer: Outer<'_>, item: ItemRef<'_>) -> Result<Self, ReadError> {
+        let fields![
+            key_format_type,
+            key_compression_type,
+            key_value,
+            cryptographic_algorithm,
+            cryptographic_length,
+            key_wrapping_data
+        ] = read_record::<KeyBlockRows<'_>>(alloc, outer, item)?;
+        Ok(KeyBlock {
+            key_format_type,
+            key_compression_type,
+            key_value,
+            cryptographic_algorithm,
+            cryptographic_length,
+            key_wrapping_data,
+        })
+    }
+}
+
+impl ReadRoot for KeyBlock {
+    ghost root_tag = { 0x420040 };
+
+    fn root_tag() -> Tag {
+        Tag::of(0x420040)
+    }
+}
+
+impl ShowItem for KeyBlock {
+    fn show_into(&self, out: &mut Sink) {
+        show_record::<KeyBlockRows<'_>>(
+            fields![
+                &self.key_format_type,
+                &self.key_compression_type,
+                &self.key_value,
+                &self.cryptographic_algorithm,
+                &self.cryptographic_length,
+                &self.key_wrapping_data
+            ],
+            fields![
+                "key_format_type",
+                "key_compression_type",
+                "key_value",
+                "cryptographic_algorithm",
+                "cryptographic_length",
+                "key_wrapping_data"
+            ],
+            out,
+        );
+    }
+}

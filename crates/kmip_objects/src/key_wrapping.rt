@@ -1,0 +1,251 @@
+//! How keys were wrapped.
+
+ghost use Rattle.std.specs.Prelude.{◌≡◌};
+ghost use Rattle.kmip_objects.specs.Tables.{encryption_key_information, mac_or_signature_key_information, key_wrapping_data};
+ghost use Rattle.kmip_objects.specs.Values.{encryption_key_information_val, mac_or_signature_key_information_val, key_wrapping_data_val};
+ghost use Rattle.kmip_objects.specs.Same.{encryption_key_information_same, mac_or_signature_key_information_same, key_wrapping_data_same};
+
+use kmip_shape::columns::{One, Opt};
+use kmip_shape::record::{End, Row};
+use kmip_shape::{
+    Item, Outer, ReadError, ReadItem, ReadRoot, ShowItem, Sink, fields, known_record, read_record,
+    show_record,
+};
+use kmip_types::{CryptographicParameters, UniqueIdentifier, WrappingMethod};
+use kmip_wire::{Blob, ItemRef, OutOfMemory, Tag, TryClone, clone_optional};
+use std::alloc::Global;
+
+/// The key that wraps by encryption, and how: KMIP 1.0, 2.1.5.
+#[derive(PartialEq, Eq, Drop)]
+pub struct EncryptionKeyInformation {
+    pub unique_identifier: UniqueIdentifier,
+    pub cryptographic_parameters: Option<CryptographicParameters>,
+}
+
+type EncryptionKeyInformationRows = Row<
+    One<UniqueIdentifier, 0x420094>,
+    Row<Opt<CryptographicParameters, 0x42002B>, End>,
+>;
+
+impl TryClone for EncryptionKeyInformation {
+    fn try_clone(&self, alloc: Global) -> Result<EncryptionKeyInformation, OutOfMemory> {
+        Ok(EncryptionKeyInformation {
+            unique_identifier: self.unique_identifier.try_clone(alloc)?,
+            cryptographic_parameters: self.cryptographic_parameters,
+        })
+    }
+}
+
+impl Item for EncryptionKeyInformation {
+    ghost shape = { encryption_key_information };
+
+    ghost val = { encryption_key_information_val };
+
+    fn known(&self) {
+        known_record::<EncryptionKeyInformationRows>(fields![
+            &self.unique_identifier,
+            &self.cryptographic_parameters
+        ]);
+    }
+
+    ghost same = { encryption_key_information_same };
+}
+
+impl ReadItem for EncryptionKeyInformation {
+    fn read(alloc: Global, outer: Outer<'_>, item: ItemRef<'_>) -> Result<Self, ReadError> {
+        let fields![unique_identifier, cryptographic_parameters] = read_record::<
+            EncryptionKeyInformationRows,
+        >(alloc, outer, item)?;
+        Ok(EncryptionKeyInformation {
+            unique_identifier,
+            cryptographic_parameters,
+        })
+    }
+}
+
+impl ReadRoot for EncryptionKeyInformation {
+    ghost root_tag = { 0x420036 };
+
+    fn root_tag() -> Tag {
+        Tag::of(0x420036)
+    }
+}
+
+impl ShowItem for EncryptionKeyInformation {
+    fn show_into(&self, out: &mut Sink) {
+        show_record::<EncryptionKeyInformationRows>(
+            fields![&self.unique_identifier, &self.cryptographic_parameters],
+            fields!["unique_identifier", "cryptographic_parameters"],
+            out,
+        );
+    }
+}
+
+/// The key that wraps by a MAC or a signature, and how: KMIP 1.0, 2.1.5.
+#[derive(PartialEq, Eq, Drop)]
+pub struct MACOrSignatureKeyInformation {
+    pub unique_identifier: UniqueIdentifier,
+    pub cryptographic_parameters: Option<CryptographicParameters>,
+}
+
+type MACOrSignatureKeyInformationRows = Row<
+    One<UniqueIdentifier, 0x420094>,
+    Row<Opt<CryptographicParameters, 0x42002B>, End>,
+>;
+
+impl TryClone for MACOrSignatureKeyInformation {
+    fn try_clone(&self, alloc: Global) -> Result<MACOrSignatureKeyInformation, OutOfMemory> {
+        Ok(MACOrSignatureKeyInformation {
+            unique_identifier: self.unique_identifier.try_clone(alloc)?,
+            cryptographic_parameters: self.cryptographic_parameters,
+        })
+    }
+}
+
+impl Item for MACOrSignatureKeyInformation {
+    ghost shape = { mac_or_signature_key_information };
+
+    ghost val = { mac_or_signature_key_information_val };
+
+    fn known(&self) {
+        known_record::<MACOrSignatureKeyInformationRows>(fields![
+            &self.unique_identifier,
+            &self.cryptographic_parameters
+        ]);
+    }
+
+    ghost same = { mac_or_signature_key_information_same };
+}
+
+impl ReadItem for MACOrSignatureKeyInformation {
+    fn read(alloc: Global, outer: Outer<'_>, item: ItemRef<'_>) -> Result<Self, ReadError> {
+        let fields![unique_identifier, cryptographic_parameters] = read_record::<
+            MACOrSignatureKeyInformationRows,
+        >(alloc, outer, item)?;
+        Ok(MACOrSignatureKeyInformation {
+            unique_identifier,
+            cryptographic_parameters,
+        })
+    }
+}
+
+impl ReadRoot for MACOrSignatureKeyInformation {
+    ghost root_tag = { 0x42004E };
+
+    fn root_tag() -> Tag {
+        Tag::of(0x42004E)
+    }
+}
+
+impl ShowItem for MACOrSignatureKeyInformation {
+    fn show_into(&self, out: &mut Sink) {
+        show_record::<MACOrSignatureKeyInformationRows>(
+            fields![&self.unique_identifier, &self.cryptographic_parameters],
+            fields!["unique_identifier", "cryptographic_parameters"],
+            out,
+        );
+    }
+}
+
+/// How a key was wrapped: KMIP 1.0, 2.1.5.
+#[derive(PartialEq, Eq, Drop)]
+pub struct KeyWrappingData {
+    pub wrapping_method: WrappingMethod,
+    pub encryption_key_information: Option<EncryptionKeyInformation>,
+    pub mac_or_signature_key_information: Option<MACOrSignatureKeyInformation>,
+    pub mac_or_signature: Option<Blob>,
+    pub iv_or_counter_or_nonce: Option<Blob>,
+}
+
+type KeyWrappingDataRows = Row<
+    One<WrappingMethod, 0x42009E>,
+    Row<
+        Opt<EncryptionKeyInformation, 0x420036>,
+        Row<
+            Opt<MACOrSignatureKeyInformation, 0x42004E>,
+            Row<Opt<Blob, 0x42004D>, Row<Opt<Blob, 0x42003D>, End>>,
+        >,
+    >,
+>;
+
+impl TryClone for KeyWrappingData {
+    fn try_clone(&self, alloc: Global) -> Result<KeyWrappingData, OutOfMemory> {
+        Ok(KeyWrappingData {
+            wrapping_method: self.wrapping_method,
+            encryption_key_information: clone_optional(&self.encryption_key_information, alloc)?,
+            mac_or_signature_key_information: clone_optional(
+                &self.mac_or_signature_key_information,
+                alloc,
+            )?,
+            mac_or_signature: clone_optional(&self.mac_or_signature, alloc)?,
+            iv_or_counter_or_nonce: clone_optional(&self.iv_or_counter_or_nonce, alloc)?,
+        })
+    }
+}
+
+impl Item for KeyWrappingData {
+    ghost shape = { key_wrapping_data };
+
+    ghost val = { key_wrapping_data_val };
+
+    fn known(&self) {
+        known_record::<KeyWrappingDataRows>(fields![
+            &self.wrapping_method,
+            &self.encryption_key_information,
+            &self.mac_or_signature_key_information,
+            &self.mac_or_signature,
+            &self.iv_or_counter_or_nonce
+        ]);
+    }
+
+    ghost same = { key_wrapping_data_same };
+}
+
+impl ReadItem for KeyWrappingData {
+    fn read(alloc: Global, outer: Outer<'_>, item: ItemRef<'_>) -> Result<Self, ReadError> {
+        let fields![
+            wrapping_method,
+            encryption_key_information,
+            mac_or_signature_key_information,
+            mac_or_signature,
+            iv_or_counter_or_nonce
+        ] = read_record::<KeyWrappingDataRows>(alloc, outer, item)?;
+        Ok(KeyWrappingData {
+            wrapping_method,
+            encryption_key_information,
+            mac_or_signature_key_information,
+            mac_or_signature,
+            iv_or_counter_or_nonce,
+        })
+    }
+}
+
+impl ReadRoot for KeyWrappingData {
+    ghost root_tag = { 0x420046 };
+
+    fn root_tag() -> Tag {
+        Tag::of(0x420046)
+    }
+}
+
+impl ShowItem for KeyWrappingData {
+    fn show_into(&self, out: &mut Sink) {
+        show_record::<KeyWrappingDataRows>(
+            fields![
+                &self.wrapping_method,
+                &self.encryption_key_information,
+                &self.mac_or_signature_key_information,
+                &self.mac_or_signature,
+                &self.iv_or_counter_or_nonce
+            ],
+            fields![
+                "wrapping_method",
+                "encryption_key_information",
+                "mac_or_signature_key_information",
+                "mac_or_signature",
+                "iv_or_counter_or_nonce"
+            ],
+            out,
+        );
+    }
+}

@@ -1,0 +1,130 @@
+-- Requests of the same bytes have the same tree, and no request's bytes begin another's.
+use Rattle.std.proofs.Common.{◌≡◌, ℕ, ◌<◌, ◌≤◌, ◌^◌, pos, true, List, [], ◌∷◌, ◌++◌, Option, Some, None, refl, ap, arith}
+use Rattle.std.specs.Prelude.{IsUtf8, IfSome, FitsSigned}
+use Rattle.std.specs.Int.{w32}
+use Rattle.std.proofs.lemmas.Int.{ints}
+use Rattle.std.specs.Option.{option_map, option_and_then}
+use Rattle.kmip_wire.specs.Tree.{Tree, trees_of, scalar, integer}
+use Rattle.kmip_wire.specs.Bytes.{bytes, HasRanges, levels, levels_of_all}
+use Rattle.kmip_wire.proofs.Written.{one_text, written_parses}
+use Rattle.kmip_wire.proofs.Computed.{no_longer}
+use Rattle.kmip_shape.specs.Trees.{tree_of}
+use Rattle.kmip_enums.specs.Operations.{operation_line}
+use Rattle.kmip_types.specs.declared.auth.CredentialType.{CredentialType}
+use Rattle.kmip_types.specs.declared.auth.CredentialType.TheVariants.{UsernameAndPassword}
+use Rattle.kmip_request.specs.declared.payload.RequestPayload.{RequestPayload}
+use Rattle.kmip_request.specs.declared.payload.RequestPayload.TheVariants.{Create, CreateKeyPair, Register, Locate, Get, GetAttributes, GetAttributeList, AddAttribute, ModifyAttribute, DeleteAttribute, Activate, Revoke, Destroy, Query, DiscoverVersions, Sign, RNGRetrieve}
+use Rattle.kmip_request.specs.Tables.{request_payload}
+use Rattle.kmip_request.specs.Values.{request_payload_val}
+use Rattle.kmip_request.specs.Message.{operation_of, minor_of, password_trees, authentication_trees, header_tree, message_tree, request_tree, request_bytes}
+use Rattle.kmip_request.specs.Held.{AreTexts, IsHeld}
+use Rattle.kmip_request.proofs.Ranges.{tags_in_range, depth, Keeps, AllKeep, keeps_more, then_keeps, fits_ranges}
+
+-- ---- the table of a payload
+
+table_in_range : tags_in_range request_payload ≡ true
+table_in_range = refl
+
+table_depth : depth request_payload ≤ 32
+table_depth = omega arith
+
+payload_keeps : (p : RequestPayload) (c : Option CredentialType) → IsHeld p c → Keeps (tree_of request_payload 0x420079 (request_payload_val p)) 32
+payload_keeps p c h =
+    keeps_more (tree_of request_payload 0x420079 (request_payload_val p)) (depth request_payload) 32 table_depth
+    (fits_ranges request_payload (request_payload_val p) 0x420079 table_in_range (omega arith) h.0)
+
+-- ---- the head of a request, and the message
+
+operation_fits : (p : RequestPayload) → (operation_line (operation_of p)).number < 2 ^ 32
+operation_fits (Create a b) = omega arith
+operation_fits (CreateKeyPair a b c) = omega arith
+operation_fits (Register a b c) = omega arith
+operation_fits (Locate a) = omega arith
+operation_fits (Get a b c d) = omega arith
+operation_fits (GetAttributes a b) = omega arith
+operation_fits (GetAttributeList a) = omega arith
+operation_fits (AddAttribute a b) = omega arith
+operation_fits (ModifyAttribute a b) = omega arith
+operation_fits (DeleteAttribute a b c) = omega arith
+operation_fits (Activate a) = omega arith
+operation_fits (Revoke a b c) = omega arith
+operation_fits (Destroy a) = omega arith
+operation_fits (Query a) = omega arith
+operation_fits (DiscoverVersions a) = omega arith
+operation_fits (Sign a b c) = omega arith
+operation_fits (RNGRetrieve a) = omega arith
+
+minor_fits : (p : RequestPayload) → minor_of p ≤ 2
+minor_fits (Create a b) = omega arith
+minor_fits (CreateKeyPair a b c) = omega arith
+minor_fits (Register a b c) = omega arith
+minor_fits (Locate a) = omega arith
+minor_fits (Get a b c d) = omega arith
+minor_fits (GetAttributes a b) = omega arith
+minor_fits (GetAttributeList a) = omega arith
+minor_fits (AddAttribute a b) = omega arith
+minor_fits (ModifyAttribute a b) = omega arith
+minor_fits (DeleteAttribute a b c) = omega arith
+minor_fits (Activate a) = omega arith
+minor_fits (Revoke a b c) = omega arith
+minor_fits (Destroy a) = omega arith
+minor_fits (Query a) = omega arith
+minor_fits (DiscoverVersions a) = omega arith
+minor_fits (Sign a b c) = omega arith
+minor_fits (RNGRetrieve a) = omega arith
+
+password_keeps : (password : Option (List ℕ)) → IfSome password (λ p. IsUtf8 p) → AllKeep (Some (password_trees password)) 1
+password_keeps None h = (tt, omega arith)
+password_keeps (Some p) h = (((omega arith, h), tt), omega arith)
+
+authentication_keeps : (c : Option CredentialType) → AreTexts c → AllKeep (Some (authentication_trees c)) 4
+authentication_keeps None h = (tt, omega arith)
+authentication_keeps (Some (UsernameAndPassword c)) h =
+    let p = password_keeps c.password h.1 in
+    let deep : levels_of_all (trees_of (password_trees c.password)) ≤ 1 = p.1 in (
+      ((omega arith, ((omega arith, ((omega arith, omega arith), ((omega arith, ((omega arith, h.0), p.0)), tt))), tt)), tt),
+      omega arith,
+    )
+
+-- a small number fits the four bytes of an Integer
+small_fits : (n : ℕ) → n ≤ 2 → FitsSigned w32 (pos n)
+small_fits n h = omega (arith, ints, h)
+
+header_keeps : (minor : ℕ) (trees : List Tree) → minor ≤ 2 → AllKeep (Some trees) 4 → HasRanges (header_tree minor trees) × (levels (header_tree minor trees) ≤ 5)
+header_keeps minor trees m h =
+    let count : AllKeep (Some (scalar 0x42000D (integer (pos 1)) ∷ [])) 4 = (((omega arith, small_fits 1 (omega arith)), tt), omega arith) in
+    let rest : AllKeep (Some (trees ++ scalar 0x42000D (integer (pos 1)) ∷ [])) 4 =
+    then_keeps (Some trees) (Some (scalar 0x42000D (integer (pos 1)) ∷ [])) 4 4 4 (omega arith) (omega arith) h count in
+    ((omega arith, ((omega arith, ((omega arith, small_fits 1 (omega arith)), ((omega arith, small_fits minor m), tt))), rest.0)), omega (arith, rest.1))
+
+message_keeps : (header : Tree) (operation : ℕ) (payload : Option Tree) → HasRanges header × (levels header ≤ 5) → operation < 2 ^ 32 → Keeps payload 32
+    → Keeps (option_map (message_tree header operation) payload) 64
+message_keeps header operation None h o k = tt
+message_keeps header operation (Some t) h o k =
+    ((omega arith, (h.0, ((omega arith, ((omega arith, o), (k.0, tt))), tt))), omega (arith, h.1, k.1))
+
+request_keeps : (p : RequestPayload) (c : Option CredentialType) → IsHeld p c → Keeps (request_tree p c) 64
+request_keeps p c h =
+    message_keeps (header_tree (minor_of p) (authentication_trees c)) (operation_line (operation_of p)).number (tree_of request_payload 0x420079 (request_payload_val p))
+    (header_keeps (minor_of p) (authentication_trees c) (minor_fits p) (authentication_keeps c h.1)) (operation_fits p) (payload_keeps p c h)
+
+-- ---- trees of the same bytes
+
+same_bytes : (x y : Option Tree) (b : List ℕ) → Keeps x 64 → Keeps y 64 → option_and_then bytes x ≡ Some b → option_and_then bytes y ≡ Some b → x ≡ y
+same_bytes None y b h k e f = absurd (cc)
+same_bytes (Some t) None b h k e f = absurd (cc)
+same_bytes (Some t) (Some u) b h k e f = ap (λ (v : Tree). Some v) (one_text t u b h.0 k.0 e f)
+
+no_more : (x y : Option Tree) (b rest : List ℕ) → Keeps x 64 → Keeps y 64 → option_and_then bytes x ≡ Some b → option_and_then bytes y ≡ Some (b ++ rest) → rest ≡ []
+no_more None y b rest h k e f = absurd (cc)
+no_more (Some t) None b rest h k e f = absurd (cc)
+no_more (Some t) (Some u) b rest h k e f =
+    no_longer t u 1 1 b rest (written_parses t 1 b h.0 (omega arith) (omega (arith, h.1)) e) (written_parses u 1 (b ++ rest) k.0 (omega arith) (omega (arith, k.1)) f)
+
+-- ---- requests
+
+pub equal : (p q : RequestPayload) (c d : Option CredentialType) (b : List ℕ) → IsHeld p c → IsHeld q d → request_bytes p c ≡ Some b → request_bytes q d ≡ Some b → request_tree p c ≡ request_tree q d
+equal p q c d b h k e f = same_bytes (request_tree p c) (request_tree q d) b (request_keeps p c h) (request_keeps q d k) e f
+
+pub apart : (p q : RequestPayload) (c d : Option CredentialType) (b rest : List ℕ) → IsHeld p c → IsHeld q d → request_bytes p c ≡ Some b → request_bytes q d ≡ Some (b ++ rest) → rest ≡ []
+apart p q c d b rest h k e f = no_more (request_tree p c) (request_tree q d) b rest (request_keeps p c h) (request_keeps q d k) e f

@@ -1,0 +1,54 @@
+//! Attributes.
+
+ghost use Rattle.std.specs.Prelude.{◌≡◌};
+ghost use Rattle.kmip_request.specs.Tables.{attribute, name};
+ghost use Rattle.kmip_request.specs.Values.{attribute_val};
+ghost use Rattle.kmip_request.specs.Same.{attribute_same};
+
+use kmip_shape::columns::{ChosenOne, One, Opt};
+use kmip_shape::record::{Choosing, End, Row};
+use kmip_shape::{Item, WriteItem, fields, known_record, record_len, write_record};
+use kmip_types::{AttributeIndex, AttributeName, AttributeValue};
+use kmip_wire::{Buffer, OutOfMemory, Tag, TryClone};
+use std::alloc::Global;
+
+/// An attribute of an object: its name, which of the attributes of that name it is, and its value: KMIP 1.0, 2.1.1.
+#[derive(PartialEq, Eq, Drop)]
+pub struct Attribute(
+    pub AttributeName,
+    pub Option<AttributeIndex>,
+    pub AttributeValue,
+);
+
+type AttributeRows<'a> = Choosing<
+    One<AttributeName, 0x42000A>,
+    Row<Opt<AttributeIndex, 0x420009>, Row<ChosenOne<'a, AttributeValue, 0x42000B>, End>>,
+>;
+
+impl TryClone for Attribute {
+    fn try_clone(&self, alloc: Global) -> Result<Attribute, OutOfMemory> {
+        Ok(Attribute(self.0.try_clone(alloc)?, self.1, self.2.try_clone(alloc)?))
+    }
+}
+
+impl Item for Attribute {
+    ghost shape = { attribute };
+
+    ghost val = { attribute_val };
+
+    fn known(&self) {
+        known_record::<AttributeRows<'_>>(fields![&self.0, &self.1, &self.2]);
+    }
+
+    ghost same = { attribute_same };
+}
+
+impl WriteItem for Attribute {
+    fn wire_len(&self, _tag: Tag) -> Option<u64> {
+        record_len::<AttributeRows<'_>>(fields![&self.0, &self.1, &self.2])
+    }
+
+    fn write_into(&self, tag: Tag, out: &mut Buffer) {
+        write_record::<AttributeRows<'_>>(fields![&self.0, &self.1, &self.2], tag, out);
+    }
+}

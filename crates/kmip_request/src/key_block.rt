@@ -1,0 +1,119 @@
+//! Keys with their format, algorithm and length.
+
+ghost use Rattle.std.specs.Prelude.{◌≡◌};
+ghost use Rattle.kmip_request.specs.Tables.{key_value, key_block};
+ghost use Rattle.kmip_request.specs.Values.{key_value_val, key_block_val};
+ghost use Rattle.kmip_request.specs.Same.{key_value_same, key_block_same};
+
+use crate::attribute::Attribute;
+use crate::key_wrapping::KeyWrappingData;
+use kmip_shape::columns::{ChosenOpt, One, Opt, OptMany};
+use kmip_shape::record::{Choosing, End, Row};
+use kmip_shape::{Item, WriteItem, fields, known_record, record_len, write_record};
+use kmip_types::{
+    CryptographicAlgorithm, CryptographicLength, KeyCompressionType, KeyFormatType, KeyMaterial,
+};
+use kmip_wire::{Buffer, List, OutOfMemory, Tag, TryClone, clone_optional};
+use std::alloc::Global;
+
+/// Key material and attributes of the key: KMIP 1.0, 2.1.4.
+#[derive(PartialEq, Eq, Drop)]
+pub struct KeyValue(pub KeyMaterial, pub Option<List<Attribute>>);
+
+type KeyValueRows = Row<One<KeyMaterial, 0x420043>, Row<OptMany<Attribute, 0x420008>, End>>;
+
+impl TryClone for KeyValue {
+    fn try_clone(&self, alloc: Global) -> Result<KeyValue, OutOfMemory> {
+        Ok(KeyValue(self.0.try_clone(alloc)?, clone_optional(&self.1, alloc)?))
+    }
+}
+
+impl Item for KeyValue {
+    ghost shape = { key_value };
+
+    ghost val = { key_value_val };
+
+    fn known(&self) {
+        known_record::<KeyValueRows>(fields![&self.0, &self.1]);
+    }
+
+    ghost same = { key_value_same };
+}
+
+impl WriteItem for KeyValue {
+    fn wire_len(&self, _tag: Tag) -> Option<u64> {
+        record_len::<KeyValueRows>(fields![&self.0, &self.1])
+    }
+
+    fn write_into(&self, tag: Tag, out: &mut Buffer) {
+        write_record::<KeyValueRows>(fields![&self.0, &self.1], tag, out);
+    }
+}
+
+/// A key with its format, algorithm and length: KMIP 1.0, 2.1.3. The format is that of the key material.
+#[derive(PartialEq, Eq, Drop)]
+pub struct KeyBlock(
+    pub KeyFormatType,
+    pub Option<KeyCompressionType>,
+    pub Option<KeyValue>,
+    pub Option<CryptographicAlgorithm>,
+    pub Option<CryptographicLength>,
+    pub Option<KeyWrappingData>,
+);
+
+type KeyBlockRows<'a> = Choosing<
+    One<KeyFormatType, 0x420042>,
+    Row<
+        Opt<KeyCompressionType, 0x420041>,
+        Row<
+            ChosenOpt<'a, KeyValue, 0x420045>,
+            Row<
+                Opt<CryptographicAlgorithm, 0x420028>,
+                Row<Opt<CryptographicLength, 0x42002A>, Row<Opt<KeyWrappingData, 0x420046>, End>>,
+            >,
+        >,
+    >,
+>;
+
+impl TryClone for KeyBlock {
+    fn try_clone(&self, alloc: Global) -> Result<KeyBlock, OutOfMemory> {
+        Ok(KeyBlock(
+            self.0,
+            self.1,
+            clone_optional(&self.2, alloc)?,
+            self.3,
+            self.4,
+            clone_optional(&self.5, alloc)?,
+        ))
+    }
+}
+
+impl Item for KeyBlock {
+    ghost shape = { key_block };
+
+    ghost val = { key_block_val };
+
+    fn known(&self) {
+        known_record::<KeyBlockRows<'_>>(fields![
+            &self.0, &self.1, &self.2, &self.3, &self.4, &self.5
+        ]);
+    }
+
+    ghost same = { key_block_same };
+}
+
+impl WriteItem for KeyBlock {
+    fn wire_len(&self, _tag: Tag) -> Option<u64> {
+        record_len::<KeyBlockRows<'_>>(fields![
+            &self.0, &self.1, &self.2, &self.3, &self.4, &self.5
+        ])
+    }
+
+    fn write_into(&self, tag: Tag, out: &mut Buffer) {
+        write_record::<KeyBlockRows<'_>>(
+            fields![&self.0, &self.1, &self.2, &self.3, &self.4, &self.5],
+            tag,
+            out,
+        );
+    }
+}

@@ -1,0 +1,211 @@
+//! How keys are wrapped.
+
+ghost use Rattle.std.specs.Prelude.{◌≡◌};
+ghost use Rattle.kmip_request.specs.Tables.{attribute, encryption_key_information, mac_or_signature_key_information, key_wrapping_data, key_wrapping_specification};
+ghost use Rattle.kmip_request.specs.Values.{encryption_key_information_val, mac_or_signature_key_information_val, key_wrapping_data_val, key_wrapping_specification_val};
+ghost use Rattle.kmip_request.specs.Same.{encryption_key_information_same, mac_or_signature_key_information_same, key_wrapping_data_same, key_wrapping_specification_same};
+
+use crate::attribute::Attribute;
+use crate::byte_strings::{IVOrCounterOrNonce, MACOrSignature};
+use kmip_shape::columns::{One, Opt, OptMany};
+use kmip_shape::record::{End, Row};
+use kmip_shape::{Item, WriteItem, fields, known_record, record_len, write_record};
+use kmip_types::{CryptographicParameters, UniqueIdentifier, WrappingMethod};
+use kmip_wire::{Buffer, List, OutOfMemory, Tag, TryClone, clone_optional};
+use std::alloc::Global;
+
+/// The key that wraps by encryption, and how: KMIP 1.0, 2.1.5.
+#[derive(PartialEq, Eq, Drop)]
+pub struct EncryptionKeyInformation(pub UniqueIdentifier, pub Option<CryptographicParameters>);
+
+type EncryptionKeyInformationRows = Row<
+    One<UniqueIdentifier, 0x420094>,
+    Row<Opt<CryptographicParameters, 0x42002B>, End>,
+>;
+
+impl TryClone for EncryptionKeyInformation {
+    fn try_clone(&self, alloc: Global) -> Result<EncryptionKeyInformation, OutOfMemory> {
+        Ok(EncryptionKeyInformation(self.0.try_clone(alloc)?, self.1))
+    }
+}
+
+impl Item for EncryptionKeyInformation {
+    ghost shape = { encryption_key_information };
+
+    ghost val = { encryption_key_information_val };
+
+    fn known(&self) {
+        known_record::<EncryptionKeyInformationRows>(fields![&self.0, &self.1]);
+    }
+
+    ghost same = { encryption_key_information_same };
+}
+
+impl WriteItem for EncryptionKeyInformation {
+    fn wire_len(&self, _tag: Tag) -> Option<u64> {
+        record_len::<EncryptionKeyInformationRows>(fields![&self.0, &self.1])
+    }
+
+    fn write_into(&self, tag: Tag, out: &mut Buffer) {
+        write_record::<EncryptionKeyInformationRows>(fields![&self.0, &self.1], tag, out);
+    }
+}
+
+/// The key that wraps by a MAC or a signature, and how: KMIP 1.0, 2.1.5.
+#[derive(PartialEq, Eq, Drop)]
+pub struct MACOrSignatureKeyInformation(pub UniqueIdentifier, pub Option<CryptographicParameters>);
+
+type MACOrSignatureKeyInformationRows = Row<
+    One<UniqueIdentifier, 0x420094>,
+    Row<Opt<CryptographicParameters, 0x42002B>, End>,
+>;
+
+impl TryClone for MACOrSignatureKeyInformation {
+    fn try_clone(&self, alloc: Global) -> Result<MACOrSignatureKeyInformation, OutOfMemory> {
+        Ok(MACOrSignatureKeyInformation(self.0.try_clone(alloc)?, self.1))
+    }
+}
+
+impl Item for MACOrSignatureKeyInformation {
+    ghost shape = { mac_or_signature_key_information };
+
+    ghost val = { mac_or_signature_key_information_val };
+
+    fn known(&self) {
+        known_record::<MACOrSignatureKeyInformationRows>(fields![&self.0, &self.1]);
+    }
+
+    ghost same = { mac_or_signature_key_information_same };
+}
+
+impl WriteItem for MACOrSignatureKeyInformation {
+    fn wire_len(&self, _tag: Tag) -> Option<u64> {
+        record_len::<MACOrSignatureKeyInformationRows>(fields![&self.0, &self.1])
+    }
+
+    fn write_into(&self, tag: Tag, out: &mut Buffer) {
+        write_record::<MACOrSignatureKeyInformationRows>(fields![&self.0, &self.1], tag, out);
+    }
+}
+
+/// How a key was wrapped: KMIP 1.0, 2.1.5. KMIP has no attributes here.
+#[derive(PartialEq, Eq, Drop)]
+pub struct KeyWrappingData(
+    pub WrappingMethod,
+    pub Option<EncryptionKeyInformation>,
+    pub Option<MACOrSignatureKeyInformation>,
+    pub Option<MACOrSignature>,
+    pub Option<IVOrCounterOrNonce>,
+    pub Option<List<Attribute>>,
+);
+
+type KeyWrappingDataRows = Row<
+    One<WrappingMethod, 0x42009E>,
+    Row<
+        Opt<EncryptionKeyInformation, 0x420036>,
+        Row<
+            Opt<MACOrSignatureKeyInformation, 0x42004E>,
+            Row<
+                Opt<MACOrSignature, 0x42004D>,
+                Row<Opt<IVOrCounterOrNonce, 0x42003D>, Row<OptMany<Attribute, 0x420008>, End>>,
+            >,
+        >,
+    >,
+>;
+
+impl TryClone for KeyWrappingData {
+    fn try_clone(&self, alloc: Global) -> Result<KeyWrappingData, OutOfMemory> {
+        Ok(KeyWrappingData(
+            self.0,
+            clone_optional(&self.1, alloc)?,
+            clone_optional(&self.2, alloc)?,
+            clone_optional(&self.3, alloc)?,
+            clone_optional(&self.4, alloc)?,
+            clone_optional(&self.5, alloc)?,
+        ))
+    }
+}
+
+impl Item for KeyWrappingData {
+    ghost shape = { key_wrapping_data };
+
+    ghost val = { key_wrapping_data_val };
+
+    fn known(&self) {
+        known_record::<KeyWrappingDataRows>(fields![
+            &self.0, &self.1, &self.2, &self.3, &self.4, &self.5
+        ]);
+    }
+
+    ghost same = { key_wrapping_data_same };
+}
+
+impl WriteItem for KeyWrappingData {
+    fn wire_len(&self, _tag: Tag) -> Option<u64> {
+        record_len::<KeyWrappingDataRows>(fields![
+            &self.0, &self.1, &self.2, &self.3, &self.4, &self.5
+        ])
+    }
+
+    fn write_into(&self, tag: Tag, out: &mut Buffer) {
+        write_record::<KeyWrappingDataRows>(
+            fields![&self.0, &self.1, &self.2, &self.3, &self.4, &self.5],
+            tag,
+            out,
+        );
+    }
+}
+
+/// How a key is to be wrapped: KMIP 1.0, 2.1.6. KMIP has attribute names where this has attributes.
+#[derive(PartialEq, Eq, Drop)]
+pub struct KeyWrappingSpecification(
+    pub WrappingMethod,
+    pub Option<EncryptionKeyInformation>,
+    pub Option<MACOrSignatureKeyInformation>,
+    pub Option<List<Attribute>>,
+);
+
+type KeyWrappingSpecificationRows = Row<
+    One<WrappingMethod, 0x42009E>,
+    Row<
+        Opt<EncryptionKeyInformation, 0x420036>,
+        Row<Opt<MACOrSignatureKeyInformation, 0x42004E>, Row<OptMany<Attribute, 0x420008>, End>>,
+    >,
+>;
+
+impl TryClone for KeyWrappingSpecification {
+    fn try_clone(&self, alloc: Global) -> Result<KeyWrappingSpecification, OutOfMemory> {
+        Ok(KeyWrappingSpecification(
+            self.0,
+            clone_optional(&self.1, alloc)?,
+            clone_optional(&self.2, alloc)?,
+            clone_optional(&self.3, alloc)?,
+        ))
+    }
+}
+
+impl Item for KeyWrappingSpecification {
+    ghost shape = { key_wrapping_specification };
+
+    ghost val = { key_wrapping_specification_val };
+
+    fn known(&self) {
+        known_record::<KeyWrappingSpecificationRows>(fields![&self.0, &self.1, &self.2, &self.3]);
+    }
+
+    ghost same = { key_wrapping_specification_same };
+}
+
+impl WriteItem for KeyWrappingSpecification {
+    fn wire_len(&self, _tag: Tag) -> Option<u64> {
+        record_len::<KeyWrappingSpecificationRows>(fields![&self.0, &self.1, &self.2, &self.3])
+    }
+
+    fn write_into(&self, tag: Tag, out: &mut Buffer) {
+        write_record::<KeyWrappingSpecificationRows>(
+            fields![&self.0, &self.1, &self.2, &self.3],
+            tag,
+            out,
+        );
+    }
+}

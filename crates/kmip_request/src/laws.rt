@@ -1,0 +1,16 @@
+//! Laws over the definitions, each the contract of a function that does nothing.
+
+ghost use Rattle.std.specs.Prelude.{◌≡◌, ℕ, List, [], ◌++◌, Option, Some};
+ghost use Rattle.kmip_types.specs.declared.auth.CredentialType.{CredentialType};
+ghost use Rattle.kmip_request.specs.declared.payload.RequestPayload.{RequestPayload};
+ghost use Rattle.kmip_request.specs.Message.{request_tree, request_bytes};
+ghost use Rattle.kmip_request.specs.Held.{IsHeld};
+
+/// Two valid requests whose trees differ have different bytes, and neither message's bytes begin the other's.
+/// The premises hold of every payload and credential that Rust can hold.
+pub fn distinct_requests()
+    ensures equal { (p q : RequestPayload) (c d : Option CredentialType) (b : List ℕ) → IsHeld p c → IsHeld q d →
+        request_bytes p c ≡ Some b → request_bytes q d ≡ Some b → request_tree p c ≡ request_tree q d }
+    ensures apart { (p q : RequestPayload) (c d : Option CredentialType) (b rest : List ℕ) → IsHeld p c → IsHeld q d →
+        request_bytes p c ≡ Some b → request_bytes q d ≡ Some (b ++ rest) → rest ≡ [] }
+{}

@@ -1,0 +1,216 @@
+//! Managed objects, each under its own tag.
+
+ghost use Rattle.std.specs.Prelude.{◌≡◌};
+ghost use Rattle.kmip_shape.specs.Shape.{Choice, OfTag};
+ghost use Rattle.kmip_request.specs.Tables.{name, symmetric_key, public_key, private_key, template, managed_objects};
+ghost use Rattle.kmip_request.specs.Values.{symmetric_key_val, public_key_val, private_key_val, template_val, managed_object_val};
+ghost use Rattle.kmip_request.specs.Same.{symmetric_key_same, public_key_same, private_key_same, template_same, managed_object_same};
+
+use crate::attribute::Attribute;
+use crate::key_block::KeyBlock;
+use kmip_shape::columns::{Many, One};
+use kmip_shape::record::{End, Row};
+use kmip_shape::{Item, OfTag, WriteItem, fields, known_record, record_len, write_record};
+use kmip_wire::{Buffer, List, OutOfMemory, Tag, TryClone};
+use std::alloc::Global;
+
+/// A symmetric key: KMIP 1.0, 2.2.2.
+#[derive(PartialEq, Eq, Drop)]
+pub struct SymmetricKey(pub KeyBlock);
+
+type SymmetricKeyRows = Row<One<KeyBlock, 0x420040>, End>;
+
+impl TryClone for SymmetricKey {
+    fn try_clone(&self, alloc: Global) -> Result<SymmetricKey, OutOfMemory> {
+        Ok(SymmetricKey(self.0.try_clone(alloc)?))
+    }
+}
+
+impl Item for SymmetricKey {
+    ghost shape = { symmetric_key };
+
+    ghost val = { symmetric_key_val };
+
+    fn known(&self) {
+        known_record::<SymmetricKeyRows>(fields![&self.0]);
+    }
+
+    ghost same = { symmetric_key_same };
+}
+
+impl WriteItem for SymmetricKey {
+    fn wire_len(&self, _tag: Tag) -> Option<u64> {
+        record_len::<SymmetricKeyRows>(fields![&self.0])
+    }
+
+    fn write_into(&self, tag: Tag, out: &mut Buffer) {
+        write_record::<SymmetricKeyRows>(fields![&self.0], tag, out);
+    }
+}
+
+/// A public key: KMIP 1.0, 2.2.3.
+#[derive(PartialEq, Eq, Drop)]
+pub struct PublicKey(pub KeyBlock);
+
+type PublicKeyRows = Row<One<KeyBlock, 0x420040>, End>;
+
+impl TryClone for PublicKey {
+    fn try_clone(&self, alloc: Global) -> Result<PublicKey, OutOfMemory> {
+        Ok(PublicKey(self.0.try_clone(alloc)?))
+    }
+}
+
+impl Item for PublicKey {
+    ghost shape = { public_key };
+
+    ghost val = { public_key_val };
+
+    fn known(&self) {
+        known_record::<PublicKeyRows>(fields![&self.0]);
+    }
+
+    ghost same = { public_key_same };
+}
+
+impl WriteItem for PublicKey {
+    fn wire_len(&self, _tag: Tag) -> Option<u64> {
+        record_len::<PublicKeyRows>(fields![&self.0])
+    }
+
+    fn write_into(&self, tag: Tag, out: &mut Buffer) {
+        write_record::<PublicKeyRows>(fields![&self.0], tag, out);
+    }
+}
+
+/// A private key: KMIP 1.0, 2.2.4.
+#[derive(PartialEq, Eq, Drop)]
+pub struct PrivateKey(pub KeyBlock);
+
+type PrivateKeyRows = Row<One<KeyBlock, 0x420040>, End>;
+
+impl TryClone for PrivateKey {
+    fn try_clone(&self, alloc: Global) -> Result<PrivateKey, OutOfMemory> {
+        Ok(PrivateKey(self.0.try_clone(alloc)?))
+    }
+}
+
+impl Item for PrivateKey {
+    ghost shape = { private_key };
+
+    ghost val = { private_key_val };
+
+    fn known(&self) {
+        known_record::<PrivateKeyRows>(fields![&self.0]);
+    }
+
+    ghost same = { private_key_same };
+}
+
+impl WriteItem for PrivateKey {
+    fn wire_len(&self, _tag: Tag) -> Option<u64> {
+        record_len::<PrivateKeyRows>(fields![&self.0])
+    }
+
+    fn write_into(&self, tag: Tag, out: &mut Buffer) {
+        write_record::<PrivateKeyRows>(fields![&self.0], tag, out);
+    }
+}
+
+/// Attributes that other requests may name: KMIP 1.0, 2.2.6.
+#[derive(PartialEq, Eq, Drop)]
+pub struct Template(pub List<Attribute>);
+
+type TemplateRows = Row<Many<Attribute, 0x420008>, End>;
+
+impl TryClone for Template {
+    fn try_clone(&self, alloc: Global) -> Result<Template, OutOfMemory> {
+        Ok(Template(self.0.try_clone(alloc)?))
+    }
+}
+
+impl Item for Template {
+    ghost shape = { template };
+
+    ghost val = { template_val };
+
+    fn known(&self) {
+        known_record::<TemplateRows>(fields![&self.0]);
+    }
+
+    ghost same = { template_same };
+}
+
+impl WriteItem for Template {
+    fn wire_len(&self, _tag: Tag) -> Option<u64> {
+        record_len::<TemplateRows>(fields![&self.0])
+    }
+
+    fn write_into(&self, tag: Tag, out: &mut Buffer) {
+        write_record::<TemplateRows>(fields![&self.0], tag, out);
+    }
+}
+
+/// An object that is handed to the server, under its own tag: KMIP 1.0, 2.2.
+#[derive(PartialEq, Eq, Drop)]
+pub enum ManagedObject {
+    SymmetricKey(SymmetricKey),
+    PublicKey(PublicKey),
+    PrivateKey(PrivateKey),
+    Template(Template),
+}
+
+impl TryClone for ManagedObject {
+    fn try_clone(&self, alloc: Global) -> Result<ManagedObject, OutOfMemory> {
+        match self {
+            ManagedObject::SymmetricKey(object) => Ok(ManagedObject::SymmetricKey(object.try_clone(
+                alloc,
+            )?)),
+            ManagedObject::PublicKey(object) => Ok(ManagedObject::PublicKey(object.try_clone(
+                alloc,
+            )?)),
+            ManagedObject::PrivateKey(object) => Ok(ManagedObject::PrivateKey(object.try_clone(
+                alloc,
+            )?)),
+            ManagedObject::Template(object) => Ok(ManagedObject::Template(object.try_clone(
+                alloc,
+            )?)),
+        }
+    }
+}
+
+impl Item for ManagedObject {
+    ghost shape = { Choice OfTag managed_objects };
+
+    ghost val = { managed_object_val };
+
+    fn known(&self) {
+        match self {
+            ManagedObject::SymmetricKey(object) => object.known(),
+            ManagedObject::PublicKey(object) => object.known(),
+            ManagedObject::PrivateKey(object) => object.known(),
+            ManagedObject::Template(object) => object.known(),
+        }
+    }
+
+    ghost same = { managed_object_same };
+}
+
+impl WriteItem for ManagedObject {
+    fn wire_len(&self, _tag: Tag) -> Option<u64> {
+        match self {
+            ManagedObject::SymmetricKey(object) => object.wire_len(Tag::of(0x42008F)),
+            ManagedObject::PublicKey(object) => object.wire_len(Tag::of(0x42006D)),
+            ManagedObject::PrivateKey(object) => object.wire_len(Tag::of(0x420064)),
+            ManagedObject::Template(object) => object.wire_len(Tag::of(0x420090)),
+        }
+    }
+
+    fn write_into(&self, _tag: Tag, out: &mut Buffer) {
+        match self {
+            ManagedObject::SymmetricKey(object) => object.write_into(Tag::of(0x42008F), out),
+            ManagedObject::PublicKey(object) => object.write_into(Tag::of(0x42006D), out),
+            ManagedObject::PrivateKey(object) => object.write_into(Tag::of(0x420064), out),
+            ManagedObject::Template(object) => object.write_into(Tag::of(0x420090), out),
+        }
+    }
+}

@@ -1,0 +1,58 @@
+//! Names of objects.
+
+ghost use Rattle.std.specs.Prelude.{◌≡◌};
+ghost use Rattle.std.specs.Prelude.{Some};
+ghost use Rattle.kmip_request.specs.Tables.{name};
+ghost use Rattle.kmip_request.specs.Values.{name_val};
+ghost use Rattle.kmip_request.specs.Same.{name_same};
+
+use kmip_enums::NameType;
+use kmip_shape::columns::One;
+use kmip_shape::record::{End, Row};
+use kmip_shape::{Item, WriteItem, fields, known_record, record_len, write_record};
+use kmip_types::NameValue;
+use kmip_wire::{Buffer, OutOfMemory, Tag, TryClone};
+use std::alloc::Global;
+use std::fmt::{self, Display, Formatter, Write};
+
+/// The name of an object, and how the name is to be read: KMIP 1.0, 3.2.
+#[derive(PartialEq, Eq, Drop)]
+pub struct Name(pub NameValue, pub NameType);
+
+impl Display for Name {
+    ghost output = { λ x. Some (x.0).0 };
+
+    fn fmt<W: Write>(&self, f: &mut Formatter<W>) -> fmt::Result {
+        f.write_str((self.0).0.as_str())
+    }
+}
+
+type NameRows = Row<One<NameValue, 0x420055>, Row<One<NameType, 0x420054>, End>>;
+
+impl TryClone for Name {
+    fn try_clone(&self, alloc: Global) -> Result<Name, OutOfMemory> {
+        Ok(Name(self.0.try_clone(alloc)?, self.1))
+    }
+}
+
+impl Item for Name {
+    ghost shape = { name };
+
+    ghost val = { name_val };
+
+    fn known(&self) {
+        known_record::<NameRows>(fields![&self.0, &self.1]);
+    }
+
+    ghost same = { name_same };
+}
+
+impl WriteItem for Name {
+    fn wire_len(&self, _tag: Tag) -> Option<u64> {
+        record_len::<NameRows>(fields![&self.0, &self.1])
+    }
+
+    fn write_into(&self, tag: Tag, out: &mut Buffer) {
+        write_record::<NameRows>(fields![&self.0, &self.1], tag, out);
+    }
+}

@@ -1,0 +1,51 @@
+//! Why an object is revoked.
+
+ghost use Rattle.std.specs.Prelude.{◌≡◌};
+ghost use Rattle.kmip_request.specs.Tables.{revocation_reason};
+ghost use Rattle.kmip_request.specs.Values.{revocation_reason_val};
+ghost use Rattle.kmip_request.specs.Same.{revocation_reason_same};
+
+use kmip_enums::RevocationReasonCode;
+use kmip_shape::columns::{One, Opt};
+use kmip_shape::record::{End, Row};
+use kmip_shape::{Item, WriteItem, fields, known_record, record_len, write_record};
+use kmip_types::RevocationMessage;
+use kmip_wire::{Buffer, OutOfMemory, Tag, TryClone, clone_optional};
+use std::alloc::Global;
+
+/// Why an object is revoked: KMIP 1.0, 3.26.
+#[derive(PartialEq, Eq, Drop)]
+pub struct RevocationReason(pub RevocationReasonCode, pub Option<RevocationMessage>);
+
+type RevocationReasonRows = Row<
+    One<RevocationReasonCode, 0x420082>,
+    Row<Opt<RevocationMessage, 0x420080>, End>,
+>;
+
+impl TryClone for RevocationReason {
+    fn try_clone(&self, alloc: Global) -> Result<RevocationReason, OutOfMemory> {
+        Ok(RevocationReason(self.0, clone_optional(&self.1, alloc)?))
+    }
+}
+
+impl Item for RevocationReason {
+    ghost shape = { revocation_reason };
+
+    ghost val = { revocation_reason_val };
+
+    fn known(&self) {
+        known_record::<RevocationReasonRows>(fields![&self.0, &self.1]);
+    }
+
+    ghost same = { revocation_reason_same };
+}
+
+impl WriteItem for RevocationReason {
+    fn wire_len(&self, _tag: Tag) -> Option<u64> {
+        record_len::<RevocationReasonRows>(fields![&self.0, &self.1])
+    }
+
+    fn write_into(&self, tag: Tag, out: &mut Buffer) {
+        write_record::<RevocationReasonRows>(fields![&self.0, &self.1], tag, out);
+    }
+}

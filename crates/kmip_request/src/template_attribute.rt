@@ -1,0 +1,264 @@
+//! Attributes for new objects.
+
+ghost use Rattle.std.specs.Prelude.{◌≡◌};
+ghost use Rattle.std.specs.Prelude.{◌∷◌, [], IfOk, None, Some};
+ghost use Rattle.kmip_request.specs.Constructors.{uninterpreted};
+ghost use Rattle.kmip_request.specs.Tables.{name, template_attribute};
+ghost use Rattle.kmip_request.specs.Values.{template_attribute_val, common_template_attribute_val, private_key_template_attribute_val, public_key_template_attribute_val};
+ghost use Rattle.kmip_request.specs.Same.{template_attribute_same, common_template_attribute_same, private_key_template_attribute_same, public_key_template_attribute_same};
+
+use crate::attribute::Attribute;
+use crate::name::Name;
+use kmip_enums::NameType;
+use kmip_shape::columns::OptMany;
+use kmip_shape::record::{End, Row};
+use kmip_shape::{Item, WriteItem, fields, known_record, record_len, write_record};
+use kmip_types::NameValue;
+use kmip_wire::{Buffer, List, OutOfMemory, Tag, Text, TryClone, clone_optional};
+use std::alloc::Global;
+
+/// A list of one name, an uninterpreted text.
+fn one_name(alloc: Global, name: Text) -> Result<List<Name>, OutOfMemory>
+    ensures { IfOk result (λ made. made ≡ uninterpreted name ∷ []) }
+{
+    let mut names = List::new(alloc);
+    names.push(Name(NameValue(name), NameType::UninterpretedTextString))?;
+    Ok(names)
+}
+
+/// Attributes for a new object, and names of templates that hold more: KMIP 1.0, 2.1.8.
+#[derive(PartialEq, Eq, Drop)]
+pub struct TemplateAttribute(pub Option<List<Name>>, pub Option<List<Attribute>>);
+
+impl TemplateAttribute {
+    /// The attributes alone. It takes no memory.
+    pub fn unnamed(attributes: List<Attribute>) -> Self
+        ensures { (result.0 ≡ None) × (result.1 ≡ Some attributes) }
+    {
+        TemplateAttribute(None, Some(attributes))
+    }
+
+    /// The attributes with one name, an uninterpreted text.
+    pub fn named(
+        alloc: Global,
+        name: Text,
+        attributes: List<Attribute>,
+    ) -> Result<Self, OutOfMemory>
+        ensures { IfOk result (λ made. (made.0 ≡ Some (uninterpreted name ∷ [])) × (made.1 ≡ Some attributes)) }
+    {
+        Ok(TemplateAttribute(Some(one_name(alloc, name)?), Some(attributes)))
+    }
+}
+
+type TemplateAttributeRows = Row<OptMany<Name, 0x420053>, Row<OptMany<Attribute, 0x420008>, End>>;
+
+impl TryClone for TemplateAttribute {
+    fn try_clone(&self, alloc: Global) -> Result<TemplateAttribute, OutOfMemory> {
+        Ok(TemplateAttribute(
+            clone_optional(&self.0, alloc)?,
+            clone_optional(&self.1, alloc)?,
+        ))
+    }
+}
+
+impl Item for TemplateAttribute {
+    ghost shape = { template_attribute };
+
+    ghost val = { template_attribute_val };
+
+    fn known(&self) {
+        known_record::<TemplateAttributeRows>(fields![&self.0, &self.1]);
+    }
+
+    ghost same = { template_attribute_same };
+}
+
+impl WriteItem for TemplateAttribute {
+    fn wire_len(&self, _tag: Tag) -> Option<u64> {
+        record_len::<TemplateAttributeRows>(fields![&self.0, &self.1])
+    }
+
+    fn write_into(&self, tag: Tag, out: &mut Buffer) {
+        write_record::<TemplateAttributeRows>(fields![&self.0, &self.1], tag, out);
+    }
+}
+
+/// Attributes for both keys of a new pair: KMIP 1.0, 2.1.8.
+#[derive(PartialEq, Eq, Drop)]
+pub struct CommonTemplateAttribute(pub Option<List<Name>>, pub Option<List<Attribute>>);
+
+impl CommonTemplateAttribute {
+    /// The attributes alone. It takes no memory.
+    pub fn unnamed(attributes: List<Attribute>) -> Self
+        ensures { (result.0 ≡ None) × (result.1 ≡ Some attributes) }
+    {
+        CommonTemplateAttribute(None, Some(attributes))
+    }
+
+    /// The attributes with one name, an uninterpreted text.
+    pub fn named(
+        alloc: Global,
+        name: Text,
+        attributes: List<Attribute>,
+    ) -> Result<Self, OutOfMemory>
+        ensures { IfOk result (λ made. (made.0 ≡ Some (uninterpreted name ∷ [])) × (made.1 ≡ Some attributes)) }
+    {
+        Ok(CommonTemplateAttribute(Some(one_name(alloc, name)?), Some(attributes)))
+    }
+}
+
+type CommonTemplateAttributeRows = Row<
+    OptMany<Name, 0x420053>,
+    Row<OptMany<Attribute, 0x420008>, End>,
+>;
+
+impl TryClone for CommonTemplateAttribute {
+    fn try_clone(&self, alloc: Global) -> Result<CommonTemplateAttribute, OutOfMemory> {
+        Ok(CommonTemplateAttribute(
+            clone_optional(&self.0, alloc)?,
+            clone_optional(&self.1, alloc)?,
+        ))
+    }
+}
+
+impl Item for CommonTemplateAttribute {
+    ghost shape = { template_attribute };
+
+    ghost val = { common_template_attribute_val };
+
+    fn known(&self) {
+        known_record::<CommonTemplateAttributeRows>(fields![&self.0, &self.1]);
+    }
+
+    ghost same = { common_template_attribute_same };
+}
+
+impl WriteItem for CommonTemplateAttribute {
+    fn wire_len(&self, _tag: Tag) -> Option<u64> {
+        record_len::<CommonTemplateAttributeRows>(fields![&self.0, &self.1])
+    }
+
+    fn write_into(&self, tag: Tag, out: &mut Buffer) {
+        write_record::<CommonTemplateAttributeRows>(fields![&self.0, &self.1], tag, out);
+    }
+}
+
+/// Attributes for the private key of a new pair: KMIP 1.0, 2.1.8.
+#[derive(PartialEq, Eq, Drop)]
+pub struct PrivateKeyTemplateAttribute(pub Option<List<Name>>, pub Option<List<Attribute>>);
+
+impl PrivateKeyTemplateAttribute {
+    /// The attributes alone. It takes no memory.
+    pub fn unnamed(attributes: List<Attribute>) -> Self
+        ensures { (result.0 ≡ None) × (result.1 ≡ Some attributes) }
+    {
+        PrivateKeyTemplateAttribute(None, Some(attributes))
+    }
+
+    /// The attributes with one name, an uninterpreted text.
+    pub fn named(
+        alloc: Global,
+        name: Text,
+        attributes: List<Attribute>,
+    ) -> Result<Self, OutOfMemory>
+        ensures { IfOk result (λ made. (made.0 ≡ Some (uninterpreted name ∷ [])) × (made.1 ≡ Some attributes)) }
+    {
+        Ok(PrivateKeyTemplateAttribute(Some(one_name(alloc, name)?), Some(attributes)))
+    }
+}
+
+type PrivateKeyTemplateAttributeRows = Row<
+    OptMany<Name, 0x420053>,
+    Row<OptMany<Attribute, 0x420008>, End>,
+>;
+
+impl TryClone for PrivateKeyTemplateAttribute {
+    fn try_clone(&self, alloc: Global) -> Result<PrivateKeyTemplateAttribute, OutOfMemory> {
+        Ok(PrivateKeyTemplateAttribute(
+            clone_optional(&self.0, alloc)?,
+            clone_optional(&self.1, alloc)?,
+        ))
+    }
+}
+
+impl Item for PrivateKeyTemplateAttribute {
+    ghost shape = { template_attribute };
+
+    ghost val = { private_key_template_attribute_val };
+
+    fn known(&self) {
+        known_record::<PrivateKeyTemplateAttributeRows>(fields![&self.0, &self.1]);
+    }
+
+    ghost same = { private_key_template_attribute_same };
+}
+
+impl WriteItem for PrivateKeyTemplateAttribute {
+    fn wire_len(&self, _tag: Tag) -> Option<u64> {
+        record_len::<PrivateKeyTemplateAttributeRows>(fields![&self.0, &self.1])
+    }
+
+    fn write_into(&self, tag: Tag, out: &mut Buffer) {
+        write_record::<PrivateKeyTemplateAttributeRows>(fields![&self.0, &self.1], tag, out);
+    }
+}
+
+/// Attributes for the public key of a new pair: KMIP 1.0, 2.1.8.
+#[derive(PartialEq, Eq, Drop)]
+pub struct PublicKeyTemplateAttribute(pub Option<List<Name>>, pub Option<List<Attribute>>);
+
+impl PublicKeyTemplateAttribute {
+    /// The attributes alone. It takes no memory.
+    pub fn unnamed(attributes: List<Attribute>) -> Self
+        ensures { (result.0 ≡ None) × (result.1 ≡ Some attributes) }
+    {
+        PublicKeyTemplateAttribute(None, Some(attributes))
+    }
+
+    /// The attributes with one name, an uninterpreted text.
+    pub fn named(
+        alloc: Global,
+        name: Text,
+        attributes: List<Attribute>,
+    ) -> Result<Self, OutOfMemory>
+        ensures { IfOk result (λ made. (made.0 ≡ Some (uninterpreted name ∷ [])) × (made.1 ≡ Some attributes)) }
+    {
+        Ok(PublicKeyTemplateAttribute(Some(one_name(alloc, name)?), Some(attributes)))
+    }
+}
+
+type PublicKeyTemplateAttributeRows = Row<
+    OptMany<Name, 0x420053>,
+    Row<OptMany<Attribute, 0x420008>, End>,
+>;
+
+impl TryClone for PublicKeyTemplateAttribute {
+    fn try_clone(&self, alloc: Global) -> Result<PublicKeyTemplateAttribute, OutOfMemory> {
+        Ok(PublicKeyTemplateAttribute(
+            clone_optional(&self.0, alloc)?,
+            clone_optional(&self.1, alloc)?,
+        ))
+    }
+}
+
+impl Item for PublicKeyTemplateAttribute {
+    ghost shape = { template_attribute };
+
+    ghost val = { public_key_template_attribute_val };
+
+    fn known(&self) {
+        known_record::<PublicKeyTemplateAttributeRows>(fields![&self.0, &self.1]);
+    }
+
+    ghost same = { public_key_template_attribute_same };
+}
+
+impl WriteItem for PublicKeyTemplateAttribute {
+    fn wire_len(&self, _tag: Tag) -> Option<u64> {
+        record_len::<PublicKeyTemplateAttributeRows>(fields![&self.0, &self.1])
+    }
+
+    fn write_into(&self, tag: Tag, out: &mut Buffer) {
+        write_record::<PublicKeyTemplateAttributeRows>(fields![&self.0, &self.1], tag, out);
+    }
+}

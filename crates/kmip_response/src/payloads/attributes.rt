@@ -1,0 +1,226 @@
+//! Payloads that tell of attributes.
+
+ghost use Rattle.std.specs.Prelude.{◌≡◌};
+ghost use Rattle.kmip_response.specs.Tables.{get_attributes_payload, get_attribute_list_payload, attribute_edit_payload};
+ghost use Rattle.kmip_response.specs.Values.{get_attributes_payload_val, get_attribute_list_payload_val, attribute_edit_payload_val};
+ghost use Rattle.kmip_response.specs.Same.{get_attributes_payload_same, get_attribute_list_payload_same, attribute_edit_payload_same};
+
+use kmip_objects::Attribute;
+use kmip_shape::columns::{NonEmpty, One, OptMany};
+use kmip_shape::record::{End, Row};
+use kmip_shape::{
+    Item, Outer, ReadError, ReadItem, ReadRoot, ShowItem, Sink, fields, known_record, read_record,
+    show_record,
+};
+use kmip_types::{AttributeName, UniqueIdentifier};
+use kmip_wire::{ItemRef, List, OutOfMemory, Tag, TryClone, clone_optional};
+use std::alloc::Global;
+
+/// What Get Attributes answers: KMIP 1.0, 4.11.
+#[derive(PartialEq, Eq, Drop)]
+pub struct GetAttributesResponsePayload {
+    pub unique_identifier: UniqueIdentifier,
+    pub attributes: Option<List<Attribute>>,
+}
+
+type GetAttributesResponsePayloadRows = Row<
+    One<UniqueIdentifier, 0x420094>,
+    Row<OptMany<Attribute, 0x420008>, End>,
+>;
+
+impl TryClone for GetAttributesResponsePayload {
+    fn try_clone(&self, alloc: Global) -> Result<GetAttributesResponsePayload, OutOfMemory> {
+        Ok(GetAttributesResponsePayload {
+            unique_identifier: self.unique_identifier.try_clone(alloc)?,
+            attributes: clone_optional(&self.attributes, alloc)?,
+        })
+    }
+}
+
+impl Item for GetAttributesResponsePayload {
+    ghost shape = { get_attributes_payload };
+
+    ghost val = { get_attributes_payload_val };
+
+    fn known(&self) {
+        known_record::<GetAttributesResponsePayloadRows>(fields![
+            &self.unique_identifier,
+            &self.attributes
+        ]);
+    }
+
+    ghost same = { get_attributes_payload_same };
+}
+
+impl ReadItem for GetAttributesResponsePayload {
+    fn read(alloc: Global, outer: Outer<'_>, item: ItemRef<'_>) -> Result<Self, ReadError> {
+        let fields![unique_identifier, attributes] = read_record::<
+            GetAttributesResponsePayloadRows,
+        >(alloc, outer, item)?;
+        Ok(GetAttributesResponsePayload {
+            unique_identifier,
+            attributes,
+        })
+    }
+}
+
+impl ReadRoot for GetAttributesResponsePayload {
+    ghost root_tag = { 0x42007C };
+
+    fn root_tag() -> Tag {
+        Tag::of(0x42007C)
+    }
+}
+
+impl ShowItem for GetAttributesResponsePayload {
+    fn show_into(&self, out: &mut Sink) {
+        show_record::<GetAttributesResponsePayloadRows>(
+            fields![&self.unique_identifier, &self.attributes],
+            fields!["unique_identifier", "attributes"],
+            out,
+        );
+    }
+}
+
+/// What Get Attribute List answers: KMIP 1.0, 4.12.
+#[derive(PartialEq, Eq, Drop)]
+pub struct GetAttributeListResponsePayload {
+    pub unique_identifier: UniqueIdentifier,
+    /// At least one.
+    pub attributes: List<AttributeName>,
+}
+
+type GetAttributeListResponsePayloadRows = Row<
+    One<UniqueIdentifier, 0x420094>,
+    Row<NonEmpty<AttributeName, 0x42000A>, End>,
+>;
+
+impl TryClone for GetAttributeListResponsePayload {
+    fn try_clone(&self, alloc: Global) -> Result<GetAttributeListResponsePayload, OutOfMemory> {
+        Ok(GetAttributeListResponsePayload {
+            unique_identifier: self.unique_identifier.try_clone(alloc)?,
+            attributes: self.attributes.try_clone(alloc)?,
+        })
+    }
+}
+
+impl Item for GetAttributeListResponsePayload {
+    ghost shape = { get_attribute_list_payload };
+
+    ghost val = { get_attribute_list_payload_val };
+
+    fn known(&self) {
+        known_record::<GetAttributeListResponsePayloadRows>(fields![
+            &self.unique_identifier,
+            &self.attributes
+        ]);
+    }
+
+    ghost same = { get_attribute_list_payload_same };
+}
+
+impl ReadItem for GetAttributeListResponsePayload {
+    fn read(alloc: Global, outer: Outer<'_>, item: ItemRef<'_>) -> Result<Self, ReadError> {
+        let fields![unique_identifier, attributes] = read_record::<
+            GetAttributeListResponsePayloadRows,
+        >(alloc, outer, item)?;
+        Ok(GetAttributeListResponsePayload {
+            unique_identifier,
+            attributes,
+        })
+    }
+}
+
+impl ReadRoot for GetAttributeListResponsePayload {
+    ghost root_tag = { 0x42007C };
+
+    fn root_tag() -> Tag {
+        Tag::of(0x42007C)
+    }
+}
+
+impl ShowItem for GetAttributeListResponsePayload {
+    fn show_into(&self, out: &mut Sink) {
+        show_record::<GetAttributeListResponsePayloadRows>(
+            fields![&self.unique_identifier, &self.attributes],
+            fields!["unique_identifier", "attributes"],
+            out,
+        );
+    }
+}
+
+/// What Add Attribute, Modify Attribute and Delete Attribute answer: KMIP 1.0, 4.13 to 4.15.
+#[derive(PartialEq, Eq, Drop)]
+pub struct AttributeEditResponsePayload {
+    pub unique_identifier: UniqueIdentifier,
+    /// The attribute that was added, changed or taken away.
+    pub attribute: Attribute,
+}
+
+type AttributeEditResponsePayloadRows = Row<
+    One<UniqueIdentifier, 0x420094>,
+    Row<One<Attribute, 0x420008>, End>,
+>;
+
+impl TryClone for AttributeEditResponsePayload {
+    fn try_clone(&self, alloc: Global) -> Result<AttributeEditResponsePayload, OutOfMemory> {
+        Ok(AttributeEditResponsePayload {
+            unique_identifier: self.unique_identifier.try_clone(alloc)?,
+            attribute: self.attribute.try_clone(alloc)?,
+        })
+    }
+}
+
+impl Item for AttributeEditResponsePayload {
+    ghost shape = { attribute_edit_payload };
+
+    ghost val = { attribute_edit_payload_val };
+
+    fn known(&self) {
+        known_record::<AttributeEditResponsePayloadRows>(fields![
+            &self.unique_identifier,
+            &self.attribute
+        ]);
+    }
+
+    ghost same = { attribute_edit_payload_same };
+}
+
+impl ReadItem for AttributeEditResponsePayload {
+    fn read(alloc: Global, outer: Outer<'_>, item: ItemRef<'_>) -> Result<Self, ReadError> {
+        let fields![unique_identifier, attribute] = read_record::<AttributeEditResponsePayloadRows>(
+            alloc, outer, item,
+        )?;
+        Ok(AttributeEditResponsePayload {
+            unique_identifier,
+            attribute,
+        })
+    }
+}
+
+impl ReadRoot for AttributeEditResponsePayload {
+    ghost root_tag = { 0x42007C };
+
+    fn root_tag() -> Tag {
+        Tag::of(0x42007C)
+    }
+}
+
+impl ShowItem for AttributeEditResponsePayload {
+    fn show_into(&self, out: &mut Sink) {
+        show_record::<AttributeEditResponsePayloadRows>(
+            fields![&self.unique_identifier, &self.attribute],
+            fields!["unique_identifier", "attribute"],
+            out,
+        );
+    }
+}
+
+/// What Add Attribute answers: KMIP 1.0, 4.13.
+pub type AddAttributeResponsePayload = AttributeEditResponsePayload;
+
+/// What Modify Attribute answers: KMIP 1.0, 4.14.
+pub type ModifyAttributeResponsePayload = AttributeEditResponsePayload;
+
+/// What Delete Attribute answers: KMIP 1.0, 4.15.
+pub type DeleteAttributeResponsePayload = AttributeEditResponsePayload;

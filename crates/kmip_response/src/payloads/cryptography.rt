@@ -1,0 +1,136 @@
+//! Payloads of cryptographic operations.
+
+ghost use Rattle.std.specs.Prelude.{◌≡◌};
+ghost use Rattle.kmip_response.specs.Tables.{sign_payload, rng_retrieve_payload};
+ghost use Rattle.kmip_response.specs.Values.{sign_payload_val, rng_retrieve_payload_val};
+ghost use Rattle.kmip_response.specs.Same.{sign_payload_same, rng_retrieve_payload_same};
+
+use kmip_shape::columns::One;
+use kmip_shape::record::{End, Row};
+use kmip_shape::{
+    Item, Outer, ReadError, ReadItem, ReadRoot, ShowItem, Sink, fields, known_record, read_record,
+    show_record,
+};
+use kmip_types::UniqueIdentifier;
+use kmip_wire::{Blob, ItemRef, OutOfMemory, Tag, TryClone};
+use std::alloc::Global;
+
+/// What Sign answers: KMIP 1.2, 4.31.
+#[derive(PartialEq, Eq, Drop)]
+pub struct SignResponsePayload {
+    pub unique_identifier: UniqueIdentifier,
+    /// The bytes of the signature.
+    pub signature_data: Blob,
+}
+
+type SignResponsePayloadRows = Row<One<UniqueIdentifier, 0x420094>, Row<One<Blob, 0x4200C3>, End>>;
+
+impl TryClone for SignResponsePayload {
+    fn try_clone(&self, alloc: Global) -> Result<SignResponsePayload, OutOfMemory> {
+        Ok(SignResponsePayload {
+            unique_identifier: self.unique_identifier.try_clone(alloc)?,
+            signature_data: self.signature_data.try_clone(alloc)?,
+        })
+    }
+}
+
+impl Item for SignResponsePayload {
+    ghost shape = { sign_payload };
+
+    ghost val = { sign_payload_val };
+
+    fn known(&self) {
+        known_record::<SignResponsePayloadRows>(fields![
+            &self.unique_identifier,
+            &self.signature_data
+        ]);
+    }
+
+    ghost same = { sign_payload_same };
+}
+
+impl ReadItem for SignResponsePayload {
+    fn read(alloc: Global, outer: Outer<'_>, item: ItemRef<'_>) -> Result<Self, ReadError> {
+        let fields![unique_identifier, signature_data] = read_record::<SignResponsePayloadRows>(
+            alloc, outer, item,
+        )?;
+        Ok(SignResponsePayload {
+            unique_identifier,
+            signature_data,
+        })
+    }
+}
+
+impl ReadRoot for SignResponsePayload {
+    ghost root_tag = { 0x42007C };
+
+    fn root_tag() -> Tag {
+        Tag::of(0x42007C)
+    }
+}
+
+impl ShowItem for SignResponsePayload {
+    fn show_into(&self, out: &mut Sink) {
+        show_record::<SignResponsePayloadRows>(
+            fields![&self.unique_identifier, &self.signature_data],
+            fields!["unique_identifier", "signature_data"],
+            out,
+        );
+    }
+}
+
+/// What RNG Retrieve answers: KMIP 1.2, 4.35.
+#[derive(PartialEq, Eq, Drop)]
+pub struct RNGRetrieveResponsePayload {
+    /// The random bytes; a server may give another number than was asked for.
+    pub random_bytes: Blob,
+}
+
+type RNGRetrieveResponsePayloadRows = Row<One<Blob, 0x4200C2>, End>;
+
+impl TryClone for RNGRetrieveResponsePayload {
+    fn try_clone(&self, alloc: Global) -> Result<RNGRetrieveResponsePayload, OutOfMemory> {
+        Ok(RNGRetrieveResponsePayload {
+            random_bytes: self.random_bytes.try_clone(alloc)?,
+        })
+    }
+}
+
+impl Item for RNGRetrieveResponsePayload {
+    ghost shape = { rng_retrieve_payload };
+
+    ghost val = { rng_retrieve_payload_val };
+
+    fn known(&self) {
+        known_record::<RNGRetrieveResponsePayloadRows>(fields![&self.random_bytes]);
+    }
+
+    ghost same = { rng_retrieve_payload_same };
+}
+
+impl ReadItem for RNGRetrieveResponsePayload {
+    fn read(alloc: Global, outer: Outer<'_>, item: ItemRef<'_>) -> Result<Self, ReadError> {
+        let fields![random_bytes] = read_record::<RNGRetrieveResponsePayloadRows>(
+            alloc, outer, item,
+        )?;
+        Ok(RNGRetrieveResponsePayload { random_bytes })
+    }
+}
+
+impl ReadRoot for RNGRetrieveResponsePayload {
+    ghost root_tag = { 0x42007C };
+
+    fn root_tag() -> Tag {
+        Tag::of(0x42007C)
+    }
+}
+
+impl ShowItem for RNGRetrieveResponsePayload {
+    fn show_into(&self, out: &mut Sink) {
+        show_record::<RNGRetrieveResponsePayloadRows>(
+            fields![&self.random_bytes],
+            fields!["random_bytes"],
+            out,
+        );
+    }
+}

@@ -1,0 +1,93 @@
+//! The payload that holds an object.
+
+ghost use Rattle.std.specs.Prelude.{◌≡◌};
+ghost use Rattle.kmip_response.specs.Tables.{get_payload};
+ghost use Rattle.kmip_response.specs.Values.{get_payload_val};
+ghost use Rattle.kmip_response.specs.Same.{get_payload_same};
+
+use kmip_enums::ObjectType;
+use kmip_objects::{ManagedObject, ManagedObjects};
+use kmip_shape::columns::One;
+use kmip_shape::record::{Choosing, End, Row};
+use kmip_shape::{
+    Item, Outer, ReadError, ReadItem, ReadRoot, ShowItem, Sink, fields, known_record, read_record,
+    show_record,
+};
+use kmip_types::UniqueIdentifier;
+use kmip_wire::{ItemRef, OutOfMemory, Tag, TryClone};
+use std::alloc::Global;
+
+/// What Get answers: KMIP 1.0, 4.10.
+#[derive(PartialEq, Eq, Drop)]
+pub struct GetResponsePayload {
+    pub object_type: ObjectType,
+    pub unique_identifier: UniqueIdentifier,
+    /// The object, of the type `object_type`.
+    pub cryptographic_object: ManagedObject,
+}
+
+type GetResponsePayloadRows<'a> = Choosing<
+    One<ObjectType, 0x420057>,
+    Row<One<UniqueIdentifier, 0x420094>, Row<ManagedObjects<'a>, End>>,
+>;
+
+impl TryClone for GetResponsePayload {
+    fn try_clone(&self, alloc: Global) -> Result<GetResponsePayload, OutOfMemory> {
+        Ok(GetResponsePayload {
+            object_type: self.object_type,
+            unique_identifier: self.unique_identifier.try_clone(alloc)?,
+            cryptographic_object: self.cryptographic_object.try_clone(alloc)?,
+        })
+    }
+}
+
+impl Item for GetResponsePayload {
+    ghost shape = { get_payload };
+
+    ghost val = { get_payload_val };
+
+    fn known(&self) {
+        known_record::<GetResponsePayloadRows<'_>>(fields![
+            &self.object_type,
+            &self.unique_identifier,
+            &self.cryptographic_object
+        ]);
+    }
+
+    ghost same = { get_payload_same };
+}
+
+impl ReadItem for GetResponsePayload {
+    fn read(alloc: Global, outer: Outer<'_>, item: ItemRef<'_>) -> Result<Self, ReadError> {
+        let fields![object_type, unique_identifier, cryptographic_object] = read_record::<
+            GetResponsePayloadRows<'_>,
+        >(alloc, outer, item)?;
+        Ok(GetResponsePayload {
+            object_type,
+            unique_identifier,
+            cryptographic_object,
+        })
+    }
+}
+
+impl ReadRoot for GetResponsePayload {
+    ghost root_tag = { 0x42007C };
+
+    fn root_tag() -> Tag {
+        Tag::of(0x42007C)
+    }
+}
+
+impl ShowItem for GetResponsePayload {
+    fn show_into(&self, out: &mut Sink) {
+        show_record::<GetResponsePayloadRows<'_>>(
+            fields![
+                &self.object_type,
+                &self.unique_identifier,
+                &self.cryptographic_object
+            ],
+            fields!["object_type", "unique_identifier", "cryptographic_object"],
+            out,
+        );
+    }
+}

@@ -1,0 +1,351 @@
+//! Payloads that tell of new objects, and of objects by their identifiers.
+
+ghost use Rattle.std.specs.Prelude.{◌≡◌};
+ghost use Rattle.kmip_response.specs.Tables.{create_payload, create_key_pair_payload, register_payload, locate_payload, unique_identifier_payload};
+ghost use Rattle.kmip_response.specs.Values.{create_payload_val, create_key_pair_payload_val, register_payload_val, locate_payload_val, unique_identifier_payload_val};
+ghost use Rattle.kmip_response.specs.Same.{create_payload_same, create_key_pair_payload_same, register_payload_same, locate_payload_same, unique_identifier_payload_same};
+
+use kmip_enums::ObjectType;
+use kmip_objects::{Attribute, TemplateAttribute};
+use kmip_shape::columns::{Many, One, OptMany};
+use kmip_shape::record::{End, Row};
+use kmip_shape::{
+    Item, Outer, ReadError, ReadItem, ReadRoot, ShowItem, Sink, fields, known_record, read_record,
+    show_record,
+};
+use kmip_types::UniqueIdentifier;
+use kmip_wire::{ItemRef, List, OutOfMemory, Tag, TryClone, clone_optional};
+use std::alloc::Global;
+
+/// What Create answers: KMIP 1.0, 4.1.
+#[derive(PartialEq, Eq, Drop)]
+pub struct CreateResponsePayload {
+    pub object_type: ObjectType,
+    pub unique_identifier: UniqueIdentifier,
+    /// Attributes that the server set.
+    pub object_attributes: Option<List<Attribute>>,
+}
+
+type CreateResponsePayloadRows = Row<
+    One<ObjectType, 0x420057>,
+    Row<One<UniqueIdentifier, 0x420094>, Row<OptMany<Attribute, 0x420008>, End>>,
+>;
+
+impl TryClone for CreateResponsePayload {
+    fn try_clone(&self, alloc: Global) -> Result<CreateResponsePayload, OutOfMemory> {
+        Ok(CreateResponsePayload {
+            object_type: self.object_type,
+            unique_identifier: self.unique_identifier.try_clone(alloc)?,
+            object_attributes: clone_optional(&self.object_attributes, alloc)?,
+        })
+    }
+}
+
+impl Item for CreateResponsePayload {
+    ghost shape = { create_payload };
+
+    ghost val = { create_payload_val };
+
+    fn known(&self) {
+        known_record::<CreateResponsePayloadRows>(fields![
+            &self.object_type,
+            &self.unique_identifier,
+            &self.object_attributes
+        ]);
+    }
+
+    ghost same = { create_payload_same };
+}
+
+impl ReadItem for CreateResponsePayload {
+    fn read(alloc: Global, outer: Outer<'_>, item: ItemRef<'_>) -> Result<Self, ReadError> {
+        let fields![object_type, unique_identifier, object_attributes] = read_record::<
+            CreateResponsePayloadRows,
+        >(alloc, outer, item)?;
+        Ok(CreateResponsePayload {
+            object_type,
+            unique_identifier,
+            object_attributes,
+        })
+    }
+}
+
+impl ReadRoot for CreateResponsePayload {
+    ghost root_tag = { 0x42007C };
+
+    fn root_tag() -> Tag {
+        Tag::of(0x42007C)
+    }
+}
+
+impl ShowItem for CreateResponsePayload {
+    fn show_into(&self, out: &mut Sink) {
+        show_record::<CreateResponsePayloadRows>(
+            fields![
+                &self.object_type,
+                &self.unique_identifier,
+                &self.object_attributes
+            ],
+            fields!["object_type", "unique_identifier", "object_attributes"],
+            out,
+        );
+    }
+}
+
+/// What Create Key Pair answers: KMIP 1.0, 4.2.
+#[derive(PartialEq, Eq, Drop)]
+pub struct CreateKeyPairResponsePayload {
+    pub private_key_unique_identifier: UniqueIdentifier,
+    pub public_key_unique_identifier: UniqueIdentifier,
+}
+
+type CreateKeyPairResponsePayloadRows = Row<
+    One<UniqueIdentifier, 0x420066>,
+    Row<One<UniqueIdentifier, 0x42006F>, End>,
+>;
+
+impl TryClone for CreateKeyPairResponsePayload {
+    fn try_clone(&self, alloc: Global) -> Result<CreateKeyPairResponsePayload, OutOfMemory> {
+        Ok(CreateKeyPairResponsePayload {
+            private_key_unique_identifier: self.private_key_unique_identifier.try_clone(alloc)?,
+            public_key_unique_identifier: self.public_key_unique_identifier.try_clone(alloc)?,
+        })
+    }
+}
+
+impl Item for CreateKeyPairResponsePayload {
+    ghost shape = { create_key_pair_payload };
+
+    ghost val = { create_key_pair_payload_val };
+
+    fn known(&self) {
+        known_record::<CreateKeyPairResponsePayloadRows>(fields![
+            &self.private_key_unique_identifier,
+            &self.public_key_unique_identifier
+        ]);
+    }
+
+    ghost same = { create_key_pair_payload_same };
+}
+
+impl ReadItem for CreateKeyPairResponsePayload {
+    fn read(alloc: Global, outer: Outer<'_>, item: ItemRef<'_>) -> Result<Self, ReadError> {
+        let fields![private_key_unique_identifier, public_key_unique_identifier] = read_record::<
+            CreateKeyPairResponsePayloadRows,
+        >(alloc, outer, item)?;
+        Ok(CreateKeyPairResponsePayload {
+            private_key_unique_identifier,
+            public_key_unique_identifier,
+        })
+    }
+}
+
+impl ReadRoot for CreateKeyPairResponsePayload {
+    ghost root_tag = { 0x42007C };
+
+    fn root_tag() -> Tag {
+        Tag::of(0x42007C)
+    }
+}
+
+impl ShowItem for CreateKeyPairResponsePayload {
+    fn show_into(&self, out: &mut Sink) {
+        show_record::<CreateKeyPairResponsePayloadRows>(
+            fields![
+                &self.private_key_unique_identifier,
+                &self.public_key_unique_identifier
+            ],
+            fields![
+                "private_key_unique_identifier",
+                "public_key_unique_identifier"
+            ],
+            out,
+        );
+    }
+}
+
+/// What Register answers: KMIP 1.0, 4.3.
+#[derive(PartialEq, Eq, Drop)]
+pub struct RegisterResponsePayload {
+    pub unique_identifier: UniqueIdentifier,
+    /// Attributes that the server set.
+    pub template_attributes: Option<List<TemplateAttribute>>,
+}
+
+type RegisterResponsePayloadRows = Row<
+    One<UniqueIdentifier, 0x420094>,
+    Row<OptMany<TemplateAttribute, 0x420091>, End>,
+>;
+
+impl TryClone for RegisterResponsePayload {
+    fn try_clone(&self, alloc: Global) -> Result<RegisterResponsePayload, OutOfMemory> {
+        Ok(RegisterResponsePayload {
+            unique_identifier: self.unique_identifier.try_clone(alloc)?,
+            template_attributes: clone_optional(&self.template_attributes, alloc)?,
+        })
+    }
+}
+
+impl Item for RegisterResponsePayload {
+    ghost shape = { register_payload };
+
+    ghost val = { register_payload_val };
+
+    fn known(&self) {
+        known_record::<RegisterResponsePayloadRows>(fields![
+            &self.unique_identifier,
+            &self.template_attributes
+        ]);
+    }
+
+    ghost same = { register_payload_same };
+}
+
+impl ReadItem for RegisterResponsePayload {
+    fn read(alloc: Global, outer: Outer<'_>, item: ItemRef<'_>) -> Result<Self, ReadError> {
+        let fields![unique_identifier, template_attributes] = read_record::<
+            RegisterResponsePayloadRows,
+        >(alloc, outer, item)?;
+        Ok(RegisterResponsePayload {
+            unique_identifier,
+            template_attributes,
+        })
+    }
+}
+
+impl ReadRoot for RegisterResponsePayload {
+    ghost root_tag = { 0x42007C };
+
+    fn root_tag() -> Tag {
+        Tag::of(0x42007C)
+    }
+}
+
+impl ShowItem for RegisterResponsePayload {
+    fn show_into(&self, out: &mut Sink) {
+        show_record::<RegisterResponsePayloadRows>(
+            fields![&self.unique_identifier, &self.template_attributes],
+            fields!["unique_identifier", "template_attributes"],
+            out,
+        );
+    }
+}
+
+/// What Locate answers: the objects that have all the attributes: KMIP 1.0, 4.8.
+#[derive(PartialEq, Eq, Drop)]
+pub struct LocateResponsePayload {
+    pub unique_identifiers: List<UniqueIdentifier>,
+}
+
+type LocateResponsePayloadRows = Row<Many<UniqueIdentifier, 0x420094>, End>;
+
+impl TryClone for LocateResponsePayload {
+    fn try_clone(&self, alloc: Global) -> Result<LocateResponsePayload, OutOfMemory> {
+        Ok(LocateResponsePayload {
+            unique_identifiers: self.unique_identifiers.try_clone(alloc)?,
+        })
+    }
+}
+
+impl Item for LocateResponsePayload {
+    ghost shape = { locate_payload };
+
+    ghost val = { locate_payload_val };
+
+    fn known(&self) {
+        known_record::<LocateResponsePayloadRows>(fields![&self.unique_identifiers]);
+    }
+
+    ghost same = { locate_payload_same };
+}
+
+impl ReadItem for LocateResponsePayload {
+    fn read(alloc: Global, outer: Outer<'_>, item: ItemRef<'_>) -> Result<Self, ReadError> {
+        let fields![unique_identifiers] = read_record::<LocateResponsePayloadRows>(
+            alloc, outer, item,
+        )?;
+        Ok(LocateResponsePayload { unique_identifiers })
+    }
+}
+
+impl ReadRoot for LocateResponsePayload {
+    ghost root_tag = { 0x42007C };
+
+    fn root_tag() -> Tag {
+        Tag::of(0x42007C)
+    }
+}
+
+impl ShowItem for LocateResponsePayload {
+    fn show_into(&self, out: &mut Sink) {
+        show_record::<LocateResponsePayloadRows>(
+            fields![&self.unique_identifiers],
+            fields!["unique_identifiers"],
+            out,
+        );
+    }
+}
+
+/// The identifier of the object that Activate, Revoke or Destroy was made on: KMIP 1.0, 4.18 to 4.20.
+#[derive(PartialEq, Eq, Drop)]
+pub struct UniqueIdentifierResponsePayload {
+    pub unique_identifier: UniqueIdentifier,
+}
+
+type UniqueIdentifierResponsePayloadRows = Row<One<UniqueIdentifier, 0x420094>, End>;
+
+impl TryClone for UniqueIdentifierResponsePayload {
+    fn try_clone(&self, alloc: Global) -> Result<UniqueIdentifierResponsePayload, OutOfMemory> {
+        Ok(UniqueIdentifierResponsePayload {
+            unique_identifier: self.unique_identifier.try_clone(alloc)?,
+        })
+    }
+}
+
+impl Item for UniqueIdentifierResponsePayload {
+    ghost shape = { unique_identifier_payload };
+
+    ghost val = { unique_identifier_payload_val };
+
+    fn known(&self) {
+        known_record::<UniqueIdentifierResponsePayloadRows>(fields![&self.unique_identifier]);
+    }
+
+    ghost same = { unique_identifier_payload_same };
+}
+
+impl ReadItem for UniqueIdentifierResponsePayload {
+    fn read(alloc: Global, outer: Outer<'_>, item: ItemRef<'_>) -> Result<Self, ReadError> {
+        let fields![unique_identifier] = read_record::<UniqueIdentifierResponsePayloadRows>(
+            alloc, outer, item,
+        )?;
+        Ok(UniqueIdentifierResponsePayload { unique_identifier })
+    }
+}
+
+impl ReadRoot for UniqueIdentifierResponsePayload {
+    ghost root_tag = { 0x42007C };
+
+    fn root_tag() -> Tag {
+        Tag::of(0x42007C)
+    }
+}
+
+impl ShowItem for UniqueIdentifierResponsePayload {
+    fn show_into(&self, out: &mut Sink) {
+        show_record::<UniqueIdentifierResponsePayloadRows>(
+            fields![&self.unique_identifier],
+            fields!["unique_identifier"],
+            out,
+        );
+    }
+}
+
+/// What Activate answers: KMIP 1.0, 4.18.
+pub type ActivateResponsePayload = UniqueIdentifierResponsePayload;
+
+/// What Revoke answers: KMIP 1.0, 4.19.
+pub type RevokeResponsePayload = UniqueIdentifierResponsePayload;
+
+/// What Destroy answers: KMIP 1.0, 4.20.
+pub type DestroyResponsePayload = UniqueIdentifierResponsePayload;

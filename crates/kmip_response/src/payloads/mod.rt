@@ -1,0 +1,8 @@
+//! The payloads of responses, one struct for each kind of answer.
+
+pub mod attributes;
+pub mod cryptography;
+pub mod get;
+pub mod identifiers;
+pub mod query;
+pub mod server;

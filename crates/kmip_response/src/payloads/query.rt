@@ -1,0 +1,141 @@
+//! Payloads that tell of the server.
+
+ghost use Rattle.std.specs.Prelude.{◌≡◌};
+ghost use Rattle.kmip_response.specs.Tables.{query_payload, discover_versions_payload};
+ghost use Rattle.kmip_response.specs.Values.{query_payload_val, discover_versions_payload_val};
+ghost use Rattle.kmip_response.specs.Same.{query_payload_same, discover_versions_payload_same};
+
+use crate::header::ProtocolVersion;
+use crate::payloads::server::QueryResponsePayload;
+use kmip_enums::{ObjectType, Operation};
+use kmip_shape::columns::{Opt, OptMany};
+use kmip_shape::record::{End, Row};
+use kmip_shape::{
+    Item, Outer, ReadError, ReadItem, ReadRoot, ShowItem, Sink, copy_optional_list, fields,
+    known_record, read_record, show_record,
+};
+use kmip_wire::{ItemRef, List, OutOfMemory, Tag, Text, TryClone, clone_optional};
+use std::alloc::Global;
+
+type QueryResponsePayloadRows = Row<
+    OptMany<Operation, 0x42005C>,
+    Row<OptMany<ObjectType, 0x420057>, Row<Opt<Text, 0x42009D>, End>>,
+>;
+
+impl TryClone for QueryResponsePayload {
+    fn try_clone(&self, alloc: Global) -> Result<QueryResponsePayload, OutOfMemory> {
+        Ok(QueryResponsePayload {
+            operations: copy_optional_list(&self.operations, alloc)?,
+            object_types: copy_optional_list(&self.object_types, alloc)?,
+            vendor_identification: clone_optional(&self.vendor_identification, alloc)?,
+            server_information: None,
+        })
+    }
+}
+
+impl Item for QueryResponsePayload {
+    ghost shape = { query_payload };
+
+    ghost val = { query_payload_val };
+
+    fn known(&self) {
+        known_record::<QueryResponsePayloadRows>(fields![
+            &self.operations,
+            &self.object_types,
+            &self.vendor_identification
+        ]);
+    }
+
+    ghost same = { query_payload_same };
+}
+
+impl ReadItem for QueryResponsePayload {
+    fn read(alloc: Global, outer: Outer<'_>, item: ItemRef<'_>) -> Result<Self, ReadError> {
+        let fields![operations, object_types, vendor_identification] = read_record::<
+            QueryResponsePayloadRows,
+        >(alloc, outer, item)?;
+        Ok(QueryResponsePayload {
+            operations,
+            object_types,
+            vendor_identification,
+            server_information: None,
+        })
+    }
+}
+
+impl ReadRoot for QueryResponsePayload {
+    ghost root_tag = { 0x42007C };
+
+    fn root_tag() -> Tag {
+        Tag::of(0x42007C)
+    }
+}
+
+impl ShowItem for QueryResponsePayload {
+    fn show_into(&self, out: &mut Sink) {
+        show_record::<QueryResponsePayloadRows>(
+            fields![
+                &self.operations,
+                &self.object_types,
+                &self.vendor_identification
+            ],
+            fields!["operations", "object_types", "vendor_identification"],
+            out,
+        );
+    }
+}
+
+/// What Discover Versions answers: KMIP 1.1, 4.26.
+#[derive(PartialEq, Eq, Drop)]
+pub struct DiscoverVersionsResponsePayload {
+    pub supported_versions: Option<List<ProtocolVersion>>,
+}
+
+type DiscoverVersionsResponsePayloadRows = Row<OptMany<ProtocolVersion, 0x420069>, End>;
+
+impl TryClone for DiscoverVersionsResponsePayload {
+    fn try_clone(&self, alloc: Global) -> Result<DiscoverVersionsResponsePayload, OutOfMemory> {
+        Ok(DiscoverVersionsResponsePayload {
+            supported_versions: copy_optional_list(&self.supported_versions, alloc)?,
+        })
+    }
+}
+
+impl Item for DiscoverVersionsResponsePayload {
+    ghost shape = { discover_versions_payload };
+
+    ghost val = { discover_versions_payload_val };
+
+    fn known(&self) {
+        known_record::<DiscoverVersionsResponsePayloadRows>(fields![&self.supported_versions]);
+    }
+
+    ghost same = { discover_versions_payload_same };
+}
+
+impl ReadItem for DiscoverVersionsResponsePayload {
+    fn read(alloc: Global, outer: Outer<'_>, item: ItemRef<'_>) -> Result<Self, ReadError> {
+        let fields![supported_versions] = read_record::<DiscoverVersionsResponsePayloadRows>(
+            alloc, outer, item,
+        )?;
+        Ok(DiscoverVersionsResponsePayload { supported_versions })
+    }
+}
+
+impl ReadRoot for DiscoverVersionsResponsePayload {
+    ghost root_tag = { 0x42007C };
+
+    fn root_tag() -> Tag {
+        Tag::of(0x42007C)
+    }
+}
+
+impl ShowItem for DiscoverVersionsResponsePayload {
+    fn show_into(&self, out: &mut Sink) {
+        show_record::<DiscoverVersionsResponsePayloadRows>(
+            fields![&self.supported_versions],
+            fields!["supported_versions"],
+            out,
+        );
+    }
+}

@@ -1,0 +1,23 @@
+//! What Query answers.
+//!
+//! It stands in a file of its own, since a struct with an invariant leads to all that its file names.
+
+ghost use Rattle.kmip_response.specs.Skipped.{IsSkipped, IsSkipped-prop};
+
+use kmip_enums::{ObjectType, Operation};
+use kmip_wire::{List, Text};
+
+/// What a server tells of itself, which is skipped.
+#[derive(Clone, Copy, PartialEq, Eq, Default, Drop)]
+pub struct ServerInformation;
+
+/// What Query answers: KMIP 1.0, 4.24.
+#[derive(PartialEq, Eq, Drop)]
+pub struct QueryResponsePayload {
+    pub operations: Option<List<Operation>>,
+    pub object_types: Option<List<ObjectType>>,
+    pub vendor_identification: Option<Text>,
+    /// Always `None`: what the server tells of itself is skipped.
+    pub server_information: Option<ServerInformation>,
+    ghost skipped: { IsSkipped server_information } by { IsSkipped-prop server_information },
+}

@@ -1,0 +1,222 @@
+//! Attribute values, and the members of custom structures.
+
+ghost use Rattle.std.specs.Prelude.{◌≡◌, [], ◌∷◌, ◌++◌, length, map, is_ok, if◌then◌else◌, option_copied, slice_get};
+ghost use Rattle.std.specs.Option.{option_map};
+ghost use Rattle.kmip_shape.specs.Val.{vals_of};
+ghost use Rattle.kmip_shape.specs.Shape.{NoCase};
+ghost use Rattle.kmip_shape.specs.Fits.{vals_fit};
+ghost use Rattle.kmip_types.specs.AttributeValues.{attribute_value, attribute_value_val, attribute_value_same};
+
+use crate::cryptographic_parameters::CryptographicParameters;
+use kmip_codes::CryptographicAlgorithm;
+use kmip_enums::{LinkType, NameType, ObjectType, State};
+use kmip_names::{ApplicationData, ApplicationNamespace, LinkedObjectIdentifier, NameValue};
+use kmip_shape::columns::One;
+use kmip_shape::record::{End, Row};
+use kmip_shape::{Item, fields, known_record};
+use kmip_wire::{Blob, OutOfMemory, Text};
+use std::alloc::Global;
+use std::marker::Model;
+
+/// The value of an attribute: KMIP 1.0, 2.1.1.
+///
+/// The name of the attribute chooses the first nine variants. Under another name the type of the item chooses among
+/// the other ten. A value is written by its own variant, whatever its attribute's name.
+#[cycle(attribute_value)]
+#[derive(Drop)]
+pub enum AttributeValue {
+    /// Under `Name`: KMIP 1.0, 3.2.
+    Name(NameValue, NameType),
+    /// Under `Object Type`: KMIP 1.0, 3.3.
+    ObjectType(ObjectType),
+    /// Under `Cryptographic Algorithm`: KMIP 1.0, 3.4.
+    CryptographicAlgorithm(CryptographicAlgorithm),
+    /// Under `Cryptographic Parameters`: KMIP 1.0, 3.6.
+    CryptographicParameters(CryptographicParameters),
+    /// Under `State`: KMIP 1.0, 3.17.
+    State(State),
+    /// Under `Object Group`: KMIP 1.0, 3.28.
+    ObjectGroup(Text),
+    /// Under `Link`, and under `Linked Object Identifier`: KMIP 1.0, 3.29.
+    Link(LinkType, LinkedObjectIdentifier),
+    /// Under `Application Specific Information`: KMIP 1.0, 3.30.
+    ApplicationSpecificInformation(ApplicationNamespace, ApplicationData),
+    /// Under `Contact Information`: KMIP 1.0, 3.31.
+    ContactInformation(Text),
+    /// A custom structure. It has a wire form where none of its members writes a structure.
+    Structure(Values),
+    Integer(i32),
+    LongInteger(i64),
+    /// The bytes of the number, the highest first. It has a wire form where they are a multiple of 8.
+    BigInteger(Blob),
+    /// The number of an enumeration.
+    Enumeration(u32),
+    Boolean(bool),
+    TextString(Text),
+    ByteString(Blob),
+    /// The eight bytes of the signed seconds since 1970, as an unsigned number.
+    DateTime(u64),
+    /// Seconds.
+    Interval(u32),
+}
+
+/// The members of a custom structure, in order. Contracts see them as the list of their values.
+#[cycle(attribute_value)]
+#[derive(Drop)]
+pub struct Values {
+    items: Vec<AttributeValue>,
+}
+
+impl Model for Values {
+    ghost use Rattle.std.specs.Prelude.{List};
+    ghost use Rattle.std.specs.Coded.{coded_list};
+    ghost use Rattle.kmip_shape.specs.Val.{Val};
+    ghost use Rattle.kmip_shape.specs.Codes.{coded_val};
+
+    ghost Value = { List Val };
+
+    ghost coded = { coded_list coded_val };
+
+    ghost use Rattle.std.specs.Prelude.{map};
+    ghost use Rattle.kmip_types.specs.AttributeValues.{attribute_value_val, list_weight};
+
+    ghost view = { λ a. map attribute_value_val a.items.items };
+
+    ghost size = { list_weight };
+
+    ghost use Rattle.std.proofs.Common.{arith};
+    ghost use Rattle.kmip_types.specs.AttributesFall.{most_le-weight};
+
+    ghost size_decreases = { λ a h. Prim.omega (arith, most_le-weight a.items.items) };
+}
+
+impl Values {
+    /// The empty list, which takes no memory.
+    pub fn new(alloc: Global) -> Values
+        ensures { result ≡ [] }
+    {
+        Values {
+            items: Vec::new(alloc),
+        }
+    }
+
+    /// The members of a vector, in order.
+    pub fn of_vec(items: Vec<AttributeValue>) -> Values
+        ensures { result ≡ map attribute_value_val items.items }
+    {
+        Values { items }
+    }
+
+    /// Adds an item at the end. Where memory runs out, the list stays as it was and the item is dropped.
+    pub fn push(&mut self, item: AttributeValue) -> Result<(), OutOfMemory>
+        ensures { self.new ≡ (if is_ok result then self.old ++ attribute_value_val item ∷ [] else self.old) }
+    {
+        match self.items.push(item) {
+            Ok(()) => Ok(()),
+            Err(_) => Err(OutOfMemory),
+        }
+    }
+
+    /// How many items there are.
+    pub fn len(&self) -> usize
+        ensures { result ≡ length self.now }
+    {
+        self.items.len()
+    }
+
+    /// The item at the index, counted from 0, and `None` past the end.
+    pub fn get(&self, index: usize) -> Option<&AttributeValue>
+        ensures { option_map attribute_value_val (option_copied result) ≡ slice_get self.now index }
+    {
+        self.items.get(index)
+    }
+
+    /// The items in order.
+    pub fn as_slice(&self) -> &[AttributeValue]
+        ensures { map attribute_value_val result.now ≡ self.now }
+    {
+        self.items.as_slice()
+    }
+
+    /// The items in order, with no copy made.
+    pub fn into_vec(self) -> Vec<AttributeValue>
+        ensures { map attribute_value_val result.items ≡ self }
+    {
+        self.items
+    }
+
+    /// The members fit. It does nothing.
+    #[cycle(known_attribute)]
+    fn known(&self)
+        ensures { vals_fit (vals_of self.now) NoCase attribute_value }
+    {
+        let mut rest = self.items.as_slice();
+        while let [item, tail @ ..] = rest {
+            item.known();
+            rest = tail;
+        }
+    }
+}
+
+/// The rows of a Name: KMIP 1.0, 3.2.
+pub type NameRows = Row<One<NameValue, 0x420055>, Row<One<NameType, 0x420054>, End>>;
+
+/// The rows of a Link: KMIP 1.0, 3.29.
+pub type LinkRows = Row<One<LinkType, 0x42004B>, Row<One<LinkedObjectIdentifier, 0x42004C>, End>>;
+
+/// The rows of Application Specific Information: KMIP 1.0, 3.30.
+pub type InformationRows = Row<
+    One<ApplicationNamespace, 0x420003>,
+    Row<One<ApplicationData, 0x420002>, End>,
+>;
+
+impl Item for AttributeValue {
+    ghost shape = { attribute_value };
+
+    ghost val = { attribute_value_val };
+
+    #[cycle(known_attribute)]
+    fn known(&self) {
+        match self {
+            AttributeValue::Name(value, kind) => known_record::<NameRows>(fields![value, kind]),
+            AttributeValue::ObjectType(object_type) => object_type.known(),
+            AttributeValue::CryptographicAlgorithm(algorithm) => algorithm.known(),
+            AttributeValue::CryptographicParameters(parameters) => parameters.known(),
+            AttributeValue::State(state) => state.known(),
+            AttributeValue::ObjectGroup(text) => text.known(),
+            AttributeValue::Link(kind, identifier) => {
+                known_record::<LinkRows>(fields![kind, identifier]);
+            }
+            AttributeValue::ApplicationSpecificInformation(namespace, data) => {
+                known_record::<InformationRows>(fields![namespace, data]);
+            }
+            AttributeValue::ContactInformation(text) => text.known(),
+            AttributeValue::Structure(values) => values.known(),
+            AttributeValue::Integer(number) => number.known(),
+            AttributeValue::LongInteger(number) => number.known(),
+            AttributeValue::BigInteger(bytes) => bytes.known(),
+            AttributeValue::Enumeration(number) => {
+                let _number = *number;
+            }
+            AttributeValue::Boolean(truth) => truth.known(),
+            AttributeValue::TextString(text) => text.known(),
+            AttributeValue::ByteString(bytes) => bytes.known(),
+            AttributeValue::DateTime(seconds) => seconds.known(),
+            AttributeValue::Interval(seconds) => seconds.known(),
+        }
+    }
+
+    ghost same = { attribute_value_same };
+}
+
+/// The conversion keeps the thirteen fields in order.
+impl From<CryptographicParameters> for AttributeValue {
+    ghost use Rattle.std.specs.Prelude.{◌≡◌};
+    ghost use Rattle.kmip_types.specs.declared.attribute_value.AttributeValue.TheVariants.{CryptographicParameters as parameters_value};
+
+    ghost from_gives = { λ parameters value. value ≡ parameters_value parameters };
+
+    fn from(value: CryptographicParameters) -> AttributeValue {
+        AttributeValue::CryptographicParameters(value)
+    }
+}
