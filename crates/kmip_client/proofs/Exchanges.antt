@@ -2,6 +2,7 @@
 use Rattle.std.proofs.Common.{◌≡◌, ℕ, ◌+◌, ◌-◌, ◌≤◌, List, [], ◌++◌, take, refl, ◌∙◌, ap, sym, arith, subst, true, false, Option, Some, None, Result, Ok, Err, IsErrOf, codes, ◌⊎◌, inl, inr}
 use Rattle.std.proofs.lemmas.Grind.{common_steps}
 use Rattle.kmip_link.specs.State.{LinkState, left, Keeps, Writes, Rose}
+use Rattle.kmip_shape.specs.Val.{Val}
 use Rattle.kmip_enums.specs.declared.operation.Operation.{Operation}
 use Rattle.kmip_client.specs.declared.error.Error.{Error}
 use Rattle.kmip_client.specs.declared.error.Error.TheVariants.{ConfigurationError, SerializeError, RequestWriteError, ResponseReadError, DeserializeError, ServerError, InternalError, ItemNotFound, Unknown, OutOfMemory}
@@ -9,7 +10,7 @@ use Rattle.kmip_client.specs.declared.message.MessageStop.{MessageStop}
 use Rattle.kmip_client.specs.Transfer.{Takes, WritesPart}
 use Rattle.kmip_client.specs.Message.{Message, message_at, taken_for, Comes, ReadsMessage, IsRead}
 use Rattle.kmip_client.specs.Client.{lacks_memory}
-use Rattle.kmip_client.specs.Outcome.{Answer, Outcome, outcome_of, answer_of, left_for, Moves, Exchanged, completed, write_failed, read_failed, sending_cut, reading_cut, Gives, said, Caused, not_valid, given, no_memory}
+use Rattle.kmip_client.specs.Outcome.{Answer, seen_by, Outcome, outcome_of, answer_of, left_for, Moves, Exchanged, completed, write_failed, read_failed, sending_cut, reading_cut, Gives, said, Caused, not_valid, given, no_memory}
 use Rattle.kmip_client.proofs.Messages.{message_short}
 
 append_none : (xs : List ℕ) → xs ≡ xs ++ []
@@ -197,6 +198,6 @@ pub caused_by : {before after : ℕ} {answer : Answer} (request : Option (List �
 caused_by request bytes sent operation named limit has same op caused = rw (has, ← same, ← op) caused
 
 -- what a diagnostic kept beside an answer leaves of it
-pub kept_is : {P Q : Type 0} (answer kept : Answer) → (P × (kept ≡ answer)) ⊎ (Q × (kept ≡ Err OutOfMemory)) → IsKept answer kept
-kept_is answer kept (inl it) = inl it.1
-kept_is answer kept (inr it) = inr it.1
+pub kept_is : {P Q S : Type 0} (val : S → Val) (answer kept : Result S Error) → (P × (kept ≡ answer)) ⊎ (Q × (kept ≡ Err OutOfMemory)) → IsKept (seen_by val answer) (seen_by val kept)
+kept_is val answer kept (inl it) = inl (ap (seen_by val) it.1)
+kept_is val answer kept (inr it) = inr (ap (seen_by val) it.1)

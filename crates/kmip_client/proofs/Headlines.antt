@@ -8,13 +8,12 @@ use Rattle.kmip_shape.specs.Val.{Val}
 use Rattle.kmip_shape.specs.Reads.{root_read}
 use Rattle.kmip_enums.specs.declared.operation.Operation.{Operation}
 use Rattle.kmip_response.specs.Tables.{response_message}
-use Rattle.kmip_response.specs.Values.{response_payload_val}
-use Rattle.kmip_response.specs.declared.payload.ResponsePayload.{ResponsePayload}
 use Rattle.kmip_link.specs.State.{LinkState, Rose}
 use Rattle.kmip_client.specs.declared.error.Error.{Error}
 use Rattle.kmip_client.specs.declared.error.Error.TheVariants.{OutOfMemory}
+use Rattle.kmip_client.specs.declared.message.MessageStop.{MessageStop}
 use Rattle.kmip_client.specs.Message.{Message, message_at, taken_for}
-use Rattle.kmip_client.specs.Outcome.{Answer, outcome_of, answer_of, tree_answer, value_answer, response_tag, left_for, seen, Exchanged, completed, write_failed, read_failed, sending_cut, reading_cut, Caused, not_valid, given, no_memory}
+use Rattle.kmip_client.specs.Outcome.{Answer, outcome_of, answer_of, tree_answer, value_answer, response_tag, left_for, seen_by, Gives, said, Exchanged, completed, write_failed, read_failed, sending_cut, reading_cut, Caused, not_valid, given, no_memory}
 use Rattle.kmip_client.specs.Client.{IsOfOperation}
 use Rattle.kmip_client.proofs.Variants.{variant_of}
 use Rattle.kmip_client.specs.Headline.{IsValidResponse, IsSound, IsAnswered, Headline}
@@ -87,19 +86,39 @@ headline request operation limit answer exchanged = λ bytes has sound room.
     headline_of bytes operation limit answer (rw has at exchanged) sound room
 
 -- over any link, a payload has the variant of the operation
-given_variant : (operation : Operation) (limit : Option ℕ) (rest : List ℕ) (payload : Val) → answer_of operation (message_at rest limit) ≡ Ok payload → IsOfOperation operation payload
-given_variant operation limit rest payload answers =
-    let it = from_message operation limit rest payload (message_at rest limit) refl answers in
-    variant_of operation it.valid.tree it.valid.value payload it.valid.reads it.valid.checks
+value_variant : (operation : Operation) (tree : Tree) (value : Option Val) (payload : Val) → root_read response_message response_tag tree ≡ value → value_answer operation value ≡ Ok payload → IsOfOperation operation payload
+value_variant operation tree None payload reads answers = error_payload answers
+value_variant operation tree (Some value) payload reads answers = variant_of operation tree value payload reads answers
+
+read_variant : (operation : Operation) (tree : Option Tree) (payload : Val) → tree_answer operation tree ≡ Ok payload → IsOfOperation operation payload
+read_variant operation None payload answers = error_payload answers
+read_variant operation (Some tree) payload answers = value_variant operation tree (root_read response_message response_tag tree) payload refl answers
+
+given_variant : (operation : Operation) (here : Message) (payload : Val) → answer_of operation here ≡ Ok payload → IsOfOperation operation payload
+given_variant operation Message.Ended payload answers = error_payload answers
+given_variant operation (Message.Refused error) payload answers = error_payload answers
+given_variant operation (Message.Whole m) payload answers = read_variant operation (item_of 64 m) payload answers
+
+said_variant : (operation : Operation) (taken : List ℕ) (read : Result (Unit {0}) MessageStop) (payload : Val) → said operation taken read ≡ Ok payload → IsOfOperation operation payload
+said_variant operation taken (Ok _) payload answers = read_variant operation (item_of 64 taken) payload answers
+said_variant operation taken (Err MessageStop.Ended) payload answers = error_payload answers
+said_variant operation taken (Err (MessageStop.Refused error)) payload answers = error_payload answers
+said_variant operation taken (Err MessageStop.Fault) payload answers = error_payload answers
+said_variant operation taken (Err MessageStop.OutOfMemory) payload answers = error_payload answers
+
+pub told_variant : {P : Type 0} (val : P → Val) (operation : Operation) (taken : List ℕ) (read : Result (Unit {0}) MessageStop) (result : Result P Error) →
+    Gives (said operation taken read) (seen_by val result) → IfOk result (λ payload. IsOfOperation operation (val payload))
+told_variant val operation taken read (Ok payload) gives = said_variant operation taken read (val payload) (sym gives)
+told_variant val operation taken read (Err error) gives = tt
 
 caused_variant : {before after : ℕ} (request : Option (List ℕ)) (operation : Operation) (limit : Option ℕ) (answer : Answer) (payload : Val) → Caused request operation limit before after answer → answer ≡ Ok payload → IsOfOperation operation payload
 caused_variant request operation limit answer payload (not_valid has is) ok = error_payload (sym is ∙ ok)
 caused_variant request operation limit answer payload (Caused.write_failed has is rose) ok = error_payload (sym is ∙ ok)
 caused_variant request operation limit answer payload (Caused.read_failed has is rose) ok = error_payload (sym is ∙ ok)
-caused_variant request operation limit answer payload (given has rest is) ok = given_variant operation limit rest payload (sym is ∙ ok)
+caused_variant request operation limit answer payload (given has rest is) ok = given_variant operation (message_at rest limit) payload (sym is ∙ ok)
 caused_variant request operation limit answer payload (no_memory is) ok = error_payload (sym is ∙ ok)
 
-pub seen_variant : {before after : ℕ} (request : Option (List ℕ)) (operation : Operation) (limit : Option ℕ) (result : Result ResponsePayload Error) → Caused request operation limit before after (seen result) →
-    IfOk result (λ answer. IsOfOperation operation (response_payload_val answer))
-seen_variant request operation limit (Ok answer) caused = caused_variant request operation limit (seen (Ok answer)) (response_payload_val answer) caused refl
-seen_variant request operation limit (Err error) caused = tt
+pub seen_variant : {P : Type 0} {before after : ℕ} (val : P → Val) (request : Option (List ℕ)) (operation : Operation) (limit : Option ℕ) (result : Result P Error) →
+    Caused request operation limit before after (seen_by val result) → IfOk result (λ payload. IsOfOperation operation (val payload))
+seen_variant val request operation limit (Ok payload) caused = caused_variant request operation limit (Ok (val payload)) (val payload) caused refl
+seen_variant val request operation limit (Err error) caused = tt

@@ -1,14 +1,16 @@
--- One call of a client as a whole, for the helpers that make one.
-use Rattle.std.specs.Prelude.{◌≡◌, ◌-◌, take, false, None, Result, Ok, Err, IsTrue}
+-- One call of a client as a whole, and a helper that makes one.
+use Rattle.std.specs.Prelude.{◌≡◌, ◌-◌, ℕ, List, take, false, None, Result, Ok, Err, IsTrue}
+use Rattle.kmip_shape.specs.Val.{Val}
 use Rattle.kmip_link.specs.State.{LinkState, Keeps}
+use Rattle.kmip_enums.specs.declared.operation.Operation.{Operation}
 use Rattle.kmip_request.specs.Message.{request_bytes, operation_of}
 use Rattle.kmip_request.specs.declared.payload.RequestPayload.{RequestPayload}
 use Rattle.kmip_response.specs.Values.{response_payload_val}
-use Rattle.kmip_response.specs.declared.payloads.cryptography.RNGRetrieveResponsePayload.{RNGRetrieveResponsePayload}
-use Rattle.kmip_response.specs.declared.payload.ResponsePayload.TheVariants.{RNGRetrieve}
+use Rattle.kmip_response.specs.declared.payload.ResponsePayload.{ResponsePayload}
+use Rattle.kmip_response.specs.declared.payloads.identifiers.CreateKeyPairResponsePayload.{CreateKeyPairResponsePayload}
 use Rattle.kmip_client.specs.declared.error.Error.{Error}
 use Rattle.kmip_client.specs.declared.error.Error.TheVariants.{OutOfMemory}
-use Rattle.kmip_client.specs.Outcome.{Answer, Exchanged, Caused, outcome, left_for}
+use Rattle.kmip_client.specs.Outcome.{Answer, seen_by, Exchanged, Caused, outcome, left_for}
 use Rattle.kmip_client.specs.Headline.{Headline}
 use Rattle.kmip_client.specs.Client.{ClientState, loses_connection, counted}
 use Rattle.kmip_client.specs.Diagnostics.{IsRequestText, IsResponseText}
@@ -30,20 +32,28 @@ pub record IsCall {T : Type 0} (state : T → LinkState) (payload : RequestPaylo
       IsResponseText before.buffered (take ((state after.link).pos - (state before.link).pos) (left_for (state before.link) (state after.link))) answer after.response_text
   pub quiet : before.buffered ≡ false → after.response_text ≡ None
 
--- the answer of which this is the payload of RNG Retrieve, or the error
-abbrev pub rng_answer : Result RNGRetrieveResponsePayload Error → Answer
-rng_answer (Ok payload) = Ok (response_payload_val (RNGRetrieve payload))
-rng_answer (Err error) = Err error
+-- a part of the payload, errors passed on
+abbrev pub projected : {P R : Type 0} → (P → R) → Result P Error → Result R Error
+projected part (Ok payload) = Ok (part payload)
+projected part (Err error) = Err error
 
--- an answer without its payload
-abbrev pub unit_answer : Answer → Result (Unit {0}) Error
-unit_answer (Ok payload) = Ok tt
-unit_answer (Err error) = Err error
+-- What a helper did that makes this request: its result is a part of what `do_request` answered, whose payload is of this variant.
+pub data Helped {T P R : Type 0} (state : T → LinkState) (request : RequestPayload) (variant : P → ResponsePayload) (part : P → R) (before after : ClientState T) (result : Result R Error) : Type 0 where
+  called : (answer : Result P Error) → IsCall state request before after (seen_by (λ payload. response_payload_val (variant payload)) answer) →
+      result ≡ projected part answer → Helped state request variant part before after result
+  -- memory ran out before the request was made, and nothing changed
+  not_made : result ≡ Err OutOfMemory → after ≡ before → Helped state request variant part before after result
 
--- The call was made, and its answer is this one without its payload.
-abbrev pub IsUnitCall : {T : Type 0} → (T → LinkState) → RequestPayload → ClientState T → ClientState T → Result (Unit {0}) Error → Type 0
-IsUnitCall state payload before after result = (answer : Answer) × IsCall state payload before after answer × (result ≡ unit_answer answer)
+-- the same, where the request is one that was to be made
+pub data Asked {T P E : Type 0} (state : T → LinkState) (request : Result RequestPayload E) (val : Operation → P → Val) (before after : ClientState T) (answer : Result P Error) : Type 0 where
+  asked : (payload : RequestPayload) → request ≡ Ok payload → IsCall state payload before after (seen_by (val (operation_of payload)) answer) →
+      Asked state request val before after answer
+  not_asked : answer ≡ Err OutOfMemory → after ≡ before → Asked state request val before after answer
 
--- Or memory ran out before the request was made, and nothing changed.
-abbrev pub IsUnmade : {T : Type 0} → ClientState T → ClientState T → Result (Unit {0}) Error → Type 0
-IsUnmade before after result = (result ≡ Err OutOfMemory) × (after ≡ before)
+-- what is told of a payload of no interest
+abbrev pub nothing_of : {P : Type 0} → P → Unit {0}
+nothing_of payload = tt
+
+-- the identifiers of a pair: the private key's, then the public key's
+abbrev pub identifiers_of : CreateKeyPairResponsePayload → List ℕ × List ℕ
+identifiers_of payload = (payload.private_key_unique_identifier.0, payload.public_key_unique_identifier.0)

@@ -8,4 +8,5 @@ pub mod Diagnostics
 pub mod Client
 pub mod Errors
 pub mod Calls
+pub mod Requests
 pub mod Lending

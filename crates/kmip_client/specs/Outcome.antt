@@ -26,10 +26,14 @@ use Rattle.kmip_client.specs.Check.{check_response}
 abbrev pub Answer : Type 0
 Answer = Result Val Error
 
--- an answer of the code, as contracts see it
+-- an answer of the code, as contracts see it, by the value of what it holds
+abbrev pub seen_by : {P : Type 0} → (P → Val) → Result P Error → Answer
+seen_by val (Ok payload) = Ok (val payload)
+seen_by val (Err error) = Err error
+
+-- and where it holds the payload of any operation
 abbrev pub seen : Result ResponsePayload Error → Answer
-seen (Ok payload) = Ok (response_payload_val payload)
-seen (Err error) = Err error
+seen = seen_by response_payload_val
 
 -- the tag of a response message (KMIP 1.0, 9.1.3.1)
 abbrev pub response_tag : ℕ

@@ -1,17 +1,18 @@
 //! One call of a client, with its diagnostics.
 ghost use Rattle.std.specs.Prelude.{◌≡◌, ◌⊎◌, ◌-◌, take, false, None, Ok, Err, IfOk, IsTrue, option_map};
 ghost use Rattle.kmip_link.specs.State.{Keeps};
+ghost use Rattle.kmip_shape.specs.Val.{Val};
 ghost use Rattle.kmip_request.specs.Message.{request_bytes, credential_of, operation_of};
-ghost use Rattle.kmip_client.specs.Outcome.{Exchanged, Caused, outcome, left_for, seen};
+ghost use Rattle.kmip_client.specs.Outcome.{Exchanged, Caused, outcome, left_for, seen_by};
 ghost use Rattle.kmip_client.specs.declared.error.Error.TheVariants.{OutOfMemory as no_memory};
 ghost use Rattle.kmip_client.specs.Diagnostics.{diagnostic_for, IsRequestText, IsResponseText, is_read};
 
+use crate::answered::Answered;
 use crate::error::Error;
 use crate::exchange::{exchange, serialize};
 use kmip_diag::PrettyPrinter;
 use kmip_link::Link;
 use kmip_request::{Authentication, RequestPayload};
-use kmip_response::ResponsePayload;
 use kmip_wire::{Config, OutOfMemory, Text};
 use std::alloc::Global;
 
@@ -42,8 +43,8 @@ fn diagnostic_for(alloc: Global, config: &Config, bytes: &[u8]) -> Result<Option
 }
 
 /// Whether a response was read, wholly or in part.
-fn is_read(answer: &Result<ResponsePayload, Error>) -> bool
-    ensures { result ≡ is_read (seen answer.now) }
+fn is_read<P: Drop>(answer: &Result<P, Error>) -> bool
+    ensures { (val : P → Val) → result ≡ is_read (seen_by val answer.now) }
 {
     match answer {
         Err(Error::OutOfMemory | Error::SerializeError(_) | Error::RequestWriteError(_)) => false,
@@ -52,12 +53,12 @@ fn is_read(answer: &Result<ResponsePayload, Error>) -> bool
 }
 
 /// Keeps a diagnostic beside an answer, in whose place want of memory comes where it was not made.
-fn keep(
-    answer: Result<ResponsePayload, Error>,
+fn keep<P: Drop>(
+    answer: Result<P, Error>,
     made: Result<Option<Text>, OutOfMemory>,
     kept: &mut Option<Text>,
-) -> Result<ResponsePayload, Error>
-    ensures { ((made ≡ Ok kept.new) × (seen result ≡ seen answer)) ⊎ ((kept.new ≡ kept.old) × (seen result ≡ Err no_memory)) }
+) -> Result<P, Error>
+    ensures { ((made ≡ Ok kept.new) × (result ≡ answer)) ⊎ ((kept.new ≡ kept.old) × (result ≡ Err no_memory)) }
 {
     match made {
         Ok(text) => {
@@ -69,25 +70,26 @@ fn keep(
 }
 
 /// Writes the request, sends it, reads its response and keeps the diagnostics of both.
-pub fn call<L: Link>(
+pub fn call<L: Link, P: Answered>(
     alloc: Global,
     link: &mut L,
     settings: &mut Settings,
     payload: RequestPayload,
     diagnostics: &mut Diagnostics,
-) -> Result<ResponsePayload, Error>
+) -> Result<P, Error>
+    requires answers { P.Answers (operation_of payload) }
     requires request { diagnostics.old.request ≡ None }
     requires response { diagnostics.old.response ≡ None }
     ensures keeps { Keeps (L.state link.old) (L.state link.new) }
     ensures settings { settings.new ≡ settings.old }
     ensures exchange { IsTrue (L.state link.old).tells →
         Exchanged (outcome payload (option_map credential_of settings.old.authentication) settings.old.config.max_bytes (left_for (L.state link.old) (L.state link.new)))
-        (L.state link.old) (L.state link.new) (seen result) }
+        (L.state link.old) (L.state link.new) (seen_by (P.val (operation_of payload)) result) }
     ensures caused { Caused (request_bytes payload (option_map credential_of settings.old.authentication)) (operation_of payload) settings.old.config.max_bytes
-        (L.state link.old).faults (L.state link.new).faults (seen result) }
-    ensures request_text { IsRequestText settings.old.config.has_buf (request_bytes payload (option_map credential_of settings.old.authentication)) (seen result) diagnostics.new.request }
+        (L.state link.old).faults (L.state link.new).faults (seen_by (P.val (operation_of payload)) result) }
+    ensures request_text { IsRequestText settings.old.config.has_buf (request_bytes payload (option_map credential_of settings.old.authentication)) (seen_by (P.val (operation_of payload)) result) diagnostics.new.request }
     ensures response_text { IsTrue (L.state link.old).tells →
-        IsResponseText settings.old.config.has_buf (take ((L.state link.new).pos - (L.state link.old).pos) (left_for (L.state link.old) (L.state link.new))) (seen result) diagnostics.new.response }
+        IsResponseText settings.old.config.has_buf (take ((L.state link.new).pos - (L.state link.old).pos) (left_for (L.state link.old) (L.state link.new))) (seen_by (P.val (operation_of payload)) result) diagnostics.new.response }
     ensures quiet { settings.old.config.has_buf ≡ false → diagnostics.new.response ≡ None }
 {
     let operation = payload.operation();

@@ -2,12 +2,15 @@
 ghost use Rattle.std.specs.Prelude.{◌≡◌, ◌+◌, ◌<◌, None, Some, IfOk, IsTrue, [], option_map, take, ◌-◌, false};
 ghost use Rattle.kmip_link.specs.State.{Keeps};
 ghost use Rattle.kmip_request.specs.Message.{request_bytes, operation_of, credential_of};
+ghost use Rattle.kmip_shape.specs.Val.{Val};
 ghost use Rattle.kmip_response.specs.Values.{response_payload_val};
 ghost use Rattle.kmip_client.specs.Client.{ClientState, loses_connection, lacks_memory, counted, IsOfOperation};
-ghost use Rattle.kmip_client.specs.Outcome.{Exchanged, Caused, outcome, left_for, seen};
+ghost use Rattle.kmip_client.specs.Outcome.{Exchanged, Caused, outcome, left_for, seen, seen_by};
 ghost use Rattle.kmip_client.specs.Headline.{Headline};
+ghost use Rattle.kmip_client.specs.Calls.{IsCall};
 ghost use Rattle.kmip_client.specs.Diagnostics.{IsRequestText, IsResponseText};
 
+use crate::answered::Answered;
 use crate::call::{Diagnostics, Settings, call};
 use crate::error::Error;
 use kmip_link::Link;
@@ -132,6 +135,19 @@ impl<T: Link> Client<T> {
             IsResponseText self.old.buffered (take ((T.state self.new.link).pos - (T.state self.old.link).pos) (left_for (T.state self.old.link) (T.state self.new.link))) (seen result) self.new.response_text }
         ensures quiet { self.old.buffered ≡ false → self.new.response_text ≡ None }
     {
+        self.request(alloc, payload)
+    }
+
+    /// The same, over any payload that a call answers.
+    pub(crate) fn request<P: Answered>(
+        &mut self,
+        alloc: Global,
+        payload: RequestPayload,
+    ) -> Result<P, Error>
+        requires { P.Answers (operation_of payload) }
+        ensures call { IsCall T.state payload self.old self.new (seen_by (P.val (operation_of payload)) result) }
+        ensures variant { IfOk result (λ answer. IsOfOperation (operation_of payload) (P.val (operation_of payload) answer)) }
+    {
         self.diagnostics = Diagnostics {
             request: None,
             response: None,
@@ -149,8 +165,8 @@ impl<T: Link> Client<T> {
 }
 
 /// Whether the connection failed.
-fn loses_connection(answer: &Result<ResponsePayload, Error>) -> bool
-    ensures { result ≡ loses_connection (seen answer.now) }
+fn loses_connection<P: Drop>(answer: &Result<P, Error>) -> bool
+    ensures { (val : P → Val) → result ≡ loses_connection (seen_by val answer.now) }
 {
     match answer {
         Ok(_) => false,

@@ -4,18 +4,17 @@ ghost use Rattle.std.specs.Option.{option_map};
 ghost use Rattle.kmip_link.specs.State.{Keeps, Rose, Writes, left};
 ghost use Rattle.kmip_request.specs.Message.{request_bytes, credential_of, operation_of};
 ghost use Rattle.kmip_client.specs.Transfer.{WritesPart};
-ghost use Rattle.kmip_client.specs.Outcome.{Exchanged, Caused, outcome_of, left_for, seen};
+ghost use Rattle.kmip_client.specs.Outcome.{Exchanged, Caused, outcome_of, left_for, seen_by};
 ghost use Rattle.kmip_client.specs.Client.{lacks_memory};
 ghost use Rattle.kmip_client.specs.declared.error.Error.TheVariants.{SerializeError, RequestWriteError, OutOfMemory};
 
-use crate::answer::answer_read;
+use crate::answered::{Answered, answer_to};
 use crate::error::Error;
 use crate::message::read_message;
 use crate::transfer::write_all;
 use kmip_enums::Operation;
 use kmip_link::{Link, LinkError};
 use kmip_request::{Authentication, RequestPayload, write_request};
-use kmip_response::ResponsePayload;
 use kmip_wire::{Blob, Config, Text, WireError};
 use std::alloc::Global;
 
@@ -51,19 +50,20 @@ pub fn send<L: Link>(alloc: Global, link: &mut L, request: &[u8]) -> Result<(), 
 }
 
 /// Sends a request and answers what its response says. `taken`, which is empty, gets the bytes that were read.
-pub fn exchange<L: Link>(
+pub fn exchange<L: Link, P: Answered>(
     alloc: Global,
     link: &mut L,
     config: &Config,
     operation: Operation,
     request: &[u8],
     taken: &mut Vec<u8>,
-) -> Result<ResponsePayload, Error>
-    requires { taken.old.items ≡ [] }
+) -> Result<P, Error>
+    requires answers { P.Answers operation }
+    requires empty { taken.old.items ≡ [] }
     ensures keeps { Keeps (L.state link.old) (L.state link.new) }
-    ensures exchange { IsTrue (L.state link.old).tells → Exchanged (outcome_of (Some request.now) operation config.now.max_bytes (left_for (L.state link.old) (L.state link.new))) (L.state link.old) (L.state link.new) (seen result) }
-    ensures caused { Caused (Some request.now) operation config.now.max_bytes (L.state link.old).faults (L.state link.new).faults (seen result) }
-    ensures bytes { IsTrue (L.state link.old).tells → lacks_memory (seen result) ≡ false →
+    ensures exchange { IsTrue (L.state link.old).tells → Exchanged (outcome_of (Some request.now) operation config.now.max_bytes (left_for (L.state link.old) (L.state link.new))) (L.state link.old) (L.state link.new) (seen_by (P.val operation) result) }
+    ensures caused { Caused (Some request.now) operation config.now.max_bytes (L.state link.old).faults (L.state link.new).faults (seen_by (P.val operation) result) }
+    ensures bytes { IsTrue (L.state link.old).tells → lacks_memory (seen_by (P.val operation) result) ≡ false →
         taken.new.items ≡ take ((L.state link.new).pos - (L.state link.old).pos) (left_for (L.state link.old) (L.state link.new)) }
 {
     match send(alloc, link, request) {
@@ -71,5 +71,5 @@ pub fn exchange<L: Link>(
         Err(error) => return Err(error),
     }
     let read = read_message(alloc, link, config, taken);
-    answer_read(alloc, operation, taken, read)
+    answer_to(alloc, operation, taken, read)
 }

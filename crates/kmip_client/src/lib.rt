@@ -5,6 +5,7 @@
 #![tactic(auto)]
 
 mod answer;
+mod answered;
 mod builder;
 mod call;
 mod check;
@@ -13,6 +14,7 @@ mod error;
 mod exchange;
 mod helpers;
 mod message;
+mod requests;
 #[cfg(test)]
 mod tests;
 mod transfer;

@@ -33,7 +33,7 @@ pub struct TemplateAttribute(pub Option<List<Name>>, pub Option<List<Attribute>>
 impl TemplateAttribute {
     /// The attributes alone. It takes no memory.
     pub fn unnamed(attributes: List<Attribute>) -> Self
-        ensures { (result.0 ≡ None) × (result.1 ≡ Some attributes) }
+        ensures { result ≡ record { 0 = None; 1 = Some attributes } }
     {
         TemplateAttribute(None, Some(attributes))
     }
@@ -44,7 +44,7 @@ impl TemplateAttribute {
         name: Text,
         attributes: List<Attribute>,
     ) -> Result<Self, OutOfMemory>
-        ensures { IfOk result (λ made. (made.0 ≡ Some (uninterpreted name ∷ [])) × (made.1 ≡ Some attributes)) }
+        ensures { IfOk result (λ made. made ≡ record { 0 = Some (uninterpreted name ∷ []); 1 = Some attributes }) }
     {
         Ok(TemplateAttribute(Some(one_name(alloc, name)?), Some(attributes)))
     }
@@ -90,7 +90,7 @@ pub struct CommonTemplateAttribute(pub Option<List<Name>>, pub Option<List<Attri
 impl CommonTemplateAttribute {
     /// The attributes alone. It takes no memory.
     pub fn unnamed(attributes: List<Attribute>) -> Self
-        ensures { (result.0 ≡ None) × (result.1 ≡ Some attributes) }
+        ensures { result ≡ record { 0 = None; 1 = Some attributes } }
     {
         CommonTemplateAttribute(None, Some(attributes))
     }
@@ -101,7 +101,7 @@ impl CommonTemplateAttribute {
         name: Text,
         attributes: List<Attribute>,
     ) -> Result<Self, OutOfMemory>
-        ensures { IfOk result (λ made. (made.0 ≡ Some (uninterpreted name ∷ [])) × (made.1 ≡ Some attributes)) }
+        ensures { IfOk result (λ made. made ≡ record { 0 = Some (uninterpreted name ∷ []); 1 = Some attributes }) }
     {
         Ok(CommonTemplateAttribute(Some(one_name(alloc, name)?), Some(attributes)))
     }
@@ -150,7 +150,7 @@ pub struct PrivateKeyTemplateAttribute(pub Option<List<Name>>, pub Option<List<A
 impl PrivateKeyTemplateAttribute {
     /// The attributes alone. It takes no memory.
     pub fn unnamed(attributes: List<Attribute>) -> Self
-        ensures { (result.0 ≡ None) × (result.1 ≡ Some attributes) }
+        ensures { result ≡ record { 0 = None; 1 = Some attributes } }
     {
         PrivateKeyTemplateAttribute(None, Some(attributes))
     }
@@ -161,7 +161,7 @@ impl PrivateKeyTemplateAttribute {
         name: Text,
         attributes: List<Attribute>,
     ) -> Result<Self, OutOfMemory>
-        ensures { IfOk result (λ made. (made.0 ≡ Some (uninterpreted name ∷ [])) × (made.1 ≡ Some attributes)) }
+        ensures { IfOk result (λ made. made ≡ record { 0 = Some (uninterpreted name ∷ []); 1 = Some attributes }) }
     {
         Ok(PrivateKeyTemplateAttribute(Some(one_name(alloc, name)?), Some(attributes)))
     }
@@ -210,7 +210,7 @@ pub struct PublicKeyTemplateAttribute(pub Option<List<Name>>, pub Option<List<At
 impl PublicKeyTemplateAttribute {
     /// The attributes alone. It takes no memory.
     pub fn unnamed(attributes: List<Attribute>) -> Self
-        ensures { (result.0 ≡ None) × (result.1 ≡ Some attributes) }
+        ensures { result ≡ record { 0 = None; 1 = Some attributes } }
     {
         PublicKeyTemplateAttribute(None, Some(attributes))
     }
@@ -221,7 +221,7 @@ impl PublicKeyTemplateAttribute {
         name: Text,
         attributes: List<Attribute>,
     ) -> Result<Self, OutOfMemory>
-        ensures { IfOk result (λ made. (made.0 ≡ Some (uninterpreted name ∷ [])) × (made.1 ≡ Some attributes)) }
+        ensures { IfOk result (λ made. made ≡ record { 0 = Some (uninterpreted name ∷ []); 1 = Some attributes }) }
     {
         Ok(PublicKeyTemplateAttribute(Some(one_name(alloc, name)?), Some(attributes)))
     }

@@ -1,7 +1,7 @@
 use Rattle.std.specs.Prelude.{option_map}
 use Rattle.std.proofs.lemmas.Result.{err_from_is_err_and}
 use Rattle.kmip_request.specs.Message.{request_bytes, credential_of, operation_of}
-use Rattle.kmip_client.specs.Outcome.{seen}
+use Rattle.kmip_client.specs.Outcome.{seen_by}
 use Rattle.kmip_client.proofs.Exchanges.{serialize_stopped, short_at_start, of_request, caused_by, kept_is, kept_exchanged, kept_caused}
 use Rattle.kmip_client.proofs.call.call.Goals as goal
 
@@ -26,12 +26,12 @@ returns-then-not-is_read-clause-caused g c =
 
 pub returns-clause-exchange : goal.returns-clause-exchange
 returns-clause-exchange g c = λ tells.
-    kept_exchanged (seen c.exchange-answer.result) (seen c.keep.result) (kept_is _ _ c.keep.ensures)
+    kept_exchanged (seen_by g.P.Answered.val c.exchange-answer.result) (seen_by g.P.Answered.val c.keep.result) (kept_is g.P.Answered.val _ _ c.keep.ensures)
     (of_request (request_bytes c.args.payload (option_map credential_of c.args.settings.now.authentication)) c.in-Ok.request c.as_slice-2.result.now (operation_of c.args.payload) c.operation-operation.result c.args.settings.now.config.max_bytes _
     c.in-Ok.ensures.ok c.as_slice-2.ensures c.operation-operation.ensures (c.exchange-answer.ensures.exchange tells))
 
 pub returns-clause-caused : goal.returns-clause-caused
 returns-clause-caused g c =
-    kept_caused (seen c.exchange-answer.result) (seen c.keep.result) (kept_is _ _ c.keep.ensures)
+    kept_caused (seen_by g.P.Answered.val c.exchange-answer.result) (seen_by g.P.Answered.val c.keep.result) (kept_is g.P.Answered.val _ _ c.keep.ensures)
     (caused_by (request_bytes c.args.payload (option_map credential_of c.args.settings.now.authentication)) c.in-Ok.request c.as_slice-2.result.now (operation_of c.args.payload) c.operation-operation.result c.args.settings.now.config.max_bytes
     c.in-Ok.ensures.ok c.as_slice-2.ensures c.operation-operation.ensures c.exchange-answer.ensures.caused)

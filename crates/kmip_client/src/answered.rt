@@ -1,0 +1,101 @@
+//! What a call answers: the payload of any operation, or that of some.
+ghost use Rattle.std.specs.Prelude.{◌≡◌, ◌⊎◌, IfOk};
+ghost use Rattle.kmip_shape.specs.Val.{Val, Case};
+ghost use Rattle.kmip_enums.specs.Operations.{operation_line};
+ghost use Rattle.kmip_enums.specs.declared.operation.Operation.{Operation as TheOperation};
+ghost use Rattle.kmip_response.specs.Values.{response_payload_val, query_payload_val, create_key_pair_payload_val, rng_retrieve_payload_val, sign_payload_val, unique_identifier_payload_val, attribute_edit_payload_val, get_payload_val};
+ghost use Rattle.kmip_client.specs.Client.{IsOfOperation};
+ghost use Rattle.kmip_client.specs.Outcome.{Gives, seen, seen_by, said};
+
+use crate::answer::answer_read;
+use crate::error::Error;
+use crate::message::MessageStop;
+use kmip_enums::Operation;
+use kmip_response::{
+    AttributeEditResponsePayload, CreateKeyPairResponsePayload, GetResponsePayload,
+    QueryResponsePayload, RNGRetrieveResponsePayload, ResponsePayload, SignResponsePayload,
+    UniqueIdentifierResponsePayload,
+};
+use std::alloc::Global;
+
+/// A payload that a call answers. A call is over any of them, so that its proof sees no variant.
+pub trait Answered: Drop {
+    /// The operations that it answers.
+    ghost Answers: { TheOperation → Type 0 };
+
+    /// Its value, as a payload's of this operation.
+    ghost val: { TheOperation → Self → Val };
+
+    /// Takes it out of the payload of its operation.
+    fn of(operation: Operation, payload: ResponsePayload) -> Self
+        requires answers { Answers operation }
+        requires own { IsOfOperation operation (response_payload_val payload) }
+        ensures { val operation result ≡ response_payload_val payload };
+}
+
+/// The payload of any operation.
+impl Answered for ResponsePayload {
+    ghost Answers = { λ operation. Unit {0} };
+
+    ghost val = { λ operation payload. response_payload_val payload };
+
+    fn of(_operation: Operation, payload: ResponsePayload) -> ResponsePayload {
+        payload
+    }
+}
+
+impl Answered for RNGRetrieveResponsePayload {
+    ghost Answers = { λ operation. operation ≡ TheOperation.RNGRetrieve };
+
+    ghost val = { λ operation payload. Case (operation_line operation).number (rng_retrieve_payload_val payload) };
+
+    fn of(_operation: Operation, payload: ResponsePayload) -> RNGRetrieveResponsePayload {
+        match payload {
+            ResponsePayload::RNGRetrieve(payload) => payload,
+            _ => unreachable!(),
+        }
+    }
+}
+
+impl Answered for UniqueIdentifierResponsePayload {
+    ghost Answers = { λ operation. (operation ≡ TheOperation.Activate) ⊎ ((operation ≡ TheOperation.Revoke) ⊎ (operation ≡ TheOperation.Destroy)) };
+
+    ghost val = { λ operation payload. Case (operation_line operation).number (unique_identifier_payload_val payload) };
+
+    fn of(_operation: Operation, payload: ResponsePayload) -> UniqueIdentifierResponsePayload {
+        match payload {
+            ResponsePayload::Activate(payload) => payload,
+            ResponsePayload::Revoke(payload) => payload,
+            ResponsePayload::Destroy(payload) => payload,
+            _ => unreachable!(),
+        }
+    }
+}
+
+/// The payload that is asked for, or the error.
+fn part<P: Answered>(
+    operation: Operation,
+    answer: Result<ResponsePayload, Error>,
+) -> Result<P, Error>
+    requires answers { P.Answers operation }
+    requires own { IfOk answer (λ payload. IsOfOperation operation (response_payload_val payload)) }
+    ensures { seen_by (P.val operation) result ≡ seen answer }
+{
+    match answer {
+        Ok(payload) => Ok(P::of(operation, payload)),
+        Err(error) => Err(error),
+    }
+}
+
+/// What a reading answers, of which these bytes were taken.
+pub fn answer_to<P: Answered>(
+    alloc: Global,
+    operation: Operation,
+    taken: &[u8],
+    read: Result<(), MessageStop>,
+) -> Result<P, Error>
+    requires { P.Answers operation }
+    ensures { Gives (said operation taken.now read) (seen_by (P.val operation) result) }
+{
+    part(operation, answer_read(alloc, operation, taken, read))
+}
