@@ -4,7 +4,8 @@
 //! are lent as nested pairs in the order of the rows: `(&self.name, (&self.index, ()))`.
 //!
 //! `FieldRows`, `WriteRows` and `ShowRows` each name what lends the fields and what they are, with no trait above them
-//! and no bound on what lends: a check looks each of these up anew at every row, and twice as often with each row more.
+//! and no bound on what lends: either is looked up anew at every row, more often with each row more, so that a check of
+//! thirteen rows would take minutes.
 
 ghost use Rattle.std.specs.Prelude.{◌≡◌, ◌≤◌, ◌<◌, ◌+◌, ◌^◌, ◌++◌, ◌||◌, ◌∷◌, ℕ, Bool, false, IfSome, [], true};
 ghost use Rattle.kmip_wire.specs.Room.{Appends};
