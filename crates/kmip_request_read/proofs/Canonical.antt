@@ -1,5 +1,5 @@
 -- What a matched request's message reads as, and that what is read is matched.
-use Rattle.std.proofs.Common.{◌≡◌, ℕ, ℤ, ◌≤◌, ◌==◌, pos, negsuc, Bool, true, false, cond, List, [], ◌∷◌, Option, Some, None, refl, sym, ◌∙◌, ap, subst, arith}
+use Rattle.std.proofs.Common.{◌≡◌, ℕ, ℤ, ◌≤◌, ◌==◌, pos, negsuc, Bool, true, false, cond, List, [], ◌∷◌, Option, Some, None, refl, sym, ◌∙◌, ap, subst, eq-eqb, arith}
 use Rattle.std.specs.Prelude.{IsUtf8, IsSome, IfSome, ◌≤ℤ◌}
 use Rattle.std.specs.Option.{option_map, option_and_then}
 use Rattle.std.proofs.lemmas.Int.{ints}
@@ -91,7 +91,7 @@ payload_selected payload a s = ((s.2).1).0.2.2.1
 
 has_tree : (o : Option Tree) (f : Tree → Tree) (b : List ℕ) → option_and_then bytes (option_map f o) ≡ Some b → IsSome o
 has_tree None f b h = none_some _ h
-has_tree (Some t) f b h = search ()
+has_tree (Some t) f b h = refl
 
 pub matched : (payload : RequestPayload) (a : Option Authentication) (message : RequestMessage) (root : Tree) (b : List ℕ) → message ≡ message_of payload a → Parses root 1 b → IsCanonical request_message 0x420078 root b (request_message_val message)
     → IsMatched payload × (request_bytes payload (option_map credential_of a) ≡ Some b)
@@ -144,15 +144,15 @@ one_high : pos 1 ≤ℤ pos 0x7fff_ffff
 one_high = omega (arith, ints)
 
 operation_fits : (p : RequestPayload) → in_table (operation_line (operation_of p)).number operations ≡ true
-operation_fits p = found_in_table operation_line operation_variants _ _ (operation_found (operation_of p))
+operation_fits p = found_in_table operation_line operation_variants (operation_line (operation_of p)).number (operation_of p) (operation_found (operation_of p))
 
 authentication_fits : (c : CredentialType) → AreTexts (Some c) → fits_in (authentication_val (item_of c)) NoCase authentication
 authentication_fits (UsernameAndPassword c) h = go c.password h.1
   where
     go : (o : Option (List ℕ)) → IfSome o (λ text. IsUtf8 text)
         → fits_in (authentication_val (record { 0 = record { 0 = types.UsernameAndPassword; 1 = values.UsernameAndPassword (record { 0 = c.username }) (option_map password_of o) } })) NoCase authentication
-    go None k = (tt, ((tt, refl, (tt, (tt, h.0, (tt, tt, tt)), tt)), tt))
-    go (Some text) k = (tt, ((tt, refl, (tt, (tt, h.0, (tt, k, tt)), tt)), tt))
+    go None k = (tt, (tt, refl, (tt, (tt, h.0, (tt, tt, tt)), tt)), tt)
+    go (Some text) k = (tt, (tt, refl, (tt, (tt, h.0, (tt, k, tt)), tt)), tt)
 
 abbrev header_of : RequestPayload → Option Authentication → RequestHeader
 header_of p a = record { 0 = version_of p; 1 = None; 2 = a; 3 = record { 0 = pos 1 } }
@@ -168,8 +168,8 @@ authentication_selected : (c : CredentialType) → selected_in (authentication_v
 authentication_selected (UsernameAndPassword c) = go c.password
   where
     go : (o : Option (List ℕ)) → selected_in (authentication_val (record { 0 = record { 0 = types.UsernameAndPassword; 1 = values.UsernameAndPassword (record { 0 = c.username }) (option_map password_of o) } })) NoCase authentication no_outer 0x42000C
-    go None = (tt, ((tt, tt, (tt, (refl, (tt, tt, (tt, tt, tt))), tt)), tt))
-    go (Some text) = (tt, ((tt, tt, (tt, (refl, (tt, tt, (tt, tt, tt))), tt)), tt))
+    go None = (tt, (tt, tt, (tt, (refl, (tt, tt, (tt, tt, tt))), tt)), tt)
+    go (Some text) = (tt, (tt, tt, (tt, (refl, (tt, tt, (tt, tt, tt))), tt)), tt)
 
 header_selected : (p : RequestPayload) (c : Option CredentialType) → selected_in (request_header_val (header_of p (option_map item_of c))) NoCase request_header no_outer 0x420077
 header_selected p None = (tt, (tt, tt, (tt, tt, tt)), (tt, tt, (tt, tt, (tt, tt, tt))))
@@ -179,10 +179,8 @@ message_selected : (p : RequestPayload) (c : Option CredentialType) → IsMatche
 message_selected p c m = (tt, header_selected p c, (tt, ((tt, tt, (tt, tt, (tt, m.1, tt))), tt), tt))
 
 read_root : (shape : Shape) (tag : ℕ) (t : Tree) (val : Val) → tag_of t ≡ tag → read_of shape no_outer t ≡ Some val → root_read shape tag t ≡ Some val
-read_root shape tag t val e h = rw e (same tag (read_of shape no_outer t ≡ Some val) h)
-  where
-    same : (n : ℕ) (P : Type 0) → P → P
-    same n P h = h
+read_root shape tag t val e h =
+    let k : (tag_of t == tag) ≡ true = eq-eqb (tag_of t) tag e in rw k h
 
 -- the message round a matched request is read from the tree of its bytes
 pub canonical_of : (p : RequestPayload) (c : Option CredentialType) (root : Tree) (b : List ℕ) → IsHeld p c → IsMatched p → request_bytes p c ≡ Some b → Parses root 1 b → IsCanonical request_message 0x420078 root b (request_message_val (message_of p (option_map item_of c)))

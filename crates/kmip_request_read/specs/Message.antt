@@ -18,6 +18,10 @@ message_of payload authentication = record {
   1 = record { 0 = operation_of payload; 1 = None; 2 = payload } ∷ [];
 }
 
+-- the message is one that is written for a payload
+abbrev pub IsPlain : RequestMessage → Type 0
+IsPlain message = (payload : RequestPayload) × (authentication : Option Authentication) × (message ≡ message_of payload authentication)
+
 -- the value is read from the tree, and written as the bytes
 abbrev pub IsCanonical : Shape → ℕ → Tree → List ℕ → Val → Type 0
 IsCanonical shape tag tree bytes val =

@@ -1,6 +1,6 @@
 //! A request read from its bytes.
 
-ghost use Rattle.std.specs.Prelude.{◌≡◌, ◌≢◌, ◌↔◌, ℕ, Option, Some, None, Err, IfOk, IfErr, MatchOption};
+ghost use Rattle.std.specs.Prelude.{◌≡◌, ◌≢◌, ◌↔◌, pos, false, Option, None, Err, IfOk, IfErr, IsTrue};
 ghost use Rattle.kmip_wire.specs.Tree.{Tree};
 ghost use Rattle.kmip_wire.specs.Items.{item_tree};
 ghost use Rattle.kmip_wire.specs.Parses.{Parses};
@@ -8,13 +8,13 @@ ghost use Rattle.kmip_shape.specs.Val.{Val};
 ghost use Rattle.kmip_types.specs.declared.auth.CredentialType.{CredentialType};
 ghost use Rattle.kmip_request.specs.declared.authentication.Authentication.{Authentication as CredentialItem};
 ghost use Rattle.kmip_request.specs.declared.payload.RequestPayload.{RequestPayload as Payload};
-ghost use Rattle.kmip_request.specs.Message.{request_bytes, credential_of};
+ghost use Rattle.kmip_request.specs.Message.{request_bytes, credential_of, operation_of};
 ghost use Rattle.kmip_request.specs.Held.{IsHeld};
 ghost use Rattle.kmip_request_read.specs.Matched.{IsMatched};
-ghost use Rattle.kmip_request_read.specs.Message.{message_of, IsCanonical};
+ghost use Rattle.kmip_request_read.specs.Message.{message_of, IsPlain, IsCanonical};
 
 use kmip_request::{
-    Authentication, BatchCount, BatchItem, Credential, CredentialValue, RequestHeader,
+    Authentication, BatchItem, Credential, CredentialValue, ProtocolVersion, RequestHeader,
     RequestMessage, RequestPayload,
 };
 use kmip_shape::{ReadError, ReadRoot, WriteItem, read_root, to_blob};
@@ -60,26 +60,43 @@ fn read_canonical<T: ReadRoot + WriteItem>(
     }
 }
 
-/// The payload and the credential's item of a message, where it has nothing else than a client writes round them.
-fn parts(message: RequestMessage) -> Option<(RequestPayload, Option<Authentication>)>
-    ensures { MatchOption result ((p : Payload) (a : Option CredentialItem) → message ≡ message_of p a → ⊥) (λ r. message ≡ message_of r.0 r.1) }
+/// Whether a header is what a client writes, with this version.
+fn is_plain_header(header: &RequestHeader, version: ProtocolVersion) -> bool
+    ensures { IsTrue result ↔ (header.now ≡ record { 0 = version; 1 = None; 2 = header.now.2; 3 = record { 0 = pos 1 } }) }
+{
+    let RequestHeader(made_in, size, _, count) = header;
+    *made_in == version && size.is_none() && count.0 == 1
+}
+
+/// Whether a batch item is what a client writes round its payload.
+fn is_plain_item(item: &BatchItem) -> bool
+    ensures { IsTrue result ↔ (item.now ≡ record { 0 = operation_of item.now.2; 1 = None; 2 = item.now.2 }) }
+{
+    let BatchItem(operation, identifier, payload) = item;
+    *operation == payload.operation() && identifier.is_none()
+}
+
+/// Whether a message is what a client writes round its payload and the item of its credential.
+fn is_plain(message: &RequestMessage) -> bool
+    ensures plain { IsTrue result → IsPlain message.now }
+    ensures other { result ≡ false → IsPlain message.now → ⊥ }
 {
     let RequestMessage(header, items) = message;
-    let RequestHeader(version, size, authentication, count) = header;
-    let mut items = items.into_vec();
-    let Some(BatchItem(operation, identifier, payload)) = items.pop() else {
-        return None;
-    };
-    let is_plain = items.is_empty()
-        && version == payload.protocol_version()
-        && operation == payload.operation()
-        && size.is_none()
-        && identifier.is_none()
-        && count == BatchCount(1);
-    if is_plain {
-        Some((payload, authentication))
-    } else {
-        None
+    match items.as_slice() {
+        [item] => is_plain_header(header, item.2.protocol_version()) && is_plain_item(item),
+        _ => false,
+    }
+}
+
+/// The payload of a message and the item of its credential.
+fn parts(message: RequestMessage) -> (RequestPayload, Option<Authentication>)
+    requires { IsPlain message }
+    ensures { message ≡ message_of result.0 result.1 }
+{
+    let RequestMessage(RequestHeader(_, _, authentication, _), items) = message;
+    match items.into_vec().pop() {
+        Some(BatchItem(_, _, payload)) => (payload, authentication),
+        None => unreachable!(),
     }
 }
 
@@ -114,8 +131,9 @@ pub fn from_slice(
         return Err(RequestReadError::Malformed);
     };
     let message = read_canonical::<RequestMessage>(alloc, item, bytes)?;
-    let Some((payload, authentication)) = parts(message) else {
+    if !is_plain(&message) {
         return Err(RequestReadError::NotCanonical);
-    };
+    }
+    let (payload, authentication) = parts(message);
     Ok((payload, authentication.map(credential)))
 }
