@@ -1,5 +1,5 @@
 -- What a matched request's message reads as, and that what is read is matched.
-use Rattle.std.proofs.Common.{◌≡◌, ℕ, ℤ, ◌≤◌, ◌==◌, pos, negsuc, Bool, true, false, cond, List, [], ◌∷◌, Option, Some, None, refl, sym, ◌∙◌, ap, subst, eq-eqb, arith}
+use Rattle.std.proofs.Common.{◌≡◌, ℕ, ◌≤◌, ◌<◌, ◌==◌, length, slice_index_or, pos, negsuc, Bool, true, false, cond, List, [], ◌∷◌, Option, Some, None, refl, sym, ◌∙◌, ap, subst, eq-eqb, arith}
 use Rattle.std.specs.Prelude.{IsUtf8, IsSome, IfSome, ◌≤ℤ◌}
 use Rattle.std.specs.Option.{option_map, option_and_then}
 use Rattle.std.proofs.lemmas.Int.{ints}
@@ -28,6 +28,7 @@ use Rattle.kmip_request.specs.declared.authentication.Authentication.{Authentica
 use Rattle.kmip_request.specs.declared.authentication.CredentialValue.{CredentialValue}
 use Rattle.kmip_request.specs.declared.authentication.CredentialValue.TheVariants as values
 use Rattle.kmip_request.specs.declared.authentication.Password.{Password}
+use Rattle.kmip_request.specs.declared.header.ProtocolVersion.{ProtocolVersion}
 use Rattle.kmip_request.specs.declared.header.RequestHeader.{RequestHeader}
 use Rattle.kmip_request.specs.declared.message.BatchItem.{BatchItem}
 use Rattle.kmip_request.specs.declared.message.RequestMessage.{RequestMessage}
@@ -40,7 +41,7 @@ use Rattle.kmip_request.specs.Message.{operation_of, minor_of, version_of, crede
 use Rattle.kmip_request.specs.Held.{AreTexts, IsHeld}
 use Rattle.kmip_request.proofs.Messages.{bytes_are}
 use Rattle.kmip_request_read.specs.Matched.{under_operation, IsMatched}
-use Rattle.kmip_request_read.specs.Message.{message_of, IsCanonical}
+use Rattle.kmip_request_read.specs.Message.{message_of, IsPlain, IsCanonical}
 use Rattle.kmip_request_read.proofs.Selected.{selected}
 
 -- ---- the table of a message
@@ -198,6 +199,22 @@ parsed p c b h e =
     let w = written (request_message_val (message_of p (option_map item_of c))) b (message_fits p c h) (bytes_are p (option_map item_of c) ∙ (ap (λ d. request_bytes p d) (credentials_back c) ∙ e)) in
     (w.0, w.2)
 
+-- ---- a message of the right parts
+
+pub only_one : (xs : List BatchItem) (x : BatchItem) → 1 ≤ length xs → length xs < 2 → x ≡ slice_index_or xs 0 x → xs ≡ x ∷ []
+only_one [] x a b h = absurd (omega (arith, a))
+only_one (y ∷ []) x a b h = ap (λ (z : BatchItem). z ∷ []) (sym h)
+only_one (y ∷ z ∷ zs) x a b h = absurd (omega (arith, b))
+
+pub plain_of : (message : RequestMessage) (item : BatchItem) (version : ProtocolVersion) → message.1 ≡ item ∷ [] → version ≡ version_of item.2 → message.0 ≡ record { 0 = version; 1 = None; 2 = (message.0).2; 3 = record { 0 = pos 1 } }
+    → item ≡ record { 0 = operation_of item.2; 1 = None; 2 = item.2 } → message ≡ message_of item.2 (message.0).2
+plain_of message item version items v header own =
+    let made : RequestHeader = header_of item.2 (message.0).2 in
+    let first : BatchItem = record { 0 = operation_of item.2; 1 = None; 2 = item.2 } in
+    let head : message.0 ≡ made = header ∙ ap (λ (x : ProtocolVersion). record { 0 = x; 1 = None; 2 = (message.0).2; 3 = record { 0 = pos 1 } }) v in
+    let all : message.1 ≡ first ∷ [] = items ∙ ap (λ (x : BatchItem). x ∷ []) own in
+    λ i. record { 0 = head i; 1 = all i }
+
 -- ---- one message of one text
 
 pub one_message : (m n : RequestMessage) (root : Tree) (b : List ℕ) → IsCanonical request_message 0x420078 root b (request_message_val m) → IsCanonical request_message 0x420078 root b (request_message_val n) → m ≡ n
@@ -226,3 +243,14 @@ read_parts p q a c message root b e k h m f parses =
     let same = one_message message (message_of p (option_map item_of c)) root b k (canonical_of p c root b h m f parses) in
     let parts = same_parts q p a (option_map item_of c) (sym e ∙ same) in
     (parts.0, ap (λ x. option_map credential_of x) parts.1 ∙ credentials_back c)
+
+-- ---- what is not read
+
+-- where no value is canonical, the bytes are those of no matched request
+pub none_canonical : (root : Tree) (b : List ℕ) → Parses root 1 b → ((val : Val) → IsCanonical request_message 0x420078 root b val → ⊥) → (p : RequestPayload) (c : Option CredentialType) → IsHeld p c → IsMatched p → request_bytes p c ≡ Some b → ⊥
+none_canonical root b parses none p c h m e = none (request_message_val (message_of p (option_map item_of c))) (canonical_of p c root b h m e parses)
+
+-- nor are they where the message that is read has other parts
+pub other_parts : (message : RequestMessage) (root : Tree) (b : List ℕ) → Parses root 1 b → IsCanonical request_message 0x420078 root b (request_message_val message) → (IsPlain message → ⊥) → (p : RequestPayload) (c : Option CredentialType) → IsHeld p c → IsMatched p → request_bytes p c ≡ Some b → ⊥
+other_parts message root b parses k other p c h m e =
+    other (p, option_map item_of c, one_message message (message_of p (option_map item_of c)) root b k (canonical_of p c root b h m e parses))
