@@ -1,6 +1,6 @@
 -- What a matched request's message reads as, and that what is read is matched.
 use Rattle.std.proofs.Common.{◌≡◌, ℕ, ◌≤◌, ◌<◌, ◌==◌, length, slice_index_or, pos, negsuc, Bool, true, false, cond, List, [], ◌∷◌, Option, Some, None, refl, sym, ◌∙◌, ap, subst, eq-eqb, arith}
-use Rattle.std.specs.Prelude.{IsUtf8, IsSome, IfSome, ◌≤ℤ◌}
+use Rattle.std.specs.Prelude.{Result, Ok, Err, IsUtf8, IsSome, IfSome, ◌≤ℤ◌}
 use Rattle.std.specs.Option.{option_map, option_and_then}
 use Rattle.std.proofs.lemmas.Int.{ints}
 use Rattle.kmip_wire.specs.Tree.{Tree}
@@ -245,6 +245,10 @@ read_parts p q a c message root b e k h m f parses =
     (parts.0, ap (λ x. option_map credential_of x) parts.1 ∙ credentials_back c)
 
 -- ---- what is not read
+
+pub err_same : {A E : Type 0} (r : Result A E) (x y : E) → r ≡ Err x → r ≡ Err y → x ≡ y
+err_same (Ok a) x y h k = absurd (cc)
+err_same (Err e) x y h k = let i : e ≡ x = cc in let j : e ≡ y = cc in sym i ∙ j
 
 -- where no value is canonical, the bytes are those of no matched request
 pub none_canonical : (root : Tree) (b : List ℕ) → Parses root 1 b → ((val : Val) → IsCanonical request_message 0x420078 root b val → ⊥) → (p : RequestPayload) (c : Option CredentialType) → IsHeld p c → IsMatched p → request_bytes p c ≡ Some b → ⊥
