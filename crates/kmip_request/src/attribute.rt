@@ -7,7 +7,10 @@ ghost use Rattle.kmip_request.specs.Same.{attribute_same};
 
 use kmip_shape::columns::{ChosenOne, One, Opt};
 use kmip_shape::record::{Choosing, End, Row};
-use kmip_shape::{Item, Outer, ReadError, ReadItem, WriteItem, fields, known_record, read_record, record_len, write_record};
+use kmip_shape::{
+    Item, Outer, ReadError, ReadItem, WriteItem, fields, known_record, read_record, record_len,
+    write_record,
+};
 use kmip_types::{AttributeIndex, AttributeName, AttributeValue};
 use kmip_wire::{Buffer, ItemRef, OutOfMemory, Tag, TryClone};
 use std::alloc::Global;

@@ -11,7 +11,10 @@ ghost use Rattle.kmip_request.specs.Same.{username_same, password_same, authenti
 use kmip_enums::CredentialType;
 use kmip_shape::columns::{ChosenOne, One, Opt};
 use kmip_shape::record::{Choosing, End, Row};
-use kmip_shape::{Item, Outer, ReadError, ReadItem, WriteItem, fields, known_record, read_record, record_len, write_record};
+use kmip_shape::{
+    Item, Outer, ReadError, ReadItem, WriteItem, fields, known_record, read_record, record_len,
+    write_record,
+};
 use kmip_types::auth;
 use kmip_wire::{Buffer, ItemRef, OutOfMemory, Tag, Text, TryClone, clone_optional};
 use std::alloc::Global;
@@ -151,8 +154,9 @@ impl ReadItem for CredentialValue {
     fn read(alloc: Global, outer: Outer<'_>, item: ItemRef<'_>) -> Result<Self, ReadError> {
         match outer.number {
             Some(1) => {
-                let fields![username, password] =
-                    read_record::<UsernameAndPasswordRows>(alloc, outer, item)?;
+                let fields![username, password] = read_record::<UsernameAndPasswordRows>(
+                    alloc, outer, item,
+                )?;
                 Ok(CredentialValue::UsernameAndPassword(username, password))
             }
             _ => Err(ReadError::Unread),
@@ -199,7 +203,9 @@ impl WriteItem for Credential {
 
 impl ReadItem for Credential {
     fn read(alloc: Global, outer: Outer<'_>, item: ItemRef<'_>) -> Result<Self, ReadError> {
-        let fields![credential_type, value] = read_record::<CredentialRows<'_>>(alloc, outer, item)?;
+        let fields![credential_type, value] = read_record::<CredentialRows<'_>>(
+            alloc, outer, item,
+        )?;
         Ok(Credential(credential_type, value))
     }
 }

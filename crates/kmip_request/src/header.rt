@@ -9,7 +9,10 @@ use crate::authentication::Authentication;
 use crate::numbers::{BatchCount, MaximumResponseSize, ProtocolVersionMajor, ProtocolVersionMinor};
 use kmip_shape::columns::{One, Opt};
 use kmip_shape::record::{End, Row};
-use kmip_shape::{Item, Outer, ReadError, ReadItem, WriteItem, fields, known_record, read_record, record_len, write_record};
+use kmip_shape::{
+    Item, Outer, ReadError, ReadItem, WriteItem, fields, known_record, read_record, record_len,
+    write_record,
+};
 use kmip_wire::{Buffer, ItemRef, OutOfMemory, Tag, TryClone, clone_optional};
 use std::alloc::Global;
 
@@ -98,7 +101,9 @@ impl WriteItem for RequestHeader {
 
 impl ReadItem for RequestHeader {
     fn read(alloc: Global, outer: Outer<'_>, item: ItemRef<'_>) -> Result<Self, ReadError> {
-        let fields![version, maximum_response_size, authentication, batch_count] = read_record::<RequestHeaderRows>(alloc, outer, item)?;
+        let fields![version, maximum_response_size, authentication, batch_count] = read_record::<
+            RequestHeaderRows,
+        >(alloc, outer, item)?;
         Ok(RequestHeader(version, maximum_response_size, authentication, batch_count))
     }
 }

@@ -9,7 +9,10 @@ use crate::attribute::Attribute;
 use crate::key_wrapping::KeyWrappingData;
 use kmip_shape::columns::{ChosenOpt, One, Opt, OptMany};
 use kmip_shape::record::{Choosing, End, Row};
-use kmip_shape::{Item, Outer, ReadError, ReadItem, WriteItem, fields, known_record, read_record, record_len, write_record};
+use kmip_shape::{
+    Item, Outer, ReadError, ReadItem, WriteItem, fields, known_record, read_record, record_len,
+    write_record,
+};
 use kmip_types::{
     CryptographicAlgorithm, CryptographicLength, KeyCompressionType, KeyFormatType, KeyMaterial,
 };
@@ -127,7 +130,9 @@ impl WriteItem for KeyBlock {
 
 impl ReadItem for KeyBlock {
     fn read(alloc: Global, outer: Outer<'_>, item: ItemRef<'_>) -> Result<Self, ReadError> {
-        let fields![format, compression, value, algorithm, length, wrapping] = read_record::<KeyBlockRows<'_>>(alloc, outer, item)?;
+        let fields![format, compression, value, algorithm, length, wrapping] = read_record::<
+            KeyBlockRows<'_>,
+        >(alloc, outer, item)?;
         Ok(KeyBlock(format, compression, value, algorithm, length, wrapping))
     }
 }

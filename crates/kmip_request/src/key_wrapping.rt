@@ -9,7 +9,10 @@ use crate::attribute::Attribute;
 use crate::byte_strings::{IVOrCounterOrNonce, MACOrSignature};
 use kmip_shape::columns::{One, Opt, OptMany};
 use kmip_shape::record::{End, Row};
-use kmip_shape::{Item, Outer, ReadError, ReadItem, WriteItem, fields, known_record, read_record, record_len, write_record};
+use kmip_shape::{
+    Item, Outer, ReadError, ReadItem, WriteItem, fields, known_record, read_record, record_len,
+    write_record,
+};
 use kmip_types::{CryptographicParameters, UniqueIdentifier, WrappingMethod};
 use kmip_wire::{Buffer, ItemRef, List, OutOfMemory, Tag, TryClone, clone_optional};
 use std::alloc::Global;
@@ -53,7 +56,9 @@ impl WriteItem for EncryptionKeyInformation {
 
 impl ReadItem for EncryptionKeyInformation {
     fn read(alloc: Global, outer: Outer<'_>, item: ItemRef<'_>) -> Result<Self, ReadError> {
-        let fields![identifier, parameters] = read_record::<EncryptionKeyInformationRows>(alloc, outer, item)?;
+        let fields![identifier, parameters] = read_record::<EncryptionKeyInformationRows>(
+            alloc, outer, item,
+        )?;
         Ok(EncryptionKeyInformation(identifier, parameters))
     }
 }
@@ -97,7 +102,9 @@ impl WriteItem for MACOrSignatureKeyInformation {
 
 impl ReadItem for MACOrSignatureKeyInformation {
     fn read(alloc: Global, outer: Outer<'_>, item: ItemRef<'_>) -> Result<Self, ReadError> {
-        let fields![identifier, parameters] = read_record::<MACOrSignatureKeyInformationRows>(alloc, outer, item)?;
+        let fields![identifier, parameters] = read_record::<MACOrSignatureKeyInformationRows>(
+            alloc, outer, item,
+        )?;
         Ok(MACOrSignatureKeyInformation(identifier, parameters))
     }
 }
@@ -172,7 +179,9 @@ impl WriteItem for KeyWrappingData {
 
 impl ReadItem for KeyWrappingData {
     fn read(alloc: Global, outer: Outer<'_>, item: ItemRef<'_>) -> Result<Self, ReadError> {
-        let fields![method, encryption, signing, signature, nonce, attributes] = read_record::<KeyWrappingDataRows>(alloc, outer, item)?;
+        let fields![method, encryption, signing, signature, nonce, attributes] = read_record::<
+            KeyWrappingDataRows,
+        >(alloc, outer, item)?;
         Ok(KeyWrappingData(method, encryption, signing, signature, nonce, attributes))
     }
 }
@@ -233,7 +242,9 @@ impl WriteItem for KeyWrappingSpecification {
 
 impl ReadItem for KeyWrappingSpecification {
     fn read(alloc: Global, outer: Outer<'_>, item: ItemRef<'_>) -> Result<Self, ReadError> {
-        let fields![method, encryption, signing, attributes] = read_record::<KeyWrappingSpecificationRows>(alloc, outer, item)?;
+        let fields![method, encryption, signing, attributes] = read_record::<
+            KeyWrappingSpecificationRows,
+        >(alloc, outer, item)?;
         Ok(KeyWrappingSpecification(method, encryption, signing, attributes))
     }
 }

@@ -10,7 +10,10 @@ use crate::attribute::Attribute;
 use crate::key_block::KeyBlock;
 use kmip_shape::columns::{Many, One};
 use kmip_shape::record::{End, Row};
-use kmip_shape::{Item, OfTag, Outer, ReadError, ReadItem, WriteItem, fields, known_record, read_record, record_len, write_record};
+use kmip_shape::{
+    Item, OfTag, Outer, ReadError, ReadItem, WriteItem, fields, known_record, read_record,
+    record_len, write_record,
+};
 use kmip_wire::{Buffer, ItemRef, List, OutOfMemory, Tag, TryClone};
 use std::alloc::Global;
 

@@ -10,7 +10,10 @@ use crate::payload::RequestPayload;
 use kmip_enums::Operation;
 use kmip_shape::columns::{ChosenOne, Many, One, Opt};
 use kmip_shape::record::{Choosing, End, Row};
-use kmip_shape::{Item, Outer, ReadError, ReadItem, ReadRoot, WriteItem, fields, known_record, read_record, record_len, write_record};
+use kmip_shape::{
+    Item, Outer, ReadError, ReadItem, ReadRoot, WriteItem, fields, known_record, read_record,
+    record_len, write_record,
+};
 use kmip_types::UniqueBatchItemID;
 use kmip_wire::{Buffer, ItemRef, List, OutOfMemory, Tag, TryClone, clone_optional};
 use std::alloc::Global;
@@ -62,7 +65,9 @@ impl WriteItem for BatchItem {
 
 impl ReadItem for BatchItem {
     fn read(alloc: Global, outer: Outer<'_>, item: ItemRef<'_>) -> Result<Self, ReadError> {
-        let fields![operation, identifier, payload] = read_record::<BatchItemRows<'_>>(alloc, outer, item)?;
+        let fields![operation, identifier, payload] = read_record::<BatchItemRows<'_>>(
+            alloc, outer, item,
+        )?;
         Ok(BatchItem(operation, identifier, payload))
     }
 }

@@ -9,7 +9,10 @@ ghost use Rattle.kmip_request.specs.Same.{name_same};
 use kmip_enums::NameType;
 use kmip_shape::columns::One;
 use kmip_shape::record::{End, Row};
-use kmip_shape::{Item, Outer, ReadError, ReadItem, WriteItem, fields, known_record, read_record, record_len, write_record};
+use kmip_shape::{
+    Item, Outer, ReadError, ReadItem, WriteItem, fields, known_record, read_record, record_len,
+    write_record,
+};
 use kmip_types::NameValue;
 use kmip_wire::{Buffer, ItemRef, OutOfMemory, Tag, TryClone};
 use std::alloc::Global;

@@ -19,7 +19,10 @@ use crate::template_attribute::{
 use kmip_enums::{ObjectType, Operation, QueryFunction};
 use kmip_shape::columns::{Many, One, Opt, OptMany};
 use kmip_shape::record::{End, Row};
-use kmip_shape::{Item, Outer, ReadError, ReadItem, TagOpt, WriteItem, copy_list, fields, known_record, read_record, record_len, write_record};
+use kmip_shape::{
+    Item, Outer, ReadError, ReadItem, TagOpt, WriteItem, copy_list, fields, known_record,
+    read_record, record_len, write_record,
+};
 use kmip_types::{
     AttributeIndex, AttributeName, CompromiseOccurrenceDate, CryptographicParameters, Data,
     DataLength, KeyCompressionType, KeyFormatType, UniqueIdentifier,
@@ -363,11 +366,15 @@ impl ReadItem for RequestPayload {
                 Ok(RequestPayload::Create(object_type, template))
             }
             Some(2) => {
-                let fields![common, private_key, public_key] = read_record::<CreateKeyPairRows>(alloc, outer, item)?;
+                let fields![common, private_key, public_key] = read_record::<CreateKeyPairRows>(
+                    alloc, outer, item,
+                )?;
                 Ok(RequestPayload::CreateKeyPair(common, private_key, public_key))
             }
             Some(3) => {
-                let fields![object_type, template, object] = read_record::<RegisterRows>(alloc, outer, item)?;
+                let fields![object_type, template, object] = read_record::<RegisterRows>(
+                    alloc, outer, item,
+                )?;
                 Ok(RequestPayload::Register(object_type, template, object))
             }
             Some(8) => {
@@ -375,7 +382,9 @@ impl ReadItem for RequestPayload {
                 Ok(RequestPayload::Locate(attributes))
             }
             Some(10) => {
-                let fields![id, format, compression, specification] = read_record::<GetRows>(alloc, outer, item)?;
+                let fields![id, format, compression, specification] = read_record::<GetRows>(
+                    alloc, outer, item,
+                )?;
                 Ok(RequestPayload::Get(id, format, compression, specification))
             }
             Some(11) => {
@@ -395,7 +404,9 @@ impl ReadItem for RequestPayload {
                 Ok(RequestPayload::ModifyAttribute(id, attribute))
             }
             Some(15) => {
-                let fields![id, name, index] = read_record::<DeleteAttributeRows>(alloc, outer, item)?;
+                let fields![id, name, index] = read_record::<DeleteAttributeRows>(
+                    alloc, outer, item,
+                )?;
                 Ok(RequestPayload::DeleteAttribute(id, name, index))
             }
             Some(18) => {

@@ -8,7 +8,10 @@ ghost use Rattle.kmip_request.specs.Same.{revocation_reason_same};
 use kmip_enums::RevocationReasonCode;
 use kmip_shape::columns::{One, Opt};
 use kmip_shape::record::{End, Row};
-use kmip_shape::{Item, Outer, ReadError, ReadItem, WriteItem, fields, known_record, read_record, record_len, write_record};
+use kmip_shape::{
+    Item, Outer, ReadError, ReadItem, WriteItem, fields, known_record, read_record, record_len,
+    write_record,
+};
 use kmip_types::RevocationMessage;
 use kmip_wire::{Buffer, ItemRef, OutOfMemory, Tag, TryClone, clone_optional};
 use std::alloc::Global;

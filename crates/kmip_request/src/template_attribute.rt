@@ -12,7 +12,10 @@ use crate::name::Name;
 use kmip_enums::NameType;
 use kmip_shape::columns::OptMany;
 use kmip_shape::record::{End, Row};
-use kmip_shape::{Item, Outer, ReadError, ReadItem, WriteItem, fields, known_record, read_record, record_len, write_record};
+use kmip_shape::{
+    Item, Outer, ReadError, ReadItem, WriteItem, fields, known_record, read_record, record_len,
+    write_record,
+};
 use kmip_types::NameValue;
 use kmip_wire::{Buffer, ItemRef, List, OutOfMemory, Tag, Text, TryClone, clone_optional};
 use std::alloc::Global;
@@ -152,7 +155,9 @@ impl WriteItem for CommonTemplateAttribute {
 
 impl ReadItem for CommonTemplateAttribute {
     fn read(alloc: Global, outer: Outer<'_>, item: ItemRef<'_>) -> Result<Self, ReadError> {
-        let fields![names, attributes] = read_record::<CommonTemplateAttributeRows>(alloc, outer, item)?;
+        let fields![names, attributes] = read_record::<CommonTemplateAttributeRows>(
+            alloc, outer, item,
+        )?;
         Ok(CommonTemplateAttribute(names, attributes))
     }
 }
@@ -219,7 +224,9 @@ impl WriteItem for PrivateKeyTemplateAttribute {
 
 impl ReadItem for PrivateKeyTemplateAttribute {
     fn read(alloc: Global, outer: Outer<'_>, item: ItemRef<'_>) -> Result<Self, ReadError> {
-        let fields![names, attributes] = read_record::<PrivateKeyTemplateAttributeRows>(alloc, outer, item)?;
+        let fields![names, attributes] = read_record::<PrivateKeyTemplateAttributeRows>(
+            alloc, outer, item,
+        )?;
         Ok(PrivateKeyTemplateAttribute(names, attributes))
     }
 }
@@ -286,7 +293,9 @@ impl WriteItem for PublicKeyTemplateAttribute {
 
 impl ReadItem for PublicKeyTemplateAttribute {
     fn read(alloc: Global, outer: Outer<'_>, item: ItemRef<'_>) -> Result<Self, ReadError> {
-        let fields![names, attributes] = read_record::<PublicKeyTemplateAttributeRows>(alloc, outer, item)?;
+        let fields![names, attributes] = read_record::<PublicKeyTemplateAttributeRows>(
+            alloc, outer, item,
+        )?;
         Ok(PublicKeyTemplateAttribute(names, attributes))
     }
 }

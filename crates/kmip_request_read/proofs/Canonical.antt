@@ -10,13 +10,12 @@ use Rattle.kmip_wire.specs.Parses.{Parses}
 use Rattle.kmip_wire.proofs.Written.{written_parses}
 use Rattle.kmip_wire.proofs.Computed.{one_tree}
 use Rattle.kmip_shape.specs.Val.{Val}
-use Rattle.kmip_shape.specs.Shape.{Shape, Choice, OfNumber, OuterValue, NoCase, no_outer, in_table}
+use Rattle.kmip_shape.specs.Shape.{Shape, NoCase, no_outer, in_table}
 use Rattle.kmip_shape.specs.Trees.{tree_of}
 use Rattle.kmip_shape.specs.Reads.{read_of, root_read}
 use Rattle.kmip_shape.specs.Writes.{bytes_of}
 use Rattle.kmip_shape.specs.Fits.{Fits, fits_in, selected_in, tags_once}
 use Rattle.kmip_shape.proofs.Parts.{none_some, some_same, tag_plain}
-use Rattle.kmip_shape.proofs.Lists.{eq_same}
 use Rattle.kmip_shape.proofs.Variants.{found_in_table}
 use Rattle.kmip_shape.proofs.ReadBack.{read_back}
 use Rattle.kmip_shape.proofs.Ranges.{tags_in_range, depth, Keeps, fits_ranges}
@@ -25,7 +24,6 @@ use Rattle.kmip_enums.specs.declared.credential_type.CredentialType.TheVariants 
 use Rattle.kmip_types.specs.declared.auth.CredentialType.{CredentialType}
 use Rattle.kmip_types.specs.declared.auth.CredentialType.TheVariants.{UsernameAndPassword}
 use Rattle.kmip_request.specs.declared.authentication.Authentication.{Authentication}
-use Rattle.kmip_request.specs.declared.authentication.CredentialValue.{CredentialValue}
 use Rattle.kmip_request.specs.declared.authentication.CredentialValue.TheVariants as values
 use Rattle.kmip_request.specs.declared.authentication.Password.{Password}
 use Rattle.kmip_request.specs.declared.header.ProtocolVersion.{ProtocolVersion}
@@ -98,8 +96,7 @@ pub matched : (payload : RequestPayload) (a : Option Authentication) (message : 
     → IsMatched payload × (request_bytes payload (option_map credential_of a) ≡ Some b)
 matched payload a message root b e p c =
     let c' : IsCanonical request_message 0x420078 root b (request_message_val (message_of payload a)) = subst (λ (m : RequestMessage). IsCanonical request_message 0x420078 root b (request_message_val m)) e c in
-    let same : request_bytes payload (option_map credential_of a) ≡ Some b = sym (bytes_are payload a) ∙ c'.2 in
-    (
+    let same : request_bytes payload (option_map credential_of a) ≡ Some b = sym (bytes_are payload a) ∙ c'.2 in (
       (has_tree (tree_of request_payload 0x420079 (request_payload_val payload)) _ b same, payload_selected payload a (canonical_selected (request_message_val (message_of payload a)) root b p c')),
       same,
     )

@@ -1,18 +1,17 @@
 -- What reads as the value that it was written for holds, in each choice, the case that is selected there.
-use Rattle.std.proofs.Common.{◌≡◌, ℕ, Bool, true, false, cond, ◌&&◌, List, [], ◌∷◌, ◌++◌, Option, Some, None, IfSome, filter, refl, sym, ◌∙◌, ap, subst, append_assoc}
+use Rattle.std.proofs.Common.{◌≡◌, ℕ, Bool, true, false, cond, List, [], ◌∷◌, ◌++◌, Option, Some, None, IfSome, filter, refl, sym, ◌∙◌, ap, subst, append_assoc}
 use Rattle.std.specs.Option.{option_map, option_and_then}
-use Rattle.kmip_wire.specs.Tree.{Scalar as Leaf, Tree, scalar, structure, trees_of, list_of, list_of-trees_of, byte_string}
-use Rattle.kmip_wire.specs.Kinds.{code_of, kind_of_scalar}
+use Rattle.kmip_wire.specs.Tree.{Scalar as Leaf, Tree, scalar, structure, trees_of, list_of, list_of-trees_of}
 use Rattle.kmip_wire.specs.Parts.{tag_of}
 use Rattle.kmip_wire.specs.declared.kind.Kind.TheVariants.{Enumeration}
 use Rattle.kmip_shape.specs.Val.{Val, Vals, Field, Fields, Number, Text, Bytes, Truth, Record, Case, Absent, One, Many, NoField, AndField, NoVal, AndVal}
-use Rattle.kmip_shape.specs.Shape.{Shape, RowList, Cases, Mark, Required, Optional, AnyNumber, AtLeastOne, OptionalList, Place, Under, ByCase, place_tag, own_tags, in_place, outer_for, chosen_after, Scalar, OneOf, Rows, RowsOrBytes, Choice, Custom, NoRow, AndRow, NoCase, AndCase, Rule, OfNumber, OfName, OfTag, Selector, OuterValue, no_outer, Key, number_key, key_of, type_key, matches, selected_case, case_at, case_tags, among, tag_or, leaf_of, val_of, attribute_value, Found}
+use Rattle.kmip_shape.specs.Shape.{Shape, RowList, Cases, Mark, Required, Optional, AnyNumber, AtLeastOne, OptionalList, Place, Under, ByCase, place_tag, own_tags, in_place, outer_for, chosen_after, Scalar, OneOf, Rows, RowsOrBytes, Choice, Custom, NoRow, AndRow, NoCase, AndCase, Rule, OfNumber, OfName, OfTag, OuterValue, no_outer, Key, number_key, key_of, type_key, matches, selected_case, case_at, among, tag_or, leaf_of, val_of, attribute_value, Found}
 use Rattle.kmip_shape.specs.Trees.{leaf_tree, structure_of, one_tree, bytes_or, byte_form, custom_trees, plain_tree, plain_trees, tree_in, field_trees, trees_in, list_trees}
 use Rattle.kmip_shape.specs.Reads.{read_in, read_rows, read_case, counted, each, with_field, read_plain}
 use Rattle.kmip_shape.specs.Fits.{mark_selected, plain_selected, all_plain, custom_selected, selected_in, fields_selected, field_selected, vals_selected, all_tags, rows_tags, place_stands, tags_once, rows_once, cases_once}
 use Rattle.kmip_shape.proofs.Lists.{Inside, Inside-append, Inside-within, Outside, Outside-append, Outside-left, Outside-right, Outside-within, Outside-apart, Outside-apart', row_tags, with_tags, filter_place, with_tags-between, among-left, among-right}
 use Rattle.kmip_shape.proofs.Parts.{none_some, some_same, found_some, one_some, then_some, structure_some, item_some, tag_plain}
-use Rattle.kmip_shape.proofs.Cases.{among_same, read_selected, once_rest, case_once, case_tag_among, selected_tag_among, fixed_none, choice_parts, row_within}
+use Rattle.kmip_shape.proofs.Cases.{among_same, read_selected, case_once, case_tag_among, selected_tag_among, fixed_none, choice_parts, row_within}
 use Rattle.kmip_shape.proofs.Inside.{row_apart}
 
 -- ---- what a field was counted from

@@ -128,7 +128,12 @@ fn not_one_plain_batch_item(rt: HostRuntime) -> Result<(), Fail> {
     is_refused(&rt, alloc, TWO_BATCH_ITEMS, RequestReadError::NotCanonical);
     is_refused(&rt, alloc, BATCH_COUNT_2, RequestReadError::NotCanonical);
     is_refused(&rt, alloc, WITH_A_SIZE, RequestReadError::NotCanonical);
-    is_refused(&rt, alloc, WITH_AN_IDENTIFIER, RequestReadError::NotCanonical);
+    is_refused(
+        &rt,
+        alloc,
+        WITH_AN_IDENTIFIER,
+        RequestReadError::NotCanonical,
+    );
     is_refused(&rt, alloc, RESPONSE, RequestReadError::NotCanonical);
     Ok(())
 }
