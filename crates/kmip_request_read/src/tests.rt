@@ -2,9 +2,10 @@
 
 use crate::{RequestReadError, from_slice};
 use kmip_enums::ObjectType;
-use kmip_request::{Attribute, RequestPayload, to_vec};
+use kmip_request::{Attribute, RequestPayload};
+use kmip_types::auth::CredentialType;
 use kmip_types::{AttributeName, AttributeValue};
-use kmip_wire::{Blob, List, Text, TryClone};
+use kmip_wire::{Blob, List, Text};
 use std::alloc::Global;
 use std::process::Abort;
 use std::test::Fail;
@@ -57,6 +58,10 @@ const PAD_OF_1: &[u8] =
 const GROUP: &[u8] =
     b"\x42\x00\x78\x01\x00\x00\x00\x90\x42\x00\x77\x01\x00\x00\x00\x38\x42\x00\x69\x01\x00\x00\x00\x20\x42\x00\x6A\x02\x00\x00\x00\x04\x00\x00\x00\x01\x00\x00\x00\x00\x42\x00\x6B\x02\x00\x00\x00\x04\x00\x00\x00\x00\x00\x00\x00\x00\x42\x00\x0D\x02\x00\x00\x00\x04\x00\x00\x00\x01\x00\x00\x00\x00\x42\x00\x0F\x01\x00\x00\x00\x48\x42\x00\x5C\x05\x00\x00\x00\x04\x00\x00\x00\x08\x00\x00\x00\x00\x42\x00\x79\x01\x00\x00\x00\x30\x42\x00\x08\x01\x00\x00\x00\x28\x42\x00\x0A\x07\x00\x00\x00\x0C\x4F\x62\x6A\x65\x63\x74\x20\x47\x72\x6F\x75\x70\x00\x00\x00\x00\x42\x00\x0B\x07\x00\x00\x00\x01\x67\x00\x00\x00\x00\x00\x00\x00";
 
+// REQ0(8, 08{0A "x-a",0B b0001020304050607})
+const BIG_INTEGER: &[u8] =
+    b"\x42\x00\x78\x01\x00\x00\x00\x88\x42\x00\x77\x01\x00\x00\x00\x38\x42\x00\x69\x01\x00\x00\x00\x20\x42\x00\x6A\x02\x00\x00\x00\x04\x00\x00\x00\x01\x00\x00\x00\x00\x42\x00\x6B\x02\x00\x00\x00\x04\x00\x00\x00\x00\x00\x00\x00\x00\x42\x00\x0D\x02\x00\x00\x00\x04\x00\x00\x00\x01\x00\x00\x00\x00\x42\x00\x0F\x01\x00\x00\x00\x40\x42\x00\x5C\x05\x00\x00\x00\x04\x00\x00\x00\x08\x00\x00\x00\x00\x42\x00\x79\x01\x00\x00\x00\x28\x42\x00\x08\x01\x00\x00\x00\x20\x42\x00\x0A\x07\x00\x00\x00\x03\x78\x2D\x61\x00\x00\x00\x00\x00\x42\x00\x0B\x04\x00\x00\x00\x08\x00\x01\x02\x03\x04\x05\x06\x07";
+
 // 78{77{69{6A i1,6B i0},0C{23{24 e1,25{99 "alice",A1 "secret"}}},0D i1},0F{5C e8,79{08{0A "Object Type",0B e4}}}}
 const WITH_A_CREDENTIAL: &[u8] =
     b"\x42\x00\x78\x01\x00\x00\x00\xD8\x42\x00\x77\x01\x00\x00\x00\x80\x42\x00\x69\x01\x00\x00\x00\x20\x42\x00\x6A\x02\x00\x00\x00\x04\x00\x00\x00\x01\x00\x00\x00\x00\x42\x00\x6B\x02\x00\x00\x00\x04\x00\x00\x00\x00\x00\x00\x00\x00\x42\x00\x0C\x01\x00\x00\x00\x40\x42\x00\x23\x01\x00\x00\x00\x38\x42\x00\x24\x05\x00\x00\x00\x04\x00\x00\x00\x01\x00\x00\x00\x00\x42\x00\x25\x01\x00\x00\x00\x20\x42\x00\x99\x07\x00\x00\x00\x05\x61\x6C\x69\x63\x65\x00\x00\x00\x42\x00\xA1\x07\x00\x00\x00\x06\x73\x65\x63\x72\x65\x74\x00\x00\x42\x00\x0D\x02\x00\x00\x00\x04\x00\x00\x00\x01\x00\x00\x00\x00\x42\x00\x0F\x01\x00\x00\x00\x48\x42\x00\x5C\x05\x00\x00\x00\x04\x00\x00\x00\x08\x00\x00\x00\x00\x42\x00\x79\x01\x00\x00\x00\x30\x42\x00\x08\x01\x00\x00\x00\x28\x42\x00\x0A\x07\x00\x00\x00\x0B\x4F\x62\x6A\x65\x63\x74\x20\x54\x79\x70\x65\x00\x00\x00\x00\x00\x42\x00\x0B\x05\x00\x00\x00\x04\x00\x00\x00\x04\x00\x00\x00\x00";
@@ -72,17 +77,24 @@ fn locate(alloc: Global, attribute: Attribute) -> Result<RequestPayload, Fail> {
     Ok(RequestPayload::Locate(attributes))
 }
 
-/// The bytes are read as this payload, with no credential.
-fn is_read(
+/// What was read is this payload, with no credential.
+fn is_read<P: PartialEq + Drop>(
     rt: &impl Abort,
-    alloc: Global,
-    bytes: &[u8],
-    payload: &RequestPayload,
+    read: Result<(P, Option<CredentialType>), RequestReadError>,
+    expected: P,
 ) -> Result<(), Fail> {
-    let (read, credential) = from_slice(alloc, bytes)?;
-    assert!(rt; read == *payload);
+    let (payload, credential) = read?;
+    assert!(rt; payload == expected);
     assert!(rt; credential.is_none());
     Ok(())
+}
+
+/// The credential that was read.
+fn credential_of<P: Drop>(
+    read: Result<(P, Option<CredentialType>), RequestReadError>,
+) -> Result<Option<CredentialType>, Fail> {
+    let (_, credential) = read?;
+    Ok(credential)
 }
 
 /// The bytes are refused for this reason.
@@ -94,8 +106,42 @@ fn is_refused(rt: &impl Abort, alloc: Global, bytes: &[u8], reason: RequestReadE
 #[test]
 fn locate_by_object_type(rt: HostRuntime) -> Result<(), Fail> {
     let alloc = rt.alloc();
-    let payload = locate(alloc, Attribute::ObjectType(alloc, ObjectType::PrivateKey)?)?;
-    is_read(&rt, alloc, LOCATE, &payload)
+    let attribute = Attribute::ObjectType(alloc, ObjectType::PrivateKey)?;
+    let expected = locate(alloc, attribute)?;
+    is_read(&rt, from_slice(alloc, LOCATE), expected)
+}
+
+#[test]
+fn attribute_of_a_name_in_the_table(rt: HostRuntime) -> Result<(), Fail> {
+    let alloc = rt.alloc();
+    let name = AttributeName(Text::of(alloc, "Object Group")?);
+    let value = AttributeValue::ObjectGroup(Text::of(alloc, "g")?);
+    let attribute = Attribute(name, None, value);
+    let expected = locate(alloc, attribute)?;
+    is_read(&rt, from_slice(alloc, GROUP), expected)
+}
+
+#[test]
+fn big_integer_of_eight_bytes(rt: HostRuntime) -> Result<(), Fail> {
+    let alloc = rt.alloc();
+    let name = AttributeName(Text::of(alloc, "x-a")?);
+    let value = AttributeValue::BigInteger(Blob::of(alloc, b"\0\x01\x02\x03\x04\x05\x06\x07")?);
+    let attribute = Attribute(name, None, value);
+    let expected = locate(alloc, attribute)?;
+    is_read(&rt, from_slice(alloc, BIG_INTEGER), expected)
+}
+
+#[test]
+fn credential_comes_back(rt: HostRuntime) -> Result<(), Fail> {
+    let alloc = rt.alloc();
+    match credential_of(from_slice(alloc, WITH_A_CREDENTIAL))? {
+        Some(CredentialType::UsernameAndPassword(user)) => {
+            assert!(&rt; user.username == Text::of(alloc, "alice")?);
+            assert!(&rt; user.password == Some(Text::of(alloc, "secret")?));
+        }
+        None => assert!(&rt; false),
+    }
+    Ok(())
 }
 
 #[test]
@@ -135,34 +181,5 @@ fn not_one_plain_batch_item(rt: HostRuntime) -> Result<(), Fail> {
         RequestReadError::NotCanonical,
     );
     is_refused(&rt, alloc, RESPONSE, RequestReadError::NotCanonical);
-    Ok(())
-}
-
-#[test]
-fn attribute_of_a_name_in_the_table(rt: HostRuntime) -> Result<(), Fail> {
-    let alloc = rt.alloc();
-    let name = AttributeName(Text::of(alloc, "Object Group")?);
-    let value = AttributeValue::ObjectGroup(Text::of(alloc, "g")?);
-    let payload = locate(alloc, Attribute(name, None, value))?;
-    is_read(&rt, alloc, GROUP, &payload)
-}
-
-#[test]
-fn big_integer_of_eight_bytes(rt: HostRuntime) -> Result<(), Fail> {
-    let alloc = rt.alloc();
-    let name = AttributeName(Text::of(alloc, "x-a")?);
-    let value = AttributeValue::BigInteger(Blob::of(alloc, b"\0\x01\x02\x03\x04\x05\x06\x07")?);
-    let payload = locate(alloc, Attribute(name, None, value))?;
-    let written = to_vec(alloc, payload.try_clone(alloc)?, None)?;
-    is_read(&rt, alloc, written.as_slice(), &payload)
-}
-
-#[test]
-fn credential_comes_back(rt: HostRuntime) -> Result<(), Fail> {
-    let alloc = rt.alloc();
-    let (_, credential) = from_slice(alloc, WITH_A_CREDENTIAL)?;
-    let payload = locate(alloc, Attribute::ObjectType(alloc, ObjectType::PrivateKey)?)?;
-    let written = to_vec(alloc, payload, credential)?;
-    assert!(&rt; written.as_slice() == WITH_A_CREDENTIAL);
     Ok(())
 }
