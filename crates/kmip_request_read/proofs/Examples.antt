@@ -1,12 +1,11 @@
 -- Which payloads are matched, on worked examples: each line computes.
-use Rattle.std.proofs.Common.{◌≡◌, ℕ, false, true, nat_eq, List, [], ◌∷◌, Option, Some, None, refl, eq-eqb}
+use Rattle.std.proofs.Common.{◌≡◌, ℕ, false, true, nat_eq, List, [], ◌∷◌, Some, None, refl, eq-eqb}
 use Rattle.std.specs.Prelude.{codes}
-use Rattle.kmip_shape.specs.Val.{Val, Text, Bytes, Case, vals_of, Record, AndField, NoField, Many}
+use Rattle.kmip_shape.specs.Val.{Text, Case, vals_of, Record, AndField, NoField, Many}
 use Rattle.kmip_shape.proofs.Parts.{none_some, some_same}
 use Rattle.kmip_enums.specs.declared.object_type.ObjectType.TheVariants as objects
-use Rattle.kmip_enums.specs.declared.link_type.LinkType.TheVariants.{PrivateKeyLink}
 use Rattle.kmip_types.specs.declared.attribute_value.AttributeValue.{AttributeValue}
-use Rattle.kmip_types.specs.declared.attribute_value.AttributeValue.TheVariants.{ObjectGroup, Link, Structure, TextString}
+use Rattle.kmip_types.specs.declared.attribute_value.AttributeValue.TheVariants.{ObjectGroup, Structure, TextString}
 use Rattle.kmip_types.specs.TheKeyFormatType.{KeyFormatType}
 use Rattle.kmip_types.specs.TheKeyFormatType.TheVariants as formats
 use Rattle.kmip_types.specs.TheKeyMaterial.{KeyMaterial}
