@@ -4,6 +4,8 @@ ghost use Rattle.std.specs.Prelude.{◌≡◌, Some, refl};
 ghost use Rattle.kmip_enums.specs.CredentialTypes.{credential_type_line, credential_type_variants, credential_type_found};
 
 use kmip_shape::Enumeration;
+use kmip_shape::columns::Chooses;
+use kmip_shape::read::Outer;
 use std::fmt::{self, Display, Formatter, Write};
 
 /// What kind of credential it is.
@@ -44,5 +46,14 @@ impl Display for CredentialType {
 
     fn fmt<W: Write>(&self, f: &mut Formatter<W>) -> fmt::Result {
         f.write_str(self.name())
+    }
+}
+
+impl Chooses for CredentialType {
+    fn outer(&self) -> Outer<'_> {
+        Outer {
+            number: Some(self.number()),
+            name: None,
+        }
     }
 }

@@ -7,9 +7,12 @@ ghost use Rattle.kmip_request.specs.Same.{attribute_same};
 
 use kmip_shape::columns::{ChosenOne, One, Opt};
 use kmip_shape::record::{Choosing, End, Row};
-use kmip_shape::{Item, WriteItem, fields, known_record, record_len, write_record};
+use kmip_shape::{
+    Item, Outer, ReadError, ReadItem, WriteItem, fields, known_record, read_record, record_len,
+    write_record,
+};
 use kmip_types::{AttributeIndex, AttributeName, AttributeValue};
-use kmip_wire::{Buffer, OutOfMemory, Tag, TryClone};
+use kmip_wire::{Buffer, ItemRef, OutOfMemory, Tag, TryClone};
 use std::alloc::Global;
 
 /// An attribute of an object: its name, which of the attributes of that name it is, and its value: KMIP 1.0, 2.1.1.
@@ -50,5 +53,12 @@ impl WriteItem for Attribute {
 
     fn write_into(&self, tag: Tag, out: &mut Buffer) {
         write_record::<AttributeRows<'_>>(fields![&self.0, &self.1, &self.2], tag, out);
+    }
+}
+
+impl ReadItem for Attribute {
+    fn read(alloc: Global, outer: Outer<'_>, item: ItemRef<'_>) -> Result<Self, ReadError> {
+        let fields![name, index, value] = read_record::<AttributeRows<'_>>(alloc, outer, item)?;
+        Ok(Attribute(name, index, value))
     }
 }

@@ -11,9 +11,12 @@ ghost use Rattle.kmip_request.specs.Same.{username_same, password_same, authenti
 use kmip_enums::CredentialType;
 use kmip_shape::columns::{ChosenOne, One, Opt};
 use kmip_shape::record::{Choosing, End, Row};
-use kmip_shape::{Item, WriteItem, fields, known_record, record_len, write_record};
+use kmip_shape::{
+    Item, Outer, ReadError, ReadItem, WriteItem, fields, known_record, read_record, record_len,
+    write_record,
+};
 use kmip_types::auth;
-use kmip_wire::{Buffer, OutOfMemory, Tag, Text, TryClone, clone_optional};
+use kmip_wire::{Buffer, ItemRef, OutOfMemory, Tag, Text, TryClone, clone_optional};
 use std::alloc::Global;
 
 /// The name of who makes a request: KMIP 1.0, 2.1.2.
@@ -48,6 +51,12 @@ impl WriteItem for Username {
     }
 }
 
+impl ReadItem for Username {
+    fn read(alloc: Global, outer: Outer<'_>, item: ItemRef<'_>) -> Result<Self, ReadError> {
+        Ok(Username(Text::read(alloc, outer, item)?))
+    }
+}
+
 /// The secret of who makes a request: KMIP 1.0, 2.1.2.
 #[derive(PartialEq, Eq, Drop)]
 pub struct Password(pub Text);
@@ -77,6 +86,12 @@ impl WriteItem for Password {
 
     fn write_into(&self, tag: Tag, out: &mut Buffer) {
         self.0.write_into(tag, out);
+    }
+}
+
+impl ReadItem for Password {
+    fn read(alloc: Global, outer: Outer<'_>, item: ItemRef<'_>) -> Result<Self, ReadError> {
+        Ok(Password(Text::read(alloc, outer, item)?))
     }
 }
 
@@ -135,6 +150,20 @@ impl WriteItem for CredentialValue {
     }
 }
 
+impl ReadItem for CredentialValue {
+    fn read(alloc: Global, outer: Outer<'_>, item: ItemRef<'_>) -> Result<Self, ReadError> {
+        match outer.number {
+            Some(1) => {
+                let fields![username, password] = read_record::<UsernameAndPasswordRows>(
+                    alloc, outer, item,
+                )?;
+                Ok(CredentialValue::UsernameAndPassword(username, password))
+            }
+            _ => Err(ReadError::Unread),
+        }
+    }
+}
+
 /// A credential and its type: KMIP 1.0, 2.1.2.
 #[derive(PartialEq, Eq, Drop)]
 pub struct Credential(pub CredentialType, pub CredentialValue);
@@ -169,6 +198,15 @@ impl WriteItem for Credential {
 
     fn write_into(&self, tag: Tag, out: &mut Buffer) {
         write_record::<CredentialRows<'_>>(fields![&self.0, &self.1], tag, out);
+    }
+}
+
+impl ReadItem for Credential {
+    fn read(alloc: Global, outer: Outer<'_>, item: ItemRef<'_>) -> Result<Self, ReadError> {
+        let fields![credential_type, value] = read_record::<CredentialRows<'_>>(
+            alloc, outer, item,
+        )?;
+        Ok(Credential(credential_type, value))
     }
 }
 
@@ -221,5 +259,12 @@ impl WriteItem for Authentication {
 
     fn write_into(&self, tag: Tag, out: &mut Buffer) {
         write_record::<AuthenticationRows>(fields![&self.0], tag, out);
+    }
+}
+
+impl ReadItem for Authentication {
+    fn read(alloc: Global, outer: Outer<'_>, item: ItemRef<'_>) -> Result<Self, ReadError> {
+        let fields![credential] = read_record::<AuthenticationRows>(alloc, outer, item)?;
+        Ok(Authentication(credential))
     }
 }

@@ -6,8 +6,8 @@ ghost use Rattle.kmip_shape.specs.Shape.{Scalar};
 ghost use Rattle.kmip_request.specs.Values.{mac_or_signature_val, iv_or_counter_or_nonce_val};
 ghost use Rattle.kmip_request.specs.Same.{mac_or_signature_same, iv_or_counter_or_nonce_same};
 
-use kmip_shape::{Item, WriteItem};
-use kmip_wire::{Blob, Buffer, OutOfMemory, Tag, TryClone};
+use kmip_shape::{Item, Outer, ReadError, ReadItem, WriteItem};
+use kmip_wire::{Blob, Buffer, ItemRef, OutOfMemory, Tag, TryClone};
 use std::alloc::Global;
 
 /// The MAC or signature of a wrapped key: KMIP 1.0, 2.1.5.
@@ -51,6 +51,12 @@ impl WriteItem for MACOrSignature {
     }
 }
 
+impl ReadItem for MACOrSignature {
+    fn read(alloc: Global, outer: Outer<'_>, item: ItemRef<'_>) -> Result<Self, ReadError> {
+        Ok(MACOrSignature(Blob::read(alloc, outer, item)?))
+    }
+}
+
 /// What a wrapping began from: KMIP 1.0, 2.1.5.
 #[derive(PartialEq, Eq, Drop)]
 pub struct IVOrCounterOrNonce(pub Blob);
@@ -89,5 +95,11 @@ impl WriteItem for IVOrCounterOrNonce {
 
     fn write_into(&self, tag: Tag, out: &mut Buffer) {
         self.0.write_into(tag, out);
+    }
+}
+
+impl ReadItem for IVOrCounterOrNonce {
+    fn read(alloc: Global, outer: Outer<'_>, item: ItemRef<'_>) -> Result<Self, ReadError> {
+        Ok(IVOrCounterOrNonce(Blob::read(alloc, outer, item)?))
     }
 }

@@ -9,8 +9,11 @@ use crate::authentication::Authentication;
 use crate::numbers::{BatchCount, MaximumResponseSize, ProtocolVersionMajor, ProtocolVersionMinor};
 use kmip_shape::columns::{One, Opt};
 use kmip_shape::record::{End, Row};
-use kmip_shape::{Item, WriteItem, fields, known_record, record_len, write_record};
-use kmip_wire::{Buffer, OutOfMemory, Tag, TryClone, clone_optional};
+use kmip_shape::{
+    Item, Outer, ReadError, ReadItem, WriteItem, fields, known_record, read_record, record_len,
+    write_record,
+};
+use kmip_wire::{Buffer, ItemRef, OutOfMemory, Tag, TryClone, clone_optional};
 use std::alloc::Global;
 
 /// The version of KMIP that a request is made in: KMIP 1.0, 6.1.
@@ -41,6 +44,13 @@ impl WriteItem for ProtocolVersion {
 
     fn write_into(&self, tag: Tag, out: &mut Buffer) {
         write_record::<ProtocolVersionRows>(fields![&self.0, &self.1], tag, out);
+    }
+}
+
+impl ReadItem for ProtocolVersion {
+    fn read(alloc: Global, outer: Outer<'_>, item: ItemRef<'_>) -> Result<Self, ReadError> {
+        let fields![major, minor] = read_record::<ProtocolVersionRows>(alloc, outer, item)?;
+        Ok(ProtocolVersion(major, minor))
     }
 }
 
@@ -86,5 +96,14 @@ impl WriteItem for RequestHeader {
 
     fn write_into(&self, tag: Tag, out: &mut Buffer) {
         write_record::<RequestHeaderRows>(fields![&self.0, &self.1, &self.2, &self.3], tag, out);
+    }
+}
+
+impl ReadItem for RequestHeader {
+    fn read(alloc: Global, outer: Outer<'_>, item: ItemRef<'_>) -> Result<Self, ReadError> {
+        let fields![version, maximum_response_size, authentication, batch_count] = read_record::<
+            RequestHeaderRows,
+        >(alloc, outer, item)?;
+        Ok(RequestHeader(version, maximum_response_size, authentication, batch_count))
     }
 }

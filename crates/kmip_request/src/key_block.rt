@@ -9,11 +9,14 @@ use crate::attribute::Attribute;
 use crate::key_wrapping::KeyWrappingData;
 use kmip_shape::columns::{ChosenOpt, One, Opt, OptMany};
 use kmip_shape::record::{Choosing, End, Row};
-use kmip_shape::{Item, WriteItem, fields, known_record, record_len, write_record};
+use kmip_shape::{
+    Item, Outer, ReadError, ReadItem, WriteItem, fields, known_record, read_record, record_len,
+    write_record,
+};
 use kmip_types::{
     CryptographicAlgorithm, CryptographicLength, KeyCompressionType, KeyFormatType, KeyMaterial,
 };
-use kmip_wire::{Buffer, List, OutOfMemory, Tag, TryClone, clone_optional};
+use kmip_wire::{Buffer, ItemRef, List, OutOfMemory, Tag, TryClone, clone_optional};
 use std::alloc::Global;
 
 /// Key material and attributes of the key: KMIP 1.0, 2.1.4.
@@ -47,6 +50,13 @@ impl WriteItem for KeyValue {
 
     fn write_into(&self, tag: Tag, out: &mut Buffer) {
         write_record::<KeyValueRows>(fields![&self.0, &self.1], tag, out);
+    }
+}
+
+impl ReadItem for KeyValue {
+    fn read(alloc: Global, outer: Outer<'_>, item: ItemRef<'_>) -> Result<Self, ReadError> {
+        let fields![material, attributes] = read_record::<KeyValueRows>(alloc, outer, item)?;
+        Ok(KeyValue(material, attributes))
     }
 }
 
@@ -115,5 +125,14 @@ impl WriteItem for KeyBlock {
             tag,
             out,
         );
+    }
+}
+
+impl ReadItem for KeyBlock {
+    fn read(alloc: Global, outer: Outer<'_>, item: ItemRef<'_>) -> Result<Self, ReadError> {
+        let fields![format, compression, value, algorithm, length, wrapping] = read_record::<
+            KeyBlockRows<'_>,
+        >(alloc, outer, item)?;
+        Ok(KeyBlock(format, compression, value, algorithm, length, wrapping))
     }
 }

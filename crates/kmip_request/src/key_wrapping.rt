@@ -9,9 +9,12 @@ use crate::attribute::Attribute;
 use crate::byte_strings::{IVOrCounterOrNonce, MACOrSignature};
 use kmip_shape::columns::{One, Opt, OptMany};
 use kmip_shape::record::{End, Row};
-use kmip_shape::{Item, WriteItem, fields, known_record, record_len, write_record};
+use kmip_shape::{
+    Item, Outer, ReadError, ReadItem, WriteItem, fields, known_record, read_record, record_len,
+    write_record,
+};
 use kmip_types::{CryptographicParameters, UniqueIdentifier, WrappingMethod};
-use kmip_wire::{Buffer, List, OutOfMemory, Tag, TryClone, clone_optional};
+use kmip_wire::{Buffer, ItemRef, List, OutOfMemory, Tag, TryClone, clone_optional};
 use std::alloc::Global;
 
 /// The key that wraps by encryption, and how: KMIP 1.0, 2.1.5.
@@ -51,6 +54,15 @@ impl WriteItem for EncryptionKeyInformation {
     }
 }
 
+impl ReadItem for EncryptionKeyInformation {
+    fn read(alloc: Global, outer: Outer<'_>, item: ItemRef<'_>) -> Result<Self, ReadError> {
+        let fields![identifier, parameters] = read_record::<EncryptionKeyInformationRows>(
+            alloc, outer, item,
+        )?;
+        Ok(EncryptionKeyInformation(identifier, parameters))
+    }
+}
+
 /// The key that wraps by a MAC or a signature, and how: KMIP 1.0, 2.1.5.
 #[derive(PartialEq, Eq, Drop)]
 pub struct MACOrSignatureKeyInformation(pub UniqueIdentifier, pub Option<CryptographicParameters>);
@@ -85,6 +97,15 @@ impl WriteItem for MACOrSignatureKeyInformation {
 
     fn write_into(&self, tag: Tag, out: &mut Buffer) {
         write_record::<MACOrSignatureKeyInformationRows>(fields![&self.0, &self.1], tag, out);
+    }
+}
+
+impl ReadItem for MACOrSignatureKeyInformation {
+    fn read(alloc: Global, outer: Outer<'_>, item: ItemRef<'_>) -> Result<Self, ReadError> {
+        let fields![identifier, parameters] = read_record::<MACOrSignatureKeyInformationRows>(
+            alloc, outer, item,
+        )?;
+        Ok(MACOrSignatureKeyInformation(identifier, parameters))
     }
 }
 
@@ -156,6 +177,15 @@ impl WriteItem for KeyWrappingData {
     }
 }
 
+impl ReadItem for KeyWrappingData {
+    fn read(alloc: Global, outer: Outer<'_>, item: ItemRef<'_>) -> Result<Self, ReadError> {
+        let fields![method, encryption, signing, signature, nonce, attributes] = read_record::<
+            KeyWrappingDataRows,
+        >(alloc, outer, item)?;
+        Ok(KeyWrappingData(method, encryption, signing, signature, nonce, attributes))
+    }
+}
+
 /// How a key is to be wrapped: KMIP 1.0, 2.1.6. KMIP has attribute names where this has attributes.
 #[derive(PartialEq, Eq, Drop)]
 pub struct KeyWrappingSpecification(
@@ -207,5 +237,14 @@ impl WriteItem for KeyWrappingSpecification {
             tag,
             out,
         );
+    }
+}
+
+impl ReadItem for KeyWrappingSpecification {
+    fn read(alloc: Global, outer: Outer<'_>, item: ItemRef<'_>) -> Result<Self, ReadError> {
+        let fields![method, encryption, signing, attributes] = read_record::<
+            KeyWrappingSpecificationRows,
+        >(alloc, outer, item)?;
+        Ok(KeyWrappingSpecification(method, encryption, signing, attributes))
     }
 }

@@ -1,6 +1,6 @@
 //! Managed objects, each under its own tag.
 
-ghost use Rattle.std.specs.Prelude.{◌≡◌};
+ghost use Rattle.std.specs.Prelude.{◌≡◌, ◌∷◌, [], refl};
 ghost use Rattle.kmip_shape.specs.Shape.{Choice, OfTag};
 ghost use Rattle.kmip_request.specs.Tables.{name, symmetric_key, public_key, private_key, template, managed_objects};
 ghost use Rattle.kmip_request.specs.Values.{symmetric_key_val, public_key_val, private_key_val, template_val, managed_object_val};
@@ -10,8 +10,11 @@ use crate::attribute::Attribute;
 use crate::key_block::KeyBlock;
 use kmip_shape::columns::{Many, One};
 use kmip_shape::record::{End, Row};
-use kmip_shape::{Item, OfTag, WriteItem, fields, known_record, record_len, write_record};
-use kmip_wire::{Buffer, List, OutOfMemory, Tag, TryClone};
+use kmip_shape::{
+    Item, OfTag, Outer, ReadError, ReadItem, WriteItem, fields, known_record, read_record,
+    record_len, write_record,
+};
+use kmip_wire::{Buffer, ItemRef, List, OutOfMemory, Tag, TryClone};
 use std::alloc::Global;
 
 /// A symmetric key: KMIP 1.0, 2.2.2.
@@ -45,6 +48,13 @@ impl WriteItem for SymmetricKey {
 
     fn write_into(&self, tag: Tag, out: &mut Buffer) {
         write_record::<SymmetricKeyRows>(fields![&self.0], tag, out);
+    }
+}
+
+impl ReadItem for SymmetricKey {
+    fn read(alloc: Global, outer: Outer<'_>, item: ItemRef<'_>) -> Result<Self, ReadError> {
+        let fields![key_block] = read_record::<SymmetricKeyRows>(alloc, outer, item)?;
+        Ok(SymmetricKey(key_block))
     }
 }
 
@@ -82,6 +92,13 @@ impl WriteItem for PublicKey {
     }
 }
 
+impl ReadItem for PublicKey {
+    fn read(alloc: Global, outer: Outer<'_>, item: ItemRef<'_>) -> Result<Self, ReadError> {
+        let fields![key_block] = read_record::<PublicKeyRows>(alloc, outer, item)?;
+        Ok(PublicKey(key_block))
+    }
+}
+
 /// A private key: KMIP 1.0, 2.2.4.
 #[derive(PartialEq, Eq, Drop)]
 pub struct PrivateKey(pub KeyBlock);
@@ -116,6 +133,13 @@ impl WriteItem for PrivateKey {
     }
 }
 
+impl ReadItem for PrivateKey {
+    fn read(alloc: Global, outer: Outer<'_>, item: ItemRef<'_>) -> Result<Self, ReadError> {
+        let fields![key_block] = read_record::<PrivateKeyRows>(alloc, outer, item)?;
+        Ok(PrivateKey(key_block))
+    }
+}
+
 /// Attributes that other requests may name: KMIP 1.0, 2.2.6.
 #[derive(PartialEq, Eq, Drop)]
 pub struct Template(pub List<Attribute>);
@@ -147,6 +171,13 @@ impl WriteItem for Template {
 
     fn write_into(&self, tag: Tag, out: &mut Buffer) {
         write_record::<TemplateRows>(fields![&self.0], tag, out);
+    }
+}
+
+impl ReadItem for Template {
+    fn read(alloc: Global, outer: Outer<'_>, item: ItemRef<'_>) -> Result<Self, ReadError> {
+        let fields![attributes] = read_record::<TemplateRows>(alloc, outer, item)?;
+        Ok(Template(attributes))
     }
 }
 
@@ -213,4 +244,26 @@ impl WriteItem for ManagedObject {
             ManagedObject::Template(object) => object.write_into(Tag::of(0x420090), out),
         }
     }
+}
+
+impl ReadItem for ManagedObject {
+    fn read(alloc: Global, outer: Outer<'_>, item: ItemRef<'_>) -> Result<Self, ReadError> {
+        match item.tag().number() {
+            0x42008F => Ok(ManagedObject::SymmetricKey(SymmetricKey::read(alloc, outer, item)?)),
+            0x42006D => Ok(ManagedObject::PublicKey(PublicKey::read(alloc, outer, item)?)),
+            0x420064 => Ok(ManagedObject::PrivateKey(PrivateKey::read(alloc, outer, item)?)),
+            0x420090 => Ok(ManagedObject::Template(Template::read(alloc, outer, item)?)),
+            _ => Err(ReadError::Unread),
+        }
+    }
+}
+
+impl OfTag for ManagedObject {
+    ghost tags = { 0x42008F ∷ 0x42006D ∷ 0x420064 ∷ 0x420090 ∷ [] };
+
+    fn has_case(tag: Tag) -> bool {
+        matches!(tag.number(), 0x42008F | 0x42006D | 0x420064 | 0x420090)
+    }
+
+    ghost own = { λ o. refl };
 }

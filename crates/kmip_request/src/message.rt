@@ -10,9 +10,12 @@ use crate::payload::RequestPayload;
 use kmip_enums::Operation;
 use kmip_shape::columns::{ChosenOne, Many, One, Opt};
 use kmip_shape::record::{Choosing, End, Row};
-use kmip_shape::{Item, WriteItem, fields, known_record, record_len, write_record};
+use kmip_shape::{
+    Item, Outer, ReadError, ReadItem, ReadRoot, WriteItem, fields, known_record, read_record,
+    record_len, write_record,
+};
 use kmip_types::UniqueBatchItemID;
-use kmip_wire::{Buffer, List, OutOfMemory, Tag, TryClone, clone_optional};
+use kmip_wire::{Buffer, ItemRef, List, OutOfMemory, Tag, TryClone, clone_optional};
 use std::alloc::Global;
 
 /// One operation with its payload: KMIP 1.0, 7.2.
@@ -60,6 +63,15 @@ impl WriteItem for BatchItem {
     }
 }
 
+impl ReadItem for BatchItem {
+    fn read(alloc: Global, outer: Outer<'_>, item: ItemRef<'_>) -> Result<Self, ReadError> {
+        let fields![operation, identifier, payload] = read_record::<BatchItemRows<'_>>(
+            alloc, outer, item,
+        )?;
+        Ok(BatchItem(operation, identifier, payload))
+    }
+}
+
 /// A request: KMIP 1.0, 7.1.
 #[derive(PartialEq, Eq, Drop)]
 pub struct RequestMessage(pub RequestHeader, pub List<BatchItem>);
@@ -91,5 +103,20 @@ impl WriteItem for RequestMessage {
 
     fn write_into(&self, tag: Tag, out: &mut Buffer) {
         write_record::<RequestMessageRows>(fields![&self.0, &self.1], tag, out);
+    }
+}
+
+impl ReadItem for RequestMessage {
+    fn read(alloc: Global, outer: Outer<'_>, item: ItemRef<'_>) -> Result<Self, ReadError> {
+        let fields![header, items] = read_record::<RequestMessageRows>(alloc, outer, item)?;
+        Ok(RequestMessage(header, items))
+    }
+}
+
+impl ReadRoot for RequestMessage {
+    ghost root_tag = { 0x420078 };
+
+    fn root_tag() -> Tag {
+        Tag::of(0x420078)
     }
 }

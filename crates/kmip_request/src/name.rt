@@ -9,9 +9,12 @@ ghost use Rattle.kmip_request.specs.Same.{name_same};
 use kmip_enums::NameType;
 use kmip_shape::columns::One;
 use kmip_shape::record::{End, Row};
-use kmip_shape::{Item, WriteItem, fields, known_record, record_len, write_record};
+use kmip_shape::{
+    Item, Outer, ReadError, ReadItem, WriteItem, fields, known_record, read_record, record_len,
+    write_record,
+};
 use kmip_types::NameValue;
-use kmip_wire::{Buffer, OutOfMemory, Tag, TryClone};
+use kmip_wire::{Buffer, ItemRef, OutOfMemory, Tag, TryClone};
 use std::alloc::Global;
 use std::fmt::{self, Display, Formatter, Write};
 
@@ -54,5 +57,12 @@ impl WriteItem for Name {
 
     fn write_into(&self, tag: Tag, out: &mut Buffer) {
         write_record::<NameRows>(fields![&self.0, &self.1], tag, out);
+    }
+}
+
+impl ReadItem for Name {
+    fn read(alloc: Global, outer: Outer<'_>, item: ItemRef<'_>) -> Result<Self, ReadError> {
+        let fields![value, name_type] = read_record::<NameRows>(alloc, outer, item)?;
+        Ok(Name(value, name_type))
     }
 }

@@ -6,8 +6,9 @@ ghost use Rattle.kmip_shape.specs.Shape.{Scalar};
 ghost use Rattle.kmip_request.specs.Values.{major_val, minor_val, size_val, count_val};
 ghost use Rattle.kmip_request.specs.Same.{major_same, minor_same, size_same, count_same};
 
-use kmip_shape::{Item, WriteItem};
-use kmip_wire::{Buffer, Tag};
+use kmip_shape::{Item, Outer, ReadError, ReadItem, WriteItem};
+use kmip_wire::{Buffer, ItemRef, Tag};
+use std::alloc::Global;
 
 /// The first number of a version of KMIP: KMIP 1.0, 6.1.
 #[derive(Clone, Copy, PartialEq, Eq, Drop)]
@@ -32,6 +33,12 @@ impl WriteItem for ProtocolVersionMajor {
 
     fn write_into(&self, tag: Tag, out: &mut Buffer) {
         self.0.write_into(tag, out);
+    }
+}
+
+impl ReadItem for ProtocolVersionMajor {
+    fn read(alloc: Global, outer: Outer<'_>, item: ItemRef<'_>) -> Result<Self, ReadError> {
+        Ok(ProtocolVersionMajor(i32::read(alloc, outer, item)?))
     }
 }
 
@@ -61,6 +68,12 @@ impl WriteItem for ProtocolVersionMinor {
     }
 }
 
+impl ReadItem for ProtocolVersionMinor {
+    fn read(alloc: Global, outer: Outer<'_>, item: ItemRef<'_>) -> Result<Self, ReadError> {
+        Ok(ProtocolVersionMinor(i32::read(alloc, outer, item)?))
+    }
+}
+
 /// The most bytes that a client takes as a response: KMIP 1.0, 6.3.
 #[derive(Clone, Copy, PartialEq, Eq, Drop)]
 pub struct MaximumResponseSize(pub i32);
@@ -87,6 +100,12 @@ impl WriteItem for MaximumResponseSize {
     }
 }
 
+impl ReadItem for MaximumResponseSize {
+    fn read(alloc: Global, outer: Outer<'_>, item: ItemRef<'_>) -> Result<Self, ReadError> {
+        Ok(MaximumResponseSize(i32::read(alloc, outer, item)?))
+    }
+}
+
 /// How many batch items a message has: KMIP 1.0, 6.14.
 #[derive(Clone, Copy, PartialEq, Eq, Drop)]
 pub struct BatchCount(pub i32);
@@ -110,5 +129,11 @@ impl WriteItem for BatchCount {
 
     fn write_into(&self, tag: Tag, out: &mut Buffer) {
         self.0.write_into(tag, out);
+    }
+}
+
+impl ReadItem for BatchCount {
+    fn read(alloc: Global, outer: Outer<'_>, item: ItemRef<'_>) -> Result<Self, ReadError> {
+        Ok(BatchCount(i32::read(alloc, outer, item)?))
     }
 }

@@ -20,13 +20,14 @@ use kmip_enums::{ObjectType, Operation, QueryFunction};
 use kmip_shape::columns::{Many, One, Opt, OptMany};
 use kmip_shape::record::{End, Row};
 use kmip_shape::{
-    Item, TagOpt, WriteItem, copy_list, fields, known_record, record_len, write_record,
+    Item, Outer, ReadError, ReadItem, TagOpt, WriteItem, copy_list, fields, known_record,
+    read_record, record_len, write_record,
 };
 use kmip_types::{
     AttributeIndex, AttributeName, CompromiseOccurrenceDate, CryptographicParameters, Data,
     DataLength, KeyCompressionType, KeyFormatType, UniqueIdentifier,
 };
-use kmip_wire::{Buffer, List, OutOfMemory, Tag, TryClone, clone_optional};
+use kmip_wire::{Buffer, ItemRef, List, OutOfMemory, Tag, TryClone, clone_optional};
 use std::alloc::Global;
 
 /// What a request asks for: one variant an operation, with the operation's fields in order.
@@ -353,6 +354,90 @@ impl WriteItem for RequestPayload {
                 tag,
                 out,
             ),
+        }
+    }
+}
+
+impl ReadItem for RequestPayload {
+    fn read(alloc: Global, outer: Outer<'_>, item: ItemRef<'_>) -> Result<Self, ReadError> {
+        match outer.number {
+            Some(1) => {
+                let fields![object_type, template] = read_record::<CreateRows>(alloc, outer, item)?;
+                Ok(RequestPayload::Create(object_type, template))
+            }
+            Some(2) => {
+                let fields![common, private_key, public_key] = read_record::<CreateKeyPairRows>(
+                    alloc, outer, item,
+                )?;
+                Ok(RequestPayload::CreateKeyPair(common, private_key, public_key))
+            }
+            Some(3) => {
+                let fields![object_type, template, object] = read_record::<RegisterRows>(
+                    alloc, outer, item,
+                )?;
+                Ok(RequestPayload::Register(object_type, template, object))
+            }
+            Some(8) => {
+                let fields![attributes] = read_record::<LocateRows>(alloc, outer, item)?;
+                Ok(RequestPayload::Locate(attributes))
+            }
+            Some(10) => {
+                let fields![id, format, compression, specification] = read_record::<GetRows>(
+                    alloc, outer, item,
+                )?;
+                Ok(RequestPayload::Get(id, format, compression, specification))
+            }
+            Some(11) => {
+                let fields![id, names] = read_record::<GetAttributesRows>(alloc, outer, item)?;
+                Ok(RequestPayload::GetAttributes(id, names))
+            }
+            Some(12) => {
+                let fields![id] = read_record::<IdentifierRows>(alloc, outer, item)?;
+                Ok(RequestPayload::GetAttributeList(id))
+            }
+            Some(13) => {
+                let fields![id, attribute] = read_record::<EditRows>(alloc, outer, item)?;
+                Ok(RequestPayload::AddAttribute(id, attribute))
+            }
+            Some(14) => {
+                let fields![id, attribute] = read_record::<EditRows>(alloc, outer, item)?;
+                Ok(RequestPayload::ModifyAttribute(id, attribute))
+            }
+            Some(15) => {
+                let fields![id, name, index] = read_record::<DeleteAttributeRows>(
+                    alloc, outer, item,
+                )?;
+                Ok(RequestPayload::DeleteAttribute(id, name, index))
+            }
+            Some(18) => {
+                let fields![id] = read_record::<IdentifierRows>(alloc, outer, item)?;
+                Ok(RequestPayload::Activate(id))
+            }
+            Some(19) => {
+                let fields![id, reason, date] = read_record::<RevokeRows>(alloc, outer, item)?;
+                Ok(RequestPayload::Revoke(id, reason, date))
+            }
+            Some(20) => {
+                let fields![id] = read_record::<IdentifierRows>(alloc, outer, item)?;
+                Ok(RequestPayload::Destroy(id))
+            }
+            Some(24) => {
+                let fields![functions] = read_record::<QueryRows>(alloc, outer, item)?;
+                Ok(RequestPayload::Query(functions))
+            }
+            Some(30) => {
+                let fields![versions] = read_record::<DiscoverVersionsRows>(alloc, outer, item)?;
+                Ok(RequestPayload::DiscoverVersions(versions))
+            }
+            Some(33) => {
+                let fields![id, parameters, data] = read_record::<SignRows>(alloc, outer, item)?;
+                Ok(RequestPayload::Sign(id, parameters, data))
+            }
+            Some(37) => {
+                let fields![length] = read_record::<RNGRetrieveRows>(alloc, outer, item)?;
+                Ok(RequestPayload::RNGRetrieve(length))
+            }
+            _ => Err(ReadError::Unread),
         }
     }
 }

@@ -8,9 +8,12 @@ ghost use Rattle.kmip_request.specs.Same.{revocation_reason_same};
 use kmip_enums::RevocationReasonCode;
 use kmip_shape::columns::{One, Opt};
 use kmip_shape::record::{End, Row};
-use kmip_shape::{Item, WriteItem, fields, known_record, record_len, write_record};
+use kmip_shape::{
+    Item, Outer, ReadError, ReadItem, WriteItem, fields, known_record, read_record, record_len,
+    write_record,
+};
 use kmip_types::RevocationMessage;
-use kmip_wire::{Buffer, OutOfMemory, Tag, TryClone, clone_optional};
+use kmip_wire::{Buffer, ItemRef, OutOfMemory, Tag, TryClone, clone_optional};
 use std::alloc::Global;
 
 /// Why an object is revoked: KMIP 1.0, 3.26.
@@ -47,5 +50,12 @@ impl WriteItem for RevocationReason {
 
     fn write_into(&self, tag: Tag, out: &mut Buffer) {
         write_record::<RevocationReasonRows>(fields![&self.0, &self.1], tag, out);
+    }
+}
+
+impl ReadItem for RevocationReason {
+    fn read(alloc: Global, outer: Outer<'_>, item: ItemRef<'_>) -> Result<Self, ReadError> {
+        let fields![code, message] = read_record::<RevocationReasonRows>(alloc, outer, item)?;
+        Ok(RevocationReason(code, message))
     }
 }

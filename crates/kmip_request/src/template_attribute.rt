@@ -12,9 +12,12 @@ use crate::name::Name;
 use kmip_enums::NameType;
 use kmip_shape::columns::OptMany;
 use kmip_shape::record::{End, Row};
-use kmip_shape::{Item, WriteItem, fields, known_record, record_len, write_record};
+use kmip_shape::{
+    Item, Outer, ReadError, ReadItem, WriteItem, fields, known_record, read_record, record_len,
+    write_record,
+};
 use kmip_types::NameValue;
-use kmip_wire::{Buffer, List, OutOfMemory, Tag, Text, TryClone, clone_optional};
+use kmip_wire::{Buffer, ItemRef, List, OutOfMemory, Tag, Text, TryClone, clone_optional};
 use std::alloc::Global;
 
 /// A list of one name, an uninterpreted text.
@@ -83,6 +86,13 @@ impl WriteItem for TemplateAttribute {
     }
 }
 
+impl ReadItem for TemplateAttribute {
+    fn read(alloc: Global, outer: Outer<'_>, item: ItemRef<'_>) -> Result<Self, ReadError> {
+        let fields![names, attributes] = read_record::<TemplateAttributeRows>(alloc, outer, item)?;
+        Ok(TemplateAttribute(names, attributes))
+    }
+}
+
 /// Attributes for both keys of a new pair: KMIP 1.0, 2.1.8.
 #[derive(PartialEq, Eq, Drop)]
 pub struct CommonTemplateAttribute(pub Option<List<Name>>, pub Option<List<Attribute>>);
@@ -140,6 +150,15 @@ impl WriteItem for CommonTemplateAttribute {
 
     fn write_into(&self, tag: Tag, out: &mut Buffer) {
         write_record::<CommonTemplateAttributeRows>(fields![&self.0, &self.1], tag, out);
+    }
+}
+
+impl ReadItem for CommonTemplateAttribute {
+    fn read(alloc: Global, outer: Outer<'_>, item: ItemRef<'_>) -> Result<Self, ReadError> {
+        let fields![names, attributes] = read_record::<CommonTemplateAttributeRows>(
+            alloc, outer, item,
+        )?;
+        Ok(CommonTemplateAttribute(names, attributes))
     }
 }
 
@@ -203,6 +222,15 @@ impl WriteItem for PrivateKeyTemplateAttribute {
     }
 }
 
+impl ReadItem for PrivateKeyTemplateAttribute {
+    fn read(alloc: Global, outer: Outer<'_>, item: ItemRef<'_>) -> Result<Self, ReadError> {
+        let fields![names, attributes] = read_record::<PrivateKeyTemplateAttributeRows>(
+            alloc, outer, item,
+        )?;
+        Ok(PrivateKeyTemplateAttribute(names, attributes))
+    }
+}
+
 /// Attributes for the public key of a new pair: KMIP 1.0, 2.1.8.
 #[derive(PartialEq, Eq, Drop)]
 pub struct PublicKeyTemplateAttribute(pub Option<List<Name>>, pub Option<List<Attribute>>);
@@ -260,5 +288,14 @@ impl WriteItem for PublicKeyTemplateAttribute {
 
     fn write_into(&self, tag: Tag, out: &mut Buffer) {
         write_record::<PublicKeyTemplateAttributeRows>(fields![&self.0, &self.1], tag, out);
+    }
+}
+
+impl ReadItem for PublicKeyTemplateAttribute {
+    fn read(alloc: Global, outer: Outer<'_>, item: ItemRef<'_>) -> Result<Self, ReadError> {
+        let fields![names, attributes] = read_record::<PublicKeyTemplateAttributeRows>(
+            alloc, outer, item,
+        )?;
+        Ok(PublicKeyTemplateAttribute(names, attributes))
     }
 }

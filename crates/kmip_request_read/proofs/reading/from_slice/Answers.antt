@@ -1,0 +1,28 @@
+use Rattle.std.specs.Prelude.{◌≡◌, Err, option_map}
+use Rattle.std.proofs.Common.{rules, sym, ◌∙◌, ap}
+use Rattle.std.proofs.lemmas.Result.{err_from_is_err_and}
+use Rattle.kmip_wire.specs.Items.{item_tree}
+use Rattle.kmip_request.specs.Message.{credential_of, request_bytes}
+use Rattle.kmip_request_read.proofs.Canonical.{err_same, matched, none_canonical, other_parts, read_parts}
+use Rattle.kmip_request_read.proofs.reading.from_slice.Goals as goal
+
+pub returns-in_err-message-clause-not_canonical : goal.returns-in_err-message-clause-not_canonical
+returns-in_err-message-clause-not_canonical c = λ is.
+    let p = err_from_is_err_and c.from_residual.result c.from_residual.ensures.1 in
+    none_canonical (item_tree c.in-Some.item) c.args.bytes.now c.in-Some.ensures.parses (c.in_err-message.ensures.not_canonical (ap Err (sym p.2 ∙ err_same c.from_residual.result _ _ p.1 is)))
+
+pub returns-then-not-is_plain-clause-not_canonical : goal.returns-then-not-is_plain-clause-not_canonical
+returns-then-not-is_plain-clause-not_canonical c = λ is.
+    other_parts c.in_ok-message.message (item_tree c.in-Some.item) c.args.bytes.now c.in-Some.ensures.parses c.in_ok-message.ensures.ok (c.is_plain.ensures.other c.if-not-is_plain.true)
+
+pub returns-clause-ok : goal.returns-clause-ok
+returns-clause-ok c =
+    let m : c.map.result ≡ option_map credential_of c.parts-payload.result.1 = search rules in
+    let r = matched c.parts-payload.result.0 c.parts-payload.result.1 c.in_ok-message.message (item_tree c.in-Some.item) c.args.bytes.now c.parts-payload.ensures c.in-Some.ensures.parses c.in_ok-message.ensures.ok in
+    (r.0, ap (λ d. request_bytes c.parts-payload.result.0 d) m ∙ r.1)
+
+pub returns-clause-back : goal.returns-clause-back
+returns-clause-back c = λ p d h matched e.
+    let m : c.map.result ≡ option_map credential_of c.parts-payload.result.1 = search rules in
+    let r = read_parts p c.parts-payload.result.0 c.parts-payload.result.1 d c.in_ok-message.message (item_tree c.in-Some.item) c.args.bytes.now c.parts-payload.ensures c.in_ok-message.ensures.ok h matched e c.in-Some.ensures.parses in
+    (r.0, m ∙ r.1)
