@@ -41,7 +41,7 @@ answered {before = before} {after = after} call answer failed old new is_call so
     let pos : after.link.pos ≡ before.link.pos + (o left).taken = moves.pos ∙ ap (λ (l : List ℕ). before.link.pos + (o l).taken) here in
     let taken : after.link.pos - before.link.pos ≡ (o rest).taken = omega (arith, moves.pos) in
     let told = told_of before.buffered (request_bytes (request_of call) before.credential) (operation_of (request_of call)) before.limit rest (after.link.pos - before.link.pos) answer after.request_text after.response_text
-        done.0 some taken is_call.request_text (is_call.response_text refl) in
+    done.0 some taken is_call.request_text (is_call.response_text refl) in
     record {
       settings = rw (is_call.credential, is_call.limit, is_call.buffered) refl;
       told = rw is_call.buffered (subst (λ (l : List ℕ). told_lines before.buffered after.request_text after.response_text ≡ (step_of (value_shown call) before.buffered l (o l)).told) here told);

@@ -21,19 +21,35 @@ pub enum Call {
         public_key_name: Text,
     },
     /// `rng INT`: random bytes, so many.
-    Rng { num_bytes: i32 },
+    Rng {
+        num_bytes: i32,
+    },
     /// `sign TEXT HEX`: a signature of these bytes by the key with this identifier.
-    Sign { id: Text, bytes: Blob },
+    Sign {
+        id: Text,
+        bytes: Blob,
+    },
     /// `activate TEXT`: makes the key with this identifier active.
-    Activate { id: Text },
+    Activate {
+        id: Text,
+    },
     /// `revoke TEXT`: takes it out of use.
-    Revoke { id: Text },
+    Revoke {
+        id: Text,
+    },
     /// `destroy TEXT`: destroys it.
-    Destroy { id: Text },
+    Destroy {
+        id: Text,
+    },
     /// `rename TEXT TEXT`: gives it another name.
-    Rename { id: Text, new_name: Text },
+    Rename {
+        id: Text,
+        new_name: Text,
+    },
     /// `get TEXT`: asks for the key itself.
-    Get { id: Text },
+    Get {
+        id: Text,
+    },
 }
 
 /// A call, and the response that was recorded for it.
@@ -200,7 +216,11 @@ fn call_of_words(alloc: Global, words: &[&str]) -> Result<Option<Recorded>, OutO
             with_response(alloc, call_of_three(alloc, name, first, second)?, response)
         }
         [name, first, second, third, response] => {
-            with_response(alloc, call_of_four(alloc, name, first, second, third)?, response)
+            with_response(
+                alloc,
+                call_of_four(alloc, name, first, second, third)?,
+                response,
+            )
         }
         _ => Ok(None),
     }

@@ -25,11 +25,7 @@ fn show_error(alloc: Global, error: &Error, line: &mut Text) -> Result<bool, Out
 
 /// Adds the text of a payload.
 #[tactic(auto, using(std::proofs::lemmas::List::append_assoc))]
-fn push_payload<P: ShowItem>(
-    alloc: Global,
-    payload: &P,
-    line: &mut Text,
-) -> Result<(), OutOfMemory>
+fn push_payload<P: ShowItem>(alloc: Global, payload: &P, line: &mut Text) -> Result<(), OutOfMemory>
     ensures { OnOk result (line.new ≡ line.old ++ (codes "= " ++ (shown P.shape (P.val payload.now) ++ codes "\n"))) }
 {
     line.push_str("= ")?;
@@ -73,12 +69,7 @@ pub fn show_done(
 
 /// Adds two texts in round brackets as a line.
 #[tactic(auto, using(std::proofs::lemmas::List::append_assoc))]
-fn push_pair(
-    alloc: Global,
-    first: &Text,
-    second: &Text,
-    line: &mut Text,
-) -> Result<(), OutOfMemory>
+fn push_pair(alloc: Global, first: &Text, second: &Text, line: &mut Text) -> Result<(), OutOfMemory>
     ensures { OnOk result (line.new ≡ line.old ++ (codes "= " ++ (pair_shown first.now second.now ++ codes "\n"))) }
 {
     line.push_str("= (")?;
