@@ -1,5 +1,5 @@
 -- What the program does with its words and its script.
-use Rattle.std.proofs.Common.{◌≡◌, ◌≢◌, ℕ, ◌+◌, ◌<◌, ◌≤◌, ◌⊎◌, List, [], ◌∷◌, ◌++◌, length, take, drop, min, refl, ◌∙◌, ap, sym, arith, codes, Some, None, Bool, true, false, IsSome}
+use Rattle.std.proofs.Common.{◌≡◌, ◌≢◌, ℕ, ◌+◌, ◌<◌, ◌≤◌, ◌⊎◌, List, [], ◌∷◌, ◌++◌, length, take, drop, min, refl, ◌∙◌, ap, sym, arith, codes, Some, None, Result, Ok, Err, IfOk, Bool, true, false, IsSome}
 use Rattle.std.proofs.lemmas.Bool.Decides.{nat_tests}
 use Rattle.std.proofs.lemmas.List.{length-take, take_all}
 use Rattle.std.specs.List.{All}
@@ -97,10 +97,15 @@ grammar_status words script command is good =
     let fits : length script ≤ 16777216 = rw most at good.fits in
     rw (transcript_command words script command is, transcript_fits command script fits) (lines_small command (lines_of script) (rw (sym is) at good.lines_are))
 
--- the expansions alone were written, and nothing is on the link
-pub explains : (link : MemoryState) (lines : List (List ℕ)) (status : ℕ) (old new : List ℕ) → status ≡ (explained lines 1).status → new ≡ old ++ (explained lines 1).text → Replays (explained lines 1) link link status old new
-explains link lines status old new status_is text =
+explained_now : (link : MemoryState) (lines : List (List ℕ)) (status : ℕ) (old new : List ℕ) → status ≡ (explained lines 1).status → new ≡ old ++ (explained lines 1).text → Replays (explained lines 1) link link status old new
+explained_now link lines status old new status_is text =
     rw (status_is, text, explained_alone lines 1) (text_alone link (explained lines 1).text (explained lines 1).status old)
+
+-- the expansions alone were written, and nothing is on the link
+pub explains : {E : Type 0} (link : MemoryState) (lines : List (List ℕ)) (result : Result ℕ E) (old new : List ℕ) →
+    IfOk result (λ status. status ≡ (explained lines 1).status) → IfOk result (λ status. new ≡ old ++ (explained lines 1).text) → IfOk result (λ status. Replays (explained lines 1) link link status old new)
+explains link lines (Ok status) old new status_is text = explained_now link lines status old new status_is text
+explains link lines (Err error) old new status_is text = tt
 
 -- the status that is left, where the writing did not end otherwise
 pub status_left : (result status : ℕ) → (result ≡ status) ⊎ ((result ≡ 4) ⊎ (result ≡ 5)) → result ≢ 4 → result ≢ 5 → result ≡ status

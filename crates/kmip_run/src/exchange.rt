@@ -97,7 +97,7 @@ pub fn exchange(
     output: &mut Text,
 ) -> Result<bool, OutOfMemory>
     requires { diag ≡ client.old.buffered }
-    ensures settings { settings_of client.new ≡ settings_of client.old }
+    ensures settings { OnOk result (settings_of client.new ≡ settings_of client.old) }
     ensures runs { IfOk result (λ failed. RunsCall (step (settings_of client.old) recorded.call (drop client.old.link.pos client.old.link.ever ++ recorded.response))
         recorded.response client.old.link client.new.link failed output.old output.new) }
 {
