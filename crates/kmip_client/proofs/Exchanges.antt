@@ -189,13 +189,13 @@ kept_caused answer kept (inl is) caused = rw is caused
 kept_caused answer kept (inr is) caused = no_memory is
 
 -- an exchange of the bytes of a request is one of the request
-pub of_request : {before after : LinkState} {answer : Answer} (request : Option (List ℕ)) (bytes sent : List ℕ) (operation named : Operation) (limit : Option ℕ) (rest : List ℕ) →
-    request ≡ Some bytes → sent ≡ bytes → named ≡ operation → Exchanged (outcome_of (Some sent) named limit rest) before after answer → Exchanged (outcome_of request operation limit rest) before after answer
-of_request request bytes sent operation named limit rest has same op exchanged = rw (has, ← same, ← op) exchanged
+pub of_request : {before after : LinkState} (answer : Operation → Answer) (request : Option (List ℕ)) (bytes sent : List ℕ) (operation named : Operation) (limit : Option ℕ) (rest : List ℕ) →
+    request ≡ Some bytes → sent ≡ bytes → named ≡ operation → Exchanged (outcome_of (Some sent) named limit rest) before after (answer named) → Exchanged (outcome_of request operation limit rest) before after (answer operation)
+of_request answer request bytes sent operation named limit rest has same op exchanged = rw (has, ← same, ← op) exchanged
 
-pub caused_by : {before after : ℕ} {answer : Answer} (request : Option (List ℕ)) (bytes sent : List ℕ) (operation named : Operation) (limit : Option ℕ) →
-    request ≡ Some bytes → sent ≡ bytes → named ≡ operation → Caused (Some sent) named limit before after answer → Caused request operation limit before after answer
-caused_by request bytes sent operation named limit has same op caused = rw (has, ← same, ← op) caused
+pub caused_by : {before after : ℕ} (answer : Operation → Answer) (request : Option (List ℕ)) (bytes sent : List ℕ) (operation named : Operation) (limit : Option ℕ) →
+    request ≡ Some bytes → sent ≡ bytes → named ≡ operation → Caused (Some sent) named limit before after (answer named) → Caused request operation limit before after (answer operation)
+caused_by answer request bytes sent operation named limit has same op caused = rw (has, ← same, ← op) caused
 
 -- what a diagnostic kept beside an answer leaves of it
 pub kept_is : {P Q S : Type 0} (val : S → Val) (answer kept : Result S Error) → (P × (kept ≡ answer)) ⊎ (Q × (kept ≡ Err OutOfMemory)) → IsKept (seen_by val answer) (seen_by val kept)

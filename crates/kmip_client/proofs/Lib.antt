@@ -4,4 +4,4 @@ pub mod Exchanges
 pub mod Checks
 pub mod Headlines
 pub mod Variants
-pub mod Helpers
+pub mod Helped

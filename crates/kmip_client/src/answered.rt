@@ -44,14 +44,42 @@ impl Answered for ResponsePayload {
     }
 }
 
-impl Answered for RNGRetrieveResponsePayload {
-    ghost Answers = { λ operation. operation ≡ TheOperation.RNGRetrieve };
+impl Answered for CreateKeyPairResponsePayload {
+    ghost Answers = { λ operation. operation ≡ TheOperation.CreateKeyPair };
 
-    ghost val = { λ operation payload. Case (operation_line operation).number (rng_retrieve_payload_val payload) };
+    ghost val = { λ operation payload. Case (operation_line operation).number (create_key_pair_payload_val payload) };
 
-    fn of(_operation: Operation, payload: ResponsePayload) -> RNGRetrieveResponsePayload {
+    fn of(_operation: Operation, payload: ResponsePayload) -> CreateKeyPairResponsePayload {
         match payload {
-            ResponsePayload::RNGRetrieve(payload) => payload,
+            ResponsePayload::CreateKeyPair(payload) => payload,
+            _ => unreachable!(),
+        }
+    }
+}
+
+impl Answered for GetResponsePayload {
+    ghost Answers = { λ operation. operation ≡ TheOperation.Get };
+
+    ghost val = { λ operation payload. Case (operation_line operation).number (get_payload_val payload) };
+
+    fn of(_operation: Operation, payload: ResponsePayload) -> GetResponsePayload {
+        match payload {
+            ResponsePayload::Get(payload) => payload,
+            _ => unreachable!(),
+        }
+    }
+}
+
+impl Answered for AttributeEditResponsePayload {
+    ghost Answers = { λ operation. (operation ≡ TheOperation.AddAttribute) ⊎ ((operation ≡ TheOperation.ModifyAttribute) ⊎ (operation ≡ TheOperation.DeleteAttribute)) };
+
+    ghost val = { λ operation payload. Case (operation_line operation).number (attribute_edit_payload_val payload) };
+
+    fn of(_operation: Operation, payload: ResponsePayload) -> AttributeEditResponsePayload {
+        match payload {
+            ResponsePayload::AddAttribute(payload) => payload,
+            ResponsePayload::ModifyAttribute(payload) => payload,
+            ResponsePayload::DeleteAttribute(payload) => payload,
             _ => unreachable!(),
         }
     }
@@ -67,6 +95,45 @@ impl Answered for UniqueIdentifierResponsePayload {
             ResponsePayload::Activate(payload) => payload,
             ResponsePayload::Revoke(payload) => payload,
             ResponsePayload::Destroy(payload) => payload,
+            _ => unreachable!(),
+        }
+    }
+}
+
+impl Answered for QueryResponsePayload {
+    ghost Answers = { λ operation. operation ≡ TheOperation.Query };
+
+    ghost val = { λ operation payload. Case (operation_line operation).number (query_payload_val payload) };
+
+    fn of(_operation: Operation, payload: ResponsePayload) -> QueryResponsePayload {
+        match payload {
+            ResponsePayload::Query(payload) => payload,
+            _ => unreachable!(),
+        }
+    }
+}
+
+impl Answered for SignResponsePayload {
+    ghost Answers = { λ operation. operation ≡ TheOperation.Sign };
+
+    ghost val = { λ operation payload. Case (operation_line operation).number (sign_payload_val payload) };
+
+    fn of(_operation: Operation, payload: ResponsePayload) -> SignResponsePayload {
+        match payload {
+            ResponsePayload::Sign(payload) => payload,
+            _ => unreachable!(),
+        }
+    }
+}
+
+impl Answered for RNGRetrieveResponsePayload {
+    ghost Answers = { λ operation. operation ≡ TheOperation.RNGRetrieve };
+
+    ghost val = { λ operation payload. Case (operation_line operation).number (rng_retrieve_payload_val payload) };
+
+    fn of(_operation: Operation, payload: ResponsePayload) -> RNGRetrieveResponsePayload {
+        match payload {
+            ResponsePayload::RNGRetrieve(payload) => payload,
             _ => unreachable!(),
         }
     }

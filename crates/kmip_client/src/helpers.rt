@@ -21,7 +21,7 @@ use kmip_response::{
     QueryResponsePayload, RNGRetrieveResponsePayload, SignResponsePayload,
     UniqueIdentifierResponsePayload,
 };
-use kmip_types::DataLength;
+use kmip_types::{DataLength, UniqueIdentifier};
 use kmip_wire::{OutOfMemory, Text};
 use std::alloc::Global;
 
@@ -142,10 +142,11 @@ fn identifiers(answer: Result<CreateKeyPairResponsePayload>) -> Result<(Text, Te
     ensures { result ≡ projected identifiers_of answer }
 {
     match answer {
-        Ok(payload) => Ok((
-            payload.private_key_unique_identifier.0,
-            payload.public_key_unique_identifier.0,
-        )),
+        Ok(payload) => {
+            let UniqueIdentifier(private_key) = payload.private_key_unique_identifier;
+            let UniqueIdentifier(public_key) = payload.public_key_unique_identifier;
+            Ok((private_key, public_key))
+        }
         Err(error) => Err(error),
     }
 }

@@ -5,7 +5,6 @@ ghost use Rattle.kmip_enums.specs.declared.query_function.QueryFunction.TheVaria
 ghost use Rattle.kmip_types.specs.UsageMask.{usage_bits};
 ghost use Rattle.kmip_client.specs.Requests as requests;
 
-use bitflags::Flags;
 use kmip_enums::{QueryFunction, RevocationReasonCode};
 use kmip_request::{
     Attribute, CommonTemplateAttribute, PrivateKeyTemplateAttribute, PublicKeyTemplateAttribute,

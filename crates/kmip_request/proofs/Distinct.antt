@@ -18,7 +18,7 @@ use Rattle.kmip_request.specs.Tables.{request_payload}
 use Rattle.kmip_request.specs.Values.{request_payload_val}
 use Rattle.kmip_request.specs.Message.{operation_of, minor_of, password_trees, authentication_trees, header_tree, message_tree, request_tree, request_bytes}
 use Rattle.kmip_request.specs.Held.{AreTexts, IsHeld}
-use Rattle.kmip_request.proofs.Ranges.{tags_in_range, depth, Keeps, AllKeep, keeps_more, then_keeps, fits_ranges}
+use Rattle.kmip_shape.proofs.Ranges.{tags_in_range, depth, Keeps, AllKeep, keeps_more, then_keeps, fits_ranges}
 
 -- ---- the table of a payload
 

@@ -18,3 +18,4 @@ pub mod Escapes
 pub mod Variants
 pub mod Dated
 pub mod Examples
+pub mod Ranges

@@ -2,6 +2,9 @@
 //!
 //! A record's rows are one type, for reading as for these calls, as `Row<One<AttributeName, 0x42000A>, ..>`. Its fields
 //! are lent as nested pairs in the order of the rows: `(&self.name, (&self.index, ()))`.
+//!
+//! `FieldRows`, `WriteRows` and `ShowRows` each name what lends the fields and what they are, with no trait above them
+//! and no bound on what lends: a check looks each of these up anew at every row, and twice as often with each row more.
 
 ghost use Rattle.std.specs.Prelude.{◌≡◌, ◌≤◌, ◌<◌, ◌+◌, ◌^◌, ◌++◌, ◌||◌, ◌∷◌, ℕ, Bool, false, IfSome, [], true};
 ghost use Rattle.kmip_wire.specs.Room.{Appends};
@@ -70,7 +73,7 @@ pub trait ShowRow<'b>: FieldRow<'b> {
 /// The rows of a record, and its fields.
 pub trait FieldRows<'b> {
     /// What lends the fields.
-    type Lent: Copy + Drop;
+    type Lent;
 
     ghost row_list: { RowList };
 
@@ -83,7 +86,15 @@ pub trait FieldRows<'b> {
 }
 
 /// Rows whose fields are written.
-pub trait WriteRows<'b>: FieldRows<'b> {
+pub trait WriteRows<'b> {
+    /// What lends the fields.
+    type Lent;
+
+    ghost row_list: { RowList };
+
+    /// The fields as contracts see them.
+    ghost fields: { Self.Lent → Fields };
+
     /// The length of all items.
     fn len(lent: Self::Lent) -> Option<u64>
         requires { are_tags Self.row_list ≡ true }
@@ -99,8 +110,15 @@ pub trait WriteRows<'b>: FieldRows<'b> {
 }
 
 /// Rows whose fields are shown, each under a name.
-pub trait ShowRows<'b>: FieldRows<'b> {
-    type Names: Drop;
+pub trait ShowRows<'b> {
+    /// What lends the fields.
+    type Lent;
+
+    /// What names them.
+    type Names;
+
+    /// The fields as contracts see them.
+    ghost fields: { Self.Lent → Fields };
 
     /// The rows with these names.
     ghost named: { Self.Names → RowList };
@@ -345,6 +363,12 @@ impl<'b> FieldRows<'b> for End {
 }
 
 impl<'b> WriteRows<'b> for End {
+    type Lent = ();
+
+    ghost row_list = { NoRow };
+
+    ghost fields = { λ _. no_fields };
+
     fn len(_lent: ()) -> Option<u64> {
         Some(0)
     }
@@ -354,7 +378,11 @@ impl<'b> WriteRows<'b> for End {
 }
 
 impl<'b> ShowRows<'b> for End {
+    type Lent = ();
+
     type Names = ();
+
+    ghost fields = { λ _. no_fields };
 
     ghost named = { λ _. NoRow };
 
@@ -377,6 +405,12 @@ impl<'b, A: FieldRow<'b>, B: FieldRows<'b>> FieldRows<'b> for Row<A, B> {
 }
 
 impl<'b, A: WriteRow<'b>, B: WriteRows<'b>> WriteRows<'b> for Row<A, B> {
+    type Lent = (A::Lent, B::Lent);
+
+    ghost row_list = { AndRow [] (Under A.tag) A.mark Plain A.shape B.row_list };
+
+    ghost fields = { λ lent. and_field (A.field lent.0) (B.fields lent.1) };
+
     #[tactic(auto, using(crate::proofs::Lists::tag_first, crate::proofs::Lists::tags_rest))]
     fn len(lent: (A::Lent, B::Lent)) -> Option<u64> {
         let (field, rest) = lent;
@@ -392,7 +426,11 @@ impl<'b, A: WriteRow<'b>, B: WriteRows<'b>> WriteRows<'b> for Row<A, B> {
 }
 
 impl<'b, A: ShowRow<'b>, B: ShowRows<'b>> ShowRows<'b> for Row<A, B> {
+    type Lent = (A::Lent, B::Lent);
+
     type Names = (&'b str, B::Names);
+
+    ghost fields = { λ lent. and_field (A.field lent.0) (B.fields lent.1) };
 
     ghost named = { λ names. AndRow names.0.now (Under A.tag) A.mark Plain A.shape (B.named names.1) };
 
@@ -419,6 +457,12 @@ impl<'b, A: FieldRow<'b>, B: FieldRows<'b>> FieldRows<'b> for Choosing<A, B> {
 }
 
 impl<'b, A: WriteRow<'b>, B: WriteRows<'b>> WriteRows<'b> for Choosing<A, B> {
+    type Lent = (A::Lent, B::Lent);
+
+    ghost row_list = { AndRow [] (Under A.tag) A.mark Plain A.shape B.row_list };
+
+    ghost fields = { λ lent. and_field (A.field lent.0) (B.fields lent.1) };
+
     #[tactic(auto, using(crate::proofs::Lists::tag_first, crate::proofs::Lists::tags_rest))]
     fn len(lent: (A::Lent, B::Lent)) -> Option<u64> {
         let (field, rest) = lent;
@@ -434,7 +478,11 @@ impl<'b, A: WriteRow<'b>, B: WriteRows<'b>> WriteRows<'b> for Choosing<A, B> {
 }
 
 impl<'b, A: ShowRow<'b>, B: ShowRows<'b>> ShowRows<'b> for Choosing<A, B> {
+    type Lent = (A::Lent, B::Lent);
+
     type Names = (&'b str, B::Names);
+
+    ghost fields = { λ lent. and_field (A.field lent.0) (B.fields lent.1) };
 
     ghost named = { λ names. AndRow names.0.now (Under A.tag) A.mark Plain A.shape (B.named names.1) };
 
@@ -465,6 +513,8 @@ pub fn record_len<'b, R: WriteRows<'b>>(lent: R::Lent) -> Option<u64>
 /// Appends the canonical bytes of a record's structure.
 #[tactic(auto, using(crate::proofs::Appended::appended, crate::proofs::Forms::fields_len_law))]
 pub fn write_record<'b, R: WriteRows<'b>>(lent: R::Lent, tag: Tag, out: &mut Buffer)
+where
+    R::Lent: Copy,
     requires tags { are_tags R.row_list ≡ true }
     requires form { fields_form (R.fields lent) R.row_list }
     requires below { fields_size (R.fields lent) R.row_list < 2 ^ 32 }

@@ -12,12 +12,10 @@ use kmip_names::{
     RandomIV, TagLength,
 };
 use kmip_shape::columns::Opt;
-use kmip_shape::fields::WriteRow;
 use kmip_shape::record::{End, Row};
-use kmip_shape::show::show_optional;
 use kmip_shape::{
-    Item, Outer, ReadError, ReadItem, ShowItem, Sink, WriteItem, begin_structure, fields,
-    known_optional, optional_len, read_record, structure_len,
+    Item, Outer, ReadError, ReadItem, ShowItem, Sink, WriteItem, fields, known_record, read_record,
+    record_len, show_record, write_record,
 };
 use kmip_wire::{Buffer, ItemRef, Tag};
 use std::alloc::Global;
@@ -229,19 +227,21 @@ impl Item for CryptographicParameters {
     ghost val = { cryptographic_parameters_val };
 
     fn known(&self) {
-        known_optional(&self.block_cipher_mode);
-        known_optional(&self.padding_method);
-        known_optional(&self.hashing_algorithm);
-        known_optional(&self.key_role_type);
-        known_optional(&self.digital_signature_algorithm);
-        known_optional(&self.cryptographic_algorithm);
-        known_optional(&self.random_iv);
-        known_optional(&self.iv_length);
-        known_optional(&self.tag_length);
-        known_optional(&self.fixed_field_length);
-        known_optional(&self.invocation_field_length);
-        known_optional(&self.counter_length);
-        known_optional(&self.initial_counter_value);
+        known_record::<CryptographicParametersRows>(fields![
+            &self.block_cipher_mode,
+            &self.padding_method,
+            &self.hashing_algorithm,
+            &self.key_role_type,
+            &self.digital_signature_algorithm,
+            &self.cryptographic_algorithm,
+            &self.random_iv,
+            &self.iv_length,
+            &self.tag_length,
+            &self.fixed_field_length,
+            &self.invocation_field_length,
+            &self.counter_length,
+            &self.initial_counter_value
+        ]);
     }
 
     ghost same = { cryptographic_parameters_same };
@@ -249,38 +249,43 @@ impl Item for CryptographicParameters {
 
 impl WriteItem for CryptographicParameters {
     fn wire_len(&self, _tag: Tag) -> Option<u64> {
-        structure_len(&[
-            optional_len(&self.block_cipher_mode, Tag::of(0x420011)),
-            optional_len(&self.padding_method, Tag::of(0x42005F)),
-            optional_len(&self.hashing_algorithm, Tag::of(0x420038)),
-            optional_len(&self.key_role_type, Tag::of(0x420083)),
-            optional_len(&self.digital_signature_algorithm, Tag::of(0x4200AE)),
-            optional_len(&self.cryptographic_algorithm, Tag::of(0x420028)),
-            optional_len(&self.random_iv, Tag::of(0x4200C5)),
-            optional_len(&self.iv_length, Tag::of(0x4200CD)),
-            optional_len(&self.tag_length, Tag::of(0x4200CE)),
-            optional_len(&self.fixed_field_length, Tag::of(0x4200CF)),
-            optional_len(&self.invocation_field_length, Tag::of(0x4200D2)),
-            optional_len(&self.counter_length, Tag::of(0x4200D0)),
-            optional_len(&self.initial_counter_value, Tag::of(0x4200D1)),
+        record_len::<CryptographicParametersRows>(fields![
+            &self.block_cipher_mode,
+            &self.padding_method,
+            &self.hashing_algorithm,
+            &self.key_role_type,
+            &self.digital_signature_algorithm,
+            &self.cryptographic_algorithm,
+            &self.random_iv,
+            &self.iv_length,
+            &self.tag_length,
+            &self.fixed_field_length,
+            &self.invocation_field_length,
+            &self.counter_length,
+            &self.initial_counter_value
         ])
     }
 
     fn write_into(&self, tag: Tag, out: &mut Buffer) {
-        begin_structure(self, self.wire_len(tag), tag, out);
-        Opt::<BlockCipherMode, 0x420011>::write(&self.block_cipher_mode, out);
-        Opt::<PaddingMethod, 0x42005F>::write(&self.padding_method, out);
-        Opt::<HashingAlgorithm, 0x420038>::write(&self.hashing_algorithm, out);
-        Opt::<KeyRoleType, 0x420083>::write(&self.key_role_type, out);
-        Opt::<DigitalSignatureAlgorithm, 0x4200AE>::write(&self.digital_signature_algorithm, out);
-        Opt::<CryptographicAlgorithm, 0x420028>::write(&self.cryptographic_algorithm, out);
-        Opt::<RandomIV, 0x4200C5>::write(&self.random_iv, out);
-        Opt::<IVLength, 0x4200CD>::write(&self.iv_length, out);
-        Opt::<TagLength, 0x4200CE>::write(&self.tag_length, out);
-        Opt::<FixedFieldLength, 0x4200CF>::write(&self.fixed_field_length, out);
-        Opt::<InvocationFieldLength, 0x4200D2>::write(&self.invocation_field_length, out);
-        Opt::<CounterLength, 0x4200D0>::write(&self.counter_length, out);
-        Opt::<InitialCounterValue, 0x4200D1>::write(&self.initial_counter_value, out);
+        write_record::<CryptographicParametersRows>(
+            fields![
+                &self.block_cipher_mode,
+                &self.padding_method,
+                &self.hashing_algorithm,
+                &self.key_role_type,
+                &self.digital_signature_algorithm,
+                &self.cryptographic_algorithm,
+                &self.random_iv,
+                &self.iv_length,
+                &self.tag_length,
+                &self.fixed_field_length,
+                &self.invocation_field_length,
+                &self.counter_length,
+                &self.initial_counter_value
+            ],
+            tag,
+            out,
+        );
     }
 }
 
@@ -321,40 +326,38 @@ impl ReadItem for CryptographicParameters {
 
 impl ShowItem for CryptographicParameters {
     fn show_into(&self, out: &mut Sink) {
-        out.put("{");
-        let after = show_optional(&self.block_cipher_mode, "block_cipher_mode", false, out);
-        let after = show_optional(&self.padding_method, "padding_method", after, out);
-        let after = show_optional(&self.hashing_algorithm, "hashing_algorithm", after, out);
-        let after = show_optional(&self.key_role_type, "key_role_type", after, out);
-        let after = show_optional(
-            &self.digital_signature_algorithm,
-            "digital_signature_algorithm",
-            after,
+        show_record::<CryptographicParametersRows>(
+            fields![
+                &self.block_cipher_mode,
+                &self.padding_method,
+                &self.hashing_algorithm,
+                &self.key_role_type,
+                &self.digital_signature_algorithm,
+                &self.cryptographic_algorithm,
+                &self.random_iv,
+                &self.iv_length,
+                &self.tag_length,
+                &self.fixed_field_length,
+                &self.invocation_field_length,
+                &self.counter_length,
+                &self.initial_counter_value
+            ],
+            fields![
+                "block_cipher_mode",
+                "padding_method",
+                "hashing_algorithm",
+                "key_role_type",
+                "digital_signature_algorithm",
+                "cryptographic_algorithm",
+                "random_iv",
+                "iv_length",
+                "tag_length",
+                "fixed_field_length",
+                "invocation_field_length",
+                "counter_length",
+                "initial_counter_value"
+            ],
             out,
         );
-        let after = show_optional(
-            &self.cryptographic_algorithm,
-            "cryptographic_algorithm",
-            after,
-            out,
-        );
-        let after = show_optional(&self.random_iv, "random_iv", after, out);
-        let after = show_optional(&self.iv_length, "iv_length", after, out);
-        let after = show_optional(&self.tag_length, "tag_length", after, out);
-        let after = show_optional(&self.fixed_field_length, "fixed_field_length", after, out);
-        let after = show_optional(
-            &self.invocation_field_length,
-            "invocation_field_length",
-            after,
-            out,
-        );
-        let after = show_optional(&self.counter_length, "counter_length", after, out);
-        show_optional(
-            &self.initial_counter_value,
-            "initial_counter_value",
-            after,
-            out,
-        );
-        out.put("}");
     }
 }

@@ -10,11 +10,11 @@ pub returns-clause-exchange : goal.returns-clause-exchange
 returns-clause-exchange g c = λ tells.
     read_ended c.args.request.now c.args.operation c.args.config.now.max_bytes c.read_message-read.new.taken.items c.read_message-read.result _
     c.send.ensures.keeps (c.in-Ok.ensures.ok tells) (c.read_message-read.ensures.reads (rw c.send.ensures.keeps.tells tells)) c.read_message-read.ensures.fault
-    (rw c.deref.ensures.value at c.answer.ensures)
+    (rw c.deref.ensures.value at c.answer_to.ensures)
 
 pub returns-clause-caused : goal.returns-clause-caused
 returns-clause-caused g c =
     read_caused (g.L.Link.state c.args.link.now).faults (g.L.Link.state c.read_message-read.new.link).faults c.args.request.now c.args.operation c.args.config.now.max_bytes c.read_message-read.new.taken.items c.read_message-read.result _
     c.read_message-read.ensures.read
     (λ is. omega (arith, c.send.ensures.keeps.faults, c.read_message-read.ensures.fault is))
-    (rw c.deref.ensures.value at c.answer.ensures)
+    (rw c.deref.ensures.value at c.answer_to.ensures)

@@ -16,11 +16,10 @@ seen_same : {P : Type 0} (f g : P → Val) (answer : Result P Error) → ((paylo
 seen_same f g (Ok payload) same = ap (λ val. Ok val) (same payload)
 seen_same f g (Err error) same = refl
 
--- the request that was made is the one that was to be made
-pub fits : {E : Type 0} (Answers : Operation → Type 0) (request : Result RequestPayload E) (expected : RequestPayload) → IfOk request (λ made. made ≡ expected) → Answers (operation_of expected) →
-    IfOk request (λ made. Answers (operation_of made))
-fits Answers (Ok payload) expected makes answers = rw makes answers
-fits Answers (Err error) expected makes answers = tt
+-- the whole payload is a part of itself
+pub itself : {P : Type 0} (answer : Result P Error) → answer ≡ projected (λ payload. payload) answer
+itself (Ok payload) = refl
+itself (Err error) = refl
 
 pub helped : {T P R E : Type 0} {state : T → LinkState} {before after : ClientState T} (request : Result RequestPayload E) (expected : RequestPayload) (val : Operation → P → Val) (variant : P → ResponsePayload) (part : P → R)
     (answer : Result P Error) (result : Result R Error) → IfOk request (λ made. made ≡ expected) → ((payload : P) → val (operation_of expected) payload ≡ response_payload_val (variant payload)) → result ≡ projected part answer →

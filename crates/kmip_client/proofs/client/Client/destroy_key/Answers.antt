@@ -1,0 +1,10 @@
+use Rattle.std.proofs.Common.{refl}
+use Rattle.kmip_response.specs.declared.payload.ResponsePayload.TheVariants as payloads
+use Rattle.kmip_client.specs.Calls.{nothing_of}
+use Rattle.kmip_client.specs.Requests as requests
+use Rattle.kmip_client.proofs.Helped.{helped}
+use Rattle.kmip_client.proofs.client.Client.destroy_key.Goals as goal
+
+pub returns : goal.returns
+returns g c =
+    helped c.destroy_request.result (requests.destroy_request c.args.key_id.now) _ (λ payload. payloads.Destroy payload) nothing_of c.ask.result c.done.result c.destroy_request.ensures (λ payload. refl) c.done.ensures c.ask.ensures
