@@ -4,7 +4,7 @@ use Rattle.std.specs.Str.{is_utf8, IsUtf8}
 use Rattle.std.proofs.lemmas.Str.{is_utf8-from_IsUtf8}
 use Rattle.kmip_diag.specs.Expansion.{expansion}
 use Rattle.kmip_run.specs.Script.{lines_of}
-use Rattle.kmip_run.specs.Transcript.{only_text, bad_line, then_text, expanded, explained}
+use Rattle.kmip_run.specs.Transcript.{Transcript, only_text, bad_line, then_text, expanded, explained}
 use Rattle.kmip_run.proofs.Calls.{not_utf8}
 use Rattle.kmip_run.proofs.Runs.{append_none, no_lines}
 
@@ -38,31 +38,30 @@ explained_alone (line ∷ lines) number =
     ] refl
 
 -- what was written so far, and what the lines left come to
-pub record SoFar (all : List (List ℕ)) (old now : List ℕ) (rest : List (List ℕ)) (number : ℕ) : Type 0 where
-  pub text : old ++ (explained all 1).text ≡ now ++ (explained rest number).text
-  pub status : (explained all 1).status ≡ (explained rest number).status
+pub record SoFar (all : Transcript) (old now : List ℕ) (rest : Transcript) : Type 0 where
+  pub text : old ++ all.text ≡ now ++ rest.text
+  pub status : all.status ≡ rest.status
 
-pub nothing_yet : (all : List (List ℕ)) (old : List ℕ) → SoFar all old old all 1
+pub nothing_yet : (all : Transcript) (old : List ℕ) → SoFar all old old all
 nothing_yet all old = record { text = refl; status = refl }
 
+one_more : {all : Transcript} {old now : List ℕ} (text : List ℕ) (later : Transcript) → SoFar all old now (then_text text later) → SoFar all old (now ++ text) later
+one_more {now = now} text later so_far = record { text = so_far.text ∙ sym (append_assoc now text later.text); status = so_far.status }
+
 -- the next line is a diagnostic
-pub next_line : {all : List (List ℕ)} {old now : List ℕ} (script line later : List ℕ) (number : ℕ) (text : List ℕ) → lines_of script ≡ line ∷ lines_of later → Some text ≡ expanded line →
-    SoFar all old now (lines_of script) number → SoFar all old (now ++ text) (lines_of later) (number + 1)
-next_line {now = now} script line later number text lines is so_far =
-    let here = rw (lines, explained_line line (lines_of later) number text is) at so_far in
-    record {
-      text = here.text ∙ sym (append_assoc now text (explained (lines_of later) (number + 1)).text);
-      status = here.status;
-    }
+pub next_line : {all : Transcript} {old now : List ℕ} (script line later : List ℕ) (number : ℕ) (text : List ℕ) → lines_of script ≡ line ∷ lines_of later → Some text ≡ expanded line →
+    SoFar all old now (explained (lines_of script) number) → SoFar all old (now ++ text) (explained (lines_of later) (number + 1))
+next_line script line later number text lines is so_far =
+    one_more text (explained (lines_of later) (number + 1)) (rw (lines, explained_line line (lines_of later) number text is) at so_far)
 
 -- the next line is no diagnostic
-pub next_bad : {all : List (List ℕ)} {old now : List ℕ} (script line later : List ℕ) (number : ℕ) → lines_of script ≡ line ∷ lines_of later → None ≡ expanded line → SoFar all old now (lines_of script) number →
-    (old ++ (explained all 1).text ≡ now ++ (bad_line number).text) × ((explained all 1).status ≡ 2)
-next_bad script line later number lines is so_far =
-    let here = rw (lines, explained_bad line (lines_of later) number is) at so_far in (here.text, here.status)
+pub next_bad : {all : Transcript} {old now : List ℕ} (script line later : List ℕ) (number : ℕ) → lines_of script ≡ line ∷ lines_of later → None ≡ expanded line →
+    SoFar all old now (explained (lines_of script) number) → SoFar all old now (bad_line number)
+next_bad script line later number lines is so_far = rw (lines, explained_bad line (lines_of later) number is) at so_far
+
+ended : {all : Transcript} {old now : List ℕ} → SoFar all old now (only_text [] 0) → (old ++ all.text ≡ now) × (all.status ≡ 0)
+ended {now = now} so_far = (so_far.text ∙ sym (append_none now), so_far.status)
 
 -- no line is left
-pub no_more : {all : List (List ℕ)} {old now : List ℕ} (script : List ℕ) (number : ℕ) → length script ≡ 0 → SoFar all old now (lines_of script) number →
-    (old ++ (explained all 1).text ≡ now) × ((explained all 1).status ≡ 0)
-no_more {now = now} script number none so_far =
-    let here = rw (explained_none (lines_of script) number (no_lines script none)) at so_far in (here.text ∙ sym (append_none now), here.status)
+pub no_more : {all : Transcript} {old now : List ℕ} (script : List ℕ) (number : ℕ) → length script ≡ 0 → SoFar all old now (explained (lines_of script) number) → (old ++ all.text ≡ now) × (all.status ≡ 0)
+no_more script number none so_far = ended (rw (explained_none (lines_of script) number (no_lines script none)) at so_far)

@@ -1,4 +1,4 @@
-use Rattle.std.proofs.Common.{◌≡◌, ◌+◌, ◌∙◌, sym, arith, length, tests}
+use Rattle.std.proofs.Common.{◌≡◌, ◌+◌, ◌∙◌, sym, arith, length}
 use Rattle.std.proofs.lemmas.Bool.Decides.{nat_tests}
 use Rattle.kmip_run.proofs.Explained.{nothing_yet, next_line, next_bad, no_more}
 use Rattle.kmip_run.proofs.explain.explain.Goals as goal
@@ -18,12 +18,12 @@ loop-rest-preserved c =
 pub returns-in_default-clause-status : goal.returns-in_default-clause-status
 returns-in_default-clause-status c =
     let is = rw c.in_default.is at c.in_ok-text.ensures in
-    sym (next_bad c.loop-rest.rest.now c.first_line.result.0.now c.first_line.result.1.now (c.loop-rest.number + 1) c.first_line.ensures.lines is c.loop-rest.invariant.so_far).1
+    sym (next_bad c.loop-rest.rest.now c.first_line.result.0.now c.first_line.result.1.now (c.loop-rest.number + 1) c.first_line.ensures.lines is c.loop-rest.invariant.so_far).status
 
 pub returns-in_default-clause-text : goal.returns-in_default-clause-text
 returns-in_default-clause-text c =
     let is = rw c.in_default.is at c.in_ok-text.ensures in
-    c.in_ok-show_bad_line.ensures ∙ sym (next_bad c.loop-rest.rest.now c.first_line.result.0.now c.first_line.result.1.now (c.loop-rest.number + 1) c.first_line.ensures.lines is c.loop-rest.invariant.so_far).0
+    c.in_ok-show_bad_line.ensures ∙ sym (next_bad c.loop-rest.rest.now c.first_line.result.0.now c.first_line.result.1.now (c.loop-rest.number + 1) c.first_line.ensures.lines is c.loop-rest.invariant.so_far).text
 
 pub returns-clause-status : goal.returns-clause-status
 returns-clause-status c =
