@@ -1,11 +1,12 @@
 -- The lines, one after the other.
-use Rattle.std.proofs.Common.{◌≡◌, ℕ, ◌+◌, Bool, List, [], ◌∷◌, ◌++◌, length, drop, refl, ◌∙◌, ap, sym, arith, append_assoc, Some, None}
+use Rattle.std.proofs.Common.{◌≡◌, ℕ, ◌+◌, Bool, List, [], ◌∷◌, ◌++◌, length, drop, refl, ◌∙◌, ap, sym, subst, arith, append_assoc, Some, None}
 use Rattle.std.proofs.lemmas.Grind.{common_steps}
 use Rattle.kmip_link.specs.Plan.{MemoryState}
 use Rattle.kmip_run.specs.Script.{lines_of}
 use Rattle.kmip_run.specs.Calls.{call_of}
 use Rattle.kmip_run.specs.Exchange.{Settings, Step, step}
 use Rattle.kmip_run.specs.Transcript.{Transcript, only_text, call_text, status_after, bad_line, then_later, replayed, RunsCall, Replays}
+use Rattle.kmip_run.specs.declared.call.Call.{Call}
 use Rattle.kmip_run.specs.declared.call.Recorded.{Recorded}
 
 pub append_none : (xs : List ℕ) → xs ≡ xs ++ []
@@ -74,6 +75,11 @@ ended {before = before} {old = old} text status so_far = record {
   sent = so_far.sent_is ∙ ap (λ (l : List ℕ). before.sent ++ l) (append_none so_far.sent ∙ sym so_far.all_sent);
   pos = omega (arith, so_far.pos, so_far.all_taken);
 }
+
+-- a call under the same settings
+pub under : {before after : MemoryState} {failed : Bool} {old new : List ℕ} (a b : Settings) (call : Call) (fed rest : List ℕ) → a ≡ b → RunsCall (step a call rest) fed before after failed old new → RunsCall (step b call rest) fed before after failed old new
+under {before = before} {after = after} {failed = failed} {old = old} {new = new} a b call fed rest same runs =
+    subst (λ (s : Settings). RunsCall (step s call rest) fed before after failed old new) same runs
 
 -- the next line is a call
 pub next_call : {all : Transcript} {before now after : MemoryState} {old between new : List ℕ} {failed : Bool} (settings : Settings) (it : Recorded) (script line later : List ℕ) (number status next : ℕ) →

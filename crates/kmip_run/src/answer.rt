@@ -1,6 +1,7 @@
 //! The calls of the client, each with the line of its answer.
 ghost use Rattle.std.specs.Prelude.{◌≡◌, drop, IfOk};
 ghost use Rattle.kmip_run.specs.Exchange.{settings_of, step, Answers};
+ghost use Rattle.kmip_run.specs.declared.call.Call.TheVariants.{CreateRsa, Rng};
 
 use crate::call::Call;
 use crate::show::{show, show_done, show_pair};
@@ -8,6 +9,35 @@ use kmip_client::Client;
 use kmip_link::MemoryLink;
 use kmip_wire::{OutOfMemory, Text};
 use std::alloc::Global;
+
+/// Asks for an RSA pair, and adds the line of the answer.
+fn create_rsa(
+    alloc: Global,
+    client: &mut Client<MemoryLink>,
+    key_length: i32,
+    private_key_name: Text,
+    public_key_name: Text,
+    line: &mut Text,
+) -> Result<bool, OutOfMemory>
+    ensures { IfOk result (λ failed. Answers (step (settings_of client.old) (CreateRsa key_length private_key_name public_key_name) (drop client.old.link.pos client.old.link.ever))
+        client.old client.new failed line.old line.new) }
+{
+    let pair = client.create_rsa_key_pair(alloc, key_length, private_key_name, public_key_name);
+    show_pair(alloc, pair, line)
+}
+
+/// Asks for random bytes, and adds the line of the answer.
+fn rng(
+    alloc: Global,
+    client: &mut Client<MemoryLink>,
+    num_bytes: i32,
+    line: &mut Text,
+) -> Result<bool, OutOfMemory>
+    ensures { IfOk result (λ failed. Answers (step (settings_of client.old) (Rng num_bytes) (drop client.old.link.pos client.old.link.ever))
+        client.old client.new failed line.old line.new) }
+{
+    show(alloc, client.rng_retrieve(alloc, num_bytes), line)
+}
 
 /// Makes a call on the client. It adds the line of the answer, and says whether this is an error.
 pub fn answer(
@@ -25,12 +55,15 @@ pub fn answer(
             key_length,
             private_key_name,
             public_key_name,
-        } => show_pair(
+        } => create_rsa(
             alloc,
-            client.create_rsa_key_pair(alloc, key_length, private_key_name, public_key_name),
+            client,
+            key_length,
+            private_key_name,
+            public_key_name,
             line,
         ),
-        Call::Rng { num_bytes } => show(alloc, client.rng_retrieve(alloc, num_bytes), line),
+        Call::Rng { num_bytes } => rng(alloc, client, num_bytes, line),
         Call::Sign { id, bytes } => show(
             alloc,
             client.sign(alloc, id.as_str(), bytes.as_slice()),

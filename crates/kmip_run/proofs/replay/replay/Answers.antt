@@ -1,7 +1,7 @@
-use Rattle.std.proofs.Common.{◌≡◌, ◌+◌, ◌∙◌, ap, sym, arith, refl, length}
+use Rattle.std.proofs.Common.{◌≡◌, ◌+◌, ◌++◌, drop, ◌∙◌, ap, sym, arith, refl, length}
 use Rattle.std.proofs.lemmas.Bool.Decides.{nat_tests}
 use Rattle.kmip_run.specs.Exchange.{Settings, settings_of}
-use Rattle.kmip_run.proofs.Runs.{nothing_yet, next_call, next_bad, no_more}
+use Rattle.kmip_run.proofs.Runs.{nothing_yet, under, next_call, next_bad, no_more}
 use Rattle.kmip_run.proofs.replay.replay.Goals as goal
 
 pub loop-rest-init : goal.loop-rest-init
@@ -20,7 +20,7 @@ loop-rest-preserved c =
       counted = omega (arith, c.first_line.ensures.shorter);
       so_far = next_call (settings_of c.args.client.now) c.in-Some.recorded c.loop-rest.rest.now c.first_line.result.0.now c.first_line.result.1.now
           (c.loop-rest.number + 1) c.loop-rest.status c.status_after-status.result c.first_line.ensures.lines is c.status_after-status.ensures.value i.so_far
-          (rw i.settings at c.in_ok-failed.ensures.runs);
+          (under (settings_of c.loop-rest.client) (settings_of c.args.client.now) c.in-Some.recorded.call c.in-Some.recorded.response (drop c.loop-rest.client.link.pos c.loop-rest.client.link.ever ++ c.in-Some.recorded.response) i.settings c.in_ok-failed.ensures.runs);
     }
 
 pub returns-in_default-clause-replays : goal.returns-in_default-clause-replays
