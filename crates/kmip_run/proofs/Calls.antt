@@ -6,7 +6,7 @@ use Rattle.kmip_run.specs.Words.{words_of}
 use Rattle.kmip_run.specs.Values.{unescaped, text_from, text_of}
 use Rattle.kmip_run.specs.Calls.{call_from, call_of, call_of_words}
 
-not_utf8 : (bytes : List ℕ) → (IsUtf8 bytes → ⊥) → is_utf8 bytes ≡ false
+pub not_utf8 : (bytes : List ℕ) → (IsUtf8 bytes → ⊥) → is_utf8 bytes ≡ false
 not_utf8 bytes not = elim (is_utf8 bytes) as (λ b. is_utf8 bytes ≡ b → b ≡ false) [
   | true ↦ λ e. absurd (not (IsUtf8-from_is_utf8 bytes e))
   | false ↦ λ e. refl
@@ -35,10 +35,12 @@ pub call_of_other : (line : List ℕ) → (IsUtf8 line → ⊥) → call_of line
 unfolding call_of
 call_of_other line not = rw (not_utf8 line not) refl
 
--- there is no call of fewer words than three, or of more
-pub no_call : (words : List (Bor (List ℕ))) → length words ≢ 3 → call_of_words (map (λ word. word.now) words) ≡ None
-no_call [] not = refl
-no_call (a ∷ []) not = refl
-no_call (a ∷ b ∷ []) not = refl
-no_call (a ∷ b ∷ c ∷ []) not = absurd (not refl)
-no_call (a ∷ b ∷ c ∷ d ∷ words) not = refl
+-- there is no call of fewer words than two, or of more than five
+pub no_call : (words : List (Bor (List ℕ))) → length words ≢ 2 → length words ≢ 3 → length words ≢ 4 → length words ≢ 5 → call_of_words (map (λ word. word.now) words) ≡ None
+no_call [] not2 not3 not4 not5 = refl
+no_call (a ∷ []) not2 not3 not4 not5 = refl
+no_call (a ∷ b ∷ []) not2 not3 not4 not5 = absurd (not2 refl)
+no_call (a ∷ b ∷ c ∷ []) not2 not3 not4 not5 = absurd (not3 refl)
+no_call (a ∷ b ∷ c ∷ d ∷ []) not2 not3 not4 not5 = absurd (not4 refl)
+no_call (a ∷ b ∷ c ∷ d ∷ e ∷ []) not2 not3 not4 not5 = absurd (not5 refl)
+no_call (a ∷ b ∷ c ∷ d ∷ e ∷ f ∷ words) not2 not3 not4 not5 = refl

@@ -1,19 +1,22 @@
 -- What a call of the client did, of its exchange over a link in memory.
-use Rattle.std.proofs.Common.{◌≡◌, ℕ, ◌+◌, Bool, true, List, ◌++◌, drop, refl, ◌∙◌, ap, sym, arith, Result, Ok, Err, IfOk, OnOk, ◌⊎◌, inl, inr}
+use Rattle.std.proofs.Common.{◌≡◌, ◌≢◌, ℕ, ◌+◌, ◌-◌, Bool, List, ◌++◌, take, drop, refl, ◌∙◌, ap, sym, subst, arith, Result, Ok, Err, IfOk, codes}
 use Rattle.std.proofs.lemmas.List.{drop-drop}
 use Rattle.kmip_shape.specs.Val.{Val}
 use Rattle.kmip_link.specs.Plan.{MemoryState, memory_state}
-use Rattle.kmip_wire.specs.declared.memory.OutOfMemory.{OutOfMemory as NoMemory}
+use Rattle.kmip_request.specs.Message.{request_bytes, operation_of}
+use Rattle.kmip_response.specs.Values.{response_payload_val}
+use Rattle.kmip_response.specs.declared.payload.ResponsePayload.{ResponsePayload}
 use Rattle.kmip_client.specs.declared.error.Error.{Error}
 use Rattle.kmip_client.specs.declared.error.Error.TheVariants.{OutOfMemory}
-use Rattle.kmip_client.specs.Outcome.{Answer, Outcome, outcome, Moves, Exchanged}
-use Rattle.kmip_client.specs.Calls.{unit_answer, IsUnitCall, IsUnmade}
+use Rattle.kmip_client.specs.Outcome.{Answer, Outcome, outcome, seen_by, Moves, Exchanged}
+use Rattle.kmip_client.specs.Calls.{IsCall, Helped, called, not_made, projected}
 use Rattle.kmip_client.specs.Client.{ClientState}
-use Rattle.kmip_request.specs.declared.payload.RequestPayload.{RequestPayload}
-use Rattle.kmip_run.specs.Exchange.{step_of, answer_line, is_error, Answers}
+use Rattle.kmip_run.specs.Exchange.{request_of, value_shown, answer_line, is_error, settings_of, step, step_of, told_lines, Shows, Answers}
+use Rattle.kmip_run.specs.declared.call.Call.{Call}
+use Rattle.kmip_run.proofs.Diagnostics.{told_of}
 
 -- over a link in memory each answer but want of memory is the outcome's
-finished : (o : Outcome) (before after : MemoryState) (answer : Answer) → Exchanged o (memory_state before) (memory_state after) answer → (answer ≡ Err OutOfMemory → ⊥) →
+finished : (o : Outcome) (before after : MemoryState) (answer : Answer) → Exchanged o (memory_state before) (memory_state after) answer → answer ≢ Err OutOfMemory →
     (answer ≡ o.answer) × Moves (memory_state before) (memory_state after) o.sent o.taken
 finished o before after answer (Exchanged.completed is moves) some = (is, moves)
 finished o before after answer (Exchanged.write_failed is rose n below moves) some = absurd (omega arith)
@@ -21,55 +24,73 @@ finished o before after answer (Exchanged.read_failed is rose n within moves) so
 finished o before after answer (Exchanged.sending_cut is n within moves) some = absurd (some is)
 finished o before after answer (Exchanged.reading_cut is n within moves) some = absurd (some is)
 
-answers_of : (value : Val → List ℕ) (o : List ℕ → Outcome) (before after : MemoryState) (answer : Answer) (failed : Bool) (old new : List ℕ) →
-    Exchanged (o (drop before.pos after.ever)) (memory_state before) (memory_state after) answer → (answer ≡ Err OutOfMemory → ⊥) →
-    new ≡ old ++ answer_line value answer → failed ≡ is_error answer → Answers (step_of value (o (drop before.pos before.ever))) before after failed old new
-answers_of value o before after answer failed old new exchanged some text failed_is =
-    let done = finished (o (drop before.pos after.ever)) before after answer exchanged some in
-    let moves : Moves (memory_state before) (memory_state after) (o (drop before.pos after.ever)).sent (o (drop before.pos after.ever)).taken = done.1 in
-    let same : after.ever ≡ before.ever = moves.still refl in
-    let here : o (drop before.pos after.ever) ≡ o (drop before.pos before.ever) = ap (λ (l : List ℕ). o (drop before.pos l)) same in
-    let is : answer ≡ (o (drop before.pos before.ever)).answer = done.0 ∙ ap (λ (x : Outcome). x.answer) here in
-    let pos : after.pos ≡ before.pos + (o (drop before.pos before.ever)).taken = moves.pos ∙ ap (λ (x : Outcome). before.pos + x.taken) here in
+-- so a call did what its step says
+answered : {before after : ClientState MemoryState} (call : Call) (answer : Answer) (failed : Bool) (old new : List ℕ) → IsCall memory_state (request_of call) before after answer → answer ≢ Err OutOfMemory →
+    new ≡ old ++ answer_line (value_shown call) answer → failed ≡ is_error answer →
+    Answers (step (settings_of before) call (drop before.link.pos before.link.ever)) before after failed old new
+answered {before = before} {after = after} call answer failed old new is_call some text failed_is =
+    let o : List ℕ → Outcome = λ rest. outcome (request_of call) before.credential before.limit rest in
+    let rest : List ℕ = drop before.link.pos after.link.ever in
+    let left : List ℕ = drop before.link.pos before.link.ever in
+    let done : (answer ≡ (o rest).answer) × Moves (memory_state before.link) (memory_state after.link) (o rest).sent (o rest).taken =
+    finished (o rest) before.link after.link answer (is_call.exchange refl) some in
+    let moves : Moves (memory_state before.link) (memory_state after.link) (o rest).sent (o rest).taken = done.1 in
+    let same : after.link.ever ≡ before.link.ever = moves.still refl in
+    let here : rest ≡ left = ap (λ (l : List ℕ). drop before.link.pos l) same in
+    let is : answer ≡ (o left).answer = done.0 ∙ ap (λ (l : List ℕ). (o l).answer) here in
+    let pos : after.link.pos ≡ before.link.pos + (o left).taken = moves.pos ∙ ap (λ (l : List ℕ). before.link.pos + (o l).taken) here in
+    let taken : after.link.pos - before.link.pos ≡ (o rest).taken = omega (arith, moves.pos) in
+    let told = told_of before.buffered (request_bytes (request_of call) before.credential) (operation_of (request_of call)) before.limit rest (after.link.pos - before.link.pos) answer after.request_text after.response_text
+    done.0 some taken is_call.request_text (is_call.response_text refl) in
     record {
-      shown = text ∙ ap (λ (a : Answer). old ++ answer_line value a) is;
+      settings = rw (is_call.credential, is_call.limit, is_call.buffered) refl;
+      told = rw is_call.buffered (subst (λ (l : List ℕ). told_lines before.buffered after.request_text after.response_text ≡ (step_of (value_shown call) before.buffered l (o l)).told) here told);
+      shown = text ∙ ap (λ (a : Answer). old ++ answer_line (value_shown call) a) is;
       failed_is = failed_is ∙ ap is_error is;
       ever = same;
-      sent = moves.sent_is ∙ ap (λ (x : Outcome). before.sent ++ x.sent) here;
+      sent = moves.sent_is ∙ ap (λ (l : List ℕ). before.link.sent ++ (o l).sent) here;
       pos = pos;
-      left = rw (pos, same) (sym (drop-drop (o (drop before.pos before.ever)).taken before.pos before.ever));
+      left = rw (pos, same) (sym (drop-drop (o left).taken before.link.pos before.link.ever));
     }
 
--- the same of a showing that may want memory
-pub answers_shown : (value : Val → List ℕ) (o : List ℕ → Outcome) (before after : MemoryState) (answer : Answer) (shown : Result Bool NoMemory) (old new : List ℕ) →
-    Exchanged (o (drop before.pos after.ever)) (memory_state before) (memory_state after) answer → OnOk shown (answer ≡ Err OutOfMemory → ⊥) →
-    OnOk shown (new ≡ old ++ answer_line value answer) → IfOk shown (λ failed. failed ≡ is_error answer) →
-    IfOk shown (λ failed. Answers (step_of value (o (drop before.pos before.ever))) before after failed old new)
-answers_shown value o before after answer (Ok failed) old new exchanged some text failed_is = answers_of value o before after answer failed old new exchanged some text failed_is
-answers_shown value o before after answer (Err error) old new exchanged some text failed_is = tt
+-- the line of a part of a payload is that of the payload
+same_line : {P R : Type 0} (value : Val → List ℕ) (val : P → Val) (text : R → List ℕ) (part : P → R) (answer : Result P Error) → ((payload : P) → value (val payload) ≡ text (part payload)) →
+    answer_line text (projected part answer) ≡ answer_line value (seen_by val answer)
+same_line value val text part (Ok payload) same = ap (λ (t : List ℕ). codes "= " ++ (t ++ codes "\n")) (sym (same payload))
+same_line value val text part (Err error) same = refl
 
-unit_err : (answer : Answer) (error : Error) → Err error ≡ unit_answer answer → answer ≡ Err error
-unit_err (Ok payload) error is = cc
-unit_err (Err other) error is = cc
+same_failed : {P R : Type 0} (val : P → Val) (part : P → R) (answer : Result P Error) → is_error (projected part answer) ≡ is_error (seen_by val answer)
+same_failed val part (Ok payload) = refl
+same_failed val part (Err error) = refl
 
--- what holds anyway holds of each result
-pub always : {P : Type 0} (shown : Result Bool NoMemory) → P → OnOk shown P
-always (Ok failed) p = p
-always (Err error) p = tt
+same_some : {P R : Type 0} (val : P → Val) (part : P → R) (answer : Result P Error) → seen_by val answer ≡ Err OutOfMemory → projected part answer ≡ Err OutOfMemory
+same_some val part (Ok payload) is = cc
+same_some val part (Err error) is = cc
 
--- an error that was shown is not want of memory
-pub not_memory : (error : Error) (shown : Result Bool NoMemory) → OnOk shown (error ≡ OutOfMemory → ⊥) → OnOk shown (◌≡◌ {A = Answer} (Err error) (Err OutOfMemory) → ⊥)
-not_memory error (Ok failed) some = λ (e : ◌≡◌ {A = Answer} (Err error) (Err OutOfMemory)). some cc
-not_memory error (Err other) some = tt
+helped : {P R : Type 0} {before after : ClientState MemoryState} (call : Call) (variant : P → ResponsePayload) (part : P → R) (text : R → List ℕ) (result : Result R Error) (failed : Bool) (old new : List ℕ) →
+    ((payload : P) → value_shown call (response_payload_val (variant payload)) ≡ text (part payload)) →
+    Helped memory_state (request_of call) variant part before after result → Shows text result failed old new →
+    Answers (step (settings_of before) call (drop before.link.pos before.link.ever)) before after failed old new
+helped call variant part text result failed old new same (called answer is_call is) shows =
+    answered call (seen_by (λ payload. response_payload_val (variant payload)) answer) failed old new is_call
+    (λ none. shows.some (is ∙ same_some (λ payload. response_payload_val (variant payload)) part answer none))
+    (shows.shown ∙ ap (λ (r : Result _ Error). old ++ answer_line text r) is ∙ ap (λ (l : List ℕ). old ++ l) (same_line (value_shown call) (λ payload. response_payload_val (variant payload)) text part answer same))
+    (shows.failed_is ∙ ap is_error is ∙ same_failed (λ payload. response_payload_val (variant payload)) part answer)
+helped call variant part text result failed old new same (not_made is kept) shows = absurd (shows.some is)
 
--- the error of a call whose payload the caller does not see
-pub unit_shown : (value : Val → List ℕ) (payload : RequestPayload) (before after : ClientState MemoryState) (error : Error) (shown : Result Bool NoMemory) (old new : List ℕ) →
-    (IsUnitCall memory_state payload before after (Err error)) ⊎ (IsUnmade before after (Err error)) → OnOk shown (error ≡ OutOfMemory → ⊥) →
-    OnOk shown (new ≡ old ++ answer_line value (Err error)) → IfOk shown (λ failed. failed ≡ true) →
-    IfOk shown (λ failed. Answers (step_of value (outcome payload before.credential before.limit (drop before.link.pos before.link.ever))) before.link after.link failed old new)
-unit_shown value payload before after error (Ok failed) old new (inl call) some text failed_is =
-    let o : List ℕ → Outcome = λ rest. outcome payload before.credential before.limit rest in
-    let is : call.0 ≡ Err error = unit_err call.0 error call.2 in
-    answers_of value o before.link after.link (Err error) failed old new (rw is at (call.1.exchange refl)) (λ (e : ◌≡◌ {A = Answer} (Err error) (Err OutOfMemory)). some cc) text failed_is
-unit_shown value payload before after error (Ok failed) old new (inr unmade) some text failed_is = absurd (some (let e = unmade.0 in cc))
-unit_shown value payload before after error (Err other) old new cases some text failed_is = tt
+-- a helper's result was shown, unless memory ran out
+pub helper_shown : {P R E : Type 0} {before after : ClientState MemoryState} (call : Call) (variant : P → ResponsePayload) (part : P → R) (text : R → List ℕ) (result : Result R Error) (shown : Result Bool E) (old new : List ℕ) →
+    ((payload : P) → value_shown call (response_payload_val (variant payload)) ≡ text (part payload)) →
+    Helped memory_state (request_of call) variant part before after result → IfOk shown (λ failed. Shows text result failed old new) →
+    IfOk shown (λ failed. Answers (step (settings_of before) call (drop before.link.pos before.link.ever)) before after failed old new)
+helper_shown call variant part text result (Ok failed) old new same did shows = helped call variant part text result failed old new same did shows
+helper_shown call variant part text result (Err error) old new same did shows = tt
+
+same_result : {P : Type 0} (result : Result P Error) → result ≡ projected (λ payload. payload) result
+same_result (Ok payload) = refl
+same_result (Err error) = refl
+
+-- a call whose whole payload is the result
+pub all_helped : {P : Type 0} {before after : ClientState MemoryState} (call : Call) (variant : P → ResponsePayload) (result : Result P Error) →
+    IsCall memory_state (request_of call) before after (seen_by (λ payload. response_payload_val (variant payload)) result) → Helped memory_state (request_of call) variant (λ payload. payload) before after result
+all_helped call variant result is_call = called result is_call (same_result result)

@@ -4,7 +4,7 @@ use Rattle.std.specs.List.{starts_with}
 use Rattle.std.proofs.lemmas.Slice.Eq.{starts_is, bytes_eq-Decides}
 use Rattle.std.proofs.lemmas.Bool.Decides.{Decides-eqb}
 use Rattle.kmip_run.specs.Values.{number_of}
-use Rattle.kmip_run.specs.Commands.{Given, given, given_after, replay_with, replay_of, command_of}
+use Rattle.kmip_run.specs.Commands.{Given, given, given_after, diag_of, replay_with, replay_of, explain_of, command_of}
 use Rattle.kmip_run.specs.declared.command.Command.TheVariants.{Replay}
 
 -- a list that is not empty
@@ -42,20 +42,30 @@ given_other name word words some at not =
     ap (given name) whole ∙ given_not name word (drop 1 words) not ∙ ap without_value (sym whole)
 
 -- the command of words that are there
-command_of_first : (words : List (List ℕ)) (name : List ℕ) → 1 ≤ length words → name ≡ get_or words 0 name → command_of words ≡ cond (bytes_eq name (codes "replay")) (replay_of (drop 1 words)) None
+command_of_first : (words : List (List ℕ)) (name : List ℕ) → 1 ≤ length words → name ≡ get_or words 0 name →
+    command_of words ≡ cond (bytes_eq name (codes "replay")) (replay_of (drop 1 words)) (cond (bytes_eq name (codes "explain")) (explain_of (drop 1 words)) None)
 unfolding command_of
 command_of_first words name some at = ap command_of (first_and_rest words name some ∙ ap (λ (w : List ℕ). w ∷ drop 1 words) (sym at))
 
-pub command_of_replay : (words : List (List ℕ)) (name : List ℕ) → 1 ≤ length words → name ≡ get_or words 0 name → name ≡ codes "replay" → command_of words ≡ replay_of (drop 1 words)
-command_of_replay words name some at is =
-    command_of_first words name some at ∙ ap (λ (b : Bool). cond b (replay_of (drop 1 words)) None) ((bytes_eq-Decides name (codes "replay")).1 is)
+named : {A : Type 0} (name word : List ℕ) (x y : A) → name ≡ word → cond (bytes_eq name word) x y ≡ x
+named name word x y is = ap (λ (b : Bool). cond b x y) ((bytes_eq-Decides name word).1 is)
 
-pub command_of_other : (words : List (List ℕ)) (name : List ℕ) → 1 ≤ length words → name ≡ get_or words 0 name → (name ≡ codes "replay" → ⊥) → command_of words ≡ None
-command_of_other words name some at other =
-    command_of_first words name some at ∙ (elim (bytes_eq name (codes "replay")) as (λ b. bytes_eq name (codes "replay") ≡ b → cond b (replay_of (drop 1 words)) None ≡ None) [
-      | true ↦ λ e. absurd (other ((bytes_eq-Decides name (codes "replay")).0 e))
-      | false ↦ λ e. refl
-    ] refl)
+not_named : {A : Type 0} (name word : List ℕ) (x y : A) → (name ≡ word → ⊥) → cond (bytes_eq name word) x y ≡ y
+not_named name word x y other = elim (bytes_eq name word) as (λ b. bytes_eq name word ≡ b → cond b x y ≡ y) [
+  | true ↦ λ e. absurd (other ((bytes_eq-Decides name word).0 e))
+  | false ↦ λ e. refl
+] refl
+
+pub command_of_replay : (words : List (List ℕ)) (name : List ℕ) → 1 ≤ length words → name ≡ get_or words 0 name → name ≡ codes "replay" → command_of words ≡ replay_of (drop 1 words)
+command_of_replay words name some at is = command_of_first words name some at ∙ named name (codes "replay") _ _ is
+
+pub command_of_explain : (words : List (List ℕ)) (name : List ℕ) → 1 ≤ length words → name ≡ get_or words 0 name → (name ≡ codes "replay" → ⊥) → name ≡ codes "explain" → command_of words ≡ explain_of (drop 1 words)
+command_of_explain words name some at not_replay is =
+    command_of_first words name some at ∙ not_named name (codes "replay") _ _ not_replay ∙ named name (codes "explain") _ _ is
+
+pub command_of_other : (words : List (List ℕ)) (name : List ℕ) → 1 ≤ length words → name ≡ get_or words 0 name → (name ≡ codes "replay" → ⊥) → (name ≡ codes "explain" → ⊥) → command_of words ≡ None
+command_of_other words name some at not_replay not_explain =
+    command_of_first words name some at ∙ not_named name (codes "replay") _ _ not_replay ∙ not_named name (codes "explain") _ _ not_explain
 
 pub command_of_none : (words : List (List ℕ)) → length words < 1 → command_of words ≡ None
 unfolding command_of
@@ -63,33 +73,26 @@ command_of_none [] none = refl
 command_of_none (word ∷ words) none = absurd (omega arith)
 
 -- the options, one after the other
-pub replay_of_is : (words : List (List ℕ)) (user password limit : Option (List ℕ)) (after_user after_password rest : List (List ℕ)) →
+pub replay_of_is : (words : List (List ℕ)) (user password limit : Option (List ℕ)) (after_user after_password rest : List (List ℕ)) (diag : Option Bool) →
     user ≡ (given (codes "user=") words).value → after_user ≡ (given (codes "user=") words).rest →
     password ≡ (given_after user (codes "password=") after_user).value → after_password ≡ (given_after user (codes "password=") after_user).rest →
-    limit ≡ (given (codes "limit=") after_password).value → rest ≡ (given (codes "limit=") after_password).rest →
-    replay_of words ≡ replay_with user password limit rest
+    limit ≡ (given (codes "limit=") after_password).value → rest ≡ (given (codes "limit=") after_password).rest → diag ≡ diag_of rest →
+    replay_of words ≡ replay_with user password limit diag
 unfolding replay_of
-replay_of_is words user password limit after_user after_password rest u ur p pr l lr = rw (lr, l, pr, p, ur, u) refl
+replay_of_is words user password limit after_user after_password rest diag u ur p pr l lr d = rw (d, lr, l, pr, p, ur, u) refl
 
--- words are left over
-pub with_more : (user password limit : Option (List ℕ)) (rest : List (List ℕ)) → false ≡ (length rest == 0) → replay_with user password limit rest ≡ None
-with_more user password limit [] more = cc
-with_more user password None (word ∷ rest) more = refl
-with_more user password (Some limit) (word ∷ rest) more = refl
+-- words other than `diag` are left over
+pub with_more : (user password limit : Option (List ℕ)) (diag : Option Bool) → diag ≡ None → replay_with user password limit diag ≡ None
+with_more user password None diag more = rw more refl
+with_more user password (Some limit) diag more = rw more refl
 
-not_empty : (word : List ℕ) (rest : List (List ℕ)) → true ≡ (length (word ∷ rest) == 0) → ⊥
-not_empty word rest none = (let e : length (word ∷ rest) ≡ 0 = (Decides-eqb (length (word ∷ rest)) 0).0 (sym none) in omega arith)
+pub with_limit : (user password limit : Option (List ℕ)) (diag : Option Bool) (word : List ℕ) (n : ℕ) (told : Bool) → limit ≡ Some word → diag ≡ Some told → Some n ≡ number_of word →
+    replay_with user password limit diag ≡ Some (Replay (record { user = user; password = password; limit = Some n; diag = told }))
+with_limit user password limit diag word n told is last number = rw (is, last, sym number) refl
 
-pub with_limit : (user password limit : Option (List ℕ)) (rest : List (List ℕ)) (word : List ℕ) (n : ℕ) → limit ≡ Some word → true ≡ (length rest == 0) → Some n ≡ number_of word →
-    replay_with user password limit rest ≡ Some (Replay (record { user = user; password = password; limit = Some n }))
-with_limit user password limit [] word n is none number = rw (is, sym number) refl
-with_limit user password limit (w ∷ rest) word n is none number = absurd (not_empty w rest none)
+pub with_bad_limit : (user password limit : Option (List ℕ)) (diag : Option Bool) (word : List ℕ) (told : Bool) → limit ≡ Some word → diag ≡ Some told → None ≡ number_of word → replay_with user password limit diag ≡ None
+with_bad_limit user password limit diag word told is last number = rw (is, last, sym number) refl
 
-pub with_bad_limit : (user password limit : Option (List ℕ)) (rest : List (List ℕ)) (word : List ℕ) → limit ≡ Some word → true ≡ (length rest == 0) → None ≡ number_of word → replay_with user password limit rest ≡ None
-with_bad_limit user password limit [] word is none number = rw (is, sym number) refl
-with_bad_limit user password limit (w ∷ rest) word is none number = absurd (not_empty w rest none)
-
-pub with_no_limit : (user password limit : Option (List ℕ)) (rest : List (List ℕ)) → limit ≡ None → true ≡ (length rest == 0) →
-    replay_with user password limit rest ≡ Some (Replay (record { user = user; password = password; limit = None }))
-with_no_limit user password limit [] is none = rw is refl
-with_no_limit user password limit (w ∷ rest) is none = absurd (not_empty w rest none)
+pub with_no_limit : (user password limit : Option (List ℕ)) (diag : Option Bool) (told : Bool) → limit ≡ None → diag ≡ Some told →
+    replay_with user password limit diag ≡ Some (Replay (record { user = user; password = password; limit = None; diag = told }))
+with_no_limit user password limit diag told is last = rw (is, last) refl

@@ -1,5 +1,7 @@
 pub mod Calls
+pub mod Diagnostics
 pub mod Exchanges
+pub mod Explained
 pub mod Given
 pub mod Lines
 pub mod Moves

@@ -1,12 +1,13 @@
 -- The lines, one after the other.
-use Rattle.std.proofs.Common.{◌≡◌, ℕ, ◌+◌, Bool, List, [], ◌∷◌, ◌++◌, length, drop, refl, ◌∙◌, ap, sym, arith, append_assoc, Some, None}
+use Rattle.std.proofs.Common.{◌≡◌, ℕ, ◌+◌, Bool, List, [], ◌∷◌, ◌++◌, length, drop, refl, ◌∙◌, ap, sym, subst, arith, append_assoc, Some, None}
 use Rattle.std.proofs.lemmas.Grind.{common_steps}
 use Rattle.kmip_link.specs.Plan.{MemoryState}
 use Rattle.kmip_run.specs.Script.{lines_of}
-use Rattle.kmip_run.specs.Calls.{call_of, response_of}
+use Rattle.kmip_run.specs.Calls.{call_of}
 use Rattle.kmip_run.specs.Exchange.{Settings, Step, step}
 use Rattle.kmip_run.specs.Transcript.{Transcript, only_text, call_text, status_after, bad_line, then_later, replayed, RunsCall, Replays}
 use Rattle.kmip_run.specs.declared.call.Call.{Call}
+use Rattle.kmip_run.specs.declared.call.Recorded.{Recorded}
 
 pub append_none : (xs : List ℕ) → xs ≡ xs ++ []
 append_none xs = grind (arith, common_steps)
@@ -49,12 +50,12 @@ one_more {before = before} {now = now} {old = old} fed s rest so_far line = reco
   pos = omega (arith, line.pos, so_far.pos);
 }
 
-pub replayed_call : (settings : Settings) (line : List ℕ) (lines : List (List ℕ)) (number status : ℕ) (rest : List ℕ) (call : Call) → Some call ≡ call_of line →
+pub replayed_call : (settings : Settings) (line : List ℕ) (lines : List (List ℕ)) (number status : ℕ) (rest : List ℕ) (it : Recorded) → Some it ≡ call_of line →
     replayed settings (line ∷ lines) number status rest ≡
-    then_later (response_of call) (step settings call (rest ++ response_of call))
-    (replayed settings lines (number + 1) (status_after status (step settings call (rest ++ response_of call)).failed) (drop (step settings call (rest ++ response_of call)).taken (rest ++ response_of call)))
+    then_later it.response (step settings it.call (rest ++ it.response))
+    (replayed settings lines (number + 1) (status_after status (step settings it.call (rest ++ it.response)).failed) (drop (step settings it.call (rest ++ it.response)).taken (rest ++ it.response)))
 unfolding replayed
-replayed_call settings line lines number status rest call is = rw (sym is, replayed) refl
+replayed_call settings line lines number status rest it is = rw (sym is, replayed) refl
 
 pub replayed_bad : (settings : Settings) (line : List ℕ) (lines : List (List ℕ)) (number status : ℕ) (rest : List ℕ) → None ≡ call_of line → replayed settings (line ∷ lines) number status rest ≡ bad_line number
 unfolding replayed
@@ -75,15 +76,20 @@ ended {before = before} {old = old} text status so_far = record {
   pos = omega (arith, so_far.pos, so_far.all_taken);
 }
 
+-- a call under the same settings
+pub under : {before after : MemoryState} {failed : Bool} {old new : List ℕ} (a b : Settings) (call : Call) (fed rest : List ℕ) → a ≡ b → RunsCall (step a call rest) fed before after failed old new → RunsCall (step b call rest) fed before after failed old new
+under {before = before} {after = after} {failed = failed} {old = old} {new = new} a b call fed rest same runs =
+    subst (λ (s : Settings). RunsCall (step s call rest) fed before after failed old new) same runs
+
 -- the next line is a call
-pub next_call : {all : Transcript} {before now after : MemoryState} {old between new : List ℕ} {failed : Bool} (settings : Settings) (call : Call) (script line later : List ℕ) (number status next : ℕ) →
-    lines_of script ≡ line ∷ lines_of later → Some call ≡ call_of line → next ≡ status_after status failed →
+pub next_call : {all : Transcript} {before now after : MemoryState} {old between new : List ℕ} {failed : Bool} (settings : Settings) (it : Recorded) (script line later : List ℕ) (number status next : ℕ) →
+    lines_of script ≡ line ∷ lines_of later → Some it ≡ call_of line → next ≡ status_after status failed →
     SoFar all before now old between (replayed settings (lines_of script) number status (drop now.pos now.ever)) →
-    RunsCall (step settings call (drop now.pos now.ever ++ response_of call)) (response_of call) now after failed between new →
+    RunsCall (step settings it.call (drop now.pos now.ever ++ it.response)) it.response now after failed between new →
     SoFar all before after old new (replayed settings (lines_of later) (number + 1) next (drop after.pos after.ever))
-next_call {now = now} {failed = failed} settings call script line later number status next lines is next_is so_far runs =
-    let here = rw (lines, replayed_call settings line (lines_of later) number status (drop now.pos now.ever) call is) at so_far in
-    rw (next_is, runs.failed_is, runs.left) (one_more (response_of call) (step settings call (drop now.pos now.ever ++ response_of call)) _ here runs)
+next_call {now = now} {failed = failed} settings it script line later number status next lines is next_is so_far runs =
+    let here = rw (lines, replayed_call settings line (lines_of later) number status (drop now.pos now.ever) it is) at so_far in
+    rw (next_is, runs.failed_is, runs.left) (one_more it.response (step settings it.call (drop now.pos now.ever ++ it.response)) _ here runs)
 
 -- the next line is not of the grammar
 pub next_bad : {all : Transcript} {before now : MemoryState} {old between : List ℕ} (settings : Settings) (script line later : List ℕ) (number status : ℕ) →
@@ -93,7 +99,7 @@ pub next_bad : {all : Transcript} {before now : MemoryState} {old between : List
 next_bad {now = now} settings script line later number status lines is so_far =
     ended (bad_line number).text 2 (rw (lines, replayed_bad settings line (lines_of later) number status (drop now.pos now.ever) is) at so_far)
 
-no_lines : (script : List ℕ) → length script ≡ 0 → lines_of script ≡ []
+pub no_lines : (script : List ℕ) → length script ≡ 0 → lines_of script ≡ []
 no_lines [] none = refl
 no_lines (c ∷ script) none = absurd (omega arith)
 

@@ -1,5 +1,5 @@
 -- What the program does with its words and its script.
-use Rattle.std.proofs.Common.{◌≡◌, ◌≢◌, ℕ, ◌+◌, ◌<◌, ◌≤◌, ◌⊎◌, List, [], ◌∷◌, ◌++◌, length, take, drop, min, refl, ◌∙◌, ap, sym, arith, codes, Some, None, Bool, true, false, IsSome}
+use Rattle.std.proofs.Common.{◌≡◌, ◌≢◌, ℕ, ◌+◌, ◌<◌, ◌≤◌, ◌⊎◌, List, [], ◌∷◌, ◌++◌, length, take, drop, min, refl, ◌∙◌, ap, sym, arith, codes, Some, None, Result, Ok, Err, IfOk, Bool, true, false, IsSome}
 use Rattle.std.proofs.lemmas.Bool.Decides.{nat_tests}
 use Rattle.std.proofs.lemmas.List.{length-take, take_all}
 use Rattle.std.specs.List.{All}
@@ -7,26 +7,27 @@ use Rattle.std.proofs.lemmas.List.Elements.{All-head, All-tail}
 use Rattle.kmip_link.specs.Plan.{MemoryState}
 use Rattle.kmip_link.specs.State.{SinkState}
 use Rattle.kmip_run.specs.Script.{lines_of}
-use Rattle.kmip_run.specs.Calls.{call_of, response_of}
+use Rattle.kmip_run.specs.Calls.{call_of}
 use Rattle.kmip_run.specs.Commands.{command_of}
 use Rattle.kmip_run.specs.Exchange.{Settings, settings_for, Step, step}
 use Rattle.kmip_run.specs.Streams.{WrotePart}
-use Rattle.kmip_run.specs.Transcript.{Transcript, only_text, status_after, replayed, most_script, replay_transcript, command_transcript, transcript, IsOfGrammar, Replays}
+use Rattle.kmip_run.specs.Transcript.{Transcript, only_text, status_after, replayed, expanded, explained, lines_transcript, most_script, script_transcript, command_transcript, transcript, IsLineOf, IsOfGrammar, Replays}
 use Rattle.kmip_run.specs.declared.command.Command.{Command}
-use Rattle.kmip_run.specs.declared.command.Command.TheVariants.{Replay}
+use Rattle.kmip_run.specs.declared.command.Command.TheVariants.{Replay, Explain}
+use Rattle.kmip_run.proofs.Explained.{explained_line, explained_none, explained_alone}
 use Rattle.kmip_run.proofs.Runs.{append_none, replayed_call, replayed_none}
 
 pub most : most_script ≡ 16777216
 unfolding most_script
 most = refl
 
-pub transcript_long : (settings : Settings) (script : List ℕ) → 16777216 < length script → replay_transcript settings script ≡ only_text [] 6
-unfolding replay_transcript most_script
-transcript_long settings script long = grind (arith, nat_tests)
+pub transcript_long : (command : Command) (script : List ℕ) → 16777216 < length script → script_transcript command script ≡ only_text [] 6
+unfolding script_transcript most_script
+transcript_long command script long = grind (arith, nat_tests)
 
-pub transcript_fits : (settings : Settings) (script : List ℕ) → length script ≤ 16777216 → replay_transcript settings script ≡ replayed settings (lines_of script) 1 0 []
-unfolding replay_transcript most_script
-transcript_fits settings script fits = grind (arith, nat_tests)
+pub transcript_fits : (command : Command) (script : List ℕ) → length script ≤ 16777216 → script_transcript command script ≡ lines_transcript command (lines_of script)
+unfolding script_transcript most_script
+transcript_fits command script fits = grind (arith, nat_tests)
 
 pub transcript_words : (words : List (List ℕ)) (script : List ℕ) → None ≡ command_of words → transcript words script ≡ only_text (codes "! words\n") 2
 unfolding transcript
@@ -65,31 +66,46 @@ status_small : (status : ℕ) (failed : Bool) → status < 2 → status_after st
 status_small status true small = omega arith
 status_small status false small = small
 
--- lines of the grammar end with the status 0 or 1
-pub good_status : (settings : Settings) (lines : List (List ℕ)) (number status : ℕ) (rest : List ℕ) → status < 2 → All (λ line. IsSome (call_of line)) lines → (replayed settings lines number status rest).status < 2
-good_status settings [] number status rest small good = rw (replayed_none settings [] number status rest refl) small
-good_status settings (line ∷ lines) number status rest small good =
+-- calls of the grammar end with the status 0 or 1
+replayed_small : (settings : Settings) (lines : List (List ℕ)) (number status : ℕ) (rest : List ℕ) → status < 2 → All (λ line. IsSome (call_of line)) lines → (replayed settings lines number status rest).status < 2
+replayed_small settings [] number status rest small good = rw (replayed_none settings [] number status rest refl) small
+replayed_small settings (line ∷ lines) number status rest small good =
     elim (call_of line) as (λ o. call_of line ≡ o → IsSome o → (replayed settings (line ∷ lines) number status rest).status < 2) [
       | None ↦ λ e some. cc
-      | Some call ↦ λ e some.
-          let s : Step = step settings call (rest ++ response_of call) in
-          rw (replayed_call settings line lines number status rest call (sym e))
-          (good_status settings lines (number + 1) (status_after status s.failed) (drop s.taken (rest ++ response_of call)) (status_small status s.failed small) (All-tail (λ l. IsSome (call_of l)) line lines good))
+      | Some it ↦ λ e some.
+          let s : Step = step settings it.call (rest ++ it.response) in
+          rw (replayed_call settings line lines number status rest it (sym e))
+          (replayed_small settings lines (number + 1) (status_after status s.failed) (drop s.taken (rest ++ it.response)) (status_small status s.failed small) (All-tail (λ l. IsSome (call_of l)) line lines good))
     ] refl (All-head (λ l. IsSome (call_of l)) line lines good)
 
-of_command : (words : List (List ℕ)) (script : List ℕ) (command : Command) → command_of words ≡ Some command → IsOfGrammar words script → (transcript words script).status < 2
-of_command words script (Replay options) is good =
-    let fits : length script ≤ 16777216 = rw most at good.fits in
-    rw (transcript_command words script (Replay options) (sym is), transcript_fits (settings_for options) script fits)
-    (good_status (settings_for options) (lines_of script) 1 0 [] (omega arith) good.lines_are)
+-- and diagnostics with the status 0
+explained_small : (lines : List (List ℕ)) (number : ℕ) → All (λ line. IsSome (expanded line)) lines → (explained lines number).status < 2
+explained_small [] number good = rw (explained_none [] number refl) (omega arith)
+explained_small (line ∷ lines) number good =
+    elim (expanded line) as (λ o. expanded line ≡ o → IsSome o → (explained (line ∷ lines) number).status < 2) [
+      | None ↦ λ e some. cc
+      | Some text ↦ λ e some. rw (explained_line line lines number text (sym e)) (explained_small lines (number + 1) (All-tail (λ l. IsSome (expanded l)) line lines good))
+    ] refl (All-head (λ l. IsSome (expanded l)) line lines good)
+
+lines_small : (command : Command) (lines : List (List ℕ)) → All (IsLineOf (Some command)) lines → (lines_transcript command lines).status < 2
+lines_small (Replay options) lines good = replayed_small (settings_for options) lines 1 0 [] (omega arith) good
+lines_small Explain lines good = explained_small lines 1 good
 
 -- a script of the grammar ends with the status 0 or 1
-pub grammar_status : (words : List (List ℕ)) (script : List ℕ) → IsOfGrammar words script → (transcript words script).status < 2
-grammar_status words script good =
-    elim (command_of words) as (λ o. command_of words ≡ o → IsSome o → (transcript words script).status < 2) [
-      | None ↦ λ e some. cc
-      | Some command ↦ λ e some. of_command words script command e good
-    ] refl good.words_are
+pub grammar_status : (words : List (List ℕ)) (script : List ℕ) (command : Command) → Some command ≡ command_of words → IsOfGrammar words script → (transcript words script).status < 2
+grammar_status words script command is good =
+    let fits : length script ≤ 16777216 = rw most at good.fits in
+    rw (transcript_command words script command is, transcript_fits command script fits) (lines_small command (lines_of script) (rw (sym is) at good.lines_are))
+
+explained_now : (link : MemoryState) (lines : List (List ℕ)) (status : ℕ) (old new : List ℕ) → status ≡ (explained lines 1).status → new ≡ old ++ (explained lines 1).text → Replays (explained lines 1) link link status old new
+explained_now link lines status old new status_is text =
+    rw (status_is, text, explained_alone lines 1) (text_alone link (explained lines 1).text (explained lines 1).status old)
+
+-- the expansions alone were written, and nothing is on the link
+pub explains : {E : Type 0} (link : MemoryState) (lines : List (List ℕ)) (result : Result ℕ E) (old new : List ℕ) →
+    IfOk result (λ status. status ≡ (explained lines 1).status) → IfOk result (λ status. new ≡ old ++ (explained lines 1).text) → IfOk result (λ status. Replays (explained lines 1) link link status old new)
+explains link lines (Ok status) old new status_is text = explained_now link lines status old new status_is text
+explains link lines (Err error) old new status_is text = tt
 
 -- the status that is left, where the writing did not end otherwise
 pub status_left : (result status : ℕ) → (result ≡ status) ⊎ ((result ≡ 4) ⊎ (result ≡ 5)) → result ≢ 4 → result ≢ 5 → result ≡ status

@@ -4,37 +4,73 @@ use Rattle.std.specs.Str.{is_utf8}
 use Rattle.kmip_run.specs.Words.{words_of}
 use Rattle.kmip_run.specs.Values.{int_of, bytes_of, text_of}
 use Rattle.kmip_run.specs.declared.call.Call.{Call}
-use Rattle.kmip_run.specs.declared.call.Call.TheVariants.{Rng, Activate}
+use Rattle.kmip_run.specs.declared.call.Call.TheVariants.{Query, CreateRsa, Rng, Sign, Activate, Revoke, Destroy, Rename, Get}
+use Rattle.kmip_run.specs.declared.call.Recorded.{Recorded}
 
--- the recorded response
-abbrev pub response_of : Call → List ℕ
-response_of (Rng num_bytes response) = response
-response_of (Activate id response) = response
+-- the call of one word: `query`
+abbrev pub call_of_one : List ℕ → Option Call
+call_of_one name = if bytes_eq name (codes "query") then Some Query else None
 
-abbrev pub rng_of : Option ℤ → Option (List ℕ) → Option Call
-rng_of (Some num_bytes) (Some response) = Some (Rng num_bytes response)
-rng_of num_bytes response = None
+abbrev pub rng_of : Option ℤ → Option Call
+rng_of (Some num_bytes) = Some (Rng num_bytes)
+rng_of None = None
 
-abbrev pub activate_of : Option (List ℕ) → Option (List ℕ) → Option Call
-activate_of (Some id) (Some response) = Some (Activate id response)
-activate_of id response = None
-
--- the calls of three words: `rng INT HEX` and `activate TEXT HEX`
-abbrev pub call_of_three : List ℕ → List ℕ → List ℕ → Option Call
-call_of_three name first response =
-    if bytes_eq name (codes "rng") then rng_of (int_of first) (bytes_of response)
-    else if bytes_eq name (codes "activate") then activate_of (text_of first) (bytes_of response)
+-- the calls of a key that take its identifier alone
+abbrev pub key_call : List ℕ → List ℕ → Option Call
+key_call name id =
+    if bytes_eq name (codes "activate") then Some (Activate id)
+    else if bytes_eq name (codes "revoke") then Some (Revoke id)
+    else if bytes_eq name (codes "destroy") then Some (Destroy id)
+    else if bytes_eq name (codes "get") then Some (Get id)
     else None
 
--- the call of these words, by how many there are
-abbrev pub call_of_words : List (List ℕ) → Option Call
-call_of_words (name ∷ first ∷ response ∷ []) = call_of_three name first response
+abbrev pub key_call_of : List ℕ → Option (List ℕ) → Option Call
+key_call_of name (Some id) = key_call name id
+key_call_of name None = None
+
+-- the calls of two words: `rng INT`, and `activate TEXT`, `revoke TEXT`, `destroy TEXT`, `get TEXT`
+abbrev pub call_of_two : List ℕ → List ℕ → Option Call
+call_of_two name word = if bytes_eq name (codes "rng") then rng_of (int_of word) else key_call_of name (text_of word)
+
+abbrev pub sign_of : Option (List ℕ) → Option (List ℕ) → Option Call
+sign_of (Some id) (Some bytes) = Some (Sign id bytes)
+sign_of id bytes = None
+
+abbrev pub rename_of : Option (List ℕ) → Option (List ℕ) → Option Call
+rename_of (Some id) (Some new_name) = Some (Rename id new_name)
+rename_of id new_name = None
+
+-- the calls of three words: `sign TEXT HEX` and `rename TEXT TEXT`
+abbrev pub call_of_three : List ℕ → List ℕ → List ℕ → Option Call
+call_of_three name id word =
+    if bytes_eq name (codes "sign") then sign_of (text_of id) (bytes_of word)
+    else if bytes_eq name (codes "rename") then rename_of (text_of id) (text_of word)
+    else None
+
+abbrev pub create_rsa_of : Option ℤ → Option (List ℕ) → Option (List ℕ) → Option Call
+create_rsa_of (Some key_length) (Some private_key_name) (Some public_key_name) = Some (CreateRsa key_length private_key_name public_key_name)
+create_rsa_of key_length private_key_name public_key_name = None
+
+-- the call of four words: `create-rsa INT TEXT TEXT`
+abbrev pub call_of_four : List ℕ → List ℕ → List ℕ → List ℕ → Option Call
+call_of_four name number first second = if bytes_eq name (codes "create-rsa") then create_rsa_of (int_of number) (text_of first) (text_of second) else None
+
+abbrev pub with_response : Option Call → Option (List ℕ) → Option Recorded
+with_response (Some call) (Some response) = Some (record { call = call; response = response })
+with_response call response = None
+
+-- the call of these words, by how many there are; the last is the response that was recorded for it
+abbrev pub call_of_words : List (List ℕ) → Option Recorded
+call_of_words (name ∷ response ∷ []) = with_response (call_of_one name) (bytes_of response)
+call_of_words (name ∷ first ∷ response ∷ []) = with_response (call_of_two name first) (bytes_of response)
+call_of_words (name ∷ first ∷ second ∷ response ∷ []) = with_response (call_of_three name first second) (bytes_of response)
+call_of_words (name ∷ first ∷ second ∷ third ∷ response ∷ []) = with_response (call_of_four name first second third) (bytes_of response)
 call_of_words words = None
 
-abbrev pub call_from : Option (List (List ℕ)) → Option Call
+abbrev pub call_from : Option (List (List ℕ)) → Option Recorded
 call_from (Some words) = call_of_words words
 call_from None = None
 
 -- the call of a line, where the line is of the grammar
-unfoldable pub call_of : List ℕ → Option Call
+unfoldable pub call_of : List ℕ → Option Recorded
 call_of line = if is_utf8 line then call_from (words_of line) else None

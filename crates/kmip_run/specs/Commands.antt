@@ -1,9 +1,9 @@
 -- What the words of the command line ask for.
-use Rattle.std.specs.Prelude.{ℕ, nat_eq, List, [], ◌∷◌, length, drop, Option, Some, None, if◌then◌else◌, codes, bytes_eq}
+use Rattle.std.specs.Prelude.{ℕ, nat_eq, List, [], ◌∷◌, length, drop, Bool, true, false, Option, Some, None, if◌then◌else◌, codes, bytes_eq}
 use Rattle.std.specs.List.{starts_with}
 use Rattle.kmip_run.specs.Values.{number_of}
 use Rattle.kmip_run.specs.declared.command.Command.{Command}
-use Rattle.kmip_run.specs.declared.command.Command.TheVariants.{Replay}
+use Rattle.kmip_run.specs.declared.command.Command.TheVariants.{Replay, Explain}
 
 -- the value that a first word gives to a name, and the words that are left after it
 pub record Given : Type 0 where
@@ -21,25 +21,38 @@ abbrev pub given_after : Option (List ℕ) → List ℕ → List (List ℕ) → 
 given_after (Some before) name words = given name words
 given_after None name words = record { value = None; rest = words }
 
-abbrev pub replay_limited : Option (List ℕ) → Option (List ℕ) → Option ℕ → Option Command
-replay_limited user password (Some limit) = Some (Replay (record { user = user; password = password; limit = Some limit }))
-replay_limited user password None = None
+-- whether the last word is `diag`, where no other is left
+abbrev pub diag_of : List (List ℕ) → Option Bool
+diag_of [] = Some false
+diag_of (word ∷ []) = if bytes_eq word (codes "diag") then Some true else None
+diag_of words = None
 
--- `replay`, with these words left after its last one
-abbrev pub replay_with : Option (List ℕ) → Option (List ℕ) → Option (List ℕ) → List (List ℕ) → Option Command
-replay_with user password None [] = Some (Replay (record { user = user; password = password; limit = None }))
-replay_with user password (Some limit) [] = replay_limited user password (number_of limit)
-replay_with user password limit words = None
+abbrev pub replay_limited : Option (List ℕ) → Option (List ℕ) → Option ℕ → Bool → Option Command
+replay_limited user password (Some limit) diag = Some (Replay (record { user = user; password = password; limit = Some limit; diag = diag }))
+replay_limited user password None diag = None
 
--- `[user=U] [password=P] [limit=N]`, each at most once and in this order, and a password only after a user
+abbrev pub replay_with : Option (List ℕ) → Option (List ℕ) → Option (List ℕ) → Option Bool → Option Command
+replay_with user password None (Some diag) = Some (Replay (record { user = user; password = password; limit = None; diag = diag }))
+replay_with user password (Some limit) (Some diag) = replay_limited user password (number_of limit) diag
+replay_with user password limit None = None
+
+-- `[user=U] [password=P] [limit=N] [diag]`, each at most once and in this order, and a password only after a user
 unfoldable pub replay_of : List (List ℕ) → Option Command
 replay_of words =
     let user : Given = given (codes "user=") words in
     let password : Given = given_after user.value (codes "password=") user.rest in
     let limit : Given = given (codes "limit=") password.rest in
-    replay_with user.value password.value limit.value limit.rest
+    replay_with user.value password.value limit.value (diag_of limit.rest)
+
+-- `explain` takes no more words
+abbrev pub explain_of : List (List ℕ) → Option Command
+explain_of [] = Some Explain
+explain_of words = None
 
 -- the command of the words after the program's name
 unfoldable pub command_of : List (List ℕ) → Option Command
 command_of [] = None
-command_of (name ∷ words) = if bytes_eq name (codes "replay") then replay_of words else None
+command_of (name ∷ words) =
+    if bytes_eq name (codes "replay") then replay_of words
+    else if bytes_eq name (codes "explain") then explain_of words
+    else None

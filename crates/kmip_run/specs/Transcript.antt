@@ -2,14 +2,16 @@
 use Rattle.std.specs.Prelude.{◌≡◌, ℕ, ◌+◌, ◌≤◌, List, [], ◌∷◌, ◌++◌, length, drop, min, Bool, true, false, Option, Some, None, IsSome, if◌then◌else◌, nat_lt, codes}
 use Rattle.std.specs.Fmt.{decimal}
 use Rattle.std.specs.List.{All}
+use Rattle.std.specs.Str.{is_utf8}
 use Rattle.hex.specs.Hex.{encode_upper}
+use Rattle.kmip_diag.specs.Expansion.{expansion}
 use Rattle.kmip_link.specs.Plan.{MemoryState}
 use Rattle.kmip_run.specs.Script.{lines_of}
-use Rattle.kmip_run.specs.Calls.{call_of, response_of}
+use Rattle.kmip_run.specs.Calls.{call_of}
 use Rattle.kmip_run.specs.Commands.{command_of}
 use Rattle.kmip_run.specs.Exchange.{Settings, settings_for, Step, step}
 use Rattle.kmip_run.specs.declared.command.Command.{Command}
-use Rattle.kmip_run.specs.declared.command.Command.TheVariants.{Replay}
+use Rattle.kmip_run.specs.declared.command.Command.TheVariants.{Replay, Explain}
 
 -- what is written, the status, and the bytes that are fed to the link, sent, and taken
 pub record Transcript : Type 0 where
@@ -23,18 +25,18 @@ pub record Transcript : Type 0 where
 abbrev pub only_text : List ℕ → ℕ → Transcript
 only_text text status = record { text = text; status = status; fed = []; sent = []; taken = 0 }
 
--- the lines of a call: what it sent, and its answer
+-- a line that is not of the grammar, by its number
+abbrev pub bad_line : ℕ → Transcript
+bad_line number = only_text (codes "! line " ++ (decimal number ++ codes "\n")) 2
+
+-- the lines of a call: what it sent, its diagnostics and its answer
 abbrev pub call_text : Step → List ℕ
-call_text s = codes "> " ++ (encode_upper s.sent ++ (codes "\n" ++ s.shown))
+call_text s = codes "> " ++ (encode_upper s.sent ++ (codes "\n" ++ (s.told ++ s.shown)))
 
 -- the status after a call: 1 once some answer was an error
 abbrev pub status_after : ℕ → Bool → ℕ
 status_after status true = 1
 status_after status false = status
-
--- a line that is not of the grammar, by its number
-abbrev pub bad_line : ℕ → Transcript
-bad_line number = only_text (codes "! line " ++ (decimal number ++ codes "\n")) 2
 
 -- a call that is fed this response, and the later lines
 abbrev pub then_later : List ℕ → Step → Transcript → Transcript
@@ -46,26 +48,47 @@ then_later fed s later = record {
   taken = s.taken + later.taken;
 }
 
--- the lines from this one on: their numbers, the status so far, and the bytes left
+-- the calls of the lines from this one on: their numbers, the status so far, and the bytes left
 unfoldable pub replayed : Settings → List (List ℕ) → ℕ → ℕ → List ℕ → Transcript
 replayed settings [] number status rest = only_text [] status
 replayed settings (line ∷ lines) number status rest = elim (call_of line) [
   | None ↦ bad_line number
-  | Some call ↦
-      let s : Step = step settings call (rest ++ response_of call) in
-      then_later (response_of call) s (replayed settings lines (number + 1) (status_after status s.failed) (drop s.taken (rest ++ response_of call)))
+  | Some it ↦
+      let s : Step = step settings it.call (rest ++ it.response) in
+      then_later it.response s (replayed settings lines (number + 1) (status_after status s.failed) (drop s.taken (rest ++ it.response)))
 ]
+
+-- the expansion of a line that is a diagnostic
+unfoldable pub expanded : List ℕ → Option (List ℕ)
+expanded line = if is_utf8 line then expansion (Some 0x4200) line else None
+
+-- this text and the later one, with the later status
+abbrev pub then_text : List ℕ → Transcript → Transcript
+then_text text later = only_text (text ++ later.text) later.status
+
+-- the expansions of the lines from this one on, by their numbers
+unfoldable pub explained : List (List ℕ) → ℕ → Transcript
+explained [] number = only_text [] 0
+explained (line ∷ lines) number = elim (expanded line) [
+  | None ↦ bad_line number
+  | Some text ↦ then_text text (explained lines (number + 1))
+]
+
+-- what a command makes of the lines of its script
+abbrev pub lines_transcript : Command → List (List ℕ) → Transcript
+lines_transcript (Replay options) lines = replayed (settings_for options) lines 1 0 []
+lines_transcript Explain lines = explained lines 1
 
 -- the bytes of the longest script
 unfoldable pub most_script : ℕ
 most_script = 16777216
 
-unfoldable pub replay_transcript : Settings → List ℕ → Transcript
-replay_transcript settings script = if nat_lt most_script (length script) then only_text [] 6 else replayed settings (lines_of script) 1 0 []
+unfoldable pub script_transcript : Command → List ℕ → Transcript
+script_transcript command script = if nat_lt most_script (length script) then only_text [] 6 else lines_transcript command (lines_of script)
 
 abbrev pub command_transcript : Option Command → List ℕ → Transcript
 command_transcript None script = only_text (codes "! words\n") 2
-command_transcript (Some (Replay options)) script = replay_transcript (settings_for options) script
+command_transcript (Some command) script = script_transcript command script
 
 -- what the program does with these words over this script
 unfoldable pub transcript : List (List ℕ) → List ℕ → Transcript
@@ -74,12 +97,24 @@ transcript words script = command_transcript (command_of words) script
 -- how many bytes a command reads of those left: one more than the longest script at most
 abbrev pub read_by : Option Command → ℕ → ℕ
 read_by None left = 0
-read_by (Some (Replay options)) left = min (most_script + 1) left
+read_by (Some command) left = min (most_script + 1) left
+
+-- The command makes calls, over the link.
+abbrev pub makes_calls : Option Command → Bool
+makes_calls (Some (Replay options)) = true
+makes_calls (Some Explain) = false
+makes_calls None = false
+
+-- The line is of the grammar of a command.
+abbrev pub IsLineOf : Option Command → List ℕ → Type 0
+IsLineOf (Some (Replay options)) line = IsSome (call_of line)
+IsLineOf (Some Explain) line = IsSome (expanded line)
+IsLineOf None line = ⊥
 
 -- The words, and each line of the script, are of the grammar, and the script is not too long.
 pub record IsOfGrammar (words : List (List ℕ)) (script : List ℕ) : Type 0 where
   pub words_are : IsSome (command_of words)
-  pub lines_are : All (λ line. IsSome (call_of line)) (lines_of script)
+  pub lines_are : All (IsLineOf (command_of words)) (lines_of script)
   pub fits : length script ≤ most_script
 
 -- what a call did: to the link, and to the text

@@ -1,6 +1,6 @@
 //! What the words of the command line ask for.
 ghost use Rattle.std.specs.Prelude.{◌≡◌, ◌∷◌, [], map, option_map, IfOk, Some};
-ghost use Rattle.kmip_run.specs.Commands.{given, given_after, replay_of, command_of};
+ghost use Rattle.kmip_run.specs.Commands.{given, given_after, diag_of, replay_of, explain_of, command_of};
 ghost use Rattle.kmip_run.specs.declared.command.Command.TheVariants.{Replay};
 
 use crate::values::number_of;
@@ -16,13 +16,17 @@ pub struct Options {
     pub password: Option<Text>,
     /// `limit=N`: the most bytes that a response may have.
     pub limit: Option<u32>,
+    /// `diag`: the diagnostics of each call are shown.
+    pub diag: bool,
 }
 
 /// What the program is to do.
 #[derive(Drop)]
 pub enum Command {
-    /// `replay [user=U] [password=P] [limit=N]`: makes the calls of the script, over recorded responses.
+    /// `replay [user=U] [password=P] [limit=N] [diag]`: makes the calls of the script, over recorded responses.
     Replay(Options),
+    /// `explain`: expands the diagnostics of the script.
+    Explain,
 }
 
 /// The value that the first word gives to a name, as in `name=value`, and the words that are left after it.
@@ -54,6 +58,20 @@ fn given_after<'a>(
     }
 }
 
+/// Whether the last word is `diag`, where no other is left.
+fn diag_of(words: &[Text]) -> Option<bool>
+    ensures { result ≡ diag_of words.now }
+{
+    match words {
+        [] => Some(false),
+        [word] => match word.as_str() {
+            "diag" => Some(true),
+            _ => None,
+        },
+        _ => None,
+    }
+}
+
 /// A copy of a text that may be absent.
 fn copied(alloc: Global, text: Option<&str>) -> Result<Option<Text>, OutOfMemory>
     ensures { IfOk result (λ copy. copy ≡ option_map (λ text. text.now) text.entry) }
@@ -70,11 +88,13 @@ fn replay_with(
     user: Option<&str>,
     password: Option<&str>,
     limit: Option<u32>,
+    diag: bool,
 ) -> Result<Option<Command>, OutOfMemory>
     ensures { IfOk result (λ command. command ≡ Some (Replay (record {
       user = option_map (λ text. text.now) user.entry;
       password = option_map (λ text. text.now) password.entry;
       limit = limit;
+      diag = diag;
     }))) }
 {
     let user = copied(alloc, user)?;
@@ -83,6 +103,7 @@ fn replay_with(
         user,
         password,
         limit,
+        diag,
     })))
 }
 
@@ -93,15 +114,25 @@ fn replay_of(alloc: Global, words: &[Text]) -> Result<Option<Command>, OutOfMemo
     let (user, words) = given("user=", words);
     let (password, words) = given_after(user, "password=", words);
     let (limit, words) = given("limit=", words);
-    if !words.is_empty() {
+    let Some(diag) = diag_of(words) else {
         return Ok(None);
-    }
+    };
     match limit {
         Some(limit) => match number_of(limit) {
-            Some(limit) => replay_with(alloc, user, password, Some(limit)),
+            Some(limit) => replay_with(alloc, user, password, Some(limit), diag),
             None => Ok(None),
         },
-        None => replay_with(alloc, user, password, None),
+        None => replay_with(alloc, user, password, None, diag),
+    }
+}
+
+/// `explain`, or none where more words follow.
+fn explain_of(words: &[Text]) -> Option<Command>
+    ensures { result ≡ explain_of words.now }
+{
+    match words {
+        [] => Some(Command::Explain),
+        _ => None,
     }
 }
 
@@ -114,6 +145,7 @@ pub fn command_of(alloc: Global, words: &[Text]) -> Result<Option<Command>, OutO
     };
     match name.as_str() {
         "replay" => replay_of(alloc, options),
+        "explain" => Ok(explain_of(options)),
         _ => Ok(None),
     }
 }

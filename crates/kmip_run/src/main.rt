@@ -1,15 +1,20 @@
-//! The program `kmip_run`: it replays calls of a KMIP client over recorded responses.
+//! The program `kmip_run`: it replays calls of a KMIP client over recorded responses, and explains diagnostics.
 //!
-//! Its words say what to do, and its standard input is the script, of one call a line. It writes what each
-//! call sent and what it answered, and ends with a status from 0 to 6, as `program::run` says.
+//! Its words say what to do, and its standard input is the script, of one call or one diagnostic a line. It writes
+//! what each call sent and what it answered, or what each diagnostic shows, and ends with a status from 0 to 6, as
+//! `program::run` says.
 #![tactic(auto)]
 
+mod answer;
 mod call;
 mod command;
 mod exchange;
+mod explain;
 mod program;
 mod replay;
 mod script;
+mod setup;
+mod show;
 mod streams;
 #[cfg(test)]
 mod tests;

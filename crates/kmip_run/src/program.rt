@@ -1,15 +1,16 @@
 //! The program.
-ghost use Rattle.std.specs.Prelude.{◌≡◌, ◌≢◌, ◌+◌, ◌<◌, ◌≤◌, ◌++◌, ◌⊎◌, [], min, length, drop, codes, None, Some, IsSome, IsTrue, IfOk};
+ghost use Rattle.std.specs.Prelude.{◌≡◌, ◌≢◌, ◌+◌, ◌<◌, ◌≤◌, ◌++◌, ◌⊎◌, [], min, length, drop, codes, false, None, Some, IsSome, IsTrue, IfOk};
 ghost use Rattle.kmip_link.specs.State.{SourceKeeps, SinkKeeps, Rose, source_left};
 ghost use Rattle.kmip_run.specs.Script.{lines_of};
 ghost use Rattle.kmip_run.specs.Commands.{command_of};
 ghost use Rattle.kmip_run.specs.Exchange.{settings_for};
 ghost use Rattle.kmip_run.specs.Streams.{WrotePart};
-ghost use Rattle.kmip_run.specs.Transcript.{most_script, read_by, replayed, replay_transcript, command_transcript, transcript, IsOfGrammar, Replays};
+ghost use Rattle.kmip_run.specs.Transcript.{most_script, read_by, makes_calls, replayed, lines_transcript, script_transcript, transcript, IsOfGrammar, Replays};
 
 use crate::command::{Command, Options, command_of};
-use crate::exchange::client_of;
+use crate::explain::explain;
 use crate::replay::replay;
+use crate::setup::client_of;
 use crate::streams::{read_up_to, write_out};
 use kmip_link::{LinkError, MemoryLink, Sink, Source};
 use kmip_wire::{List, OutOfMemory, Text};
@@ -49,55 +50,34 @@ fn replay_on(
         link.old link.new status output.old output.new) }
 {
     let moved = mem::replace(link, MemoryLink::new(alloc));
+    let diag = options.diag;
     let mut client = client_of(moved, options);
-    let status = replay(alloc, &mut client, script, output);
+    let status = replay(alloc, &mut client, diag, script, output);
     *link = mem::replace(client.inner(), MemoryLink::new(alloc));
     status
 }
 
-/// Reads the whole script and replays it, and answers the status.
-fn replay_script<S: Source, K: Sink>(
+/// Does what a command asks for with the whole script, and answers the status.
+fn perform(
     alloc: Global,
-    options: Options,
-    source: &mut S,
-    sink: &mut K,
+    command: Command,
+    script: &[u8],
     link: &mut MemoryLink,
-) -> u8
+    output: &mut Text,
+) -> Result<u8, OutOfMemory>
     requires { drop link.old.pos link.old.ever ≡ [] }
-    ensures source_keeps { SourceKeeps (S.state source.old) (S.state source.new) }
-    ensures sink_keeps { SinkKeeps (K.state sink.old) (K.state sink.new) }
-    ensures bound { result ≤ 6 }
-    ensures replays { IsTrue (S.state source.old).tells → IsTrue (K.state sink.old).tells → result ≢ 3 → result ≢ 4 → result ≢ 5 →
-        Replays (replay_transcript (settings_for options) (source_left (S.state source.old))) link.old link.new result (K.state sink.old).sent (K.state sink.new).sent }
-    ensures part { IsTrue (S.state source.old).tells → IsTrue (K.state sink.old).tells → (result ≡ 4) ⊎ (result ≡ 5) →
-        WrotePart (K.state sink.old) (K.state sink.new) (replay_transcript (settings_for options) (source_left (S.state source.old))).text }
-    ensures read_fault { result ≡ 3 → Rose (S.state source.old).faults (S.state source.new).faults }
-    ensures write_fault { result ≡ 4 → Rose (K.state sink.old).faults (K.state sink.new).faults }
-    ensures kept { (result ≡ 3) ⊎ (result ≡ 6) → link.new ≡ link.old }
-    ensures silent { (result ≡ 3) ⊎ (result ≡ 6) → K.state sink.new ≡ K.state sink.old }
-    ensures too_long { IsTrue (S.state source.old).tells → result ≡ 6 → most_script < length (source_left (S.state source.old)) }
-    ensures long { IsTrue (S.state source.old).tells → most_script < length (source_left (S.state source.old)) → (result ≡ 6) ⊎ ((result ≡ 3) ⊎ (result ≡ 5)) }
-    ensures read { IsTrue (S.state source.old).tells → result ≢ 3 → result ≢ 4 → result ≢ 5 →
-        (S.state source.new).pos ≡ (S.state source.old).pos + min (most_script + 1) (length (source_left (S.state source.old))) }
+    ensures bound { IfOk result (λ status. status < 3) }
+    ensures kept { makes_calls (Some command) ≡ false → link.new ≡ link.old }
+    ensures replays { IfOk result (λ status. Replays (lines_transcript command (lines_of script.now)) link.old link.new status output.old output.new) }
 {
-    let mut script = Vec::new(alloc);
-    match read_up_to(alloc, source, MAX_SCRIPT + 1, &mut script) {
-        Ok(()) => {}
-        Err(LinkError::Fault) => return 3,
-        Err(LinkError::OutOfMemory) => return 5,
-    }
-    if script.len() > MAX_SCRIPT {
-        return 6;
-    }
-    let mut output = Text::new(alloc);
-    match replay_on(alloc, options, &script, link, &mut output) {
-        Ok(status) => finish(sink, output.as_str(), status),
-        Err(OutOfMemory) => 5,
+    match command {
+        Command::Replay(options) => replay_on(alloc, options, script, link, output),
+        Command::Explain => explain(alloc, script, output),
     }
 }
 
-/// Does what a command asks for, and answers the status.
-fn perform<S: Source, K: Sink>(
+/// Reads the whole script, does with it what the command asks for, and answers the status.
+fn run_script<S: Source, K: Sink>(
     alloc: Global,
     command: Command,
     source: &mut S,
@@ -109,32 +89,43 @@ fn perform<S: Source, K: Sink>(
     ensures sink_keeps { SinkKeeps (K.state sink.old) (K.state sink.new) }
     ensures bound { result ≤ 6 }
     ensures replays { IsTrue (S.state source.old).tells → IsTrue (K.state sink.old).tells → result ≢ 3 → result ≢ 4 → result ≢ 5 →
-        Replays (command_transcript (Some command) (source_left (S.state source.old))) link.old link.new result (K.state sink.old).sent (K.state sink.new).sent }
+        Replays (script_transcript command (source_left (S.state source.old))) link.old link.new result (K.state sink.old).sent (K.state sink.new).sent }
     ensures part { IsTrue (S.state source.old).tells → IsTrue (K.state sink.old).tells → (result ≡ 4) ⊎ (result ≡ 5) →
-        WrotePart (K.state sink.old) (K.state sink.new) (command_transcript (Some command) (source_left (S.state source.old))).text }
+        WrotePart (K.state sink.old) (K.state sink.new) (script_transcript command (source_left (S.state source.old))).text }
     ensures read_fault { result ≡ 3 → Rose (S.state source.old).faults (S.state source.new).faults }
     ensures write_fault { result ≡ 4 → Rose (K.state sink.old).faults (K.state sink.new).faults }
-    ensures kept { (result ≡ 3) ⊎ (result ≡ 6) → link.new ≡ link.old }
+    ensures kept { (makes_calls (Some command) ≡ false) ⊎ ((result ≡ 3) ⊎ (result ≡ 6)) → link.new ≡ link.old }
     ensures silent { (result ≡ 3) ⊎ (result ≡ 6) → K.state sink.new ≡ K.state sink.old }
     ensures too_long { IsTrue (S.state source.old).tells → result ≡ 6 → most_script < length (source_left (S.state source.old)) }
     ensures long { IsTrue (S.state source.old).tells → most_script < length (source_left (S.state source.old)) → (result ≡ 6) ⊎ ((result ≡ 3) ⊎ (result ≡ 5)) }
     ensures read { IsTrue (S.state source.old).tells → result ≢ 3 → result ≢ 4 → result ≢ 5 →
         (S.state source.new).pos ≡ (S.state source.old).pos + read_by (Some command) (length (source_left (S.state source.old))) }
 {
-    match command {
-        Command::Replay(options) => replay_script(alloc, options, source, sink, link),
+    let mut script = Vec::new(alloc);
+    match read_up_to(alloc, source, MAX_SCRIPT + 1, &mut script) {
+        Ok(()) => {}
+        Err(LinkError::Fault) => return 3,
+        Err(LinkError::OutOfMemory) => return 5,
+    }
+    if script.len() > MAX_SCRIPT {
+        return 6;
+    }
+    let mut output = Text::new(alloc);
+    match perform(alloc, command, &script, link, &mut output) {
+        Ok(status) => finish(sink, output.as_str(), status),
+        Err(OutOfMemory) => 5,
     }
 }
 
 /// Runs the program on the words after its name, and answers its status.
 ///
-/// 0: each line was answered. 1: some line answered an error. 2: the words, or a line, are not of the
-/// grammar. 3: the source failed, and nothing is written. 4: the sink failed, and a first part of the text is
+/// 0: each line was answered, or explained. 1: some line answered an error. 2: the words, or a line, are not of
+/// the grammar. 3: the source failed, and nothing is written. 4: the sink failed, and a first part of the text is
 /// written. 5: memory ran out, and a first part of the text is written. 6: the script is longer than
 /// 16,777,216 bytes, and nothing is written.
 ///
-/// The link gets the recorded responses and keeps what was sent. Where the words are not of the grammar, and
-/// after 3 and 6, it is as it was; after 4 and 5 under words of the grammar nothing is said of it.
+/// The link gets the recorded responses and keeps what was sent. Where the words are not of the grammar or do not
+/// ask for calls, and after 3 and 6, it is as it was; after 4 and 5 under `replay` nothing is said of it.
 pub fn run<S: Source, K: Sink>(
     alloc: Global,
     words: &List<Text>,
@@ -156,7 +147,7 @@ pub fn run<S: Source, K: Sink>(
     ensures words_text { command_of words.now ≡ None → IsTrue (K.state sink.old).tells → result ≡ 2 → (K.state sink.new).sent ≡ (K.state sink.old).sent ++ codes "! words\n" }
     ensures words_part { command_of words.now ≡ None → IsTrue (K.state sink.old).tells → WrotePart (K.state sink.old) (K.state sink.new) (codes "! words\n") }
     ensures unread { command_of words.now ≡ None → S.state source.new ≡ S.state source.old }
-    ensures kept { (command_of words.now ≡ None) ⊎ ((result ≡ 3) ⊎ (result ≡ 6)) → link.new ≡ link.old }
+    ensures kept { (makes_calls (command_of words.now) ≡ false) ⊎ ((result ≡ 3) ⊎ (result ≡ 6)) → link.new ≡ link.old }
     ensures silent { (result ≡ 3) ⊎ (result ≡ 6) → K.state sink.new ≡ K.state sink.old }
     ensures too_long { IsTrue (S.state source.old).tells → result ≡ 6 → IsSome (command_of words.now) × (most_script < length (source_left (S.state source.old))) }
     ensures long { IsTrue (S.state source.old).tells → IsSome (command_of words.now) → most_script < length (source_left (S.state source.old)) → (result ≡ 6) ⊎ ((result ≡ 3) ⊎ (result ≡ 5)) }
@@ -167,7 +158,7 @@ pub fn run<S: Source, K: Sink>(
         IsOfGrammar words.now (source_left (S.state source.old)) → (result ≡ 0) ⊎ ((result ≡ 1) ⊎ (result ≡ 5)) }
 {
     match command_of(alloc, words.as_slice()) {
-        Ok(Some(command)) => perform(alloc, command, source, sink, link),
+        Ok(Some(command)) => run_script(alloc, command, source, sink, link),
         Ok(None) => finish(sink, "! words\n", 2),
         Err(OutOfMemory) => 5,
     }

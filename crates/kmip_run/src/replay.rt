@@ -1,13 +1,12 @@
 //! The lines of a script, one call after the other.
-ghost use Rattle.std.specs.Prelude.{◌≡◌, ◌<◌, ◌++◌, drop, codes, IfOk, OnOk};
-ghost use Rattle.std.specs.Fmt.{decimal};
+ghost use Rattle.std.specs.Prelude.{◌≡◌, ◌<◌, drop, IfOk};
 ghost use Rattle.kmip_run.specs.Script.{lines_of};
 ghost use Rattle.kmip_run.specs.Exchange.{settings_of};
 ghost use Rattle.kmip_run.specs.Transcript.{status_after, replayed, Replays};
 
 use crate::call::call_of;
 use crate::exchange::exchange;
-use crate::script::first_line;
+use crate::script::{first_line, show_bad_line};
 use kmip_client::Client;
 use kmip_link::MemoryLink;
 use kmip_wire::{OutOfMemory, Text};
@@ -21,21 +20,16 @@ fn status_after(status: u8, failed: bool) -> u8
     if failed { 1 } else { status }
 }
 
-/// Adds that the line with this number is not of the grammar.
-fn show_bad_line(alloc: Global, number: usize, output: &mut Text) -> Result<(), OutOfMemory>
-    ensures { OnOk result (output.new ≡ output.old ++ (codes "! line " ++ (decimal number ++ codes "\n"))) }
-{
-    let text = format!(in alloc; "! line {number}\n")?;
-    output.push_str(text.as_str())
-}
-
-/// Makes the calls of the lines, up to a line that is not of the grammar, and answers the status.
+/// Makes the calls of the lines, up to a line that is not of the grammar, and answers the status. `diag` says
+/// whether the client keeps diagnostics.
 pub fn replay(
     alloc: Global,
     client: &mut Client<MemoryLink>,
+    diag: bool,
     script: &[u8],
     output: &mut Text,
 ) -> Result<u8, OutOfMemory>
+    requires { diag ≡ client.old.buffered }
     ensures bound { IfOk result (λ status. status < 3) }
     ensures replays { IfOk result (λ status. Replays
         (replayed (settings_of client.old) (lines_of script.now) 1 0 (drop client.old.link.pos client.old.link.ever))
@@ -47,11 +41,11 @@ pub fn replay(
     while !rest.is_empty() {
         let (line, later) = first_line(rest);
         number += 1;
-        let Some(call) = call_of(alloc, line)? else {
+        let Some(recorded) = call_of(alloc, line)? else {
             show_bad_line(alloc, number, output)?;
             return Ok(2);
         };
-        let failed = exchange(alloc, client, call, output)?;
+        let failed = exchange(alloc, client, diag, recorded, output)?;
         status = status_after(status, failed);
         rest = later;
     }

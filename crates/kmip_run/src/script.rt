@@ -1,6 +1,10 @@
 //! The lines of a script.
-ghost use Rattle.std.specs.Prelude.{◌≡◌, ◌<◌, ◌∷◌, length};
+ghost use Rattle.std.specs.Prelude.{◌≡◌, ◌<◌, ◌∷◌, ◌++◌, length, codes, OnOk};
+ghost use Rattle.std.specs.Fmt.{decimal};
 ghost use Rattle.kmip_run.specs.Script.{lines_of};
+
+use kmip_wire::{OutOfMemory, Text};
+use std::alloc::Global;
 
 /// The first line of a script that is not empty, without its line feed, and what follows it.
 pub fn first_line(script: &[u8]) -> (&[u8], &[u8])
@@ -12,4 +16,12 @@ pub fn first_line(script: &[u8]) -> (&[u8], &[u8])
         Some(end) => (&script[..end], &script[end + 1..]),
         None => (script, &[]),
     }
+}
+
+/// Adds that the line with this number is not of the grammar.
+pub fn show_bad_line(alloc: Global, number: usize, output: &mut Text) -> Result<(), OutOfMemory>
+    ensures { OnOk result (output.new ≡ output.old ++ (codes "! line " ++ (decimal number ++ codes "\n"))) }
+{
+    let text = format!(in alloc; "! line {number}\n")?;
+    output.push_str(text.as_str())
 }

@@ -364,6 +364,267 @@ const GRAMMAR: &[Row] = &[
     },
 ];
 
+/// Each call, and what is shown of its answer.
+const CALLS: &[Row] = &[
+    Row {
+        shows: "the payload of another operation",
+        words: &["replay"],
+        script: b"activate k1 42007B010000009042007A0100000048420069010000002042006A0200000004000000010000000042006B020000000400000000000000004200920900000008000000000000000142000D0200000004000000010000000042000F010000003842005C0500000004000000130000000042007F0500000004000000000000000042007C010000001042009407000000026B31000000000000\n",
+        written: "> 42007801000000704200770100000038420069010000002042006A0200000004000000010000000042006B0200000004000000000000000042000D0200000004000000010000000042000F010000002842005C05000000040000001200000000420079010000001042009407000000026B31000000000000\n- Internal error: Response operation Some(Revoke) does not match request operation Activate\n",
+        status: 1,
+    },
+    Row {
+        shows: "what the server can do",
+        words: &["replay"],
+        script: b"query 42007B01000000C042007A0100000048420069010000002042006A0200000004000000010000000042006B020000000400000002000000004200920900000008000000000000000142000D0200000004000000010000000042000F010000006842005C0500000004000000180000000042007F0500000004000000000000000042007C010000004042005C0500000004000000010000000042005C050000000400000018000000004200570500000004000000020000000042009D07000000017800000000000000\n",
+        written: "> 42007801000000904200770100000038420069010000002042006A0200000004000000010000000042006B0200000004000000020000000042000D0200000004000000010000000042000F010000004842005C050000000400000018000000004200790100000030420074050000000400000001000000004200740500000004000000020000000042007405000000040000000300000000\n= {operations=[Create,Query],object_types=[SymmetricKey],vendor_identification=\"x\"}\n",
+        status: 0,
+    },
+    Row {
+        shows: "a key that is not found",
+        words: &["replay"],
+        script: b"destroy k1 42007B010000009842007A0100000048420069010000002042006A0200000004000000010000000042006B020000000400000000000000004200920900000008000000000000000142000D0200000004000000010000000042000F010000004042005C0500000004000000140000000042007F0500000004000000010000000042007E0500000004000000010000000042007D0700000004676F6E6500000000\n",
+        written: "> 42007801000000704200770100000038420069010000002042006A0200000004000000010000000042006B0200000004000000000000000042000D0200000004000000010000000042000F010000002842005C05000000040000001400000000420079010000001042009407000000026B31000000000000\n- Item not found: Operation Destroy failed: gone\n",
+        status: 1,
+    },
+    Row {
+        shows: "the identifiers of a pair",
+        words: &["replay"],
+        script: b"create-rsa 2048 priv pub 42007B01000000A042007A0100000048420069010000002042006A0200000004000000010000000042006B020000000400000000000000004200920900000008000000000000000142000D0200000004000000010000000042000F010000004842005C0500000004000000020000000042007F0500000004000000000000000042007C01000000204200660700000001610000000000000042006F07000000016200000000000000\n",
+        written: "> 42007801000001D84200770100000038420069010000002042006A0200000004000000010000000042006B0200000004000000000000000042000D0200000004000000010000000042000F010000019042005C05000000040000000200000000420079010000017842001F0100000070420008010000003042000A070000001743727970746F6772617068696320416C676F726974686D0042000B05000000040000000400000000420008010000003042000A070000001443727970746F67726170686963204C656E6774680000000042000B020000000400000800000000004200650100000078420008010000003842000A07000000044E616D650000000042000B01000000204200550700000004707269760000000042005405000000040000000100000000420008010000003042000A070000001843727970746F67726170686963205573616765204D61736B42000B0200000004000000010000000042006E0100000078420008010000003842000A07000000044E616D650000000042000B01000000204200550700000003707562000000000042005405000000040000000100000000420008010000003042000A070000001843727970746F67726170686963205573616765204D61736B42000B02000000040000000200000000\n= (\"a\",\"b\")\n",
+        status: 0,
+    },
+    Row {
+        shows: "a signature",
+        words: &["replay"],
+        script: b"sign k1 0102 42007B01000000A042007A0100000048420069010000002042006A0200000004000000010000000042006B020000000400000002000000004200920900000008000000000000000142000D0200000004000000010000000042000F010000004842005C0500000004000000210000000042007F0500000004000000000000000042007C010000002042009407000000026B310000000000004200C308000000020A0B000000000000\n",
+        written: "> 42007801000000B84200770100000038420069010000002042006A0200000004000000010000000042006B0200000004000000020000000042000D0200000004000000010000000042000F010000007042005C05000000040000002100000000420079010000005842009407000000026B3100000000000042002B010000003042005F0500000004000000080000000042003805000000040000000600000000420028050000000400000004000000004200C208000000020102000000000000\n= {unique_identifier=\"k1\",signature_data=x\"0A0B\"}\n",
+        status: 0,
+    },
+    Row {
+        shows: "a key is revoked",
+        words: &["replay"],
+        script: b"revoke k1 42007B010000009042007A0100000048420069010000002042006A0200000004000000010000000042006B020000000400000000000000004200920900000008000000000000000142000D0200000004000000010000000042000F010000003842005C0500000004000000130000000042007F0500000004000000000000000042007C010000001042009407000000026B31000000000000\n",
+        written: "> 42007801000000884200770100000038420069010000002042006A0200000004000000010000000042006B0200000004000000000000000042000D0200000004000000010000000042000F010000004042005C05000000040000001300000000420079010000002842009407000000026B31000000000000420081010000001042008205000000040000000600000000\n= ()\n",
+        status: 0,
+    },
+    Row {
+        shows: "a name with a space",
+        words: &["replay"],
+        script: b"rename k1 my%20key 42007B01000000D042007A0100000048420069010000002042006A0200000004000000010000000042006B020000000400000000000000004200920900000008000000000000000142000D0200000004000000010000000042000F010000007842005C05000000040000000E0000000042007F0500000004000000000000000042007C010000005042009407000000026B31000000000000420008010000003842000A07000000044E616D650000000042000B01000000204200540500000004000000010000000042005507000000066D79206B65790000\n",
+        written: "> 42007801000000B04200770100000038420069010000002042006A0200000004000000010000000042006B0200000004000000000000000042000D0200000004000000010000000042000F010000006842005C05000000040000000E00000000420079010000005042009407000000026B31000000000000420008010000003842000A07000000044E616D650000000042000B010000002042005507000000066D79206B6579000042005405000000040000000100000000\n= {unique_identifier=\"k1\",attribute={name=\"Name\",value=Name{name_value=\"my key\",name_type=UninterpretedTextString}}}\n",
+        status: 0,
+    },
+    Row {
+        shows: "a symmetric key",
+        words: &["replay"],
+        script: b"get s1 42007B010000010042007A0100000048420069010000002042006A0200000004000000010000000042006B020000000400000000000000004200920900000008000000000000000142000D0200000004000000010000000042000F01000000A842005C05000000040000000A0000000042007F0500000004000000000000000042007C0100000080420057050000000400000002000000004200940700000002733100000000000042008F01000000584200400100000050420042050000000400000001000000004200450100000018420043080000001000112233445566778899AABBCCDDEEFF4200280500000004000000030000000042002A02000000040000008000000000\n",
+        written: "> 42007801000000704200770100000038420069010000002042006A0200000004000000010000000042006B0200000004000000000000000042000D0200000004000000010000000042000F010000002842005C05000000040000000A00000000420079010000001042009407000000027331000000000000\n= {object_type=SymmetricKey,unique_identifier=\"s1\",cryptographic_object=SymmetricKey{key_block={key_format_type=Raw,key_value={key_material=Bytes(x\"00112233445566778899AABBCCDDEEFF\")},cryptographic_algorithm=AES,cryptographic_length=128}}}\n",
+        status: 0,
+    },
+];
+
+/// Calls with their diagnostics.
+const DIAGNOSTICS: &[Row] = &[
+    Row {
+        shows: "the bytes end within a head and within contents",
+        words: &["replay", "diag"],
+        script: b"rng 16 42007B01000000\nrng 16 42007B0100000090\nrng 16 42007B010000009042007A0100000048420069010000002042006A0200000004000000010000000042006B020000000400000002000000004200920900000008000000000000000142000D0200000004000000010000000042000F010000003842005C0500000004000000250000000042007F0500000004000000000000000042007C01000000104200C20800000004DEADBEEF00000000\n",
+        written: "> 42007801000000704200770100000038420069010000002042006A0200000004000000010000000042006B0200000004000000020000000042000D0200000004000000010000000042000F010000002842005C0500000004000000250000000042007901000000104200C402000000040000001000000000\n>~ 78[77[69[6Ai6Bi]0Di]0F[5Ce25:79[C4i]]]\n<~ !\n- Response read error: end of input\n> 42007801000000704200770100000038420069010000002042006A0200000004000000010000000042006B0200000004000000020000000042000D0200000004000000010000000042000F010000002842005C0500000004000000250000000042007901000000104200C402000000040000001000000000\n>~ 78[77[69[6Ai6Bi]0Di]0F[5Ce25:79[C4i]]]\n<~ 7B[!\n- Response read error: end of input\n> 42007801000000704200770100000038420069010000002042006A0200000004000000010000000042006B0200000004000000020000000042000D0200000004000000010000000042000F010000002842005C0500000004000000250000000042007901000000104200C402000000040000001000000000\n>~ 78[77[69[6Ai6Bi]0Di]0F[5Ce25:79[C4i]]]\n<~ 7B[7A[69[6Ai6Bi]92d0Di]0F[5Ce25:7Fe0:7C[C2x]]]\n= {random_bytes=x\"DEADBEEF\"}\n",
+        status: 1,
+    },
+    Row {
+        shows: "a key is destroyed",
+        words: &["replay", "diag"],
+        script: b"destroy k1 -\n",
+        written: "> 42007801000000704200770100000038420069010000002042006A0200000004000000010000000042006B0200000004000000000000000042000D0200000004000000010000000042000F010000002842005C05000000040000001400000000420079010000001042009407000000026B31000000000000\n>~ 78[77[69[6Ai6Bi]0Di]0F[5Ce14:79[94t]]]\n<~ \n- Response read error: end of input\n",
+        status: 1,
+    },
+    Row {
+        shows: "the length of a text is not told",
+        words: &["replay", "diag"],
+        script: b"destroy k22 -\n",
+        written: "> 42007801000000704200770100000038420069010000002042006A0200000004000000010000000042006B0200000004000000000000000042000D0200000004000000010000000042000F010000002842005C05000000040000001400000000420079010000001042009407000000036B32320000000000\n>~ 78[77[69[6Ai6Bi]0Di]0F[5Ce14:79[94t]]]\n<~ \n- Response read error: end of input\n",
+        status: 1,
+    },
+    Row {
+        shows: "a key is made active",
+        words: &["replay", "diag"],
+        script: b"activate k1 -\n",
+        written: "> 42007801000000704200770100000038420069010000002042006A0200000004000000010000000042006B0200000004000000000000000042000D0200000004000000010000000042000F010000002842005C05000000040000001200000000420079010000001042009407000000026B31000000000000\n>~ 78[77[69[6Ai6Bi]0Di]0F[5Ce12:79[94t]]]\n<~ \n- Response read error: end of input\n",
+        status: 1,
+    },
+    Row {
+        shows: "the length of bytes is not told",
+        words: &["replay", "diag"],
+        script: b"rng 16 42007B01000000B842007A0100000048420069010000002042006A0200000004000000010000000042006B020000000400000002000000004200920900000008000000000000000142000D0200000004000000010000000042000F010000006042005C0500000004000000250000000042007F0500000004000000000000000042007C01000000384200C2080000002BABABABABABABABABABABABABABABABABABABABABABABABABABABABABABABABABABABABABABABABABABABAB0000000000\n",
+        written: "> 42007801000000704200770100000038420069010000002042006A0200000004000000010000000042006B0200000004000000020000000042000D0200000004000000010000000042000F010000002842005C0500000004000000250000000042007901000000104200C402000000040000001000000000\n>~ 78[77[69[6Ai6Bi]0Di]0F[5Ce25:79[C4i]]]\n<~ 7B[7A[69[6Ai6Bi]92d0Di]0F[5Ce25:7Fe0:7C[C2x]]]\n= {random_bytes=x\"ABABABABABABABABABABABABABABABABABABABABABABABABABABABABABABABABABABABABABABABABABABAB\"}\n",
+        status: 0,
+    },
+    Row {
+        shows: "the bytes end within a header",
+        words: &["replay", "diag"],
+        script: b"rng 16 42007B010000009042007A01000000484200690100000020\n",
+        written: "> 42007801000000704200770100000038420069010000002042006A0200000004000000010000000042006B0200000004000000020000000042000D0200000004000000010000000042000F010000002842005C0500000004000000250000000042007901000000104200C402000000040000001000000000\n>~ 78[77[69[6Ai6Bi]0Di]0F[5Ce25:79[C4i]]]\n<~ 7B[7A[69[!\n- Response read error: end of input\n",
+        status: 1,
+    },
+];
+
+/// Diagnostics that are explained, and lines that are none.
+const EXPLAINED: &[Row] = &[
+    Row {
+        shows: "an attribute",
+        words: &["explain"],
+        script: b"08[0At0Be4:]\n",
+        written: "Tag: Attribute (0x420008), Type: Structure (0x01), Data: \n  Tag: Attribute Name (0x42000A), Type: TextString (0x07), Data: <redacted>\n  Tag: Attribute Value (0x42000B), Type: Enumeration (0x05), Data: 4\n",
+        status: 0,
+    },
+    Row {
+        shows: "a request with a credential",
+        words: &["explain"],
+        script: b"78[77[69[6Ai6Bi]0C[23[24e1:25[99tA1t]]]0Di]0F[5Ce8:79[08[0At0Be4:]]]]\n",
+        written: "Tag: Request Message (0x420078), Type: Structure (0x01), Data: \n  Tag: Request Header (0x420077), Type: Structure (0x01), Data: \n    Tag: Protocol Version (0x420069), Type: Structure (0x01), Data: \n      Tag: Protocol Version Major (0x42006A), Type: Integer (0x02), Data: <redacted>\n      Tag: Protocol Version Minor (0x42006B), Type: Integer (0x02), Data: <redacted>\n    Tag: Authentication (0x42000C), Type: Structure (0x01), Data: \n      Tag: Credential (0x420023), Type: Structure (0x01), Data: \n        Tag: Credential Type (0x420024), Type: Enumeration (0x05), Data: 1\n        Tag: Credential Value (0x420025), Type: Structure (0x01), Data: \n          Tag: Username (0x420099), Type: TextString (0x07), Data: <redacted>\n          Tag: Password (0x4200A1), Type: TextString (0x07), Data: <redacted>\n    Tag: Batch Count (0x42000D), Type: Integer (0x02), Data: <redacted>\n  Tag: Batch Item (0x42000F), Type: Structure (0x01), Data: \n    Tag: Operation (0x42005C), Type: Enumeration (0x05), Data: 8\n    Tag: Request Payload (0x420079), Type: Structure (0x01), Data: \n      Tag: Attribute (0x420008), Type: Structure (0x01), Data: \n        Tag: Attribute Name (0x42000A), Type: TextString (0x07), Data: <redacted>\n        Tag: Attribute Value (0x42000B), Type: Enumeration (0x05), Data: 4\n",
+        status: 0,
+    },
+    Row {
+        shows: "an open bracket",
+        words: &["explain"],
+        script: b"78[\n",
+        written: "! line 1\n",
+        status: 2,
+    },
+    Row {
+        shows: "the last tag that has a name",
+        words: &["explain"],
+        script: b"420124t\n",
+        written: "Tag: Replace Existing (0x420124), Type: TextString (0x07), Data: <redacted>\n",
+        status: 0,
+    },
+    Row {
+        shows: "a name with two spaces",
+        words: &["explain"],
+        script: b"1Bt\n",
+        written: "Tag: Certificate Subject  Alternative Name (0x42001B), Type: TextString (0x07), Data: <redacted>\n",
+        status: 0,
+    },
+    Row {
+        shows: "a tag after the last that has a name",
+        words: &["explain"],
+        script: b"420125t\n",
+        written: "Tag: Unknown (0x420125), Type: TextString (0x07), Data: <redacted>\n",
+        status: 0,
+    },
+    Row {
+        shows: "a tag with six digits",
+        words: &["explain"],
+        script: b"420108t\n",
+        written: "Tag: Certificate Subject CN (0x420108), Type: TextString (0x07), Data: <redacted>\n",
+        status: 0,
+    },
+    Row {
+        shows: "a tag of an extension",
+        words: &["explain"],
+        script: b"540001t\n",
+        written: "Tag: Unknown (0x540001), Type: TextString (0x07), Data: <redacted>\n",
+        status: 0,
+    },
+    Row {
+        shows: "six digits where two are due",
+        words: &["explain"],
+        script: b"420094t\n",
+        written: "! line 1\n",
+        status: 2,
+    },
+    Row {
+        shows: "a number with a leading zero",
+        words: &["explain"],
+        script: b"24e01:\n",
+        written: "! line 1\n",
+        status: 2,
+    },
+];
+
+/// More of the grammar of `diag` and `explain`.
+const MORE_GRAMMAR: &[Row] = &[
+    Row {
+        shows: "an empty line is the empty diagnostic",
+        words: &["explain"],
+        script: b"\n1Bt",
+        written: "Tag: Certificate Subject  Alternative Name (0x42001B), Type: TextString (0x07), Data: <redacted>\n",
+        status: 0,
+    },
+    Row {
+        shows: "a second line that is no diagnostic",
+        words: &["explain"],
+        script: b"1Bt\n1B[!\n1Bt\n",
+        written: "Tag: Certificate Subject  Alternative Name (0x42001B), Type: TextString (0x07), Data: <redacted>\n! line 2\n",
+        status: 2,
+    },
+    Row {
+        shows: "a diagnostic that is not UTF-8",
+        words: &["explain"],
+        script: b"1Bt\xFF\n",
+        written: "! line 1\n",
+        status: 2,
+    },
+    Row {
+        shows: "nothing to explain",
+        words: &["explain"],
+        script: b"",
+        written: "",
+        status: 0,
+    },
+    Row {
+        shows: "a word after explain",
+        words: &["explain", "diag"],
+        script: b"",
+        written: "! words\n",
+        status: 2,
+    },
+    Row {
+        shows: "diag given twice",
+        words: &["replay", "diag", "diag"],
+        script: b"",
+        written: "! words\n",
+        status: 2,
+    },
+    Row {
+        shows: "all the words of replay",
+        words: &["replay", "user=", "password=", "limit=8", "diag"],
+        script: b"",
+        written: "",
+        status: 0,
+    },
+    Row {
+        shows: "a call with a word too many",
+        words: &["replay"],
+        script: b"query - -\n",
+        written: "! line 1\n",
+        status: 2,
+    },
+    Row {
+        shows: "a pair with a word too few",
+        words: &["replay"],
+        script: b"create-rsa 2048 a -\n",
+        written: "! line 1\n",
+        status: 2,
+    },
+    Row {
+        shows: "bytes to sign that are not hex",
+        words: &["replay"],
+        script: b"sign k1 0g -\n",
+        written: "! line 1\n",
+        status: 2,
+    },
+    Row {
+        shows: "words that stay outside the grammar",
+        words: &["make", "1"],
+        script: b"",
+        written: "! words\n",
+        status: 2,
+    },
+];
+
 /// The list of these words.
 fn list_of(alloc: Global, words: &[&str]) -> Result<List<Text>, Fail> {
     let mut list = List::new(alloc);
@@ -410,6 +671,26 @@ fn limits_and_credentials(rt: HostRuntime) -> Result<(), Fail> {
 #[test]
 fn the_grammar_is_kept(rt: HostRuntime) -> Result<(), Fail> {
     rows_hold(&rt, rt.alloc(), GRAMMAR)
+}
+
+#[test]
+fn each_call_is_answered(rt: HostRuntime) -> Result<(), Fail> {
+    rows_hold(&rt, rt.alloc(), CALLS)
+}
+
+#[test]
+fn diagnostics_are_shown(rt: HostRuntime) -> Result<(), Fail> {
+    rows_hold(&rt, rt.alloc(), DIAGNOSTICS)
+}
+
+#[test]
+fn diagnostics_are_explained(rt: HostRuntime) -> Result<(), Fail> {
+    rows_hold(&rt, rt.alloc(), EXPLAINED)
+}
+
+#[test]
+fn the_grammar_of_more_words_is_kept(rt: HostRuntime) -> Result<(), Fail> {
+    rows_hold(&rt, rt.alloc(), MORE_GRAMMAR)
 }
 
 /// Runs the program on `replay` over this script, where these reads and writes fail: its status, and how many

@@ -2,22 +2,22 @@ use Rattle.std.proofs.Common.{◌∙◌, ap, sym, option_map, List, ℕ, Bor}
 use Rattle.kmip_run.proofs.Given.{replay_of_is, with_more, with_limit, with_bad_limit, with_no_limit}
 use Rattle.kmip_run.proofs.command.replay_of.Goals as goal
 
-pub returns-then-not-is_empty : goal.returns-then-not-is_empty
-returns-then-not-is_empty c =
-    let is = replay_of_is c.args.words.now _ _ _ _ _ _ c.given.ensures.value c.given.ensures.rest c.given_after.ensures.value c.given_after.ensures.rest c.given-2.ensures.value c.given-2.ensures.rest in
-    sym (is ∙ with_more _ _ _ _ c.if-not-is_empty.ensures)
+pub returns-in_default : goal.returns-in_default
+returns-in_default c =
+    let is = replay_of_is c.args.words.now _ _ _ _ _ _ _ c.given.ensures.value c.given.ensures.rest c.given_after.ensures.value c.given_after.ensures.rest c.given-2.ensures.value c.given-2.ensures.rest c.diag_of.ensures in
+    sym (is ∙ with_more _ _ _ _ c.in_default.is)
 
 pub returns-in-Some-number_of : goal.returns-in-Some-number_of
 returns-in-Some-number_of c =
-    let is = replay_of_is c.args.words.now _ _ _ _ _ _ c.given.ensures.value c.given.ensures.rest c.given_after.ensures.value c.given_after.ensures.rest c.given-2.ensures.value c.given-2.ensures.rest in
-    rw (is ∙ with_limit _ _ _ _ c.in-Some.limit.now c.in-Some-number_of.limit (ap (option_map (λ (v : Bor (List ℕ)). v.now)) c.in-Some.is) c.if-not-is_empty.ensures c.in-Some-number_of.ensures) c.replay_with.ensures
+    let is = replay_of_is c.args.words.now _ _ _ _ _ _ _ c.given.ensures.value c.given.ensures.rest c.given_after.ensures.value c.given_after.ensures.rest c.given-2.ensures.value c.given-2.ensures.rest c.diag_of.ensures in
+    rw (is ∙ with_limit _ _ _ _ c.in-Some-limit.limit.now c.in-Some-number_of.limit c.in-Some.diag (ap (option_map (λ (v : Bor (List ℕ)). v.now)) c.in-Some-limit.is) c.in-Some.is c.in-Some-number_of.ensures) c.replay_with.ensures
 
 pub returns-in-None-number_of : goal.returns-in-None-number_of
 returns-in-None-number_of c =
-    let is = replay_of_is c.args.words.now _ _ _ _ _ _ c.given.ensures.value c.given.ensures.rest c.given_after.ensures.value c.given_after.ensures.rest c.given-2.ensures.value c.given-2.ensures.rest in
-    sym (is ∙ with_bad_limit _ _ _ _ c.in-Some.limit.now (ap (option_map (λ (v : Bor (List ℕ)). v.now)) c.in-Some.is) c.if-not-is_empty.ensures c.in-None-number_of.ensures)
+    let is = replay_of_is c.args.words.now _ _ _ _ _ _ _ c.given.ensures.value c.given.ensures.rest c.given_after.ensures.value c.given_after.ensures.rest c.given-2.ensures.value c.given-2.ensures.rest c.diag_of.ensures in
+    sym (is ∙ with_bad_limit _ _ _ _ c.in-Some-limit.limit.now c.in-Some.diag (ap (option_map (λ (v : Bor (List ℕ)). v.now)) c.in-Some-limit.is) c.in-Some.is c.in-None-number_of.ensures)
 
 pub returns-in-None : goal.returns-in-None
 returns-in-None c =
-    let is = replay_of_is c.args.words.now _ _ _ _ _ _ c.given.ensures.value c.given.ensures.rest c.given_after.ensures.value c.given_after.ensures.rest c.given-2.ensures.value c.given-2.ensures.rest in
-    rw (is ∙ with_no_limit _ _ _ _ (ap (option_map (λ (v : Bor (List ℕ)). v.now)) c.in-None.is) c.if-not-is_empty.ensures) c.replay_with-in-None.ensures
+    let is = replay_of_is c.args.words.now _ _ _ _ _ _ _ c.given.ensures.value c.given.ensures.rest c.given_after.ensures.value c.given_after.ensures.rest c.given-2.ensures.value c.given-2.ensures.rest c.diag_of.ensures in
+    rw (is ∙ with_no_limit _ _ _ _ c.in-Some.diag (ap (option_map (λ (v : Bor (List ℕ)). v.now)) c.in-None.is) c.in-Some.is) c.replay_with-in-None.ensures

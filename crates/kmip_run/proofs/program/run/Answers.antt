@@ -7,22 +7,22 @@ use Rattle.kmip_run.proofs.program.run.Goals as goal
 pub returns-in-Ok-Some-clause-transcript : goal.returns-in-Ok-Some-clause-transcript
 returns-in-Ok-Some-clause-transcript g c =
     let is = rw (c.in-Ok-Some.field-0-is, c.as_slice.ensures) at c.in-Ok-Some.ensures in
-    rw (transcript_command c.args.words.now (source_left (g.S.Source.state c.args.source.now)) c.in-Ok-Some.command is) c.perform.ensures.replays
+    rw (transcript_command c.args.words.now (source_left (g.S.Source.state c.args.source.now)) c.in-Ok-Some.command is) c.run_script.ensures.replays
 
 pub returns-in-Ok-Some-clause-part : goal.returns-in-Ok-Some-clause-part
 returns-in-Ok-Some-clause-part g c =
     let is = rw (c.in-Ok-Some.field-0-is, c.as_slice.ensures) at c.in-Ok-Some.ensures in
-    rw (transcript_command c.args.words.now (source_left (g.S.Source.state c.args.source.now)) c.in-Ok-Some.command is) c.perform.ensures.part
+    rw (transcript_command c.args.words.now (source_left (g.S.Source.state c.args.source.now)) c.in-Ok-Some.command is) c.run_script.ensures.part
 
 pub returns-in-Ok-Some-clause-complete : goal.returns-in-Ok-Some-clause-complete
 returns-in-Ok-Some-clause-complete g c = λ source sink sound steady good.
     let left = source_left (g.S.Source.state c.args.source.now) in
     let is = rw (c.in-Ok-Some.field-0-is, c.as_slice.ensures) at c.in-Ok-Some.ensures in
-    let no3 = λ (e : c.perform.result ≡ 3). sound (c.perform.ensures.read_fault e) in
-    let no4 = λ (e : c.perform.result ≡ 4). steady (c.perform.ensures.write_fault e) in
-    completes c.perform.result (transcript c.args.words.now left).status no3 no4
-    (λ no5. rw (transcript_command c.args.words.now left c.in-Ok-Some.command is) (c.perform.ensures.replays source sink no3 no4 no5).status_is)
-    (grammar_status c.args.words.now left good)
+    let no3 = λ (e : c.run_script.result ≡ 3). sound (c.run_script.ensures.read_fault e) in
+    let no4 = λ (e : c.run_script.result ≡ 4). steady (c.run_script.ensures.write_fault e) in
+    completes c.run_script.result (transcript c.args.words.now left).status no3 no4
+    (λ no5. rw (transcript_command c.args.words.now left c.in-Ok-Some.command is) (c.run_script.ensures.replays source sink no3 no4 no5).status_is)
+    (grammar_status c.args.words.now left c.in-Ok-Some.command is good)
 
 pub returns-in-Ok-None-clause-transcript : goal.returns-in-Ok-None-clause-transcript
 returns-in-Ok-None-clause-transcript g c = λ source sink no3 no4 no5.

@@ -1,28 +1,31 @@
-use Rattle.std.proofs.Common.{◌≡◌, ◌+◌, ◌∙◌, arith, refl, length}
+use Rattle.std.proofs.Common.{◌≡◌, ◌+◌, ◌++◌, drop, ◌∙◌, ap, sym, arith, refl, length}
 use Rattle.std.proofs.lemmas.Bool.Decides.{nat_tests}
-use Rattle.kmip_run.specs.Exchange.{settings_of}
-use Rattle.kmip_run.proofs.Runs.{nothing_yet, next_call, next_bad, no_more}
+use Rattle.kmip_run.specs.Exchange.{Settings, settings_of}
+use Rattle.kmip_run.proofs.Runs.{nothing_yet, under, next_call, next_bad, no_more}
 use Rattle.kmip_run.proofs.replay.replay.Goals as goal
 
 pub loop-rest-init : goal.loop-rest-init
 loop-rest-init c = record { settings = refl; bound = omega arith; counted = omega arith; so_far = nothing_yet _ _ _ }
 
+pub exchange-requires : goal.exchange-requires
+exchange-requires c = c.requires ∙ sym (ap (λ (s : Settings). s.buffered) c.loop-rest.invariant.settings)
+
 pub loop-rest-preserved : goal.loop-rest-preserved
 loop-rest-preserved c =
     let i = c.loop-rest.invariant in
-    let is = rw c.in-Some.is at c.in_ok-call.ensures in
+    let is = rw c.in-Some.is at c.in_ok-recorded.ensures in
     record {
       settings = c.in_ok-failed.ensures.settings ∙ i.settings;
       bound = c.status_after-status.ensures.bound i.bound;
       counted = omega (arith, c.first_line.ensures.shorter);
-      so_far = next_call (settings_of c.args.client.now) c.in-Some.call c.loop-rest.rest.now c.first_line.result.0.now c.first_line.result.1.now
+      so_far = next_call (settings_of c.args.client.now) c.in-Some.recorded c.loop-rest.rest.now c.first_line.result.0.now c.first_line.result.1.now
           (c.loop-rest.number + 1) c.loop-rest.status c.status_after-status.result c.first_line.ensures.lines is c.status_after-status.ensures.value i.so_far
-          (rw i.settings at c.in_ok-failed.ensures.runs);
+          (under (settings_of c.loop-rest.client) (settings_of c.args.client.now) c.in-Some.recorded.call c.in-Some.recorded.response (drop c.loop-rest.client.link.pos c.loop-rest.client.link.ever ++ c.in-Some.recorded.response) i.settings c.in_ok-failed.ensures.runs);
     }
 
 pub returns-in_default-clause-replays : goal.returns-in_default-clause-replays
 returns-in_default-clause-replays c =
-    let is = rw c.in_default.is at c.in_ok-call.ensures in
+    let is = rw c.in_default.is at c.in_ok-recorded.ensures in
     rw c.in_ok-show_bad_line.ensures
     (next_bad (settings_of c.args.client.now) c.loop-rest.rest.now c.first_line.result.0.now c.first_line.result.1.now
     (c.loop-rest.number + 1) c.loop-rest.status c.first_line.ensures.lines is c.loop-rest.invariant.so_far)

@@ -1,0 +1,52 @@
+//! The lines of a script, each a diagnostic that is expanded.
+ghost use Rattle.std.specs.Prelude.{◌≡◌, ◌<◌, ◌++◌, Some, IfOk};
+ghost use Rattle.kmip_run.specs.Script.{lines_of};
+ghost use Rattle.kmip_run.specs.Transcript.{expanded, explained};
+
+use crate::script::{first_line, show_bad_line};
+use kmip_diag::{DiagError, PrettyPrinter};
+use kmip_wire::{OutOfMemory, Text};
+use std::alloc::Global;
+use std::str;
+
+/// The expansion of a line, or none where the line is no diagnostic.
+fn expanded(
+    alloc: Global,
+    printer: &PrettyPrinter,
+    line: &[u8],
+) -> Result<Option<Text>, OutOfMemory>
+    requires { printer.now ≡ Some 0x4200 }
+    ensures { IfOk result (λ text. text ≡ expanded line.now) }
+{
+    let Ok(line) = str::from_utf8(line) else {
+        return Ok(None);
+    };
+    match printer.expand(alloc, line) {
+        Ok(text) => Ok(Some(text)),
+        Err(DiagError::NotADiagnostic) => Ok(None),
+        Err(DiagError::OutOfMemory) => Err(OutOfMemory),
+    }
+}
+
+/// Adds the expansions of the lines, up to a line that is no diagnostic, and answers the status.
+pub fn explain(alloc: Global, script: &[u8], output: &mut Text) -> Result<u8, OutOfMemory>
+    ensures bound { IfOk result (λ status. status < 3) }
+    ensures status { IfOk result (λ status. status ≡ (explained (lines_of script.now) 1).status) }
+    ensures text { IfOk result (λ status. output.new ≡ output.old ++ (explained (lines_of script.now) 1).text) }
+{
+    let mut printer = PrettyPrinter::new();
+    printer.with_tag_prefix(0x4200);
+    let mut number = 0;
+    let mut rest = script;
+    while !rest.is_empty() {
+        let (line, later) = first_line(rest);
+        number += 1;
+        let Some(text) = expanded(alloc, &printer, line)? else {
+            show_bad_line(alloc, number, output)?;
+            return Ok(2);
+        };
+        output.push_str(text.as_str())?;
+        rest = later;
+    }
+    Ok(0)
+}
