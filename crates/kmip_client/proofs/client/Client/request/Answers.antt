@@ -12,8 +12,8 @@ pub returns-clause-call : goal.returns-clause-call
 returns-clause-call g c =
     let e = c.call-answer.ensures in
     let exchange : IsTrue (g.T.Link.state c.args.self.now.link).tells →
-        Exchanged (outcome c.args.payload c.args.self.now.credential c.args.self.now.limit (left_for (g.T.Link.state c.args.self.now.link) (g.T.Link.state c.call-answer.new.link)))
-        (g.T.Link.state c.args.self.now.link) (g.T.Link.state c.call-answer.new.link) (seen_by (g.P.Answered.val (operation_of c.args.payload)) c.call-answer.result) =
+    Exchanged (outcome c.args.payload c.args.self.now.credential c.args.self.now.limit (left_for (g.T.Link.state c.args.self.now.link) (g.T.Link.state c.call-answer.new.link)))
+    (g.T.Link.state c.args.self.now.link) (g.T.Link.state c.call-answer.new.link) (seen_by (g.P.Answered.val (operation_of c.args.payload)) c.call-answer.result) =
     rw (← c.self.view_is) e.exchange in
     record {
       exchange = exchange;
