@@ -220,6 +220,16 @@ fn id(alloc: Global, text: &str) -> Result<UniqueIdentifier, Fail> {
     Ok(UniqueIdentifier(Text::of(alloc, text)?))
 }
 
+/// An answer as it is shown: the payload, or the printed error.
+fn shown<P: ShowItem + Drop>(alloc: Global, answer: crate::Result<P>) -> Result<Text, Fail> {
+    let mut shown = Text::new(alloc);
+    match answer {
+        Ok(payload) => payload.show(alloc, &mut shown)?,
+        Err(error) => shown.push_str(error.to_string(alloc)?.as_str())?,
+    }
+    Ok(shown)
+}
+
 /// What a request is answered over a link that holds these bytes: the payload as it is shown, or the printed error.
 fn is_answered(
     rt: &impl Abort,
@@ -231,14 +241,8 @@ fn is_answered(
     let mut link = MemoryLink::new(alloc);
     link.feed(response)?;
     let mut client = ClientBuilder::new(link).build();
-    match client.do_request(alloc, request) {
-        Ok(payload) => {
-            let mut shown = Text::new(alloc);
-            payload.show(alloc, &mut shown)?;
-            assert_eq!(rt; shown.as_str(), expected);
-        }
-        Err(error) => assert_eq!(rt; error.to_string(alloc)?.as_str(), expected),
-    }
+    let answer = shown(alloc, client.do_request(alloc, request))?;
+    assert_eq!(rt; answer.as_str(), expected);
     assert!(rt; client.inner().rest().is_empty());
     Ok(())
 }
@@ -375,13 +379,12 @@ fn a_request_without_a_form_is_not_sent(rt: HostRuntime) -> Result<(), Fail> {
     let name = AttributeName(Text::of(rt.alloc(), "x-a")?);
     let mut attributes = List::new(rt.alloc());
     attributes.push(Attribute(name, None, AttributeValue::Structure(members)))?;
-    match client.do_request(rt.alloc(), RequestPayload::Locate(attributes)) {
-        Ok(_) => return Err(Fail::from("answered")),
-        Err(error) => assert_eq!(&rt;
-            error.to_string(rt.alloc())?.as_str(),
-            "Serialize error: request has no wire form"
-        ),
-    }
+    let request = RequestPayload::Locate(attributes);
+    let answer = shown(rt.alloc(), client.do_request(rt.alloc(), request))?;
+    assert_eq!(&rt;
+        answer.as_str(),
+        "Serialize error: request has no wire form"
+    );
     assert!(&rt; client.last_req_diag_str().is_none());
     assert!(&rt; client.last_res_diag_str().is_none());
     assert!(&rt; client.inner().sent().is_empty());
