@@ -237,16 +237,13 @@ fn client_fed(alloc: Global, response: &[u8]) -> Result<Client<MemoryLink>, Fail
     Ok(ClientBuilder::new(link).build())
 }
 
-/// That a request is answered so, as the payload is shown or the error printed, and that the whole response is taken.
+/// That an answer is shown so, and that the whole response was taken.
 fn is_answered(
     rt: &impl Abort,
-    alloc: Global,
-    client: Client<MemoryLink>,
-    request: RequestPayload,
+    client: &mut Client<MemoryLink>,
+    answer: &Text,
     expected: &str,
 ) -> Result<(), Fail> {
-    let mut client = client;
-    let answer = shown(alloc, client.do_request(alloc, request))?;
     assert_eq!(rt; answer.as_str(), expected);
     assert!(rt; client.inner().rest().is_empty());
     Ok(())
@@ -258,11 +255,12 @@ const A_TRANSPARENT_KEY_IS_GOT: &[u8] =
 
 #[test]
 fn a_transparent_key_is_got(rt: HostRuntime) -> Result<(), Fail> {
-    let client = client_fed(rt.alloc(), A_TRANSPARENT_KEY_IS_GOT)?;
+    let mut client = client_fed(rt.alloc(), A_TRANSPARENT_KEY_IS_GOT)?;
     let request = RequestPayload::Get(Some(id(rt.alloc(), "p1")?), None, None, None);
     let expected =
         "Get{object_type=PublicKey,unique_identifier=\"p1\",cryptographic_object=PublicKey{key_block={key_format_type=TransparentRSAPublicKey,key_value={key_material=TransparentRSAPublicKey{modulus=x\"0000000000C5A1B3\",public_exponent=x\"0000000000010001\"}}}}}";
-    is_answered(&rt, rt.alloc(), client, request, expected)
+    let answer = shown(rt.alloc(), client.do_request(rt.alloc(), request))?;
+    is_answered(&rt, &mut client, &answer, expected)
 }
 
 // OK0(A, 57 e2,94 "s1",8F{40{42 e1,45{43 x00112233445566778899AABBCCDDEEFF},28 e3,2A i128}})
@@ -271,11 +269,12 @@ const A_KEY_IS_GOT: &[u8] =
 
 #[test]
 fn a_key_is_got(rt: HostRuntime) -> Result<(), Fail> {
-    let client = client_fed(rt.alloc(), A_KEY_IS_GOT)?;
+    let mut client = client_fed(rt.alloc(), A_KEY_IS_GOT)?;
     let request = RequestPayload::Get(Some(id(rt.alloc(), "s1")?), None, None, None);
     let expected =
         "Get{object_type=SymmetricKey,unique_identifier=\"s1\",cryptographic_object=SymmetricKey{key_block={key_format_type=Raw,key_value={key_material=Bytes(x\"00112233445566778899AABBCCDDEEFF\")},cryptographic_algorithm=AES,cryptographic_length=128}}}";
-    is_answered(&rt, rt.alloc(), client, request, expected)
+    let answer = shown(rt.alloc(), client.do_request(rt.alloc(), request))?;
+    is_answered(&rt, &mut client, &answer, expected)
 }
 
 // OK0(A, 8F{40{42 e1,45{43 x00112233445566778899AABBCCDDEEFF},28 e3,2A i128}},94 "s1",57 e2)
@@ -284,11 +283,12 @@ const THE_OBJECT_TYPE_MAY_COME_LAST: &[u8] =
 
 #[test]
 fn the_object_type_may_come_last(rt: HostRuntime) -> Result<(), Fail> {
-    let client = client_fed(rt.alloc(), THE_OBJECT_TYPE_MAY_COME_LAST)?;
+    let mut client = client_fed(rt.alloc(), THE_OBJECT_TYPE_MAY_COME_LAST)?;
     let request = RequestPayload::Get(Some(id(rt.alloc(), "s1")?), None, None, None);
     let expected =
         "Get{object_type=SymmetricKey,unique_identifier=\"s1\",cryptographic_object=SymmetricKey{key_block={key_format_type=Raw,key_value={key_material=Bytes(x\"00112233445566778899AABBCCDDEEFF\")},cryptographic_algorithm=AES,cryptographic_length=128}}}";
-    is_answered(&rt, rt.alloc(), client, request, expected)
+    let answer = shown(rt.alloc(), client.do_request(rt.alloc(), request))?;
+    is_answered(&rt, &mut client, &answer, expected)
 }
 
 // OK0(A, 57 e2,94 "s1",8F{40{42 e1,45 xAABB,28 e3,2A i128,46{9E e1,36{94 "w1",2B{11 eD}}}}})
@@ -297,11 +297,12 @@ const A_WRAPPED_KEY_IS_GOT: &[u8] =
 
 #[test]
 fn a_wrapped_key_is_got(rt: HostRuntime) -> Result<(), Fail> {
-    let client = client_fed(rt.alloc(), A_WRAPPED_KEY_IS_GOT)?;
+    let mut client = client_fed(rt.alloc(), A_WRAPPED_KEY_IS_GOT)?;
     let request = RequestPayload::Get(Some(id(rt.alloc(), "s1")?), None, None, None);
     let expected =
         "Get{object_type=SymmetricKey,unique_identifier=\"s1\",cryptographic_object=SymmetricKey{key_block={key_format_type=Raw,key_value={key_material=Wrapped(x\"AABB\")},cryptographic_algorithm=AES,cryptographic_length=128,key_wrapping_data={wrapping_method=Encrypt,encryption_key_information={unique_identifier=\"w1\",cryptographic_parameters={block_cipher_mode=NISTKeyWrap}}}}}}";
-    is_answered(&rt, rt.alloc(), client, request, expected)
+    let answer = shown(rt.alloc(), client.do_request(rt.alloc(), request))?;
+    is_answered(&rt, &mut client, &answer, expected)
 }
 
 // OK0(8, )
@@ -310,10 +311,11 @@ const NOTHING_IS_LOCATED: &[u8] =
 
 #[test]
 fn nothing_is_located(rt: HostRuntime) -> Result<(), Fail> {
-    let client = client_fed(rt.alloc(), NOTHING_IS_LOCATED)?;
+    let mut client = client_fed(rt.alloc(), NOTHING_IS_LOCATED)?;
     let request = RequestPayload::Locate(List::new(rt.alloc()));
     let expected = "Locate{unique_identifiers=[]}";
-    is_answered(&rt, rt.alloc(), client, request, expected)
+    let answer = shown(rt.alloc(), client.do_request(rt.alloc(), request))?;
+    is_answered(&rt, &mut client, &answer, expected)
 }
 
 // OK0(B, 94 "2",08{0A "Name",0B{55 "priv",54 e1}},08{0A "Object Type",0B e4},08{0A "Cryptographic Algorithm",0B e4},08{0A "Cryptographic Length",0B i2048},08{0A "Cryptographic Usage Mask",0B i1},08{0A "State",0B e2},08{0A "Initial Date",0B d1700000000},08{0A "Link",0B{4B e102,4C "1"}},08{0A "Digest",0B{38 e6,35 xAABB,42 e3}},08{0A "Lease Time",0B n3600})
@@ -322,11 +324,12 @@ const ATTRIBUTES_ARE_GOT: &[u8] =
 
 #[test]
 fn attributes_are_got(rt: HostRuntime) -> Result<(), Fail> {
-    let client = client_fed(rt.alloc(), ATTRIBUTES_ARE_GOT)?;
+    let mut client = client_fed(rt.alloc(), ATTRIBUTES_ARE_GOT)?;
     let request = RequestPayload::GetAttributes(Some(id(rt.alloc(), "2")?), None);
     let expected =
         "GetAttributes{unique_identifier=\"2\",attributes=[{name=\"Name\",value=Name{name_value=\"priv\",name_type=UninterpretedTextString}},{name=\"Object Type\",value=ObjectType(PrivateKey)},{name=\"Cryptographic Algorithm\",value=CryptographicAlgorithm(RSA)},{name=\"Cryptographic Length\",value=Integer(2048)},{name=\"Cryptographic Usage Mask\",value=Integer(1)},{name=\"State\",value=State(Active)},{name=\"Initial Date\",value=DateTime(1700000000)},{name=\"Link\",value=Link{link_type=PublicKeyLink,linked_object_identifier=\"1\"}},{name=\"Digest\",value=Structure[Enumeration(6),ByteString(x\"AABB\"),Enumeration(3)]},{name=\"Lease Time\",value=Interval(3600)}]}";
-    is_answered(&rt, rt.alloc(), client, request, expected)
+    let answer = shown(rt.alloc(), client.do_request(rt.alloc(), request))?;
+    is_answered(&rt, &mut client, &answer, expected)
 }
 
 // OK0(C, 94 "2",0A "Name")
@@ -335,10 +338,11 @@ const ATTRIBUTE_NAMES_ARE_LISTED: &[u8] =
 
 #[test]
 fn attribute_names_are_listed(rt: HostRuntime) -> Result<(), Fail> {
-    let client = client_fed(rt.alloc(), ATTRIBUTE_NAMES_ARE_LISTED)?;
+    let mut client = client_fed(rt.alloc(), ATTRIBUTE_NAMES_ARE_LISTED)?;
     let request = RequestPayload::GetAttributeList(Some(id(rt.alloc(), "2")?));
     let expected = "GetAttributeList{unique_identifier=\"2\",attributes=[\"Name\"]}";
-    is_answered(&rt, rt.alloc(), client, request, expected)
+    let answer = shown(rt.alloc(), client.do_request(rt.alloc(), request))?;
+    is_answered(&rt, &mut client, &answer, expected)
 }
 
 // OK0(C, 94 "2")
@@ -347,10 +351,11 @@ const AN_EMPTY_LIST_OF_NAMES_IS_NO_ANSWER: &[u8] =
 
 #[test]
 fn an_empty_list_of_names_is_no_answer(rt: HostRuntime) -> Result<(), Fail> {
-    let client = client_fed(rt.alloc(), AN_EMPTY_LIST_OF_NAMES_IS_NO_ANSWER)?;
+    let mut client = client_fed(rt.alloc(), AN_EMPTY_LIST_OF_NAMES_IS_NO_ANSWER)?;
     let request = RequestPayload::GetAttributeList(Some(id(rt.alloc(), "2")?));
     let expected = "Internal error: not a response message";
-    is_answered(&rt, rt.alloc(), client, request, expected)
+    let answer = shown(rt.alloc(), client.do_request(rt.alloc(), request))?;
+    is_answered(&rt, &mut client, &answer, expected)
 }
 
 // OK1(1E, 69{6A i1,6B i2},69{6A i1,6B i0})
@@ -359,10 +364,11 @@ const VERSIONS_ARE_TOLD: &[u8] =
 
 #[test]
 fn versions_are_told(rt: HostRuntime) -> Result<(), Fail> {
-    let client = client_fed(rt.alloc(), VERSIONS_ARE_TOLD)?;
+    let mut client = client_fed(rt.alloc(), VERSIONS_ARE_TOLD)?;
     let request = RequestPayload::DiscoverVersions(List::new(rt.alloc()));
     let expected = "DiscoverVersions{supported_versions=[{major=1,minor=2},{major=1,minor=0}]}";
-    is_answered(&rt, rt.alloc(), client, request, expected)
+    let answer = shown(rt.alloc(), client.do_request(rt.alloc(), request))?;
+    is_answered(&rt, &mut client, &answer, expected)
 }
 
 #[test]
