@@ -1,15 +1,33 @@
 //! Laws over the definitions, each the contract of a function that does nothing.
 
 ghost use Rattle.std.specs.Prelude.{◌≡◌, ℕ, List, Option, Some};
+ghost use Rattle.kmip_wire.specs.Tree.{Tree};
+ghost use Rattle.kmip_wire.specs.Parses.{Parses};
 ghost use Rattle.kmip_types.specs.declared.auth.CredentialType.{CredentialType};
 ghost use Rattle.kmip_request.specs.declared.payload.RequestPayload.{RequestPayload};
 ghost use Rattle.kmip_request.specs.Message.{request_bytes};
 ghost use Rattle.kmip_request.specs.Held.{IsHeld};
 ghost use Rattle.kmip_request_read.specs.Matched.{IsMatched};
+ghost use Rattle.kmip_request_read.specs.Reading.{request_for, message_bytes, request_read};
 
 /// Two matched requests of the same bytes are equal, in payload and credential. The premises `IsHeld` hold of every
 /// payload and credential that Rust can hold.
 pub fn one_request()
     ensures { (p q : RequestPayload) (c d : Option CredentialType) (b : List ℕ) → IsHeld p c → IsHeld q d → IsMatched p → IsMatched q →
         request_bytes p c ≡ Some b → request_bytes q d ≡ Some b → (p ≡ q) × (c ≡ d) }
+{}
+
+/// The canonical message of a payload is that of its operation and its value.
+pub fn same_message()
+    ensures { (p : RequestPayload) (c : Option CredentialType) → request_bytes p c ≡ message_bytes (request_for p) c }
+{}
+
+/// The bytes of a matched request are read as it.
+pub fn request_is_read()
+    ensures { (p : RequestPayload) (c : Option CredentialType) (b : List ℕ) → IsHeld p c → IsMatched p → request_bytes p c ≡ Some b → request_read b ≡ Some (request_for p) }
+{}
+
+/// The bytes of a request parse. The premise `IsHeld` holds of every payload and credential that Rust can hold.
+pub fn request_parses()
+    ensures { (p : RequestPayload) (c : Option CredentialType) (b : List ℕ) → IsHeld p c → request_bytes p c ≡ Some b → (t : Tree) × Parses t 1 b }
 {}

@@ -1,6 +1,6 @@
 //! A request read from its bytes.
 
-ghost use Rattle.std.specs.Prelude.{◌≡◌, ◌≢◌, ◌↔◌, pos, false, Option, None, Err, IfOk, IfErr, IsTrue};
+ghost use Rattle.std.specs.Prelude.{◌≡◌, ◌≢◌, ◌↔◌, pos, false, ◌⊎◌, Option, Some, None, Err, IfOk, IfErr, IsTrue};
 ghost use Rattle.kmip_wire.specs.Tree.{Tree};
 ghost use Rattle.kmip_wire.specs.Items.{item_tree};
 ghost use Rattle.kmip_wire.specs.Parses.{Parses};
@@ -11,7 +11,8 @@ ghost use Rattle.kmip_request.specs.declared.payload.RequestPayload.{RequestPayl
 ghost use Rattle.kmip_request.specs.Message.{request_bytes, credential_of, operation_of};
 ghost use Rattle.kmip_request.specs.Held.{IsHeld};
 ghost use Rattle.kmip_request_read.specs.Matched.{IsMatched};
-ghost use Rattle.kmip_request_read.specs.Message.{message_of, IsPlain, IsCanonical};
+ghost use Rattle.kmip_request_read.specs.Message.{message_of, IsPlain, IsCanonical, IsWrittenAs};
+ghost use Rattle.kmip_request_read.specs.Reading.{request_for, request_read};
 
 use kmip_request::{
     Authentication, BatchItem, Credential, CredentialValue, ProtocolVersion, RequestHeader,
@@ -39,7 +40,7 @@ fn read_canonical<T: ReadRoot + WriteItem>(
     bytes: &[u8],
 ) -> Result<T, RequestReadError>
     ensures ok { IfOk result (λ x. IsCanonical T.shape T.root_tag (item_tree item.entry) bytes.now (T.val x)) }
-    ensures not_canonical { result ≡ Err RequestReadError.NotCanonical → (val : Val) → IsCanonical T.shape T.root_tag (item_tree item.entry) bytes.now val → ⊥ }
+    ensures not_canonical { result ≡ Err RequestReadError.NotCanonical → (val : Val) → IsWrittenAs T.shape T.root_tag (item_tree item.entry) bytes.now val → ⊥ }
     ensures never { IfErr result (λ e. e ≢ RequestReadError.Malformed) }
 {
     let value: T = match read_root(alloc, item) {
@@ -116,7 +117,8 @@ fn credential(authentication: Authentication) -> auth::CredentialType
 }
 
 /// The payload and the credential of a request, whose bytes are exactly those that `kmip_request::to_vec` writes for
-/// them. So what was written of a matched request is read back equal, with its credential.
+/// them. So what was written of a matched request is read back equal, with its credential. By values, it reads what
+/// `request_read` computes of the bytes: the operation and the value of the payload.
 pub fn from_slice(
     alloc: Global,
     bytes: &[u8],
@@ -125,6 +127,8 @@ pub fn from_slice(
     ensures malformed { result ≡ Err RequestReadError.Malformed ↔ ((tree : Tree) → Parses tree 1 bytes.now → ⊥) }
     ensures not_canonical { result ≡ Err RequestReadError.NotCanonical → (p : Payload) (c : Option CredentialType) → IsHeld p c → IsMatched p → request_bytes p c ≡ Some bytes.now → ⊥ }
     ensures item { result ≡ Err RequestReadError.NotCanonical → (tree : Tree) × Parses tree 1 bytes.now }
+    ensures value { IfOk result (λ r. request_read bytes.now ≡ Some (request_for r.0)) }
+    ensures unread { (result ≡ Err RequestReadError.Malformed) ⊎ (result ≡ Err RequestReadError.NotCanonical) → request_read bytes.now ≡ None }
     ensures back { (p : Payload) (c : Option CredentialType) → IsHeld p c → IsMatched p → request_bytes p c ≡ Some bytes.now → IfOk result (λ r. (r.0 ≡ p) × (r.1 ≡ c)) }
 {
     let Some(item) = ItemRef::root(bytes) else {
