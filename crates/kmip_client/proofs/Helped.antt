@@ -12,7 +12,7 @@ use Rattle.kmip_client.specs.Client.{ClientState}
 use Rattle.kmip_client.specs.Outcome.{seen_by}
 use Rattle.kmip_client.specs.Calls.{IsCall, Helped, called, not_made, Asked, asked, not_asked, projected}
 
-seen_same : {P : Type 0} (f g : P → Val) (answer : Result P Error) → ((payload : P) → f payload ≡ g payload) → seen_by f answer ≡ seen_by g answer
+pub seen_same : {P : Type 0} (f g : P → Val) (answer : Result P Error) → ((payload : P) → f payload ≡ g payload) → seen_by f answer ≡ seen_by g answer
 seen_same f g (Ok payload) same = ap (λ val. Ok val) (same payload)
 seen_same f g (Err error) same = refl
 

@@ -5,3 +5,6 @@ pub mod Checks
 pub mod Headlines
 pub mod Variants
 pub mod Helped
+pub mod Sessions
+pub mod Said
+pub mod Orders

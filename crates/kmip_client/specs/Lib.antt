@@ -10,3 +10,6 @@ pub mod Errors
 pub mod Calls
 pub mod Requests
 pub mod Lending
+pub mod Session
+pub mod Order
+pub mod Skeletons

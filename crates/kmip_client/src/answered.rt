@@ -33,6 +33,23 @@ pub trait Answered: Drop {
         ensures { val operation result ≡ response_payload_val payload };
 }
 
+/// A payload that a call of any operation answers.
+pub trait AnsweredByAny: Answered {
+    /// Its value, which is the same as a payload's of each operation.
+    ghost whole: { Self → Val };
+
+    /// That it is so. It does nothing.
+    fn answers_any()
+        ensures answers { (operation : TheOperation) → Self.Answers operation }
+        ensures whole { (operation : TheOperation) → (payload : Self) → Self.val operation payload ≡ whole payload };
+}
+
+impl AnsweredByAny for ResponsePayload {
+    ghost whole = { response_payload_val };
+
+    fn answers_any() {}
+}
+
 /// The payload of any operation.
 impl Answered for ResponsePayload {
     ghost Answers = { λ operation. Unit {0} };

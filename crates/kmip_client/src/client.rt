@@ -16,7 +16,7 @@ use crate::error::Error;
 use kmip_link::Link;
 use kmip_request::{Authentication, RequestPayload};
 use kmip_response::ResponsePayload;
-use kmip_wire::Config;
+use kmip_wire::{Config, OutOfMemory, Text, clone_optional};
 use std::alloc::Global;
 use std::marker::Model;
 
@@ -83,6 +83,20 @@ impl<T> Client<T> {
             Some(text) => Some(text.as_str()),
             None => None,
         }
+    }
+
+    /// A copy of the last call's request diagnostic.
+    pub(crate) fn copy_req_diag(&self, alloc: Global) -> Result<Option<Text>, OutOfMemory>
+        ensures { IfOk result (λ text. text ≡ self.now.request_text) }
+    {
+        clone_optional(&self.diagnostics.request, alloc)
+    }
+
+    /// A copy of the last call's response diagnostic.
+    pub(crate) fn copy_res_diag(&self, alloc: Global) -> Result<Option<Text>, OutOfMemory>
+        ensures { IfOk result (λ text. text ≡ self.now.response_text) }
+    {
+        clone_optional(&self.diagnostics.response, alloc)
     }
 }
 
@@ -165,12 +179,22 @@ impl<T: Link> Client<T> {
 }
 
 /// Whether the connection failed.
-fn loses_connection<P: Drop>(answer: &Result<P, Error>) -> bool
+pub(crate) fn loses_connection<P: Drop>(answer: &Result<P, Error>) -> bool
     ensures { (val : P → Val) → result ≡ loses_connection (seen_by val answer.now) }
 {
     match answer {
         Ok(_) => false,
         Err(error) => error.is_connection_error(),
+    }
+}
+
+/// Whether memory ran out.
+pub(crate) fn lacks_memory<P: Drop>(answer: &Result<P, Error>) -> bool
+    ensures { (val : P → Val) → result ≡ lacks_memory (seen_by val answer.now) }
+{
+    match answer {
+        Err(Error::OutOfMemory) => true,
+        _ => false,
     }
 }
 

@@ -1,7 +1,8 @@
 //! A client of KMIP over any link.
 //!
 //! [`Client::do_request`] writes one canonical request message and answers what the bytes left say. Its
-//! contract names what was sent and taken after each answer, and the cause of each error.
+//! contract names what was sent and taken after each answer, and the cause of each error. [`exchange_all`] makes
+//! several calls in order, and its contract is about all of them.
 #![tactic(auto)]
 
 mod answer;
@@ -13,8 +14,12 @@ mod client;
 mod error;
 mod exchange;
 mod helpers;
+mod laws;
 mod message;
 mod requests;
+mod session;
+#[cfg(test)]
+mod session_tests;
 #[cfg(test)]
 mod tests;
 mod transfer;
@@ -22,3 +27,5 @@ mod transfer;
 pub use builder::ClientBuilder;
 pub use client::Client;
 pub use error::{Error, Result};
+pub use laws::{diagnostics_of_sessions, messages_are_answered_in_order};
+pub use session::{Answers, Exchange, exchange_all};

@@ -65,6 +65,7 @@ fn read_piece<L: Link>(
 ) -> Result<usize, ReadStop>
     requires some { 0 < room }
     requires within { room ≤ length piece.old }
+    requires small { length piece.old ≤ 65536 }
     ensures keeps { Keeps (L.state link.old) (L.state link.new) }
     ensures some { IfOk result (λ n. (0 < n) × (n ≤ room) × (vec_len taken.new ≡ vec_len taken.old + n)) }
     ensures ok { IfOk result (λ n. IsTrue (L.state link.old).tells →

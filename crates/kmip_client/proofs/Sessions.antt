@@ -1,0 +1,281 @@
+-- Several calls, one after the other.
+use Rattle.std.proofs.Common.{◌≡◌, ℕ, ◌+◌, ◌-◌, ◌<◌, ◌≤◌, List, [], ◌∷◌, ◌++◌, length, take, drop, map, refl, ◌∙◌, ap, sym, arith, append_assoc, IsTrue, subst, Bool, true, false, Option, Some, None, Result, Ok, Err, codes, cond}
+use Rattle.std.proofs.lemmas.Grind.{common_steps}
+use Rattle.std.proofs.lemmas.List.{drop-drop, length-append, map-append}
+use Rattle.kmip_shape.specs.Val.{Val}
+use Rattle.kmip_types.specs.declared.auth.CredentialType.{CredentialType}
+use Rattle.kmip_enums.specs.declared.operation.Operation.{Operation}
+use Rattle.kmip_request.specs.Message.{request_bytes, operation_of}
+use Rattle.kmip_request.specs.declared.payload.RequestPayload.{RequestPayload}
+use Rattle.kmip_link.specs.State.{LinkState, left, Keeps, Rose}
+use Rattle.kmip_client.specs.declared.error.Error.{Error}
+use Rattle.kmip_client.specs.declared.error.Error.TheVariants.{ConfigurationError, SerializeError, RequestWriteError, ResponseReadError, DeserializeError, ServerError, InternalError, ItemNotFound, Unknown, OutOfMemory}
+use Rattle.kmip_client.specs.declared.session.Exchange.{Exchange}
+use Rattle.kmip_client.specs.Transfer.{Grows}
+use Rattle.kmip_client.specs.Outcome.{Answer, seen_by, Outcome, outcome, left_for, Moves, Exchanged, completed, write_failed, read_failed, sending_cut, reading_cut, Caused, not_valid, given, no_memory}
+use Rattle.kmip_client.specs.Client.{ClientState, loses_connection, lacks_memory}
+use Rattle.kmip_client.specs.Calls.{IsCall}
+use Rattle.kmip_client.specs.Diagnostics.{IsRequestText, IsResponseText}
+use Rattle.kmip_client.specs.Session.{Turn, turn_of, then_on, session, Told, exchange_told, told_of, turn_told, all_sent, all_taken, BrokenOff, writing, reading, Ran, whole, broken, Stops, at_end, at_loss, later, AllCaused, ends_lost}
+use Rattle.kmip_client.proofs.Helped.{seen_same}
+
+append_none : {A : Type 0} (xs : List A) → xs ≡ xs ++ []
+append_none xs = grind (arith, common_steps)
+
+pub grows_none : (a : LinkState) → Grows a a
+grows_none a = record { more = []; is = append_none a.ever }
+
+pub grows_on : {a b c : LinkState} → Grows a b → Grows b c → Grows a c
+grows_on {a = a} ab bc = record { more = ab.more ++ bc.more; is = bc.is ∙ ap (λ l. l ++ bc.more) ab.is ∙ append_assoc a.ever ab.more bc.more }
+
+pub exchanged_grows : {o : Outcome} {before after : LinkState} {answer : Answer} → Exchanged o before after answer → Grows before after
+exchanged_grows (completed is moves) = moves.ever
+exchanged_grows (write_failed is rose n h moves) = moves.ever
+exchanged_grows (read_failed is rose n h moves) = moves.ever
+exchanged_grows (sending_cut is n h moves) = moves.ever
+exchanged_grows (reading_cut is n h moves) = moves.ever
+
+pub empty_of : {A : Type 0} (xs : List A) → length xs ≡ 0 → xs ≡ []
+empty_of [] h = refl
+empty_of (x ∷ xs) h = absurd (omega arith)
+
+-- where nothing came in the end, nothing came on the way
+pub same_before : {a b c : LinkState} → Grows a b → Grows b c → c.ever ≡ a.ever → b.ever ≡ a.ever
+same_before {a = a} {b = b} {c = c} ab bc same =
+    let l1 : length b.ever ≡ length a.ever + length ab.more = ap length ab.is ∙ length-append a.ever ab.more in
+    let l2 : length c.ever ≡ length b.ever + length bc.more = ap length bc.is ∙ length-append b.ever bc.more in
+    let l3 : length c.ever ≡ length a.ever = ap length same in
+    let none : ab.more ≡ [] = empty_of ab.more (omega arith) in
+    ab.is ∙ ap (λ l. a.ever ++ l) none ∙ sym (append_none a.ever)
+
+moves_on : {a b c : LinkState} {xs ys : List ℕ} {n m : ℕ} → Keeps a b → Moves a b xs n → Moves b c ys m → Moves a c (xs ++ ys) (n + m)
+moves_on {a = a} {xs = xs} {ys = ys} keeps ab bc = record {
+  sent_is = bc.sent_is ∙ ap (λ l. l ++ ys) ab.sent_is ∙ append_assoc a.sent xs ys;
+  pos = omega (arith, ab.pos, bc.pos);
+  ever = grows_on ab.ever bc.ever;
+  still = λ h. bc.still (rw keeps.still h) ∙ ab.still h;
+}
+
+-- a call by the value of its payload for any operation
+pub call_whole : {T P : Type 0} {state : T → LinkState} {payload : RequestPayload} {before after : ClientState T} (val all : P → Val) (answer : Result P Error) →
+    IsCall state payload before after (seen_by val answer) → ((p : P) → val p ≡ all p) → IsCall state payload before after (seen_by all answer)
+call_whole {state = state} {payload = payload} {before = before} {after = after} val all answer call same =
+    let P : Answer → Type 0 = λ seen. IsCall state payload before after seen in
+    subst P (seen_same val all answer same) call
+
+abbrev pub telling : Answer → Option (List ℕ) → Option (List ℕ) → Told
+telling answer request_text response_text = record { answer = answer; request_text = request_text; response_text = response_text }
+
+-- one exchange more
+pub pushed : {P : Type 0} (val : P → Val) (xs : List (Exchange P)) (x : Exchange P) (told : Told) → exchange_told val x ≡ told → map (exchange_told val) (xs ++ x ∷ []) ≡ map (exchange_told val) xs ++ told ∷ []
+pushed val xs x told is = map-append (exchange_told val) xs (x ∷ []) ∙ ap (λ t. map (exchange_told val) xs ++ t ∷ []) is
+
+-- what a call did where nothing came to its link
+pub record Step (buffered : Bool) (credential : Option CredentialType) (limit : Option ℕ) (payload : RequestPayload) (now after : LinkState) (answer : Answer) (asked said : Option (List ℕ)) : Type 0 where
+  pub exchanged : Exchanged (outcome payload credential limit (left now)) now after answer
+  pub request_text : IsRequestText buffered (request_bytes payload credential) answer asked
+  pub response_text : IsResponseText buffered (take (after.pos - now.pos) (left now)) answer said
+  pub same : after.ever ≡ now.ever
+  pub room : lacks_memory answer ≡ false
+
+left_is : (now after : LinkState) → after.ever ≡ now.ever → left_for now after ≡ left now
+left_is now after same = ap (λ l. drop now.pos l) same
+
+pub step_of : {T : Type 0} {state : T → LinkState} {payload : RequestPayload} {before after : ClientState T} {answer : Answer} →
+    IsCall state payload before after answer → IsTrue (state before.link).tells → (state after.link).ever ≡ (state before.link).ever → lacks_memory answer ≡ false →
+    Step before.buffered before.credential before.limit payload (state before.link) (state after.link) answer after.request_text after.response_text
+step_of {state = state} {payload = payload} {before = before} {after = after} {answer = answer} call tells same room =
+    let P : List ℕ → Type 0 = λ rest. Exchanged (outcome payload before.credential before.limit rest) (state before.link) (state after.link) answer in
+    let Q : List ℕ → Type 0 = λ rest. IsResponseText before.buffered (take ((state after.link).pos - (state before.link).pos) rest) answer after.response_text in
+    record {
+      exchanged = subst P (left_is (state before.link) (state after.link) same) (call.exchange tells);
+      request_text = call.request_text;
+      response_text = subst Q (left_is (state before.link) (state after.link) same) (call.response_text tells);
+      same = same;
+      room = room;
+    }
+
+both_told : (answer : Answer) (a b c d : Option (List ℕ)) → a ≡ c → b ≡ d → telling answer a b ≡ telling answer c d
+both_told answer a b c d p q = rw (p, q) refl
+
+told_is : (buffered : Bool) (request : Option (List ℕ)) (taken : List ℕ) (answer : Answer) (a b : Option (List ℕ)) → IsRequestText buffered request answer a → IsResponseText buffered taken answer b → lacks_memory answer ≡ false →
+    telling answer a b ≡ told_of buffered request answer taken
+told_is buffered request taken (Ok payload) a b p q room = both_told _ a b _ _ p q
+told_is buffered request taken (Err (ConfigurationError t)) a b p q room = both_told _ a b _ _ p q
+told_is buffered request taken (Err (SerializeError t)) a b p q room = both_told _ a b _ _ p q
+told_is buffered request taken (Err (RequestWriteError t)) a b p q room = both_told _ a b _ _ p q
+told_is buffered request taken (Err (ResponseReadError t)) a b p q room = both_told _ a b _ _ p q
+told_is buffered request taken (Err (DeserializeError t)) a b p q room = both_told _ a b _ _ p q
+told_is buffered request taken (Err (ServerError t)) a b p q room = both_told _ a b _ _ p q
+told_is buffered request taken (Err (InternalError t)) a b p q room = both_told _ a b _ _ p q
+told_is buffered request taken (Err (ItemNotFound t)) a b p q room = both_told _ a b _ _ p q
+told_is buffered request taken (Err (Unknown t)) a b p q room = both_told _ a b _ _ p q
+told_is buffered request taken (Err OutOfMemory) a b p q room = absurd (let e : true ≡ false = room in cc)
+
+-- the texts of a call are those of its answer and of the bytes that it took
+step_told : {buffered : Bool} {credential : Option CredentialType} {limit : Option ℕ} {payload : RequestPayload} {now after : LinkState} {answer : Answer} {asked said : Option (List ℕ)} {sent : List ℕ} {n : ℕ} (expected : Answer) →
+    Step buffered credential limit payload now after answer asked said → answer ≡ expected → Moves now after sent n →
+    telling answer asked said ≡ told_of buffered (request_bytes payload credential) expected (take n (left now))
+step_told {buffered = buffered} {credential = credential} {payload = payload} {now = now} {after = after} {answer = answer} {asked = asked} {said = said} {n = n} expected step is moves =
+    let passed : after.pos - now.pos ≡ n = omega (arith, moves.pos) in
+    told_is buffered (request_bytes payload credential) (take (after.pos - now.pos) (left now)) answer asked said step.request_text step.response_text step.room
+    ∙ ap (λ k. told_of buffered (request_bytes payload credential) answer (take k (left now))) passed
+    ∙ ap (λ a. told_of buffered (request_bytes payload credential) a (take n (left now))) is
+
+pub record SoFar (buffered : Bool) (all : List Turn) (before now : LinkState) (exchanges : List Told) (rest : List Turn) : Type 0 where
+  pub done : List Turn
+  pub split : all ≡ done ++ rest
+  pub told_are : exchanges ≡ map (turn_told buffered) done
+  pub moves : Moves before now (all_sent done) (all_taken done)
+
+pub nothing_yet : (buffered : Bool) (all : List Turn) (a : LinkState) → SoFar buffered all a a [] all
+nothing_yet buffered all a = record { done = []; split = refl; told_are = refl; moves = record { sent_is = append_none a.sent; pos = omega arith; ever = grows_none a; still = λ h. refl } }
+
+sent_one : (done : List Turn) (t : Turn) → all_sent (done ++ t ∷ []) ≡ all_sent done ++ t.outcome.sent
+sent_one [] t = sym (append_none t.outcome.sent)
+sent_one (d ∷ done) t = ap (λ l. d.outcome.sent ++ l) (sent_one done t) ∙ sym (append_assoc d.outcome.sent (all_sent done) t.outcome.sent)
+
+taken_one : (done : List Turn) (t : Turn) → all_taken (done ++ t ∷ []) ≡ all_taken done + t.outcome.taken
+taken_one [] t = omega arith
+taken_one (d ∷ done) t = omega (arith, taken_one done t)
+
+split_one : (done : List Turn) (t : Turn) (rest : List Turn) → done ++ t ∷ rest ≡ (done ++ t ∷ []) ++ rest
+split_one [] t rest = refl
+split_one (d ∷ done) t rest = ap (λ l. d ∷ l) (split_one done t rest)
+
+-- one turn more
+one_more : {buffered : Bool} {all : List Turn} {before now after : LinkState} {exchanges : List Told} {t : Turn} {told : Told} (rest : List Turn) →
+    Keeps before now → SoFar buffered all before now exchanges (t ∷ rest) → told ≡ turn_told buffered t → Moves now after t.outcome.sent t.outcome.taken →
+    SoFar buffered all before after (exchanges ++ told ∷ []) rest
+one_more {buffered = buffered} {before = before} {after = after} {t = t} {told = told} rest keeps so_far is moves = record {
+  done = so_far.done ++ t ∷ [];
+  split = so_far.split ∙ split_one so_far.done t rest;
+  told_are = ap (λ l. l ++ told ∷ []) so_far.told_are ∙ ap (λ v. map (turn_told buffered) so_far.done ++ v ∷ []) is ∙ sym (map-append (turn_told buffered) so_far.done (t ∷ []));
+  moves =
+      let P : List ℕ → Type 0 = λ l. Moves before after l (all_taken (so_far.done ++ t ∷ [])) in
+      let Q : ℕ → Type 0 = λ n. Moves before after (all_sent so_far.done ++ t.outcome.sent) n in
+      subst P (sym (sent_one so_far.done t)) (subst Q (sym (taken_one so_far.done t)) (moves_on keeps so_far.moves moves));
+}
+
+-- the session goes on with the next request's turn
+session_next : (payload : RequestPayload) (payloads : List RequestPayload) (credential : Option CredentialType) (limit : Option ℕ) (rest : List ℕ) →
+    session (payload ∷ payloads) credential limit rest ≡ then_on (turn_of payload credential limit rest) (session payloads credential limit (drop (outcome payload credential limit rest).taken rest))
+unfolding session
+session_next payload payloads credential limit rest = refl
+
+left_on : {now after : LinkState} {sent : List ℕ} {n : ℕ} → after.ever ≡ now.ever → Moves now after sent n → drop n (left now) ≡ left after
+left_on {now = now} {n = n} same moves = drop-drop n now.pos now.ever ∙ sym (rw (same, moves.pos) refl)
+
+keeps_on_loss : (t : Turn) (turns : List Turn) → loses_connection t.outcome.answer ≡ false → then_on t turns ≡ t ∷ turns
+keeps_on_loss t turns kept = rw kept refl
+
+loss_ends : (t : Turn) (turns : List Turn) → loses_connection t.outcome.answer ≡ true → then_on t turns ≡ t ∷ []
+loss_ends t turns lost = rw lost refl
+
+begins : (t : Turn) (turns : List Turn) (b : Bool) → (more : List Turn) × (cond b (t ∷ []) (t ∷ turns) ≡ t ∷ more)
+begins t turns true = ([], refl)
+begins t turns false = (turns, refl)
+
+-- an answer that keeps the connection
+pub turn : {buffered : Bool} {all : List Turn} {before now after : LinkState} {asked said : Option (List ℕ)} (exchanges : List Told) (credential : Option CredentialType) (limit : Option ℕ) (payload : RequestPayload) (payloads : List RequestPayload) (answer : Answer) →
+    Keeps before now → SoFar buffered all before now exchanges (session (payload ∷ payloads) credential limit (left now)) →
+    Step buffered credential limit payload now after answer asked said → Exchanged (outcome payload credential limit (left now)) now after answer → loses_connection answer ≡ false →
+    SoFar buffered all before after (exchanges ++ telling answer asked said ∷ []) (session payloads credential limit (left after))
+turn {buffered = buffered} {all = all} {before = before} {now = now} {after = after} {asked = asked} {said = said} exchanges credential limit payload payloads answer keeps so_far step (completed is moves) kept =
+    let t : Turn = turn_of payload credential limit (left now) in
+    let P : List Turn → Type 0 = λ l. SoFar buffered all before now exchanges l in
+    let Q : List ℕ → Type 0 = λ rest. SoFar buffered all before after (exchanges ++ telling answer asked said ∷ []) (session payloads credential limit rest) in
+    let begun = subst P (session_next payload payloads credential limit (left now) ∙ keeps_on_loss t _ (ap loses_connection (sym is) ∙ kept)) so_far in
+    subst Q (left_on step.same moves) (one_more {t = t} _ keeps begun (step_told t.outcome.answer step is moves) moves)
+turn exchanges credential limit payload payloads answer keeps so_far step (write_failed is rose n h moves) kept = absurd (let e : true ≡ false = rw is at kept in cc)
+turn exchanges credential limit payload payloads answer keeps so_far step (read_failed is rose n h moves) kept = absurd (let e : true ≡ false = rw is at kept in cc)
+turn exchanges credential limit payload payloads answer keeps so_far step (sending_cut is n h moves) kept = absurd (let e : true ≡ false = rw is at step.room in cc)
+turn exchanges credential limit payload payloads answer keeps so_far step (reading_cut is n h moves) kept = absurd (let e : true ≡ false = rw is at step.room in cc)
+
+-- all turns are there
+all_done : {buffered : Bool} {all : List Turn} {before now : LinkState} {exchanges : List Told} → SoFar buffered all before now exchanges [] → Ran buffered all before now exchanges
+all_done {buffered = buffered} {all = all} {before = before} {now = now} so_far =
+    let is : all ≡ so_far.done = so_far.split ∙ sym (append_none so_far.done) in
+    let P : List Turn → Type 0 = λ l. Moves before now (all_sent l) (all_taken l) in
+    whole (so_far.told_are ∙ ap (λ l. map (turn_told buffered) l) (sym is)) (subst P (sym is) so_far.moves)
+
+pub end : {buffered : Bool} {all : List Turn} {before now : LinkState} {exchanges : List Told} (credential : Option CredentialType) (limit : Option ℕ) (rest : List ℕ) →
+    SoFar buffered all before now exchanges (session [] credential limit rest) → Ran buffered all before now exchanges
+unfolding session
+end credential limit rest so_far = all_done so_far
+
+-- an answer that ends the session
+pub stop : {buffered : Bool} {all : List Turn} {before now after : LinkState} {asked said : Option (List ℕ)} (exchanges : List Told) (credential : Option CredentialType) (limit : Option ℕ) (payload : RequestPayload) (payloads : List RequestPayload) (answer : Answer) →
+    Keeps before now → SoFar buffered all before now exchanges (session (payload ∷ payloads) credential limit (left now)) →
+    Step buffered credential limit payload now after answer asked said → Exchanged (outcome payload credential limit (left now)) now after answer → loses_connection answer ≡ true →
+    Ran buffered all before after (exchanges ++ telling answer asked said ∷ [])
+stop {buffered = buffered} {all = all} {before = before} {now = now} {after = after} exchanges credential limit payload payloads answer keeps so_far step (completed is moves) lost =
+    let t : Turn = turn_of payload credential limit (left now) in
+    let P : List Turn → Type 0 = λ l. SoFar buffered all before now exchanges l in
+    let begun = subst P (session_next payload payloads credential limit (left now) ∙ loss_ends t _ (ap loses_connection (sym is) ∙ lost)) so_far in
+    all_done (one_more {t = t} [] keeps begun (step_told t.outcome.answer step is moves) moves)
+stop {buffered = buffered} {all = all} {before = before} {now = now} {after = after} {asked = asked} {said = said} exchanges credential limit payload payloads answer keeps so_far step (write_failed is rose n h moves) lost =
+    let t : Turn = turn_of payload credential limit (left now) in
+    let last : Answer = Err (RequestWriteError (codes "link failed")) in
+    let first = begins t (session payloads credential limit (drop t.outcome.taken (left now))) (loses_connection t.outcome.answer) in
+    broken so_far.done t first.0 last (take n t.outcome.sent) 0
+    (so_far.split ∙ ap (λ l. so_far.done ++ l) (session_next payload payloads credential limit (left now) ∙ first.1))
+    (ap (λ l. l ++ telling answer asked said ∷ []) so_far.told_are ∙ ap (λ v. map (turn_told buffered) so_far.done ++ v ∷ []) (step_told last step is moves))
+    (writing n h) (omega (arith, keeps.faults)) (moves_on keeps so_far.moves moves)
+stop {buffered = buffered} {all = all} {before = before} {now = now} {after = after} {asked = asked} {said = said} exchanges credential limit payload payloads answer keeps so_far step (read_failed is rose n h moves) lost =
+    let t : Turn = turn_of payload credential limit (left now) in
+    let last : Answer = Err (ResponseReadError (codes "link failed")) in
+    let first = begins t (session payloads credential limit (drop t.outcome.taken (left now))) (loses_connection t.outcome.answer) in
+    broken so_far.done t first.0 last t.outcome.sent n
+    (so_far.split ∙ ap (λ l. so_far.done ++ l) (session_next payload payloads credential limit (left now) ∙ first.1))
+    (ap (λ l. l ++ telling answer asked said ∷ []) so_far.told_are ∙ ap (λ v. map (turn_told buffered) so_far.done ++ v ∷ []) (step_told last step is moves))
+    (reading n h) (omega (arith, keeps.faults)) (moves_on keeps so_far.moves moves)
+stop exchanges credential limit payload payloads answer keeps so_far step (sending_cut is n h moves) lost = absurd (let e : true ≡ false = rw is at step.room in cc)
+stop exchanges credential limit payload payloads answer keeps so_far step (reading_cut is n h moves) lost = absurd (let e : true ≡ false = rw is at step.room in cc)
+
+-- whatever stops the rest of the requests so stops all of them so
+abbrev pub StopsOn : List RequestPayload → List Told → List RequestPayload → Type 0
+StopsOn payloads exchanges rest = (more : List Told) → Stops rest more → Stops payloads (exchanges ++ more)
+
+pub stops_on : (payloads : List RequestPayload) (exchanges : List Told) (payload : RequestPayload) (rest : List RequestPayload) (told : Told) → loses_connection told.answer ≡ false →
+    StopsOn payloads exchanges (payload ∷ rest) → StopsOn payloads (exchanges ++ told ∷ []) rest
+stops_on payloads exchanges payload rest told kept so_far more stops =
+    let P : List Told → Type 0 = λ l. Stops payloads l in
+    subst P (sym (append_assoc exchanges (told ∷ []) more)) (so_far (told ∷ more) (later payload rest told more kept stops))
+
+pub stops_end : (payloads : List RequestPayload) (exchanges : List Told) → StopsOn payloads exchanges [] → Stops payloads exchanges
+stops_end payloads exchanges so_far =
+    let P : List Told → Type 0 = λ l. Stops payloads l in
+    subst P (sym (append_none exchanges)) (so_far [] at_end)
+
+-- a cause within a part of the session
+caused_within : {request : Option (List ℕ)} {operation : Operation} {limit : Option ℕ} {before now after end : ℕ} {answer : Answer} → before ≤ now → after ≤ end →
+    Caused request operation limit now after answer → Caused request operation limit before end answer
+caused_within first last (not_valid has is) = not_valid has is
+caused_within first last (Caused.write_failed has is rose) = Caused.write_failed has is (omega (arith, first, last, rose))
+caused_within first last (Caused.read_failed has is rose) = Caused.read_failed has is (omega (arith, first, last, rose))
+caused_within first last (given has rest is) = given has rest is
+caused_within first last (no_memory is) = no_memory is
+
+-- whatever causes come for the rest of the requests, with those so far they are the causes of all
+abbrev pub CausedOn : Option CredentialType → Option ℕ → ℕ → ℕ → List RequestPayload → List Told → List RequestPayload → Type 0
+CausedOn credential limit before now payloads exchanges rest =
+    (end : ℕ) → now ≤ end → (more : List Told) → AllCaused credential limit before end rest more → AllCaused credential limit before end payloads (exchanges ++ more)
+
+pub caused_on : (credential : Option CredentialType) (limit : Option ℕ) (before now after : ℕ) (payloads : List RequestPayload) (exchanges : List Told) (payload : RequestPayload) (rest : List RequestPayload) (told : Told) →
+    before ≤ now → now ≤ after → Caused (request_bytes payload credential) (operation_of payload) limit now after told.answer →
+    CausedOn credential limit before now payloads exchanges (payload ∷ rest) → CausedOn credential limit before after payloads (exchanges ++ told ∷ []) rest
+caused_on credential limit before now after payloads exchanges payload rest told first next caused so_far end last more causes =
+    let P : List Told → Type 0 = λ l. AllCaused credential limit before end payloads l in
+    subst P (sym (append_assoc exchanges (told ∷ []) more)) (so_far end (omega (arith, next, last)) (told ∷ more) (caused_within first last caused, causes))
+
+pub caused_end : (credential : Option CredentialType) (limit : Option ℕ) (before now : ℕ) (payloads : List RequestPayload) (exchanges : List Told) (rest : List RequestPayload) →
+    CausedOn credential limit before now payloads exchanges rest → AllCaused credential limit before now payloads exchanges
+caused_end credential limit before now payloads exchanges rest so_far =
+    let P : List Told → Type 0 = λ l. AllCaused credential limit before now payloads l in
+    subst P (sym (append_none exchanges)) (so_far now (omega arith) [] tt)
+
+pub ends_one : (exchanges : List Told) (told : Told) → ends_lost (exchanges ++ told ∷ []) ≡ loses_connection told.answer
+ends_one [] told = refl
+ends_one (x ∷ []) told = refl
+ends_one (x ∷ y ∷ exchanges) told = ends_one (y ∷ exchanges) told

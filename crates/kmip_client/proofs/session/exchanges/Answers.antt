@@ -1,0 +1,172 @@
+use Rattle.std.proofs.Common.{◌≡◌, ◌≤◌, ℕ, Bool, List, [], ◌∷◌, ◌++◌, ◌∙◌, refl, sym, ap, subst, length, arith, map, false, true, rules, IsTrue}
+use Rattle.std.specs.Vec.Iter.{into_iter_items, into_iter_len}
+use Rattle.kmip_request.specs.Message.{operation_of}
+use Rattle.kmip_request.specs.declared.payload.RequestPayload.{RequestPayload}
+use Rattle.kmip_link.specs.State.{left}
+use Rattle.kmip_client.specs.Client.{counted, loses_connection, lacks_memory}
+use Rattle.kmip_client.specs.Calls.{IsCall}
+use Rattle.kmip_client.specs.Outcome.{Answer, seen_by}
+use Rattle.kmip_client.specs.Session.{Told, exchange_told, at_loss, Stops, AllCaused, ends_lost}
+use Rattle.kmip_client.proofs.Transfers.{keeps_self, keeps_on}
+use Rattle.kmip_client.proofs.Sessions.{SoFar, StopsOn, CausedOn, Step, turn, stop, end, call_whole, step_of, telling, pushed, nothing_yet, grows_none, grows_on, same_before, exchanged_grows, empty_of, stops_on, stops_end, caused_on, caused_end, ends_one}
+use Rattle.kmip_client.proofs.session.exchanges.Goals as goal
+
+pub loop-payload-init : goal.loop-payload-init
+loop-payload-init g c =
+    let none : map (exchange_told g.P.AnsweredByAny.whole) c.new-exchanges.result ≡ [] = ap (λ l. map (exchange_told g.P.AnsweredByAny.whole) l) c.new-exchanges.ensures in
+    let items = c.into_iter-payload-iterator.ensures.into_iter_gives in
+    record {
+      next = search (rules);
+      finite = search (rules);
+      counted = omega (arith, items.1, ap length items.0);
+      keeps = keeps_self _;
+      credential = refl;
+      limit = refl;
+      buffered = refl;
+      errors = refl;
+      connected = rw none refl;
+      grows = λ tells. grows_none _;
+      so_far = λ tells same. rw (none, items.0) (nothing_yet _ _ _);
+      stops = λ more stops. rw none (rw items.0 at stops);
+      caused = λ end last more causes. rw none (rw items.0 at causes);
+    }
+
+pub loop-payload-preserved : goal.loop-payload-preserved
+loop-payload-preserved g c =
+    let i = c.loop-payload.invariant in
+    let start = c.args.client.now in
+    let payload = c.in-Some.payload in
+    let rest : List RequestPayload = into_iter_items c.next.new.self in
+    let steps = c.in-Some.ensures.steps in
+    let all = g.P.AnsweredByAny.whole in
+    let seen : Answer = seen_by all c.request-answer.result in
+    let old = c.loop-payload.client in
+    let new = c.request-answer.new.self in
+    let call : IsCall g.T.Link.state payload old new seen =
+    call_whole (g.P.Answered.val (operation_of payload)) all c.request-answer.result c.request-answer.ensures.call (c.answers_any.ensures.whole (operation_of payload)) in
+    let kept : loses_connection seen ≡ false = sym (c.loses_connection-lost.ensures all) ∙ c.if-lost.false in
+    let room : lacks_memory seen ≡ false = sym (c.lacks_memory.ensures all) ∙ c.if-lacks_memory.false in
+    let told : Told = telling seen new.request_text new.response_text in
+    let before : List Told = map (exchange_told all) c.loop-payload.exchanges in
+    let is : map (exchange_told all) c.push.new.self ≡ before ++ told ∷ [] =
+    ap (λ l. map (exchange_told all) l) c.in_ok-push.ensures ∙ pushed all c.loop-payload.exchanges c.in_ok-told.field-0 told (ap (exchange_told all) c.in_ok-told.ensures) in
+    let stops : StopsOn c.args.payloads.items before (payload ∷ rest) = rw steps.0 at i.stops in
+    let caused : CausedOn start.credential start.limit (g.T.Link.state start.link).faults (g.T.Link.state old.link).faults c.args.payloads.items before (payload ∷ rest) = rw steps.0 at i.caused in
+    record {
+      next = tt;
+      finite = tt;
+      counted = omega (arith, steps.1, ap length steps.0, i.counted);
+      keeps = keeps_on i.keeps call.keeps;
+      credential = call.credential ∙ i.credential;
+      limit = call.limit ∙ i.limit;
+      buffered = call.buffered ∙ i.buffered;
+      errors = call.count ∙ ap (λ (lost : Bool). counted old.errors lost) kept ∙ i.errors;
+      connected = rw is (ends_one before told ∙ kept);
+      grows = λ tells. grows_on (i.grows tells) (exchanged_grows (call.exchange (rw i.keeps.tells tells)));
+      so_far = λ tells same.
+          let tells_on : IsTrue (g.T.Link.state old.link).tells = rw i.keeps.tells tells in
+          let quiet = same_before (i.grows tells) (exchanged_grows (call.exchange tells_on)) same in
+          let step : Step start.buffered start.credential start.limit payload (g.T.Link.state old.link) (g.T.Link.state new.link) seen new.request_text new.response_text =
+          rw (i.buffered, i.credential, i.limit) at (step_of call tells_on (same ∙ sym quiet) room) in
+          rw is (turn before start.credential start.limit payload rest seen i.keeps (rw steps.0 at (i.so_far tells quiet)) step step.exchanged kept);
+      stops = rw is (stops_on c.args.payloads.items before payload rest told kept stops);
+      caused = rw is (caused_on start.credential start.limit _ (g.T.Link.state old.link).faults _ c.args.payloads.items before payload rest told i.keeps.faults call.keeps.faults (rw (i.credential, i.limit) at call.caused) caused);
+    }
+
+pub returns-then-lost-clause-session : goal.returns-then-lost-clause-session
+returns-then-lost-clause-session g c = λ tells same.
+    let i = c.loop-payload.invariant in
+    let start = c.args.client.now in
+    let payload = c.in-Some.payload in
+    let rest : List RequestPayload = into_iter_items c.next.new.self in
+    let steps = c.in-Some.ensures.steps in
+    let all = g.P.AnsweredByAny.whole in
+    let seen : Answer = seen_by all c.request-answer.result in
+    let old = c.loop-payload.client in
+    let new = c.request-answer.new.self in
+    let call : IsCall g.T.Link.state payload old new seen =
+    call_whole (g.P.Answered.val (operation_of payload)) all c.request-answer.result c.request-answer.ensures.call (c.answers_any.ensures.whole (operation_of payload)) in
+    let lost : loses_connection seen ≡ true = sym (c.loses_connection-lost.ensures all) ∙ c.if-lost.true in
+    let room : lacks_memory seen ≡ false = sym (c.lacks_memory.ensures all) ∙ c.if-lacks_memory.false in
+    let told : Told = telling seen new.request_text new.response_text in
+    let before : List Told = map (exchange_told all) c.loop-payload.exchanges in
+    let is : map (exchange_told all) c.push.new.self ≡ before ++ told ∷ [] =
+    ap (λ l. map (exchange_told all) l) c.in_ok-push.ensures ∙ pushed all c.loop-payload.exchanges c.in_ok-told.field-0 told (ap (exchange_told all) c.in_ok-told.ensures) in
+    let tells_on : IsTrue (g.T.Link.state old.link).tells = rw i.keeps.tells tells in
+    let quiet = same_before (i.grows tells) (exchanged_grows (call.exchange tells_on)) same in
+    let step : Step start.buffered start.credential start.limit payload (g.T.Link.state old.link) (g.T.Link.state new.link) seen new.request_text new.response_text =
+    rw (i.buffered, i.credential, i.limit) at (step_of call tells_on (same ∙ sym quiet) room) in
+    rw is (stop before start.credential start.limit payload rest seen i.keeps (rw steps.0 at (i.so_far tells quiet)) step step.exchanged lost)
+
+pub returns-then-lost-clause-stops : goal.returns-then-lost-clause-stops
+returns-then-lost-clause-stops g c =
+    let i = c.loop-payload.invariant in
+    let payload = c.in-Some.payload in
+    let rest : List RequestPayload = into_iter_items c.next.new.self in
+    let steps = c.in-Some.ensures.steps in
+    let all = g.P.AnsweredByAny.whole in
+    let seen : Answer = seen_by all c.request-answer.result in
+    let new = c.request-answer.new.self in
+    let lost : loses_connection seen ≡ true = sym (c.loses_connection-lost.ensures all) ∙ c.if-lost.true in
+    let told : Told = telling seen new.request_text new.response_text in
+    let before : List Told = map (exchange_told all) c.loop-payload.exchanges in
+    let is : map (exchange_told all) c.push.new.self ≡ before ++ told ∷ [] =
+    ap (λ l. map (exchange_told all) l) c.in_ok-push.ensures ∙ pushed all c.loop-payload.exchanges c.in_ok-told.field-0 told (ap (exchange_told all) c.in_ok-told.ensures) in
+    let stops : StopsOn c.args.payloads.items before (payload ∷ rest) = rw steps.0 at i.stops in
+    rw is (stops (told ∷ []) (at_loss payload rest told lost))
+
+pub returns-then-lost-clause-caused : goal.returns-then-lost-clause-caused
+returns-then-lost-clause-caused g c =
+    let i = c.loop-payload.invariant in
+    let start = c.args.client.now in
+    let payload = c.in-Some.payload in
+    let rest : List RequestPayload = into_iter_items c.next.new.self in
+    let steps = c.in-Some.ensures.steps in
+    let all = g.P.AnsweredByAny.whole in
+    let seen : Answer = seen_by all c.request-answer.result in
+    let old = c.loop-payload.client in
+    let new = c.request-answer.new.self in
+    let call : IsCall g.T.Link.state payload old new seen =
+    call_whole (g.P.Answered.val (operation_of payload)) all c.request-answer.result c.request-answer.ensures.call (c.answers_any.ensures.whole (operation_of payload)) in
+    let told : Told = telling seen new.request_text new.response_text in
+    let before : List Told = map (exchange_told all) c.loop-payload.exchanges in
+    let is : map (exchange_told all) c.push.new.self ≡ before ++ told ∷ [] =
+    ap (λ l. map (exchange_told all) l) c.in_ok-push.ensures ∙ pushed all c.loop-payload.exchanges c.in_ok-told.field-0 told (ap (exchange_told all) c.in_ok-told.ensures) in
+    let caused : CausedOn start.credential start.limit (g.T.Link.state start.link).faults (g.T.Link.state old.link).faults c.args.payloads.items before (payload ∷ rest) = rw steps.0 at i.caused in
+    rw is (caused_end start.credential start.limit _ (g.T.Link.state new.link).faults c.args.payloads.items (before ++ told ∷ []) rest
+    (caused_on start.credential start.limit _ (g.T.Link.state old.link).faults _ c.args.payloads.items before payload rest told i.keeps.faults call.keeps.faults (rw (i.credential, i.limit) at call.caused) caused))
+
+pub returns-then-lost-clause-count : goal.returns-then-lost-clause-count
+returns-then-lost-clause-count g c =
+    let i = c.loop-payload.invariant in
+    let start = c.args.client.now in
+    let payload = c.in-Some.payload in
+    let all = g.P.AnsweredByAny.whole in
+    let seen : Answer = seen_by all c.request-answer.result in
+    let old = c.loop-payload.client in
+    let new = c.request-answer.new.self in
+    let call : IsCall g.T.Link.state payload old new seen =
+    call_whole (g.P.Answered.val (operation_of payload)) all c.request-answer.result c.request-answer.ensures.call (c.answers_any.ensures.whole (operation_of payload)) in
+    let told : Told = telling seen new.request_text new.response_text in
+    let before : List Told = map (exchange_told all) c.loop-payload.exchanges in
+    let is : map (exchange_told all) c.push.new.self ≡ before ++ told ∷ [] =
+    ap (λ l. map (exchange_told all) l) c.in_ok-push.ensures ∙ pushed all c.loop-payload.exchanges c.in_ok-told.field-0 told (ap (exchange_told all) c.in_ok-told.ensures) in
+    call.count ∙ ap (λ (n : ℕ). counted n (loses_connection seen)) i.errors ∙ ap (λ (lost : Bool). counted start.errors lost) (sym (ap ends_lost is ∙ ends_one before told))
+
+pub returns-clause-session : goal.returns-clause-session
+returns-clause-session g c = λ tells same.
+    let i = c.loop-payload.invariant in
+    let none : into_iter_items c.loop-payload.payload-iterator ≡ [] = empty_of (into_iter_items c.loop-payload.payload-iterator) (omega (arith, i.counted, c.in-None.ensures.steps)) in
+    end c.args.client.now.credential c.args.client.now.limit (left (g.T.Link.state c.loop-payload.client.link)) (rw none at (i.so_far tells same))
+
+pub returns-clause-stops : goal.returns-clause-stops
+returns-clause-stops g c =
+    let i = c.loop-payload.invariant in
+    let before : List Told = map (exchange_told g.P.AnsweredByAny.whole) c.loop-payload.exchanges in
+    let none : into_iter_items c.loop-payload.payload-iterator ≡ [] = empty_of (into_iter_items c.loop-payload.payload-iterator) (omega (arith, i.counted, c.in-None.ensures.steps)) in
+    let stops : StopsOn c.args.payloads.items before [] = rw none at i.stops in
+    stops_end c.args.payloads.items before stops
+
+pub returns-clause-caused : goal.returns-clause-caused
+returns-clause-caused g c =
+    caused_end c.args.client.now.credential c.args.client.now.limit _ _ c.args.payloads.items (map (exchange_told g.P.AnsweredByAny.whole) c.loop-payload.exchanges) (into_iter_items c.loop-payload.payload-iterator) c.loop-payload.invariant.caused

@@ -1,0 +1,100 @@
+-- Several requests over one client.
+use Rattle.std.specs.Prelude.{◌≡◌, ℕ, ◌+◌, ◌<◌, ◌≤◌, List, [], ◌∷◌, ◌++◌, length, take, drop, map, Bool, true, false, Option, None, if◌then◌else◌, Ok, Err, codes}
+use Rattle.kmip_shape.specs.Val.{Val}
+use Rattle.kmip_types.specs.declared.auth.CredentialType.{CredentialType}
+use Rattle.kmip_request.specs.Message.{request_bytes, operation_of}
+use Rattle.kmip_request.specs.declared.payload.RequestPayload.{RequestPayload}
+use Rattle.kmip_link.specs.State.{LinkState, Rose}
+use Rattle.kmip_client.specs.declared.error.Error.{Error}
+use Rattle.kmip_client.specs.declared.error.Error.TheVariants.{SerializeError, RequestWriteError, ResponseReadError}
+use Rattle.kmip_client.specs.declared.session.Exchange.{Exchange}
+use Rattle.kmip_client.specs.Outcome.{Answer, seen_by, Outcome, outcome, Moves, Caused}
+use Rattle.kmip_client.specs.Client.{loses_connection}
+use Rattle.kmip_client.specs.Diagnostics.{diagnostic_for, diagnostic_of}
+
+-- one request of a session
+pub record Turn : Type 0 where
+  -- its canonical bytes
+  pub request : Option (List ℕ)
+  -- the bytes left before it
+  pub rest : List ℕ
+  -- what it comes to
+  pub outcome : Outcome
+
+abbrev pub turn_of : RequestPayload → Option CredentialType → Option ℕ → List ℕ → Turn
+turn_of payload credential limit rest = record { request = request_bytes payload credential; rest = rest; outcome = outcome payload credential limit rest }
+
+-- a turn, and the later ones where its answer keeps the connection
+abbrev pub then_on : Turn → List Turn → List Turn
+then_on turn later = if loses_connection turn.outcome.answer then turn ∷ [] else turn ∷ later
+
+-- The turns of these requests on these bytes, each on what the one before it left.
+unfoldable pub session : List RequestPayload → Option CredentialType → Option ℕ → List ℕ → List Turn
+session [] credential limit rest = []
+session (payload ∷ payloads) credential limit rest =
+    then_on (turn_of payload credential limit rest) (session payloads credential limit (drop (outcome payload credential limit rest).taken rest))
+
+-- an exchange, as contracts see it
+pub record Told : Type 0 where
+  pub answer : Answer
+  pub request_text : Option (List ℕ)
+  pub response_text : Option (List ℕ)
+
+-- an exchange of the code, by the value of its payload
+abbrev pub exchange_told : {P : Type 0} → (P → Val) → Exchange P → Told
+exchange_told val exchange = record { answer = seen_by val exchange.answer; request_text = exchange.req_diag; response_text = exchange.res_diag }
+
+-- the diagnostic of the bytes that were taken, and none where the request was not sent
+abbrev pub response_text_of : Bool → List ℕ → Answer → Option (List ℕ)
+response_text_of buffered taken (Err (SerializeError reason)) = None
+response_text_of buffered taken (Err (RequestWriteError reason)) = None
+response_text_of buffered taken answer = diagnostic_for buffered taken
+
+-- what is told of a request of these bytes that was answered so, after these bytes were taken
+abbrev pub told_of : Bool → Option (List ℕ) → Answer → List ℕ → Told
+told_of buffered request answer taken = record { answer = answer; request_text = diagnostic_of buffered request; response_text = response_text_of buffered taken answer }
+
+abbrev pub turn_told : Bool → Turn → Told
+turn_told buffered turn = told_of buffered turn.request turn.outcome.answer (take turn.outcome.taken turn.rest)
+
+abbrev pub all_sent : List Turn → List ℕ
+all_sent [] = []
+all_sent (turn ∷ turns) = turn.outcome.sent ++ all_sent turns
+
+abbrev pub all_taken : List Turn → ℕ
+all_taken [] = 0
+all_taken (turn ∷ turns) = turn.outcome.taken + all_taken turns
+
+-- what a failing link left done of an outcome: the answer, the bytes sent, and how many were taken
+pub data BrokenOff (o : Outcome) : Answer → List ℕ → ℕ → Type 0 where
+  writing : (n : ℕ) → n < length o.sent → BrokenOff o (Err (RequestWriteError (codes "link failed"))) (take n o.sent) 0
+  reading : (n : ℕ) → n ≤ o.taken → BrokenOff o (Err (ResponseReadError (codes "link failed"))) o.sent n
+
+-- How a session of these turns went, and what it told.
+pub data Ran (buffered : Bool) (turns : List Turn) (before after : LinkState) (exchanges : List Told) : Type 0 where
+  whole : exchanges ≡ map (turn_told buffered) turns → Moves before after (all_sent turns) (all_taken turns) → Ran buffered turns before after exchanges
+  -- the link failed after some of them
+  broken : (done : List Turn) (turn : Turn) (more : List Turn) (last : Answer) (sent : List ℕ) (taken : ℕ) →
+      turns ≡ done ++ turn ∷ more → exchanges ≡ map (turn_told buffered) done ++ told_of buffered turn.request last (take taken turn.rest) ∷ [] →
+      BrokenOff turn.outcome last sent taken → Rose before.faults after.faults →
+      Moves before after (all_sent done ++ sent) (all_taken done + taken) → Ran buffered turns before after exchanges
+
+-- Over any link: there is one exchange for each request, up to the first that lost the connection.
+pub data Stops : List RequestPayload → List Told → Type 0 where
+  at_end : Stops [] []
+  at_loss : (payload : RequestPayload) (payloads : List RequestPayload) (exchange : Told) → loses_connection exchange.answer ≡ true → Stops (payload ∷ payloads) (exchange ∷ [])
+  later : (payload : RequestPayload) (payloads : List RequestPayload) (exchange : Told) (exchanges : List Told) → loses_connection exchange.answer ≡ false →
+      Stops payloads exchanges → Stops (payload ∷ payloads) (exchange ∷ exchanges)
+
+-- Over any link: each answer has its cause, of its own request and of the faults of the whole session.
+abbrev pub AllCaused : Option CredentialType → Option ℕ → ℕ → ℕ → List RequestPayload → List Told → Type 0
+AllCaused credential limit before after payloads [] = Unit {0}
+AllCaused credential limit before after [] (exchange ∷ exchanges) = ⊥
+AllCaused credential limit before after (payload ∷ payloads) (exchange ∷ exchanges) =
+    Caused (request_bytes payload credential) (operation_of payload) limit before after exchange.answer × AllCaused credential limit before after payloads exchanges
+
+-- whether the last answer is a connection error
+abbrev pub ends_lost : List Told → Bool
+ends_lost [] = false
+ends_lost (exchange ∷ []) = loses_connection exchange.answer
+ends_lost (exchange ∷ next ∷ exchanges) = ends_lost (next ∷ exchanges)

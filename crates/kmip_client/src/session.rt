@@ -1,0 +1,103 @@
+//! Several requests over one client.
+ghost use Rattle.std.specs.Prelude.{◌≡◌, ◌+◌, ◌<◌, map, IfOk, IfErr, IsTrue};
+ghost use Rattle.kmip_link.specs.State.{Keeps, left};
+ghost use Rattle.kmip_response.specs.Values.{response_payload_val};
+ghost use Rattle.kmip_client.specs.Client.{counted};
+ghost use Rattle.kmip_client.specs.Session.{session, exchange_told, Ran, Stops, AllCaused, ends_lost};
+ghost use Rattle.kmip_client.specs.declared.error.Error.TheVariants.{OutOfMemory as no_memory};
+
+use crate::answered::AnsweredByAny;
+use crate::client::{Client, lacks_memory, loses_connection};
+use crate::error::{Error, Result};
+use kmip_link::Link;
+use kmip_request::RequestPayload;
+use kmip_response::ResponsePayload;
+use kmip_wire::{List, OutOfMemory, Text};
+use std::alloc::Global;
+
+/// One request of a session.
+#[derive(Drop)]
+pub struct Exchange<P = ResponsePayload> {
+    /// What its call answered.
+    pub answer: Result<P>,
+    /// The diagnostic of the request, as `last_req_diag_str` told it after the call.
+    pub req_diag: Option<Text>,
+    /// The diagnostic of the response, as `last_res_diag_str` told it after the call.
+    pub res_diag: Option<Text>,
+}
+
+/// What a session came to: the exchanges in order.
+pub type Answers = List<Exchange>;
+
+/// Calls `do_request` for each payload in order, and makes no call after the first answer that is a connection error.
+///
+/// Its only error is `OutOfMemory`, which also stands for a call that answered so: the answers before it are lost, and
+/// the calls that were made stay made. Each exchange holds copies of the diagnostics of its call.
+pub fn exchange_all<T: Link>(
+    alloc: Global,
+    client: &mut Client<T>,
+    payloads: List<RequestPayload>,
+) -> Result<Answers>
+    ensures session { IfOk result (λ answers. IsTrue (T.state client.old.link).tells →
+        (T.state client.new.link).ever ≡ (T.state client.old.link).ever →
+        Ran client.old.buffered (session payloads client.old.credential client.old.limit (left (T.state client.old.link)))
+        (T.state client.old.link) (T.state client.new.link) (map (exchange_told response_payload_val) answers)) }
+    ensures stops { IfOk result (λ answers. Stops payloads (map (exchange_told response_payload_val) answers)) }
+    ensures caused { IfOk result (λ answers. AllCaused client.old.credential client.old.limit
+        (T.state client.old.link).faults (T.state client.new.link).faults payloads (map (exchange_told response_payload_val) answers)) }
+    ensures keeps { Keeps (T.state client.old.link) (T.state client.new.link) }
+    ensures settings { (client.new.credential ≡ client.old.credential) × (client.new.limit ≡ client.old.limit) × (client.new.buffered ≡ client.old.buffered) }
+    ensures count { IfOk result (λ answers. client.new.errors ≡ counted client.old.errors (ends_lost (map (exchange_told response_payload_val) answers))) }
+    ensures memory { IfErr result (λ e. e ≡ no_memory) }
+{
+    exchanges(alloc, client, payloads.into_vec())
+}
+
+/// The same, over any payload that each call answers, so that its proof sees no variant.
+fn exchanges<T: Link, P: AnsweredByAny>(
+    alloc: Global,
+    client: &mut Client<T>,
+    payloads: Vec<RequestPayload>,
+) -> Result<List<Exchange<P>>>
+    ensures session { IfOk result (λ answers. IsTrue (T.state client.old.link).tells →
+        (T.state client.new.link).ever ≡ (T.state client.old.link).ever →
+        Ran client.old.buffered (session payloads.items client.old.credential client.old.limit (left (T.state client.old.link)))
+        (T.state client.old.link) (T.state client.new.link) (map (exchange_told P.whole) answers)) }
+    ensures stops { IfOk result (λ answers. Stops payloads.items (map (exchange_told P.whole) answers)) }
+    ensures caused { IfOk result (λ answers. AllCaused client.old.credential client.old.limit
+        (T.state client.old.link).faults (T.state client.new.link).faults payloads.items (map (exchange_told P.whole) answers)) }
+    ensures keeps { Keeps (T.state client.old.link) (T.state client.new.link) }
+    ensures settings { (client.new.credential ≡ client.old.credential) × (client.new.limit ≡ client.old.limit) × (client.new.buffered ≡ client.old.buffered) }
+    ensures count { IfOk result (λ answers. client.new.errors ≡ counted client.old.errors (ends_lost (map (exchange_told P.whole) answers))) }
+    ensures memory { IfErr result (λ e. e ≡ no_memory) }
+{
+    P::answers_any();
+    let mut exchanges = List::new(alloc);
+    for payload in payloads {
+        let answer = client.request(alloc, payload);
+        if lacks_memory(&answer) {
+            return Err(Error::OutOfMemory);
+        }
+        let lost = loses_connection(&answer);
+        exchanges.push(told(alloc, client, answer)?)?;
+        if lost {
+            return Ok(exchanges);
+        }
+    }
+    Ok(exchanges)
+}
+
+/// An answer beside copies of the diagnostics of its call.
+fn told<T, P: Drop>(
+    alloc: Global,
+    client: &Client<T>,
+    answer: Result<P>,
+) -> std::result::Result<Exchange<P>, OutOfMemory>
+    ensures { IfOk result (λ exchange. exchange ≡ record { answer = answer; req_diag = client.now.request_text; res_diag = client.now.response_text }) }
+{
+    Ok(Exchange {
+        answer,
+        req_diag: client.copy_req_diag(alloc)?,
+        res_diag: client.copy_res_diag(alloc)?,
+    })
+}
