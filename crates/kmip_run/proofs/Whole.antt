@@ -1,5 +1,5 @@
 -- What the program does with its words and its script.
-use Rattle.std.proofs.Common.{◌≡◌, ◌≢◌, ℕ, ◌+◌, ◌<◌, ◌≤◌, ◌⊎◌, List, [], ◌∷◌, ◌++◌, length, take, drop, min, refl, ◌∙◌, ap, sym, arith, codes, Some, None, Result, Ok, Err, IfOk, Bool, true, false, IsSome}
+use Rattle.std.proofs.Common.{◌≡◌, ◌≢◌, ℕ, ◌+◌, ◌<◌, ◌≤◌, ◌⊎◌, List, [], ◌∷◌, ◌++◌, length, take, drop, min, refl, ◌∙◌, ap, sym, arith, codes, Some, None, Result, Ok, Err, IfOk, Bool, true, false, IsSome, IsTrue}
 use Rattle.std.proofs.lemmas.Bool.Decides.{nat_tests}
 use Rattle.std.proofs.lemmas.List.{length-take, take_all}
 use Rattle.std.specs.List.{All}
@@ -11,9 +11,9 @@ use Rattle.kmip_run.specs.Calls.{call_of}
 use Rattle.kmip_run.specs.Commands.{command_of}
 use Rattle.kmip_run.specs.Exchange.{Settings, settings_for, Step, step}
 use Rattle.kmip_run.specs.Streams.{WrotePart}
-use Rattle.kmip_run.specs.Transcript.{Transcript, only_text, status_after, replayed, expanded, explained, lines_transcript, most_script, script_transcript, command_transcript, transcript, IsLineOf, IsOfGrammar, Replays}
+use Rattle.kmip_run.specs.Transcript.{Transcript, only_text, status_after, replayed, expanded, explained, lines_transcript, most_script, reads_script, script_transcript, command_transcript, transcript, IsLineOf, IsOfGrammar, Replays}
 use Rattle.kmip_run.specs.declared.command.Command.{Command}
-use Rattle.kmip_run.specs.declared.command.Command.TheVariants.{Replay, Explain}
+use Rattle.kmip_run.specs.declared.command.Command.TheVariants.{Replay, Explain, Make}
 use Rattle.kmip_run.proofs.Explained.{explained_line, explained_none, explained_alone}
 use Rattle.kmip_run.proofs.Runs.{append_none, replayed_call, replayed_none}
 
@@ -21,13 +21,22 @@ pub most : most_script ≡ 16777216
 unfolding most_script
 most = refl
 
-pub transcript_long : (command : Command) (script : List ℕ) → 16777216 < length script → script_transcript command script ≡ only_text [] 6
+pub transcript_long : (command : Command) (script : List ℕ) → reads_script (Some command) ≡ true → 16777216 < length script → script_transcript command script ≡ only_text [] 6
 unfolding script_transcript most_script
-transcript_long command script long = grind (arith, nat_tests)
+transcript_long command script reads long = rw reads (grind (arith, nat_tests))
 
 pub transcript_fits : (command : Command) (script : List ℕ) → length script ≤ 16777216 → script_transcript command script ≡ lines_transcript command (lines_of script)
 unfolding script_transcript most_script
-transcript_fits command script fits = grind (arith, nat_tests)
+transcript_fits (Replay options) script fits = grind (arith, nat_tests)
+transcript_fits Explain script fits = grind (arith, nat_tests)
+transcript_fits (Make count) script fits = refl
+
+-- a command that reads no script makes the same of each
+pub transcript_same : (command : Command) (script : List ℕ) → reads_script (Some command) ≡ false → script_transcript command script ≡ script_transcript command []
+unfolding script_transcript
+transcript_same (Replay options) script unread = cc
+transcript_same Explain script unread = cc
+transcript_same (Make count) script unread = refl
 
 pub transcript_words : (words : List (List ℕ)) (script : List ℕ) → None ≡ command_of words → transcript words script ≡ only_text (codes "! words\n") 2
 unfolding transcript
@@ -36,6 +45,10 @@ transcript_words words script none = rw (sym none) refl
 pub transcript_command : (words : List (List ℕ)) (script : List ℕ) (command : Command) → Some command ≡ command_of words → transcript words script ≡ command_transcript (Some command) script
 unfolding transcript
 transcript_command words script command is = rw (sym is) refl
+
+-- words that read no script
+pub transcript_unread : (words : List (List ℕ)) (script : List ℕ) (command : Command) → Some command ≡ command_of words → reads_script (Some command) ≡ false → transcript words script ≡ script_transcript command []
+transcript_unread words script command is unread = transcript_command words script command is ∙ transcript_same command script unread
 
 -- more was read than the longest script
 pub script_long : (most : ℕ) (script left : List ℕ) → script ≡ take (most + 1) left → most < length script → most < length left
@@ -57,6 +70,14 @@ nothing_written link status old = record { text = append_none old; status_is = r
 
 pub text_alone : (link : MemoryState) (text : List ℕ) (status : ℕ) (old : List ℕ) → Replays (only_text text status) link link status old (old ++ text)
 text_alone link text status old = record { text = refl; status_is = refl; ever = append_none link.ever; sent = append_none link.sent; pos = omega arith }
+
+-- a command that was done with no script
+pub alone_replays : {before after : MemoryState} {status : ℕ} {out : List ℕ} (command : Command) → Replays (lines_transcript command []) before after status [] out → Replays (script_transcript command []) before after status [] out
+alone_replays command did = rw (transcript_fits command [] (omega arith)) did
+
+pub alone_status : {before after : MemoryState} {old out : List ℕ} (command : Command) (result status : ℕ) → Replays (lines_transcript command []) before after status old out →
+    (result ≡ status) ⊎ ((result ≡ 4) ⊎ (result ≡ 5)) → (result ≡ (script_transcript command []).status) ⊎ ((result ≡ 4) ⊎ (result ≡ 5))
+alone_status command result status did cases = rw (transcript_fits command [] (omega arith), sym did.status_is) cases
 
 -- nothing at all is a part of a text
 pub no_part : (sink : SinkState) (text : List ℕ) → WrotePart sink sink text
@@ -87,15 +108,22 @@ explained_small (line ∷ lines) number good =
       | Some text ↦ λ e some. rw (explained_line line lines number text (sym e)) (explained_small lines (number + 1) (All-tail (λ l. IsSome (expanded l)) line lines good))
     ] refl (All-head (λ l. IsSome (expanded l)) line lines good)
 
-lines_small : (command : Command) (lines : List (List ℕ)) → All (IsLineOf (Some command)) lines → (lines_transcript command lines).status < 2
-lines_small (Replay options) lines good = replayed_small (settings_for options) lines 1 0 [] (omega arith) good
-lines_small Explain lines good = explained_small lines 1 good
+lines_small : (command : Command) (lines : List (List ℕ)) → (IsTrue (reads_script (Some command)) → All (IsLineOf (Some command)) lines) → (lines_transcript command lines).status < 2
+lines_small (Replay options) lines good = replayed_small (settings_for options) lines 1 0 [] (omega arith) (good refl)
+lines_small Explain lines good = explained_small lines 1 (good refl)
+lines_small (Make count) lines good = omega arith
+
+-- the script of a command, where it reads one and this is not too long
+lines_whole : (command : Command) (script : List ℕ) → (IsTrue (reads_script (Some command)) → length script ≤ 16777216) → script_transcript command script ≡ lines_transcript command (lines_of script)
+lines_whole (Replay options) script fits = transcript_fits (Replay options) script (fits refl)
+lines_whole Explain script fits = transcript_fits Explain script (fits refl)
+lines_whole (Make count) script fits = transcript_same (Make count) script refl ∙ transcript_fits (Make count) [] (omega arith)
 
 -- a script of the grammar ends with the status 0 or 1
 pub grammar_status : (words : List (List ℕ)) (script : List ℕ) (command : Command) → Some command ≡ command_of words → IsOfGrammar words script → (transcript words script).status < 2
 grammar_status words script command is good =
-    let fits : length script ≤ 16777216 = rw most at good.fits in
-    rw (transcript_command words script command is, transcript_fits command script fits) (lines_small command (lines_of script) (rw (sym is) at good.lines_are))
+    let fits : IsTrue (reads_script (Some command)) → length script ≤ 16777216 = rw (sym is, most) at good.fits in
+    rw (transcript_command words script command is, lines_whole command script fits) (lines_small command (lines_of script) (rw (sym is) at good.lines_are))
 
 explained_now : (link : MemoryState) (lines : List (List ℕ)) (status : ℕ) (old new : List ℕ) → status ≡ (explained lines 1).status → new ≡ old ++ (explained lines 1).text → Replays (explained lines 1) link link status old new
 explained_now link lines status old new status_is text =
@@ -110,6 +138,9 @@ explains link lines (Err error) old new status_is text = tt
 -- the status that is left, where the writing did not end otherwise
 pub status_left : (result status : ℕ) → (result ≡ status) ⊎ ((result ≡ 4) ⊎ (result ≡ 5)) → result ≢ 4 → result ≢ 5 → result ≡ status
 status_left result status cases no4 no5 = grind arith
+
+pub not_read_fault : (result : ℕ) → (result < 3) ⊎ ((result ≡ 4) ⊎ (result ≡ 5)) → result ≢ 3
+not_read_fault result cases = grind arith
 
 pub completes : (result status : ℕ) → result ≢ 3 → result ≢ 4 → (result ≢ 5 → result ≡ status) → status < 2 → (result ≡ 0) ⊎ ((result ≡ 1) ⊎ (result ≡ 5))
 completes result status no3 no4 is small = grind (arith, nat_tests)

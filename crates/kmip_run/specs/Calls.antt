@@ -1,10 +1,12 @@
 -- What a line of the script asks for.
 use Rattle.std.specs.Prelude.{ℕ, ℤ, List, [], ◌∷◌, Option, Some, None, if◌then◌else◌, codes, bytes_eq}
+use Rattle.std.specs.Option.{option_map}
 use Rattle.std.specs.Str.{is_utf8}
+use Rattle.kmip_request_read.specs.Reading.{request_read}
 use Rattle.kmip_run.specs.Words.{words_of}
 use Rattle.kmip_run.specs.Values.{int_of, bytes_of, text_of}
 use Rattle.kmip_run.specs.declared.call.Call.{Call}
-use Rattle.kmip_run.specs.declared.call.Call.TheVariants.{Query, CreateRsa, Rng, Sign, Activate, Revoke, Destroy, Rename, Get}
+use Rattle.kmip_run.specs.declared.call.Call.TheVariants.{Query, CreateRsa, Rng, Sign, Activate, Revoke, Destroy, Rename, Get, Raw}
 use Rattle.kmip_run.specs.declared.call.Recorded.{Recorded}
 
 -- the call of one word: `query`
@@ -28,9 +30,17 @@ abbrev pub key_call_of : List ℕ → Option (List ℕ) → Option Call
 key_call_of name (Some id) = key_call name id
 key_call_of name None = None
 
--- the calls of two words: `rng INT`, and `activate TEXT`, `revoke TEXT`, `destroy TEXT`, `get TEXT`
+-- the request of these bytes, where the request reader reads them
+abbrev pub raw_of : Option (List ℕ) → Option Call
+raw_of (Some bytes) = option_map Raw (request_read bytes)
+raw_of None = None
+
+-- the calls of two words: `rng INT`, `raw HEX`, and `activate TEXT`, `revoke TEXT`, `destroy TEXT`, `get TEXT`
 abbrev pub call_of_two : List ℕ → List ℕ → Option Call
-call_of_two name word = if bytes_eq name (codes "rng") then rng_of (int_of word) else key_call_of name (text_of word)
+call_of_two name word =
+    if bytes_eq name (codes "rng") then rng_of (int_of word)
+    else if bytes_eq name (codes "raw") then raw_of (bytes_of word)
+    else key_call_of name (text_of word)
 
 abbrev pub sign_of : Option (List ℕ) → Option (List ℕ) → Option Call
 sign_of (Some id) (Some bytes) = Some (Sign id bytes)

@@ -1,9 +1,9 @@
 -- What the words of the command line ask for.
-use Rattle.std.specs.Prelude.{ℕ, nat_eq, List, [], ◌∷◌, length, drop, Bool, true, false, Option, Some, None, if◌then◌else◌, codes, bytes_eq}
+use Rattle.std.specs.Prelude.{ℕ, nat_eq, nat_lt, List, [], ◌∷◌, length, drop, Bool, true, false, Option, Some, None, if◌then◌else◌, codes, bytes_eq}
 use Rattle.std.specs.List.{starts_with}
 use Rattle.kmip_run.specs.Values.{number_of}
 use Rattle.kmip_run.specs.declared.command.Command.{Command}
-use Rattle.kmip_run.specs.declared.command.Command.TheVariants.{Replay, Explain}
+use Rattle.kmip_run.specs.declared.command.Command.TheVariants.{Replay, Explain, Make}
 
 -- the value that a first word gives to a name, and the words that are left after it
 pub record Given : Type 0 where
@@ -49,10 +49,20 @@ abbrev pub explain_of : List (List ℕ) → Option Command
 explain_of [] = Some Explain
 explain_of words = None
 
+-- `make` takes one word: a decimal number without leading zeros, at most 100000
+abbrev pub make_number : Option ℕ → Option Command
+make_number (Some count) = if nat_lt 100000 count then None else Some (Make count)
+make_number None = None
+
+abbrev pub make_of : List (List ℕ) → Option Command
+make_of (count ∷ []) = make_number (number_of count)
+make_of words = None
+
 -- the command of the words after the program's name
 unfoldable pub command_of : List (List ℕ) → Option Command
 command_of [] = None
 command_of (name ∷ words) =
     if bytes_eq name (codes "replay") then replay_of words
     else if bytes_eq name (codes "explain") then explain_of words
+    else if bytes_eq name (codes "make") then make_of words
     else None

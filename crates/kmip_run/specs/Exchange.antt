@@ -5,17 +5,20 @@ use Rattle.kmip_shape.specs.Val.{Val, Text, Record, Case, AndField, NoField, One
 use Rattle.kmip_shape.specs.Shape.{Shape}
 use Rattle.kmip_shape.specs.Shown.{shown, text_shown}
 use Rattle.kmip_diag.specs.Diagnostic.{diagnostic}
+use Rattle.kmip_enums.specs.declared.operation.Operation.{Operation}
 use Rattle.kmip_types.specs.declared.auth.CredentialType.{CredentialType}
+use Rattle.kmip_request.specs.Message.{request_bytes, operation_of}
 use Rattle.kmip_request.specs.declared.payload.RequestPayload.{RequestPayload}
-use Rattle.kmip_response.specs.Tables.{query_payload, rng_retrieve_payload, sign_payload, attribute_edit_payload, get_payload}
+use Rattle.kmip_request_read.specs.Reading.{Request, message_bytes}
+use Rattle.kmip_response.specs.Tables.{response_payload, query_payload, rng_retrieve_payload, sign_payload, attribute_edit_payload, get_payload}
 use Rattle.kmip_client.specs.Client.{ClientState, credential_for}
 use Rattle.kmip_client.specs.Errors.{error_shown}
-use Rattle.kmip_client.specs.Outcome.{Answer, Outcome, outcome}
+use Rattle.kmip_client.specs.Outcome.{Answer, Outcome, outcome_of}
 use Rattle.kmip_client.specs.Requests.{query_request, key_pair_request, rng_request, sign_request, activate_request, revoke_request, destroy_request, rename_request, get_request}
 use Rattle.kmip_client.specs.declared.error.Error.{Error}
 use Rattle.kmip_client.specs.declared.error.Error.TheVariants.{OutOfMemory}
 use Rattle.kmip_run.specs.declared.call.Call.{Call}
-use Rattle.kmip_run.specs.declared.call.Call.TheVariants.{Query, CreateRsa, Rng, Sign, Activate, Revoke, Destroy, Rename, Get}
+use Rattle.kmip_run.specs.declared.call.Call.TheVariants.{Query, CreateRsa, Rng, Sign, Activate, Revoke, Destroy, Rename, Get, Raw}
 use Rattle.kmip_run.specs.declared.command.Options.{Options}
 
 -- what each call of a client goes by
@@ -33,17 +36,29 @@ settings_of client = record { credential = client.credential; limit = client.lim
 abbrev pub settings_for : Options → Settings
 settings_for options = record { credential = credential_for options.user options.password; limit = options.limit; buffered = options.diag }
 
--- the request of a call
-abbrev pub request_of : Call → RequestPayload
-request_of Query = query_request
-request_of (CreateRsa key_length private_key_name public_key_name) = key_pair_request key_length private_key_name public_key_name
-request_of (Rng num_bytes) = rng_request num_bytes
-request_of (Sign id bytes) = sign_request id bytes
-request_of (Activate id) = activate_request id
-request_of (Revoke id) = revoke_request id
-request_of (Destroy id) = destroy_request id
-request_of (Rename id new_name) = rename_request id new_name
-request_of (Get id) = get_request id
+-- what a call asks for: its one canonical message, where it has one, and its operation
+pub record Asked : Type 0 where
+  pub message : Option (List ℕ)
+  pub operation : Operation
+
+abbrev pub asked_of : RequestPayload → Option CredentialType → Asked
+asked_of payload credential = record { message = request_bytes payload credential; operation = operation_of payload }
+
+-- the request that a line gives by its bytes; the credential is the client's, not theirs
+abbrev pub raw_asked : Request → Option CredentialType → Asked
+raw_asked request credential = record { message = message_bytes request credential; operation = request.operation }
+
+abbrev pub asked : Call → Option CredentialType → Asked
+asked Query = asked_of query_request
+asked (CreateRsa key_length private_key_name public_key_name) = asked_of (key_pair_request key_length private_key_name public_key_name)
+asked (Rng num_bytes) = asked_of (rng_request num_bytes)
+asked (Sign id bytes) = asked_of (sign_request id bytes)
+asked (Activate id) = asked_of (activate_request id)
+asked (Revoke id) = asked_of (revoke_request id)
+asked (Destroy id) = asked_of (destroy_request id)
+asked (Rename id new_name) = asked_of (rename_request id new_name)
+asked (Get id) = asked_of (get_request id)
+asked (Raw request) = raw_asked request
 
 -- two texts in round brackets
 abbrev pub pair_shown : List ℕ → List ℕ → List ℕ
@@ -70,6 +85,7 @@ value_shown (Revoke id) payload = codes "()"
 value_shown (Destroy id) payload = codes "()"
 value_shown (Rename id new_name) payload = record_shown attribute_edit_payload payload
 value_shown (Get id) payload = record_shown get_payload payload
+value_shown (Raw request) payload = shown response_payload payload
 
 -- the line of an answer, where `value` shows its value
 abbrev pub answer_line : {R : Type 0} → (R → List ℕ) → Result R Error → List ℕ
@@ -109,7 +125,9 @@ step_of value buffered rest o = record {
 
 -- what a call comes to over these bytes left
 abbrev pub step : Settings → Call → List ℕ → Step
-step settings call rest = step_of (value_shown call) settings.buffered rest (outcome (request_of call) settings.credential settings.limit rest)
+step settings call rest =
+    let it : Asked = asked call settings.credential in
+    step_of (value_shown call) settings.buffered rest (outcome_of it.message it.operation settings.limit rest)
 
 -- the line of an answer was added, which is not want of memory
 pub record Shows {R : Type 0} (value : R → List ℕ) (answer : Result R Error) (failed : Bool) (old new : List ℕ) : Type 0 where

@@ -3,6 +3,9 @@ pub mod Words
 pub mod Values
 pub mod Calls
 pub mod Commands
+pub mod Raw
 pub mod Streams
 pub mod Exchange
+pub mod Making
 pub mod Transcript
+pub mod Sent

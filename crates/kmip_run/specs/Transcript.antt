@@ -1,5 +1,5 @@
 -- What the program writes, and with which status it ends.
-use Rattle.std.specs.Prelude.{◌≡◌, ℕ, ◌+◌, ◌≤◌, List, [], ◌∷◌, ◌++◌, length, drop, min, Bool, true, false, Option, Some, None, IsSome, if◌then◌else◌, nat_lt, codes}
+use Rattle.std.specs.Prelude.{◌≡◌, ℕ, ◌+◌, ◌≤◌, List, [], ◌∷◌, ◌++◌, length, drop, min, Bool, true, false, Option, Some, None, IsSome, if◌then◌else◌, ◌&&◌, nat_lt, IsTrue, codes}
 use Rattle.std.specs.Fmt.{decimal}
 use Rattle.std.specs.List.{All}
 use Rattle.std.specs.Str.{is_utf8}
@@ -10,8 +10,9 @@ use Rattle.kmip_run.specs.Script.{lines_of}
 use Rattle.kmip_run.specs.Calls.{call_of}
 use Rattle.kmip_run.specs.Commands.{command_of}
 use Rattle.kmip_run.specs.Exchange.{Settings, settings_for, Step, step}
+use Rattle.kmip_run.specs.Making.{Counts, made, made_settings, made_text}
 use Rattle.kmip_run.specs.declared.command.Command.{Command}
-use Rattle.kmip_run.specs.declared.command.Command.TheVariants.{Replay, Explain}
+use Rattle.kmip_run.specs.declared.command.Command.TheVariants.{Replay, Explain, Make}
 
 -- what is written, the status, and the bytes that are fed to the link, sent, and taken
 pub record Transcript : Type 0 where
@@ -74,17 +75,33 @@ explained (line ∷ lines) number = elim (expanded line) [
   | Some text ↦ then_text text (explained lines (number + 1))
 ]
 
+-- the lines that count exchanges, and what is fed, sent and taken in these
+abbrev pub counted_transcript : ℕ → Counts → Transcript
+counted_transcript count c = record { text = made_text count c.ok c.errors (length c.sent) c.taken; status = 0; fed = c.fed; sent = c.sent; taken = c.taken }
+
+-- so many exchanges, the first of the number after 1
+abbrev pub made_transcript : ℕ → Transcript
+made_transcript count = counted_transcript count (made made_settings count 1 [])
+
 -- what a command makes of the lines of its script
 abbrev pub lines_transcript : Command → List (List ℕ) → Transcript
 lines_transcript (Replay options) lines = replayed (settings_for options) lines 1 0 []
 lines_transcript Explain lines = explained lines 1
+lines_transcript (Make count) lines = made_transcript count
+
+-- The command reads a script.
+abbrev pub reads_script : Option Command → Bool
+reads_script (Some (Replay options)) = true
+reads_script (Some Explain) = true
+reads_script (Some (Make count)) = false
+reads_script None = false
 
 -- the bytes of the longest script
 unfoldable pub most_script : ℕ
 most_script = 16777216
 
 unfoldable pub script_transcript : Command → List ℕ → Transcript
-script_transcript command script = if nat_lt most_script (length script) then only_text [] 6 else lines_transcript command (lines_of script)
+script_transcript command script = if reads_script (Some command) && nat_lt most_script (length script) then only_text [] 6 else lines_transcript command (lines_of script)
 
 abbrev pub command_transcript : Option Command → List ℕ → Transcript
 command_transcript None script = only_text (codes "! words\n") 2
@@ -94,28 +111,29 @@ command_transcript (Some command) script = script_transcript command script
 unfoldable pub transcript : List (List ℕ) → List ℕ → Transcript
 transcript words script = command_transcript (command_of words) script
 
--- how many bytes a command reads of those left: one more than the longest script at most
+-- how many bytes a command that reads a script reads of those left: one more than the longest script at most
 abbrev pub read_by : Option Command → ℕ → ℕ
-read_by None left = 0
-read_by (Some command) left = min (most_script + 1) left
+read_by command left = if reads_script command then min (most_script + 1) left else 0
 
 -- The command makes calls, over the link.
 abbrev pub makes_calls : Option Command → Bool
 makes_calls (Some (Replay options)) = true
 makes_calls (Some Explain) = false
+makes_calls (Some (Make count)) = true
 makes_calls None = false
 
 -- The line is of the grammar of a command.
 abbrev pub IsLineOf : Option Command → List ℕ → Type 0
 IsLineOf (Some (Replay options)) line = IsSome (call_of line)
 IsLineOf (Some Explain) line = IsSome (expanded line)
+IsLineOf (Some (Make count)) line = ⊥
 IsLineOf None line = ⊥
 
--- The words, and each line of the script, are of the grammar, and the script is not too long.
+-- The words are of the grammar, and, where they read a script, each line of it is, and it is not too long.
 pub record IsOfGrammar (words : List (List ℕ)) (script : List ℕ) : Type 0 where
   pub words_are : IsSome (command_of words)
-  pub lines_are : All (IsLineOf (command_of words)) (lines_of script)
-  pub fits : length script ≤ most_script
+  pub lines_are : IsTrue (reads_script (command_of words)) → All (IsLineOf (command_of words)) (lines_of script)
+  pub fits : IsTrue (reads_script (command_of words)) → length script ≤ most_script
 
 -- what a call did: to the link, and to the text
 pub record RunsCall (s : Step) (fed : List ℕ) (before after : MemoryState) (failed : Bool) (old new : List ℕ) : Type 0 where

@@ -1,12 +1,15 @@
 //! The calls of the client, each with the line of its answer.
 ghost use Rattle.std.specs.Prelude.{◌≡◌, drop, IfOk};
 ghost use Rattle.kmip_run.specs.Exchange.{settings_of, step, Answers};
-ghost use Rattle.kmip_run.specs.declared.call.Call.TheVariants.{CreateRsa, Rng};
+ghost use Rattle.kmip_run.specs.declared.call.Call.TheVariants.{CreateRsa, Rng, Raw};
+ghost use Rattle.kmip_request_read.specs.Reading.{Request};
 
 use crate::call::Call;
+use crate::raw::RawRequest;
 use crate::show::{show, show_done, show_pair};
 use kmip_client::Client;
 use kmip_link::MemoryLink;
+use kmip_request_read::same_message;
 use kmip_wire::{OutOfMemory, Text};
 use std::alloc::Global;
 
@@ -37,6 +40,26 @@ fn rng(
         client.old client.new failed line.old line.new) }
 {
     show(alloc, client.rng_retrieve(alloc, num_bytes), line)
+}
+
+/// Makes the request of a line's bytes, and adds the line of the answer, which is shown as a choice.
+fn raw(
+    alloc: Global,
+    client: &mut Client<MemoryLink>,
+    request: RawRequest,
+    line: &mut Text,
+) -> Result<bool, OutOfMemory>
+    ensures { IfOk result (λ failed. Answers (step (settings_of client.old) (Raw request) (drop client.old.link.pos client.old.link.ever))
+        client.old client.new failed line.old line.new) }
+{
+    same_message();
+    match request.payload(alloc) {
+        Ok(payload) => {
+            let answer = client.do_request(alloc, payload);
+            show(alloc, answer, line)
+        }
+        Err(error) => Err(error),
+    }
 }
 
 /// Makes a call on the client. It adds the line of the answer, and says whether this is an error.
@@ -78,5 +101,6 @@ pub fn answer(
             line,
         ),
         Call::Get { id } => show(alloc, client.get_key(alloc, id.as_str()), line),
+        Call::Raw { request } => raw(alloc, client, request, line),
     }
 }

@@ -1,8 +1,9 @@
 //! What a line of the script asks for.
 ghost use Rattle.std.specs.Prelude.{◌≡◌, map, option_map, IfOk};
 ghost use Rattle.kmip_run.specs.Values.{int_of, bytes_of, text_of};
-ghost use Rattle.kmip_run.specs.Calls.{rng_of, key_call, call_of_one, call_of_two, sign_of, rename_of, call_of_three, create_rsa_of, call_of_four, with_response, call_of_words, call_of};
+ghost use Rattle.kmip_run.specs.Calls.{rng_of, raw_of, key_call, call_of_one, call_of_two, sign_of, rename_of, call_of_three, create_rsa_of, call_of_four, with_response, call_of_words, call_of};
 
+use crate::raw::RawRequest;
 use crate::values::{bytes_of, int_of, text_of};
 use crate::words::words_of;
 use kmip_wire::{Blob, OutOfMemory, Text};
@@ -50,6 +51,10 @@ pub enum Call {
     Get {
         id: Text,
     },
+    /// `raw HEX`: the request of these bytes. The credential in them is not used.
+    Raw {
+        request: RawRequest,
+    },
 }
 
 /// A call, and the response that was recorded for it.
@@ -90,12 +95,28 @@ fn key_call(name: &str, id: Text) -> Option<Call>
     }
 }
 
-/// The calls of two words: `rng INT`, and `activate TEXT` and its like.
+/// `raw HEX`: the request of these bytes.
+fn raw_of(alloc: Global, bytes: &str) -> Result<Option<Call>, OutOfMemory>
+    ensures { IfOk result (λ call. call ≡ raw_of (bytes_of bytes.now)) }
+{
+    let Some(bytes) = bytes_of(alloc, bytes)? else {
+        return Ok(None);
+    };
+    match RawRequest::read(alloc, bytes)? {
+        Some(request) => Ok(Some(Call::Raw { request })),
+        None => Ok(None),
+    }
+}
+
+/// The calls of two words: `rng INT`, `raw HEX`, and `activate TEXT` and its like.
 fn call_of_two(alloc: Global, name: &str, word: &str) -> Result<Option<Call>, OutOfMemory>
     ensures { IfOk result (λ call. call ≡ call_of_two name.now word.now) }
 {
     if name == "rng" {
         return Ok(rng_of(word));
+    }
+    if name == "raw" {
+        return raw_of(alloc, word);
     }
     match text_of(alloc, word)? {
         Some(id) => Ok(key_call(name, id)),

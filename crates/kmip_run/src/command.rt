@@ -1,11 +1,14 @@
 //! What the words of the command line ask for.
 ghost use Rattle.std.specs.Prelude.{◌≡◌, ◌∷◌, [], map, option_map, IfOk, Some};
-ghost use Rattle.kmip_run.specs.Commands.{given, given_after, diag_of, replay_of, explain_of, command_of};
+ghost use Rattle.kmip_run.specs.Commands.{given, given_after, diag_of, replay_of, explain_of, make_of, command_of};
 ghost use Rattle.kmip_run.specs.declared.command.Command.TheVariants.{Replay};
 
 use crate::values::number_of;
 use kmip_wire::{OutOfMemory, Text};
 use std::alloc::Global;
+
+/// The most exchanges that `make` makes.
+const MOST_EXCHANGES: u32 = 100_000;
 
 /// What the words after `replay` set.
 #[derive(Drop)]
@@ -27,6 +30,8 @@ pub enum Command {
     Replay(Options),
     /// `explain`: expands the diagnostics of the script.
     Explain,
+    /// `make N`: makes so many exchanges from a number, and counts. It reads no script.
+    Make(u32),
 }
 
 /// The value that the first word gives to a name, as in `name=value`, and the words that are left after it.
@@ -136,6 +141,19 @@ fn explain_of(words: &[Text]) -> Option<Command>
     }
 }
 
+/// `make` with the number of exchanges, or none where its words are not of the grammar.
+fn make_of(words: &[Text]) -> Option<Command>
+    ensures { result ≡ make_of words.now }
+{
+    match words {
+        [word] => match number_of(word.as_str()) {
+            Some(count) if count <= MOST_EXCHANGES => Some(Command::Make(count)),
+            _ => None,
+        },
+        _ => None,
+    }
+}
+
 /// The command of the words after the program's name, or none where they are not of the grammar.
 pub fn command_of(alloc: Global, words: &[Text]) -> Result<Option<Command>, OutOfMemory>
     ensures { IfOk result (λ command. command ≡ command_of words.now) }
@@ -146,6 +164,7 @@ pub fn command_of(alloc: Global, words: &[Text]) -> Result<Option<Command>, OutO
     match name.as_str() {
         "replay" => replay_of(alloc, options),
         "explain" => Ok(explain_of(options)),
+        "make" => Ok(make_of(options)),
         _ => Ok(None),
     }
 }

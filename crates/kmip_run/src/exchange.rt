@@ -12,7 +12,7 @@ use kmip_wire::{OutOfMemory, Text};
 use std::alloc::Global;
 
 /// Feeds a recorded response to the client's link.
-fn feed(client: &mut Client<MemoryLink>, response: &[u8]) -> Result<(), OutOfMemory>
+pub fn feed(client: &mut Client<MemoryLink>, response: &[u8]) -> Result<(), OutOfMemory>
     ensures settings { settings_of client.new ≡ settings_of client.old }
     ensures fed { OnOk result (client.new.link ≡ record client.old.link { ever = client.old.link.ever ++ response.now }) }
     ensures left { OnOk result (drop client.new.link.pos client.new.link.ever ≡ drop client.old.link.pos client.old.link.ever ++ response.now) }
@@ -24,7 +24,7 @@ fn feed(client: &mut Client<MemoryLink>, response: &[u8]) -> Result<(), OutOfMem
 }
 
 /// How many bytes the client sent so far.
-fn sent_len(client: &mut Client<MemoryLink>) -> usize
+pub fn sent_len(client: &mut Client<MemoryLink>) -> usize
     ensures same { client.new ≡ client.old }
     ensures len { result ≡ length client.old.link.sent }
 {

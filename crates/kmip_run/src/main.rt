@@ -1,8 +1,9 @@
-//! The program `kmip_run`: it replays calls of a KMIP client over recorded responses, and explains diagnostics.
+//! The program `kmip_run`: it replays calls of a KMIP client over recorded responses, explains diagnostics, and makes
+//! exchanges from a number.
 //!
-//! Its words say what to do, and its standard input is the script, of one call or one diagnostic a line. It writes
-//! what each call sent and what it answered, or what each diagnostic shows, and ends with a status from 0 to 6, as
-//! `program::run` says.
+//! Its words say what to do, and its standard input is the script, of one call or one diagnostic a line; `make` reads
+//! none. It writes what each call sent and what it answered, or what each diagnostic shows, or how many exchanges
+//! were made and what they come to, and ends with a status from 0 to 6, as `program::run` says.
 #![tactic(auto)]
 
 mod answer;
@@ -10,8 +11,14 @@ mod call;
 mod command;
 mod exchange;
 mod explain;
+mod laws;
+mod make;
+#[cfg(test)]
+mod make_tests;
 mod program;
+mod raw;
 mod replay;
+mod respond;
 mod script;
 mod setup;
 mod show;

@@ -1,17 +1,20 @@
 //! The program.
-ghost use Rattle.std.specs.Prelude.{◌≡◌, ◌≢◌, ◌+◌, ◌<◌, ◌≤◌, ◌++◌, ◌⊎◌, [], min, length, drop, codes, false, None, Some, IsSome, IsTrue, IfOk};
+ghost use Rattle.std.specs.Prelude.{◌≡◌, ◌≢◌, ◌+◌, ◌<◌, ◌≤◌, ◌++◌, ◌⊎◌, [], min, length, drop, codes, false, true, None, Some, IsTrue, IfOk};
 ghost use Rattle.kmip_link.specs.State.{SourceKeeps, SinkKeeps, Rose, source_left};
 ghost use Rattle.kmip_run.specs.Script.{lines_of};
 ghost use Rattle.kmip_run.specs.Commands.{command_of};
 ghost use Rattle.kmip_run.specs.Exchange.{settings_for};
 ghost use Rattle.kmip_run.specs.Streams.{WrotePart};
-ghost use Rattle.kmip_run.specs.Transcript.{most_script, read_by, makes_calls, replayed, lines_transcript, script_transcript, transcript, IsOfGrammar, Replays};
+ghost use Rattle.kmip_run.specs.Making.{made, made_settings};
+ghost use Rattle.kmip_run.specs.Transcript.{most_script, reads_script, read_by, makes_calls, replayed, counted_transcript, lines_transcript, script_transcript, transcript, IsOfGrammar, Replays};
 
 use crate::command::{Command, Options, command_of};
 use crate::explain::explain;
+use crate::make::make;
 use crate::replay::replay;
 use crate::setup::client_of;
 use crate::streams::{read_up_to, write_out};
+use kmip_client::Client;
 use kmip_link::{LinkError, MemoryLink, Sink, Source};
 use kmip_wire::{List, OutOfMemory, Text};
 use std::alloc::Global;
@@ -36,6 +39,13 @@ fn finish<K: Sink>(sink: &mut K, text: &str, status: u8) -> u8
     }
 }
 
+/// Takes the link out of a client.
+fn link_of(alloc: Global, client: &mut Client<MemoryLink>) -> MemoryLink
+    ensures { result ≡ client.old.link }
+{
+    mem::replace(client.inner(), MemoryLink::new(alloc))
+}
+
 /// Replays a script on the link: moves it into a client, and back.
 fn replay_on(
     alloc: Global,
@@ -53,7 +63,32 @@ fn replay_on(
     let diag = options.diag;
     let mut client = client_of(moved, options);
     let status = replay(alloc, &mut client, diag, script, output);
-    *link = mem::replace(client.inner(), MemoryLink::new(alloc));
+    *link = link_of(alloc, &mut client);
+    status
+}
+
+/// Makes so many exchanges on the link: moves it into a client, and back.
+fn make_on(
+    alloc: Global,
+    count: u32,
+    link: &mut MemoryLink,
+    output: &mut Text,
+) -> Result<u8, OutOfMemory>
+    ensures bound { IfOk result (λ status. status < 3) }
+    ensures replays { IfOk result (λ status. Replays
+        (counted_transcript count (made made_settings count 1 (drop link.old.pos link.old.ever)))
+        link.old link.new status output.old output.new) }
+{
+    let moved = mem::replace(link, MemoryLink::new(alloc));
+    let options = Options {
+        user: None,
+        password: None,
+        limit: None,
+        diag: false,
+    };
+    let mut client = client_of(moved, options);
+    let status = make(alloc, &mut client, count, output);
+    *link = link_of(alloc, &mut client);
     status
 }
 
@@ -73,6 +108,38 @@ fn perform(
     match command {
         Command::Replay(options) => replay_on(alloc, options, script, link, output),
         Command::Explain => explain(alloc, script, output),
+        Command::Make(count) => make_on(alloc, count, link, output),
+    }
+}
+
+/// Whether the command reads a script.
+fn reads_script(command: &Command) -> bool
+    ensures { result ≡ reads_script (Some command.now) }
+{
+    match command {
+        Command::Replay(_) | Command::Explain => true,
+        Command::Make(_) => false,
+    }
+}
+
+/// Does what a command asks for that reads no script, and answers the status.
+fn run_alone<K: Sink>(alloc: Global, command: Command, sink: &mut K, link: &mut MemoryLink) -> u8
+    requires unread { reads_script (Some command) ≡ false }
+    requires empty { drop link.old.pos link.old.ever ≡ [] }
+    ensures sink_keeps { SinkKeeps (K.state sink.old) (K.state sink.new) }
+    ensures status { (result ≡ (script_transcript command []).status) ⊎ ((result ≡ 4) ⊎ (result ≡ 5)) }
+    ensures bound { (result < 3) ⊎ ((result ≡ 4) ⊎ (result ≡ 5)) }
+    ensures replays { IsTrue (K.state sink.old).tells → result ≢ 4 → result ≢ 5 →
+        Replays (script_transcript command []) link.old link.new result (K.state sink.old).sent (K.state sink.new).sent }
+    ensures part { IsTrue (K.state sink.old).tells → (result ≡ 4) ⊎ (result ≡ 5) →
+        WrotePart (K.state sink.old) (K.state sink.new) (script_transcript command []).text }
+    ensures fault { result ≡ 4 → Rose (K.state sink.old).faults (K.state sink.new).faults }
+    ensures kept { makes_calls (Some command) ≡ false → link.new ≡ link.old }
+{
+    let mut output = Text::new(alloc);
+    match perform(alloc, command, &[], link, &mut output) {
+        Ok(status) => finish(sink, output.as_str(), status),
+        Err(OutOfMemory) => 5,
     }
 }
 
@@ -84,7 +151,8 @@ fn run_script<S: Source, K: Sink>(
     sink: &mut K,
     link: &mut MemoryLink,
 ) -> u8
-    requires { drop link.old.pos link.old.ever ≡ [] }
+    requires reads { reads_script (Some command) ≡ true }
+    requires empty { drop link.old.pos link.old.ever ≡ [] }
     ensures source_keeps { SourceKeeps (S.state source.old) (S.state source.new) }
     ensures sink_keeps { SinkKeeps (K.state sink.old) (K.state sink.new) }
     ensures bound { result ≤ 6 }
@@ -119,13 +187,14 @@ fn run_script<S: Source, K: Sink>(
 
 /// Runs the program on the words after its name, and answers its status.
 ///
-/// 0: each line was answered, or explained. 1: some line answered an error. 2: the words, or a line, are not of
-/// the grammar. 3: the source failed, and nothing is written. 4: the sink failed, and a first part of the text is
-/// written. 5: memory ran out, and a first part of the text is written. 6: the script is longer than
-/// 16,777,216 bytes, and nothing is written.
+/// 0: each line was answered, or explained, or the exchanges were made. 1: some line answered an error. 2: the words,
+/// or a line, are not of the grammar. 3: the source failed, and nothing is written. 4: the sink failed, and a first
+/// part of the text is written. 5: memory ran out, and a first part of the text is written. 6: the script is longer
+/// than 16,777,216 bytes, and nothing is written.
 ///
-/// The link gets the recorded responses and keeps what was sent. Where the words are not of the grammar or do not
-/// ask for calls, and after 3 and 6, it is as it was; after 4 and 5 under `replay` nothing is said of it.
+/// The link gets the responses and keeps what was sent. Where the words are not of the grammar or do not ask for
+/// calls, and after 3 and 6, it is as it was; after 4 and 5 under `replay` and `make` nothing is said of it. Words
+/// that are not of the grammar, and `make`, leave the source as it is.
 pub fn run<S: Source, K: Sink>(
     alloc: Global,
     words: &List<Text>,
@@ -146,11 +215,16 @@ pub fn run<S: Source, K: Sink>(
     ensures words { command_of words.now ≡ None → (result ≡ 2) ⊎ ((result ≡ 4) ⊎ (result ≡ 5)) }
     ensures words_text { command_of words.now ≡ None → IsTrue (K.state sink.old).tells → result ≡ 2 → (K.state sink.new).sent ≡ (K.state sink.old).sent ++ codes "! words\n" }
     ensures words_part { command_of words.now ≡ None → IsTrue (K.state sink.old).tells → WrotePart (K.state sink.old) (K.state sink.new) (codes "! words\n") }
-    ensures unread { command_of words.now ≡ None → S.state source.new ≡ S.state source.old }
+    ensures unread { reads_script (command_of words.now) ≡ false → S.state source.new ≡ S.state source.old }
+    ensures scriptless { reads_script (command_of words.now) ≡ false → IsTrue (K.state sink.old).tells → result ≢ 4 → result ≢ 5 →
+        Replays (transcript words.now []) link.old link.new result (K.state sink.old).sent (K.state sink.new).sent }
+    ensures scriptless_part { reads_script (command_of words.now) ≡ false → IsTrue (K.state sink.old).tells → (result ≡ 4) ⊎ (result ≡ 5) →
+        WrotePart (K.state sink.old) (K.state sink.new) (transcript words.now []).text }
+    ensures scriptless_status { reads_script (command_of words.now) ≡ false → (result ≡ (transcript words.now []).status) ⊎ ((result ≡ 4) ⊎ (result ≡ 5)) }
     ensures kept { (makes_calls (command_of words.now) ≡ false) ⊎ ((result ≡ 3) ⊎ (result ≡ 6)) → link.new ≡ link.old }
     ensures silent { (result ≡ 3) ⊎ (result ≡ 6) → K.state sink.new ≡ K.state sink.old }
-    ensures too_long { IsTrue (S.state source.old).tells → result ≡ 6 → IsSome (command_of words.now) × (most_script < length (source_left (S.state source.old))) }
-    ensures long { IsTrue (S.state source.old).tells → IsSome (command_of words.now) → most_script < length (source_left (S.state source.old)) → (result ≡ 6) ⊎ ((result ≡ 3) ⊎ (result ≡ 5)) }
+    ensures too_long { IsTrue (S.state source.old).tells → result ≡ 6 → IsTrue (reads_script (command_of words.now)) × (most_script < length (source_left (S.state source.old))) }
+    ensures long { IsTrue (S.state source.old).tells → IsTrue (reads_script (command_of words.now)) → most_script < length (source_left (S.state source.old)) → (result ≡ 6) ⊎ ((result ≡ 3) ⊎ (result ≡ 5)) }
     ensures read { IsTrue (S.state source.old).tells → result ≢ 3 → result ≢ 4 → result ≢ 5 →
         (S.state source.new).pos ≡ (S.state source.old).pos + read_by (command_of words.now) (length (source_left (S.state source.old))) }
     ensures complete { IsTrue (S.state source.old).tells → IsTrue (K.state sink.old).tells →
@@ -158,7 +232,12 @@ pub fn run<S: Source, K: Sink>(
         IsOfGrammar words.now (source_left (S.state source.old)) → (result ≡ 0) ⊎ ((result ≡ 1) ⊎ (result ≡ 5)) }
 {
     match command_of(alloc, words.as_slice()) {
-        Ok(Some(command)) => run_script(alloc, command, source, sink, link),
+        Ok(Some(command)) => {
+            if reads_script(&command) {
+                return run_script(alloc, command, source, sink, link);
+            }
+            run_alone(alloc, command, sink, link)
+        }
         Ok(None) => finish(sink, "! words\n", 2),
         Err(OutOfMemory) => 5,
     }

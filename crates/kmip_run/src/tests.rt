@@ -6,6 +6,10 @@ use std::alloc::Global;
 use std::process::Abort;
 use std::test::Fail;
 
+mod hostile;
+mod raw;
+mod sent;
+
 /// What the program writes for these words over this script, and with which status it ends.
 struct Row {
     shows: &'static str,
@@ -618,7 +622,7 @@ const MORE_GRAMMAR: &[Row] = &[
     },
     Row {
         shows: "words that stay outside the grammar",
-        words: &["make", "1"],
+        words: &["joined"],
         script: b"",
         written: "! words\n",
         status: 2,
@@ -626,7 +630,7 @@ const MORE_GRAMMAR: &[Row] = &[
 ];
 
 /// The list of these words.
-fn list_of(alloc: Global, words: &[&str]) -> Result<List<Text>, Fail> {
+pub fn list_of(alloc: Global, words: &[&str]) -> Result<List<Text>, Fail> {
     let mut list = List::new(alloc);
     for word in words {
         list.push(Text::of(alloc, word)?)?;
@@ -679,6 +683,43 @@ fn each_call_is_answered(rt: HostRuntime) -> Result<(), Fail> {
 }
 
 #[test]
+fn requests_given_by_their_bytes_are_answered(rt: HostRuntime) -> Result<(), Fail> {
+    rows_hold(&rt, rt.alloc(), raw::RAW)
+}
+
+#[test]
+fn false_lengths_and_pads_are_met(rt: HostRuntime) -> Result<(), Fail> {
+    rows_hold(&rt, rt.alloc(), hostile::HOSTILE)
+}
+
+/// That the program answers a response in hex, cut to so many bytes, as it ended.
+fn is_cut(rt: &impl Abort, alloc: Global, response: &str) -> Result<(), Fail> {
+    let script = format!(in alloc; "rng 16 {response}\n")?;
+    let words = list_of(alloc, &["replay"])?;
+    let mut source = MemorySource::new(alloc, script.as_bytes(), &[])?;
+    let mut sink = MemorySink::new(alloc, &[])?;
+    let mut link = MemoryLink::new(alloc);
+    let status = run(alloc, &words, &mut source, &mut sink, &mut link);
+    assert_eq!(rt; status, 1, "{response}");
+    assert_eq!(rt;
+        sink.written(),
+        hostile::CUT_WRITTEN.as_bytes(),
+        "{response}"
+    );
+    assert!(rt; link.rest().is_empty(), "{response}");
+    Ok(())
+}
+
+#[test]
+fn a_response_may_end_at_each_byte(rt: HostRuntime) -> Result<(), Fail> {
+    is_cut(&rt, rt.alloc(), "-")?;
+    for n in 1..152usize {
+        is_cut(&rt, rt.alloc(), &hostile::CUT_RESPONSE[..2 * n])?;
+    }
+    Ok(())
+}
+
+#[test]
 fn diagnostics_are_shown(rt: HostRuntime) -> Result<(), Fail> {
     rows_hold(&rt, rt.alloc(), DIAGNOSTICS)
 }
@@ -711,9 +752,11 @@ fn replayed(
 
 #[test]
 fn a_failing_source_ends_the_program(rt: HostRuntime) -> Result<(), Fail> {
-    let (status, written) = replayed(rt.alloc(), b"rng 16 -\n", &[0], &[])?;
-    assert_eq!(rt; status, 3);
-    assert_eq!(rt; written, 0);
+    for call in 0..2u64 {
+        let (status, written) = replayed(rt.alloc(), b"rng 16 -\n", &[call], &[])?;
+        assert_eq!(rt; status, 3, "call {call}");
+        assert_eq!(rt; written, 0, "call {call}");
+    }
     Ok(())
 }
 

@@ -1,6 +1,6 @@
 use Rattle.std.proofs.Common.{◌∙◌, sym}
 use Rattle.kmip_run.proofs.Lines.{rest_is}
-use Rattle.kmip_run.proofs.Given.{command_of_replay, command_of_explain, command_of_other, command_of_none}
+use Rattle.kmip_run.proofs.Given.{command_of_replay, command_of_explain, command_of_make, command_of_other, command_of_none}
 use Rattle.kmip_run.proofs.command.command_of.Goals as goal
 
 pub returns-in_default : goal.returns-in_default
@@ -14,6 +14,10 @@ pub returns-in-explain : goal.returns-in-explain
 returns-in-explain c =
     rw (command_of_explain c.args.words.now c.name-item.result c.in-len1-up.len_at_least c.name-item.is (λ is. c.in-explain.not-replay (c.as_str.ensures.bytes ∙ is)) (sym c.as_str.ensures.bytes ∙ c.in-explain.is), ← rest_is 1 c.args.words.now) c.explain_of.ensures
 
+pub returns-in-make : goal.returns-in-make
+returns-in-make c =
+    rw (command_of_make c.args.words.now c.name-item.result c.in-len1-up.len_at_least c.name-item.is (λ is. c.in-make.not-replay (c.as_str.ensures.bytes ∙ is)) (λ is. c.in-make.not-explain (c.as_str.ensures.bytes ∙ is)) (sym c.as_str.ensures.bytes ∙ c.in-make.is), ← rest_is 1 c.args.words.now) c.make_of.ensures
+
 pub returns-in_default-as_str : goal.returns-in_default-as_str
 returns-in_default-as_str c =
-    sym (command_of_other c.args.words.now c.name-item.result c.in-len1-up.len_at_least c.name-item.is (λ is. c.in_default-as_str.not-replay (c.as_str.ensures.bytes ∙ is)) (λ is. c.in_default-as_str.not-explain (c.as_str.ensures.bytes ∙ is)))
+    sym (command_of_other c.args.words.now c.name-item.result c.in-len1-up.len_at_least c.name-item.is (λ is. c.in_default-as_str.not-replay (c.as_str.ensures.bytes ∙ is)) (λ is. c.in_default-as_str.not-explain (c.as_str.ensures.bytes ∙ is)) (λ is. c.in_default-as_str.not-make (c.as_str.ensures.bytes ∙ is)))

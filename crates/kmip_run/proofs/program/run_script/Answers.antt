@@ -9,7 +9,7 @@ returns-then-len-gt-MAX_SCRIPT-clause-replays g c = λ source sink no3 no4 no5.
     let left : List ℕ = source_left (g.S.Source.state c.args.source.now) in
     let bytes : c.read_up_to.new.script.items ≡ take (16777216 + 1) left = rw c.new-script.ensures.items at (c.in-Ok.ensures.ok source).1 in
     let long : 16777216 < length left = script_long 16777216 c.read_up_to.new.script.items left bytes (omega (arith, c.read_up_to.new.script.ok)) in
-    rw (transcript_long c.args.command left long) (nothing_written c.args.link.now 6 (g.K.Sink.state c.args.sink.now).sent)
+    rw (transcript_long c.args.command left c.requires.reads long) (nothing_written c.args.link.now 6 (g.K.Sink.state c.args.sink.now).sent)
 
 pub returns-then-len-gt-MAX_SCRIPT-clause-too_long : goal.returns-then-len-gt-MAX_SCRIPT-clause-too_long
 returns-then-len-gt-MAX_SCRIPT-clause-too_long g c = λ source is.
@@ -18,7 +18,7 @@ returns-then-len-gt-MAX_SCRIPT-clause-too_long g c = λ source is.
     rw most (script_long 16777216 c.read_up_to.new.script.items left bytes (omega (arith, c.read_up_to.new.script.ok)))
 
 pub returns-then-len-gt-MAX_SCRIPT-clause-read : goal.returns-then-len-gt-MAX_SCRIPT-clause-read
-returns-then-len-gt-MAX_SCRIPT-clause-read g c = λ source no3 no4 no5. rw most ((c.in-Ok.ensures.ok source).0).pos
+returns-then-len-gt-MAX_SCRIPT-clause-read g c = λ source no3 no4 no5. rw (most, c.requires.reads) ((c.in-Ok.ensures.ok source).0).pos
 
 -- what the lines did, once the whole script was read
 ran : (g : _) (c : goal.After-drop-script-in-Ok-perform g) → IsTrue (g.S.Source.state c.args.source.now).tells →
@@ -47,4 +47,4 @@ returns-in-Ok-perform-clause-long g c = λ source long.
     absurd (omega (arith, c.read_up_to.new.script.ok, ap length whole, most))
 
 pub returns-in-Ok-perform-clause-read : goal.returns-in-Ok-perform-clause-read
-returns-in-Ok-perform-clause-read g c = λ source no3 no4 no5. rw most ((c.in-Ok.ensures.ok source).0).pos
+returns-in-Ok-perform-clause-read g c = λ source no3 no4 no5. rw (most, c.requires.reads) ((c.in-Ok.ensures.ok source).0).pos

@@ -1,0 +1,155 @@
+-- The exchanges that `make N` makes of a number, and what they come to.
+use Rattle.std.specs.Prelude.{◌≡◌, ℕ, zero, suc, ℤ, pos, ◌+◌, ◌*◌, ◌/◌, ◌%◌, ◌^◌, ◌==◌, List, [], ◌∷◌, ◌++◌, length, drop, replicate, Bool, true, false, None, if◌then◌else◌, codes}
+use Rattle.std.specs.Fmt.{decimal}
+use Rattle.kmip_wire.specs.Tree.{Tree, scalar, structure, trees_of, integer, enumeration, text_string, byte_string, date_time}
+use Rattle.kmip_wire.specs.Bytes.{bytes}
+use Rattle.kmip_enums.specs.Operations.{operation_line}
+use Rattle.kmip_enums.specs.ResultStatuses.{result_status_line}
+use Rattle.kmip_enums.specs.ResultReasons.{result_reason_line}
+use Rattle.kmip_enums.specs.declared.operation.Operation.{Operation}
+use Rattle.kmip_enums.specs.declared.operation.Operation.TheVariants as operations
+use Rattle.kmip_enums.specs.declared.result_status.ResultStatus.TheVariants as statuses
+use Rattle.kmip_enums.specs.declared.result_reason.ResultReason.TheVariants as reasons
+use Rattle.kmip_link.specs.Plan.{MemoryState}
+use Rattle.kmip_request.specs.Message.{minor_of, operation_of}
+use Rattle.kmip_request.specs.declared.payload.RequestPayload.{RequestPayload}
+use Rattle.kmip_client.specs.Requests.{query_request, rng_request, activate_request, destroy_request}
+use Rattle.kmip_run.specs.Exchange.{Settings, or_empty, Step, step}
+use Rattle.kmip_run.specs.declared.call.Call.{Call}
+use Rattle.kmip_run.specs.declared.call.Call.TheVariants.{Query, Rng, Activate, Destroy}
+use Rattle.kmip_run.specs.declared.call.Recorded.{Recorded}
+
+-- the number after this one
+unfoldable pub next_of : ℕ → ℕ
+next_of x = (6364136223846793005 * x + 1442695040888963407) % 2 ^ 64
+
+-- the version 1 with this minor number (KMIP 1.0, 6.1)
+abbrev pub version_tree : ℤ → Tree
+version_tree minor = structure 0x420069 (trees_of (scalar 0x42006A (integer (pos 1)) ∷ scalar 0x42006B (integer minor) ∷ []))
+
+-- the header of a response: its version, the time stamp 1, and that it has one batch item (KMIP 1.0, 7.2)
+abbrev pub head_tree : ℤ → Tree
+head_tree minor = structure 0x42007A (trees_of (version_tree minor ∷ scalar 0x420092 (date_time 1) ∷ scalar 0x42000D (integer (pos 1)) ∷ []))
+
+-- a response message, with the fields of its batch item (KMIP 1.0, 7.1)
+abbrev pub response_tree : ℤ → List Tree → Tree
+response_tree minor fields = structure 0x42007B (trees_of (head_tree minor ∷ structure 0x42000F (trees_of fields) ∷ []))
+
+-- the first field of a batch item
+abbrev pub operation_tree : Operation → Tree
+operation_tree operation = scalar 0x42005C (enumeration (operation_line operation).number)
+
+-- what follows the operation where it succeeded: its status, and the payload of these fields
+abbrev pub done_trees : List Tree → List Tree
+done_trees payload =
+    scalar 0x42007F (enumeration (result_status_line statuses.Success).number)
+    ∷ structure 0x42007C (trees_of payload)
+    ∷ []
+
+-- and where the object was not found: status, reason and message
+abbrev pub gone_trees : List Tree
+gone_trees =
+    scalar 0x42007F (enumeration (result_status_line statuses.OperationFailed).number)
+    ∷ scalar 0x42007E (enumeration (result_reason_line reasons.ItemNotFound).number)
+    ∷ scalar 0x42007D (text_string (codes "gone"))
+    ∷ []
+
+-- a response to a request, of its version and its operation, with the fields that follow the operation
+abbrev pub response_to : RequestPayload → List Tree → Tree
+response_to request fields = response_tree (pos (minor_of request)) (operation_tree (operation_of request) ∷ fields)
+
+-- a call that makes this request, with the canonical bytes of its response
+abbrev pub with_tree : Call → RequestPayload → List Tree → Recorded
+with_tree call request fields = record { call = call; response = or_empty (bytes (response_to request fields)) }
+
+-- so many random bytes, each this one
+abbrev pub random_made : ℕ → ℕ → Recorded
+random_made count byte = with_tree (Rng (pos count)) (rng_request (pos count)) (done_trees (scalar 0x4200C2 (byte_string (replicate count byte)) ∷ []))
+
+abbrev pub activated_made : List ℕ → Recorded
+activated_made id = with_tree (Activate id) (activate_request id) (done_trees (scalar 0x420094 (text_string id) ∷ []))
+
+-- a server that knows Create and Query
+abbrev pub queried_made : Recorded
+queried_made = with_tree Query query_request (done_trees (operation_tree operations.Create ∷ operation_tree operations.Query ∷ []))
+
+abbrev pub destroyed_made : List ℕ → Recorded
+destroyed_made id = with_tree (Destroy id) (destroy_request id) gone_trees
+
+-- the exchange of a kind, where v and x are numbers to make it of
+abbrev pub kind_made : ℕ → ℕ → ℕ → Recorded
+kind_made kind v x =
+    if kind == 0 then random_made (v % 64) (x % 256)
+    else if kind == 1 then activated_made (decimal (v % 1000))
+    else if kind == 2 then queried_made
+    else destroyed_made (decimal (v % 1000))
+
+-- the exchange that is made of a number
+unfoldable pub made_of : ℕ → Recorded
+made_of x = kind_made (x / 2 ^ 32 % 4) (x / 2 ^ 34) x
+
+-- what exchanges come to: the bytes that are fed, sent and taken, and how many answers are payloads and errors
+pub record Counts : Type 0 where
+  pub fed : List ℕ
+  pub sent : List ℕ
+  pub taken : ℕ
+  pub ok : ℕ
+  pub errors : ℕ
+
+abbrev pub no_counts : Counts
+no_counts = record { fed = []; sent = []; taken = 0; ok = 0; errors = 0 }
+
+-- one where an answer is a payload, and one where it is an error
+abbrev pub one_ok : Bool → ℕ
+one_ok true = 0
+one_ok false = 1
+
+abbrev pub one_error : Bool → ℕ
+one_error true = 1
+one_error false = 0
+
+-- an exchange that is fed this response, and the later ones
+abbrev pub then_made : List ℕ → Step → Counts → Counts
+then_made fed s later = record {
+  fed = fed ++ later.fed;
+  sent = s.sent ++ later.sent;
+  taken = s.taken + later.taken;
+  ok = one_ok s.failed + later.ok;
+  errors = one_error s.failed + later.errors;
+}
+
+-- so many exchanges, the first of the number after x, with these bytes left before it
+unfoldable pub made : Settings → ℕ → ℕ → List ℕ → Counts
+made settings zero x rest = no_counts
+made settings (suc count) x rest =
+    let it : Recorded = made_of (next_of x) in
+    let s : Step = step settings it.call (rest ++ it.response) in
+    then_made it.response s (made settings count (next_of x) (drop s.taken (rest ++ it.response)))
+
+-- what an exchange did: to the link, and how many bytes it took
+pub record MakesCall (s : Step) (fed : List ℕ) (before after : MemoryState) (failed : Bool) (taken : ℕ) : Type 0 where
+  pub failed_is : failed ≡ s.failed
+  pub taken_is : taken ≡ s.taken
+  pub ever : after.ever ≡ before.ever ++ fed
+  pub sent : after.sent ≡ before.sent ++ s.sent
+  pub pos : after.pos ≡ before.pos + s.taken
+  pub left : drop after.pos after.ever ≡ drop s.taken (drop before.pos before.ever ++ fed)
+
+-- what exchanges did: to the link, and what was counted
+pub record Makes (c : Counts) (before after : MemoryState) (ok errors taken : ℕ) : Type 0 where
+  pub ok_is : ok ≡ c.ok
+  pub errors_is : errors ≡ c.errors
+  pub taken_is : taken ≡ c.taken
+  pub ever : after.ever ≡ before.ever ++ c.fed
+  pub sent : after.sent ≡ before.sent ++ c.sent
+  pub pos : after.pos ≡ before.pos + c.taken
+
+-- no credential, no limit and no diagnostics
+abbrev pub made_settings : Settings
+made_settings = record { credential = None; limit = None; buffered = false }
+
+-- the five lines: how many exchanges, answers that are payloads and that are errors, and bytes sent and taken
+abbrev pub made_text : ℕ → ℕ → ℕ → ℕ → ℕ → List ℕ
+made_text count ok errors sent taken =
+    codes "exchanges " ++ (decimal count ++ (codes "\nok " ++ (decimal ok ++ (codes "\nerrors " ++ (decimal errors
+    ++ (codes "\nsent " ++ (decimal sent ++ (codes "\ntaken " ++ (decimal taken ++ codes "\n")))))))))

@@ -1,0 +1,144 @@
+//! Exchanges that are made from a number, and what they come to.
+ghost use Rattle.std.specs.Prelude.{◌≡◌, ◌+◌, ◌<◌, ◌++◌, ◌^◌, drop, length, IfOk, OnOk};
+ghost use Rattle.kmip_run.specs.Exchange.{settings_of, step};
+ghost use Rattle.kmip_run.specs.Making.{next_of, one_ok, one_error, made, made_text, MakesCall, Makes};
+ghost use Rattle.kmip_run.specs.Transcript.{counted_transcript, Replays};
+
+use crate::answer::answer;
+use crate::call::Recorded;
+use crate::exchange::{feed, sent_len};
+use crate::respond::exchange_of;
+use kmip_client::Client;
+use kmip_link::MemoryLink;
+use kmip_wire::{OutOfMemory, Text};
+use std::alloc::Global;
+
+/// How many answers were payloads and errors, and how many bytes were taken: a sum of lengths of lists in memory,
+/// which needs no bound on a response to fit.
+#[derive(Clone, Copy)]
+struct Tally {
+    ok: u32,
+    errors: u32,
+    taken: u128,
+}
+
+/// The number after this one.
+#[tactic(auto, using(crate::proofs::Makes::next_is))]
+fn next_of(x: u64) -> u64
+    ensures { result ≡ next_of x }
+{
+    x.wrapping_mul(6_364_136_223_846_793_005)
+        .wrapping_add(1_442_695_040_888_963_407)
+}
+
+/// How many bytes are left for the client to read.
+fn left_len(client: &mut Client<MemoryLink>) -> usize
+    ensures same { client.new ≡ client.old }
+    ensures len { result ≡ length (drop client.old.link.pos client.old.link.ever) }
+{
+    client.inner().rest().len()
+}
+
+/// Feeds the response of a call, and makes it. Says whether the answer is an error, and how many bytes it took.
+fn make_call(
+    alloc: Global,
+    client: &mut Client<MemoryLink>,
+    recorded: Recorded,
+) -> Result<(bool, usize), OutOfMemory>
+    ensures settings { OnOk result (settings_of client.new ≡ settings_of client.old) }
+    ensures makes { IfOk result (λ did. MakesCall (step (settings_of client.old) recorded.call (drop client.old.link.pos client.old.link.ever ++ recorded.response))
+        recorded.response client.old.link client.new.link did.0 did.1) }
+{
+    feed(client, recorded.response.as_slice())?;
+    let before = left_len(client);
+    let mut line = Text::new(alloc);
+    let failed = answer(alloc, client, recorded.call, &mut line)?;
+    Ok((failed, before - left_len(client)))
+}
+
+/// One exchange more.
+fn counted(tally: Tally, failed: bool, taken: usize) -> Tally
+    requires ok { tally.ok + 1 < 2 ^ 32 }
+    requires errors { tally.errors + 1 < 2 ^ 32 }
+    requires taken { tally.taken + taken < 2 ^ 128 }
+    ensures ok { result.ok ≡ tally.ok + one_ok failed }
+    ensures errors { result.errors ≡ tally.errors + one_error failed }
+    ensures taken { result.taken ≡ tally.taken + taken }
+{
+    let taken = tally.taken + taken as u128;
+    if failed {
+        Tally {
+            ok: tally.ok,
+            errors: tally.errors + 1,
+            taken,
+        }
+    } else {
+        Tally {
+            ok: tally.ok + 1,
+            errors: tally.errors,
+            taken,
+        }
+    }
+}
+
+/// Makes so many exchanges, of the numbers after 1.
+fn make_calls(
+    alloc: Global,
+    client: &mut Client<MemoryLink>,
+    count: u32,
+) -> Result<Tally, OutOfMemory>
+    ensures { IfOk result (λ tally. Makes (made (settings_of client.old) count 1 (drop client.old.link.pos client.old.link.ever))
+        client.old.link client.new.link tally.ok tally.errors tally.taken) }
+{
+    let mut tally = Tally {
+        ok: 0,
+        errors: 0,
+        taken: 0,
+    };
+    let mut x = 1;
+    let mut done = 0;
+    while done < count {
+        x = next_of(x);
+        let recorded = exchange_of(alloc, x)?;
+        let (failed, taken) = make_call(alloc, client, recorded)?;
+        tally = counted(tally, failed, taken);
+        done += 1;
+    }
+    Ok(tally)
+}
+
+/// Adds what was counted, as five lines.
+fn show_tally(
+    alloc: Global,
+    count: u32,
+    tally: Tally,
+    sent: usize,
+    output: &mut Text,
+) -> Result<(), OutOfMemory>
+    ensures { OnOk result (output.new ≡ output.old ++ made_text count tally.ok tally.errors sent tally.taken) }
+{
+    let Tally { ok, errors, taken } = tally;
+    let text = format!(in alloc;
+        "exchanges {count}\nok {ok}\nerrors {errors}\nsent {sent}\ntaken {taken}\n"
+    )?;
+    output.push_str(text.as_str())
+}
+
+/// Makes so many exchanges, adds what they come to as five lines, and answers the status.
+pub fn make(
+    alloc: Global,
+    client: &mut Client<MemoryLink>,
+    count: u32,
+    output: &mut Text,
+) -> Result<u8, OutOfMemory>
+    ensures bound { IfOk result (λ status. status < 3) }
+    ensures replays { IfOk result (λ status. Replays
+        (counted_transcript count (made (settings_of client.old) count 1 (drop client.old.link.pos client.old.link.ever)))
+        client.old.link client.new.link status output.old output.new) }
+{
+    let before = sent_len(client);
+    let tally = make_calls(alloc, client, count)?;
+    let sent = sent_len(client) - before;
+    show_tally(alloc, count, tally, sent, output)?;
+    Ok(0)
+}

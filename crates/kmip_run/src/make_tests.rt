@@ -1,0 +1,187 @@
+//! The command `make` over sources, sinks and links in memory.
+use crate::program::run;
+use crate::tests::list_of;
+use kmip_link::{MemoryLink, MemorySink, MemorySource};
+use std::alloc::Global;
+use std::process::Abort;
+use std::test::Fail;
+
+/// What the program writes for these words, and with which status it ends.
+struct Row {
+    shows: &'static str,
+    words: &'static [&'static str],
+    written: &'static str,
+    status: u8,
+}
+
+const ROWS: &[Row] = &[
+    Row {
+        shows: "no exchange",
+        words: &["make", "0"],
+        written: "exchanges 0\nok 0\nerrors 0\nsent 0\ntaken 0\n",
+        status: 0,
+    },
+    Row {
+        shows: "random bytes",
+        words: &["make", "1"],
+        written: "exchanges 1\nok 1\nerrors 0\nsent 120\ntaken 192\n",
+        status: 0,
+    },
+    Row {
+        shows: "random bytes, a key not found, two keys activated",
+        words: &["make", "4"],
+        written: "exchanges 4\nok 3\nerrors 1\nsent 480\ntaken 656\n",
+        status: 0,
+    },
+    Row {
+        shows: "the first eight, with a query",
+        words: &["make", "8"],
+        written: "exchanges 8\nok 7\nerrors 1\nsent 992\ntaken 1328\n",
+        status: 0,
+    },
+    Row {
+        shows: "more than the most",
+        words: &["make", "100001"],
+        written: "! words\n",
+        status: 2,
+    },
+    Row {
+        shows: "a number of more than 32 bits",
+        words: &["make", "4294967296"],
+        written: "! words\n",
+        status: 2,
+    },
+    Row {
+        shows: "a leading zero",
+        words: &["make", "01"],
+        written: "! words\n",
+        status: 2,
+    },
+    Row {
+        shows: "a sign",
+        words: &["make", "+1"],
+        written: "! words\n",
+        status: 2,
+    },
+    Row {
+        shows: "no number",
+        words: &["make"],
+        written: "! words\n",
+        status: 2,
+    },
+    Row {
+        shows: "an empty number",
+        words: &["make", ""],
+        written: "! words\n",
+        status: 2,
+    },
+    Row {
+        shows: "a word after the number",
+        words: &["make", "1", "1"],
+        written: "! words\n",
+        status: 2,
+    },
+];
+
+/// Many exchanges, counted by a separate computation.
+const MANY: &[Row] = &[
+    Row {
+        shows: "a thousand exchanges",
+        words: &["make", "1000"],
+        written: "exchanges 1000\nok 742\nerrors 258\nsent 128704\ntaken 165296\n",
+        status: 0,
+    },
+    Row {
+        shows: "the same again",
+        words: &["make", "1000"],
+        written: "exchanges 1000\nok 742\nerrors 258\nsent 128704\ntaken 165296\n",
+        status: 0,
+    },
+];
+
+/// Whether the program answers each row as it says.
+fn rows_hold(rt: &impl Abort, alloc: Global, rows: &[Row]) -> Result<(), Fail> {
+    for row in rows {
+        let words = list_of(alloc, row.words)?;
+        let mut source = MemorySource::new(alloc, b"", &[])?;
+        let mut sink = MemorySink::new(alloc, &[])?;
+        let mut link = MemoryLink::new(alloc);
+        let status = run(alloc, &words, &mut source, &mut sink, &mut link);
+        assert_eq!(rt; sink.written(), row.written.as_bytes(), "{}", row.shows);
+        assert_eq!(rt; status, row.status, "{}", row.shows);
+    }
+    Ok(())
+}
+
+#[test]
+fn exchanges_are_made(rt: HostRuntime) -> Result<(), Fail> {
+    rows_hold(&rt, rt.alloc(), ROWS)
+}
+
+#[test]
+fn many_exchanges_are_made(rt: HostRuntime) -> Result<(), Fail> {
+    rows_hold(&rt, rt.alloc(), MANY)
+}
+
+/// The request for 43 random bytes.
+const REQUEST: &[u8] =
+    b"\x42\x00\x78\x01\x00\x00\x00\x70\x42\x00\x77\x01\x00\x00\x00\x38\x42\x00\x69\x01\x00\x00\x00\x20\
+\x42\x00\x6A\x02\x00\x00\x00\x04\x00\x00\x00\x01\x00\x00\x00\x00\x42\x00\x6B\x02\x00\x00\x00\x04\x00\x00\x00\x02\x00\x00\x00\x00\
+\x42\x00\x0D\x02\x00\x00\x00\x04\x00\x00\x00\x01\x00\x00\x00\x00\x42\x00\x0F\x01\x00\x00\x00\x28\
+\x42\x00\x5C\x05\x00\x00\x00\x04\x00\x00\x00\x25\x00\x00\x00\x00\x42\x00\x79\x01\x00\x00\x00\x10\
+\x42\x00\xC4\x02\x00\x00\x00\x04\x00\x00\x00\x2B\x00\x00\x00\x00";
+
+/// Runs `make 1` on a link of these pieces, and looks at what it was sent and what is left to read.
+fn one_is_made(rt: &impl Abort, alloc: Global, pieces: &[usize]) -> Result<(), Fail> {
+    let words = list_of(alloc, &["make", "1"])?;
+    let mut source = MemorySource::new(alloc, b"", &[])?;
+    let mut sink = MemorySink::new(alloc, &[])?;
+    let mut link = MemoryLink::new(alloc);
+    link.plan_pieces(pieces)?;
+    let status = run(alloc, &words, &mut source, &mut sink, &mut link);
+    assert_eq!(rt;
+        sink.written(),
+        b"exchanges 1\nok 1\nerrors 0\nsent 120\ntaken 192\n".as_slice()
+    );
+    assert_eq!(rt; status, 0);
+    assert_eq!(rt; link.sent(), REQUEST);
+    assert_eq!(rt; link.rest().len(), 0);
+    Ok(())
+}
+
+#[test]
+fn the_link_keeps_what_was_sent(rt: HostRuntime) -> Result<(), Fail> {
+    one_is_made(&rt, rt.alloc(), &[])
+}
+
+#[test]
+fn pieces_of_seven_give_the_same(rt: HostRuntime) -> Result<(), Fail> {
+    one_is_made(&rt, rt.alloc(), &[7])
+}
+
+/// Runs the program on `make 4`, where the source fails at its first read and these writes fail: its status, and
+/// how many bytes it wrote.
+fn made_over_faults(alloc: Global, writes: &[u64]) -> Result<(u8, usize), Fail> {
+    let words = list_of(alloc, &["make", "4"])?;
+    let mut source = MemorySource::new(alloc, b"query -\n", &[0])?;
+    let mut sink = MemorySink::new(alloc, writes)?;
+    let mut link = MemoryLink::new(alloc);
+    let status = run(alloc, &words, &mut source, &mut sink, &mut link);
+    Ok((status, sink.written().len()))
+}
+
+#[test]
+fn no_script_is_read(rt: HostRuntime) -> Result<(), Fail> {
+    let (status, written) = made_over_faults(rt.alloc(), &[])?;
+    assert_eq!(rt; status, 0);
+    assert_eq!(rt; written, 45);
+    Ok(())
+}
+
+#[test]
+fn a_failing_sink_ends_it(rt: HostRuntime) -> Result<(), Fail> {
+    let (status, written) = made_over_faults(rt.alloc(), &[0])?;
+    assert_eq!(rt; status, 4);
+    assert_eq!(rt; written, 0);
+    Ok(())
+}

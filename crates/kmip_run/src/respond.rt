@@ -1,0 +1,178 @@
+//! The exchanges that `make` makes of a number: a call, and the response to it.
+ghost use Rattle.std.specs.Prelude.{◌≡◌, ◌∷◌, [], ◌<◌, ◌^◌, replicate, IfOk};
+ghost use Rattle.kmip_wire.specs.Sees.{tree_of};
+ghost use Rattle.kmip_wire.specs.Bytes.{bytes};
+ghost use Rattle.kmip_run.specs.Exchange.{or_empty};
+ghost use Rattle.kmip_run.specs.Making.{version_tree, head_tree, response_tree, operation_tree, done_trees, gone_trees, random_made, activated_made, queried_made, destroyed_made, made_of};
+
+use crate::call::{Call, Recorded};
+use itoa::Buffer;
+use kmip_enums::{Operation, ResultReason, ResultStatus};
+use kmip_shape::Enumeration;
+use kmip_wire::{Blob, Node, OutOfMemory, Tag, Text, Tree, Trees, WireError, write_tree};
+use std::alloc::Global;
+
+/// An item with this tag.
+fn item(tag: u32, node: Node) -> Tree
+    requires { tag < 2 ^ 24 }
+    ensures { result ≡ tree_of tag node }
+{
+    Tree {
+        tag: Tag::of(tag),
+        node,
+    }
+}
+
+/// A list of one item.
+fn one(alloc: Global, item: Tree) -> Result<Trees, OutOfMemory>
+    ensures { IfOk result (λ items. items ≡ item ∷ []) }
+{
+    let mut items = Trees::new(alloc);
+    items.push(item)?;
+    Ok(items)
+}
+
+/// The version 1 of KMIP with this minor number.
+fn version(alloc: Global, minor: i32) -> Result<Tree, OutOfMemory>
+    ensures { IfOk result (λ tree. tree ≡ version_tree minor) }
+{
+    let mut items = Trees::new(alloc);
+    items.push(item(0x42006A, Node::Integer(1)))?;
+    items.push(item(0x42006B, Node::Integer(minor)))?;
+    Ok(item(0x420069, Node::Structure(items)))
+}
+
+/// The header of a response: its version, the time stamp 1, and that it has one batch item.
+fn head(alloc: Global, minor: i32) -> Result<Tree, OutOfMemory>
+    ensures { IfOk result (λ tree. tree ≡ head_tree minor) }
+{
+    let mut items = Trees::new(alloc);
+    items.push(version(alloc, minor)?)?;
+    items.push(item(0x420092, Node::DateTime(1)))?;
+    items.push(item(0x42000D, Node::Integer(1)))?;
+    Ok(item(0x42007A, Node::Structure(items)))
+}
+
+/// The canonical bytes of a tree, which has such.
+fn written(alloc: Global, tree: &Tree) -> Result<Blob, OutOfMemory>
+    ensures { IfOk result (λ written. written ≡ or_empty (bytes tree.now)) }
+{
+    match write_tree(alloc, tree) {
+        Ok(bytes) => Ok(bytes),
+        Err(WireError::OutOfMemory) => Err(OutOfMemory),
+        Err(_) => Ok(Blob::new(alloc)),
+    }
+}
+
+/// The bytes of a response whose batch item has these fields.
+fn response(alloc: Global, minor: i32, fields: Trees) -> Result<Blob, OutOfMemory>
+    ensures { IfOk result (λ response. response ≡ or_empty (bytes (response_tree minor fields))) }
+{
+    let mut items = Trees::new(alloc);
+    items.push(head(alloc, minor)?)?;
+    items.push(item(0x42000F, Node::Structure(fields)))?;
+    written(alloc, &item(0x42007B, Node::Structure(items)))
+}
+
+/// The item of an operation.
+fn operation_item(operation: Operation) -> Tree
+    ensures { result ≡ operation_tree operation }
+{
+    item(0x42005C, Node::Enumeration(operation.number()))
+}
+
+/// The fields of a batch item of an operation that succeeded.
+fn done(alloc: Global, operation: Operation, payload: Trees) -> Result<Trees, OutOfMemory>
+    ensures { IfOk result (λ fields. fields ≡ operation_tree operation ∷ done_trees payload) }
+{
+    let mut fields = Trees::new(alloc);
+    fields.push(operation_item(operation))?;
+    fields.push(item(0x42007F, Node::Enumeration(ResultStatus::Success.number())))?;
+    fields.push(item(0x42007C, Node::Structure(payload)))?;
+    Ok(fields)
+}
+
+/// The fields of a batch item of an operation that found no such object.
+fn gone(alloc: Global, operation: Operation) -> Result<Trees, OutOfMemory>
+    ensures { IfOk result (λ fields. fields ≡ operation_tree operation ∷ gone_trees) }
+{
+    let mut fields = Trees::new(alloc);
+    fields.push(operation_item(operation))?;
+    fields.push(item(
+        0x42007F,
+        Node::Enumeration(ResultStatus::OperationFailed.number()),
+    ))?;
+    fields.push(item(
+        0x42007E,
+        Node::Enumeration(ResultReason::ItemNotFound.number()),
+    ))?;
+    fields.push(item(0x42007D, Node::TextString(Text::of(alloc, "gone")?)))?;
+    Ok(fields)
+}
+
+/// `rng` of so many bytes, each of which is this one.
+fn random(alloc: Global, count: u8, byte: u8) -> Result<Recorded, OutOfMemory>
+    ensures { IfOk result (λ made. made ≡ random_made count byte) }
+{
+    let bytes = Blob::of_vec(vec![in alloc; byte; usize::from(count)]?);
+    let payload = one(alloc, item(0x4200C2, Node::ByteString(bytes)))?;
+    let response = response(alloc, 2, done(alloc, Operation::RNGRetrieve, payload)?)?;
+    let call = Call::Rng {
+        num_bytes: i32::from(count),
+    };
+    Ok(Recorded { call, response })
+}
+
+/// `activate` of this key.
+fn activated(alloc: Global, id: &str) -> Result<Recorded, OutOfMemory>
+    ensures { IfOk result (λ made. made ≡ activated_made id.now) }
+{
+    let payload = one(
+        alloc,
+        item(0x420094, Node::TextString(Text::of(alloc, id)?)),
+    )?;
+    let response = response(alloc, 0, done(alloc, Operation::Activate, payload)?)?;
+    let call = Call::Activate {
+        id: Text::of(alloc, id)?,
+    };
+    Ok(Recorded { call, response })
+}
+
+/// `query` of a server that knows Create and Query.
+fn queried(alloc: Global) -> Result<Recorded, OutOfMemory>
+    ensures { IfOk result (λ made. made ≡ queried_made) }
+{
+    let mut payload = Trees::new(alloc);
+    payload.push(operation_item(Operation::Create))?;
+    payload.push(operation_item(Operation::Query))?;
+    let response = response(alloc, 2, done(alloc, Operation::Query, payload)?)?;
+    Ok(Recorded {
+        call: Call::Query,
+        response,
+    })
+}
+
+/// `destroy` of this key, which is not found.
+fn destroyed(alloc: Global, id: &str) -> Result<Recorded, OutOfMemory>
+    ensures { IfOk result (λ made. made ≡ destroyed_made id.now) }
+{
+    let response = response(alloc, 0, gone(alloc, Operation::Destroy)?)?;
+    let call = Call::Destroy {
+        id: Text::of(alloc, id)?,
+    };
+    Ok(Recorded { call, response })
+}
+
+/// The exchange that is made of a number: two of its bits choose the call, and those above them its argument.
+#[tactic(auto, unfolding(crate::specs::Making::made_of))]
+pub fn exchange_of(alloc: Global, x: u64) -> Result<Recorded, OutOfMemory>
+    ensures { IfOk result (λ made. made ≡ made_of x) }
+{
+    let v = x >> 34;
+    match (x >> 32) % 4 {
+        0 => random(alloc, (v % 64) as u8, (x % 256) as u8),
+        1 => activated(alloc, Buffer::new().format(v % 1000)),
+        2 => queried(alloc),
+        _ => destroyed(alloc, Buffer::new().format(v % 1000)),
+    }
+}
