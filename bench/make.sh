@@ -14,11 +14,16 @@ import subprocess
 import sys
 
 best = None
+written = set()
 for _ in range(5):
     before = resource.getrusage(resource.RUSAGE_CHILDREN).ru_utime
     done = subprocess.run([sys.argv[1], "make", "100000"], capture_output=True, check=True)
     spent = resource.getrusage(resource.RUSAGE_CHILDREN).ru_utime - before
     best = spent if best is None else min(best, spent)
+    written.add(done.stdout)
+assert len(written) == 1, "two runs wrote different bytes"
+lines = dict(line.split() for line in done.stdout.decode().splitlines())
+assert int(lines["ok"]) + int(lines["errors"]) == 100000, "not each exchange was answered"
 print(done.stdout.decode(), end="")
 print(f"best of five: {best:.2f} user seconds")
 PY
