@@ -1,4 +1,6 @@
 //! What a session sends, read back text by text.
+ghost use Rattle.std.specs.Prelude.{◌<◌};
+
 use kmip_client::{Client, ClientBuilder, exchange_all};
 use kmip_link::MemoryLink;
 use kmip_request::RequestPayload;
@@ -67,17 +69,30 @@ fn credential_with<P: PartialEq + Drop>(
     Ok(credential)
 }
 
-/// The credential of one of the texts that were sent, each of this length.
-fn credential_at(
+/// The credential of a text, which is a request for sixteen random bytes.
+fn credential_in(
+    rt: &impl Abort,
+    alloc: Global,
+    text: &[u8],
+) -> Result<Option<CredentialType>, Fail> {
+    let expected = RequestPayload::RNGRetrieve(DataLength(16));
+    credential_with(rt, from_slice(alloc, text), expected)
+}
+
+/// The credentials of the texts that were sent, each of this length.
+fn credentials(
     rt: &impl Abort,
     alloc: Global,
     sent: &[u8],
     length: usize,
-    place: usize,
-) -> Result<Option<CredentialType>, Fail> {
-    let text = &sent[place * length..(place + 1) * length];
-    let expected = RequestPayload::RNGRetrieve(DataLength(16));
-    credential_with(rt, from_slice(alloc, text), expected)
+) -> Result<List<Option<CredentialType>>, Fail>
+    requires { 0 < length }
+{
+    let mut found = List::new(alloc);
+    for text in sent.chunks(length) {
+        found.push(credential_in(rt, alloc, text)?)?;
+    }
+    Ok(found)
 }
 
 #[test]
@@ -85,8 +100,9 @@ fn each_text_is_its_request(rt: HostRuntime) -> Result<(), Fail> {
     let mut client = ClientBuilder::new(link_of_three(rt.alloc())?).build();
     ask(&rt, rt.alloc(), &mut client)?;
     assert_eq!(&rt; client.inner().sent().len(), 360);
-    for place in 0..3usize {
-        let credential = credential_at(&rt, rt.alloc(), client.inner().sent(), 120, place)?;
+    let found = credentials(&rt, rt.alloc(), client.inner().sent(), 120)?;
+    assert_eq!(&rt; found.len(), 3);
+    for credential in found.as_slice() {
         assert!(&rt; credential.is_none());
     }
     Ok(())
@@ -101,8 +117,10 @@ fn each_text_has_the_credential(rt: HostRuntime) -> Result<(), Fail> {
         .build();
     ask(&rt, rt.alloc(), &mut client)?;
     assert_eq!(&rt; client.inner().sent().len(), 576);
-    for place in 0..3usize {
-        match credential_at(&rt, rt.alloc(), client.inner().sent(), 192, place)? {
+    let found = credentials(&rt, rt.alloc(), client.inner().sent(), 192)?;
+    assert_eq!(&rt; found.len(), 3);
+    for credential in found.as_slice() {
+        match credential {
             Some(CredentialType::UsernameAndPassword(user)) => {
                 assert!(&rt; user.username == Text::of(rt.alloc(), "alice")?);
                 assert!(&rt; user.password == Some(Text::of(rt.alloc(), "secret")?));
