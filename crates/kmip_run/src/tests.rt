@@ -630,7 +630,7 @@ const MORE_GRAMMAR: &[Row] = &[
 ];
 
 /// The list of these words.
-pub fn list_of(alloc: Global, words: &[&str]) -> Result<List<Text>, Fail> {
+pub(crate) fn list_of(alloc: Global, words: &[&str]) -> Result<List<Text>, Fail> {
     let mut list = List::new(alloc);
     for word in words {
         list.push(Text::of(alloc, word)?)?;
