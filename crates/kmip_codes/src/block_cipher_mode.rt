@@ -6,7 +6,7 @@ ghost use Rattle.kmip_codes.specs.BlockCipherModes.{block_cipher_mode_line, bloc
 use kmip_shape::Enumeration;
 use std::fmt::{self, Display, Formatter, Write};
 
-/// The mode in which a block cipher is used.
+/// The mode in which a block cipher is used: KMIP 1.0, 9.1.3.2.13.
 #[derive(Clone, Copy, PartialEq, Eq, Drop)]
 #[allow(non_camel_case_types)]
 pub enum BlockCipherMode {

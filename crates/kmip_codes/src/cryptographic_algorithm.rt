@@ -6,7 +6,7 @@ ghost use Rattle.kmip_codes.specs.CryptographicAlgorithms.{cryptographic_algorit
 use kmip_shape::Enumeration;
 use std::fmt::{self, Display, Formatter, Write};
 
-/// The algorithm that a key is for.
+/// The algorithm that a key is for: KMIP 1.0, 9.1.3.2.12.
 #[derive(Clone, Copy, PartialEq, Eq, Drop)]
 #[allow(non_camel_case_types)]
 pub enum CryptographicAlgorithm {

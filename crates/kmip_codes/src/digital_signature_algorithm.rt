@@ -6,7 +6,7 @@ ghost use Rattle.kmip_codes.specs.DigitalSignatureAlgorithms.{digital_signature_
 use kmip_shape::Enumeration;
 use std::fmt::{self, Display, Formatter, Write};
 
-/// The algorithm of a digital signature.
+/// The algorithm of a digital signature: KMIP 1.2, 9.1.3.2.
 #[derive(Clone, Copy, PartialEq, Eq, Drop)]
 #[allow(non_camel_case_types)]
 pub enum DigitalSignatureAlgorithm {

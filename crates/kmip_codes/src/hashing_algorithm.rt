@@ -6,7 +6,7 @@ ghost use Rattle.kmip_codes.specs.HashingAlgorithms.{hashing_algorithm_line, has
 use kmip_shape::Enumeration;
 use std::fmt::{self, Display, Formatter, Write};
 
-/// The algorithm of a hash.
+/// The algorithm of a hash: KMIP 1.0, 9.1.3.2.15.
 #[derive(Clone, Copy, PartialEq, Eq, Drop)]
 pub enum HashingAlgorithm {
     MD2 = 1,

@@ -6,7 +6,7 @@ ghost use Rattle.kmip_codes.specs.KeyCompressionTypes.{key_compression_type_line
 use kmip_shape::Enumeration;
 use std::fmt::{self, Display, Formatter, Write};
 
-/// How the public key of an elliptic curve is compressed.
+/// How the public key of an elliptic curve is compressed: KMIP 1.0, 9.1.3.2.2.
 #[derive(Clone, Copy, PartialEq, Eq, Drop)]
 pub enum KeyCompressionType {
     ECPUblicKeyTypeUncompressed = 1,

@@ -8,7 +8,7 @@ use kmip_shape::columns::Chooses;
 use kmip_shape::read::Outer;
 use std::fmt::{self, Display, Formatter, Write};
 
-/// The form of the key material in a key block.
+/// The form of the key material in a key block: KMIP 1.0, 9.1.3.2.3.
 #[derive(Clone, Copy, PartialEq, Eq, Drop)]
 pub enum KeyFormatType {
     Raw = 1,

@@ -6,7 +6,7 @@ ghost use Rattle.kmip_codes.specs.KeyRoleTypes.{key_role_type_line, key_role_typ
 use kmip_shape::Enumeration;
 use std::fmt::{self, Display, Formatter, Write};
 
-/// What a key is used for in payment systems.
+/// What a key is used for in payment systems: KMIP 1.0, 9.1.3.2.16.
 #[derive(Clone, Copy, PartialEq, Eq, Drop)]
 pub enum KeyRoleType {
     BDK = 1,

@@ -6,7 +6,7 @@ ghost use Rattle.kmip_codes.specs.PaddingMethods.{padding_method_line, padding_m
 use kmip_shape::Enumeration;
 use std::fmt::{self, Display, Formatter, Write};
 
-/// How a message is padded.
+/// How a message is padded: KMIP 1.0, 9.1.3.2.14.
 #[derive(Clone, Copy, PartialEq, Eq, Drop)]
 #[allow(non_camel_case_types)]
 pub enum PaddingMethod {

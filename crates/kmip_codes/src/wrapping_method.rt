@@ -6,7 +6,7 @@ ghost use Rattle.kmip_codes.specs.WrappingMethods.{wrapping_method_line, wrappin
 use kmip_shape::Enumeration;
 use std::fmt::{self, Display, Formatter, Write};
 
-/// How a key is wrapped.
+/// How a key is wrapped: KMIP 1.0, 9.1.3.2.4.
 #[derive(Clone, Copy, PartialEq, Eq, Drop)]
 pub enum WrappingMethod {
     Encrypt = 1,

@@ -6,7 +6,7 @@ ghost use Rattle.kmip_enums.specs.CertificateTypes.{certificate_type_line, certi
 use kmip_shape::Enumeration;
 use std::fmt::{self, Display, Formatter, Write};
 
-/// What kind of certificate it is.
+/// What kind of certificate it is: KMIP 1.0, 9.1.3.2.6.
 #[derive(Clone, Copy, PartialEq, Eq, Drop)]
 pub enum CertificateType {
     X509 = 1,

@@ -8,7 +8,7 @@ use kmip_shape::columns::Chooses;
 use kmip_shape::read::Outer;
 use std::fmt::{self, Display, Formatter, Write};
 
-/// What kind of credential it is.
+/// What kind of credential it is: KMIP 1.0, 9.1.3.2.1.
 #[derive(Clone, Copy, PartialEq, Eq, Drop)]
 pub enum CredentialType {
     UsernameAndPassword = 1,

@@ -6,7 +6,7 @@ ghost use Rattle.kmip_enums.specs.LinkTypes.{link_type_line, link_type_variants,
 use kmip_shape::Enumeration;
 use std::fmt::{self, Display, Formatter, Write};
 
-/// How one object is linked to another.
+/// How one object is linked to another: KMIP 1.0, 9.1.3.2.19.
 #[derive(Clone, Copy, PartialEq, Eq, Drop)]
 pub enum LinkType {
     CertificateLink = 0x101,

@@ -6,7 +6,7 @@ ghost use Rattle.kmip_enums.specs.NameTypes.{name_type_line, name_type_variants,
 use kmip_shape::Enumeration;
 use std::fmt::{self, Display, Formatter, Write};
 
-/// How a name is to be read.
+/// How a name is to be read: KMIP 1.0, 9.1.3.2.10.
 #[derive(Clone, Copy, PartialEq, Eq, Drop)]
 pub enum NameType {
     UninterpretedTextString = 1,

@@ -8,7 +8,7 @@ use kmip_shape::columns::Chooses;
 use kmip_shape::read::Outer;
 use std::fmt::{self, Display, Formatter, Write};
 
-/// What kind of managed object it is.
+/// What kind of managed object it is: KMIP 1.0, 9.1.3.2.11.
 #[derive(Clone, Copy, PartialEq, Eq, Drop)]
 pub enum ObjectType {
     Certificate = 1,

@@ -8,7 +8,7 @@ use kmip_shape::columns::Chooses;
 use kmip_shape::read::Outer;
 use std::fmt::{self, Display, Formatter, Write};
 
-/// What a request asks for.
+/// What a request asks for: KMIP 1.0, 9.1.3.2.26, with those that KMIP 1.1 and 1.2 add.
 #[derive(Clone, Copy, PartialEq, Eq, Drop)]
 pub enum Operation {
     Create = 1,

@@ -6,7 +6,7 @@ ghost use Rattle.kmip_enums.specs.QueryFunctions.{query_function_line, query_fun
 use kmip_shape::Enumeration;
 use std::fmt::{self, Display, Formatter, Write};
 
-/// What a query asks for.
+/// What a query asks for: KMIP 1.0, 9.1.3.2.23.
 #[derive(Clone, Copy, PartialEq, Eq, Drop)]
 pub enum QueryFunction {
     QueryOperations = 1,

@@ -6,7 +6,7 @@ ghost use Rattle.kmip_enums.specs.ResultReasons.{result_reason_line, result_reas
 use kmip_shape::Enumeration;
 use std::fmt::{self, Display, Formatter, Write};
 
-/// Why an operation failed.
+/// Why an operation failed: KMIP 1.0, 9.1.3.2.28.
 #[derive(Clone, Copy, PartialEq, Eq, Drop)]
 pub enum ResultReason {
     ItemNotFound = 0x1,

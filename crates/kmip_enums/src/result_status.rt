@@ -6,7 +6,7 @@ ghost use Rattle.kmip_enums.specs.ResultStatuses.{result_status_line, result_sta
 use kmip_shape::Enumeration;
 use std::fmt::{self, Display, Formatter, Write};
 
-/// How an operation ended.
+/// How an operation ended: KMIP 1.0, 9.1.3.2.27.
 #[derive(Clone, Copy, PartialEq, Eq, Drop)]
 pub enum ResultStatus {
     Success = 0,

@@ -6,7 +6,7 @@ ghost use Rattle.kmip_enums.specs.RevocationReasonCodes.{revocation_reason_code_
 use kmip_shape::Enumeration;
 use std::fmt::{self, Display, Formatter, Write};
 
-/// Why an object is revoked.
+/// Why an object is revoked: KMIP 1.0, 9.1.3.2.18.
 #[derive(Clone, Copy, PartialEq, Eq, Drop)]
 pub enum RevocationReasonCode {
     Unspecified = 1,

@@ -6,7 +6,7 @@ ghost use Rattle.kmip_enums.specs.States.{state_line, state_variants, state_foun
 use kmip_shape::Enumeration;
 use std::fmt::{self, Display, Formatter, Write};
 
-/// Where an object is in its life.
+/// Where an object is in its life: KMIP 1.0, 3.17.
 #[derive(Clone, Copy, PartialEq, Eq, Drop)]
 pub enum State {
     PreActive = 1,

@@ -12,7 +12,7 @@ use kmip_shape::{Item, ShowItem, Sink, WriteItem};
 use kmip_wire::{Buffer, ItemRef, OutOfMemory, Tag, Text, TryClone};
 use std::alloc::Global;
 
-/// The name of an attribute.
+/// The name of an attribute: KMIP 1.0, 2.1.1.
 #[derive(PartialEq, Eq, Drop)]
 pub struct AttributeName(pub Text);
 

@@ -11,7 +11,7 @@ use kmip_shape::{Item, ShowItem, Sink, WriteItem};
 use kmip_wire::{Blob, Buffer, ItemRef, OutOfMemory, Tag, TryClone};
 use std::alloc::Global;
 
-/// What an operation works on or gives.
+/// What an operation works on or gives: KMIP 1.2, 4.31.
 #[derive(PartialEq, Eq, Drop)]
 pub struct Data(pub Blob);
 
@@ -55,7 +55,7 @@ impl ShowItem for Data {
     }
 }
 
-/// What tells the items of a batch apart.
+/// What tells the items of a batch apart: KMIP 1.0, 6.4.
 #[derive(PartialEq, Eq, Drop)]
 pub struct UniqueBatchItemID(pub Blob);
 

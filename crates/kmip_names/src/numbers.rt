@@ -11,7 +11,7 @@ use kmip_shape::{Item, ShowItem, Sink, WriteItem};
 use kmip_wire::{Buffer, ItemRef, Tag};
 use std::alloc::Global;
 
-/// Which of the attributes of one name, from 0.
+/// Which of the attributes of one name, from 0: KMIP 1.0, 2.1.1.
 #[derive(Clone, Copy, PartialEq, Eq, Drop)]
 pub struct AttributeIndex(pub i32);
 
@@ -58,7 +58,7 @@ impl ShowItem for AttributeIndex {
     }
 }
 
-/// How many bytes are asked for.
+/// How many bytes are asked for: KMIP 1.2, 4.35.
 #[derive(Clone, Copy, PartialEq, Eq, Drop)]
 pub struct DataLength(pub i32);
 
@@ -96,7 +96,7 @@ impl ShowItem for DataLength {
     }
 }
 
-/// The length of a key in bits.
+/// The length of a key in bits: KMIP 1.0, 3.5.
 #[derive(Clone, Copy, PartialEq, Eq, Drop)]
 pub struct CryptographicLength(pub i32);
 
@@ -134,7 +134,7 @@ impl ShowItem for CryptographicLength {
     }
 }
 
-/// When an object was first compromised, in seconds from 1970 on.
+/// When an object was first compromised, in seconds from 1970 on: KMIP 1.0, 3.24.
 #[derive(Clone, Copy, PartialEq, Eq, Drop)]
 pub struct CompromiseOccurrenceDate(pub u64);
 

@@ -9,7 +9,7 @@ use kmip_shape::{Item, ShowItem, Sink, WriteItem};
 use kmip_wire::{Buffer, ItemRef, Tag};
 use std::alloc::Global;
 
-/// Whether the server makes the initialization vector.
+/// Whether the server makes the initialization vector: KMIP 1.2, 3.6.
 #[derive(Clone, Copy, PartialEq, Eq, Drop)]
 pub struct RandomIV(pub bool);
 
@@ -47,7 +47,7 @@ impl ShowItem for RandomIV {
     }
 }
 
-/// The length of the initialization vector in bits.
+/// The length of the initialization vector in bits: KMIP 1.2, 3.6.
 #[derive(Clone, Copy, PartialEq, Eq, Drop)]
 pub struct IVLength(pub i32);
 
@@ -85,7 +85,7 @@ impl ShowItem for IVLength {
     }
 }
 
-/// The length of the authentication tag in bytes.
+/// The length of the authentication tag in bytes: KMIP 1.2, 3.6.
 #[derive(Clone, Copy, PartialEq, Eq, Drop)]
 pub struct TagLength(pub i32);
 
@@ -123,7 +123,7 @@ impl ShowItem for TagLength {
     }
 }
 
-/// The length of the fixed field of the initialization vector in bits.
+/// The length of the fixed field of the initialization vector in bits: KMIP 1.2, 3.6.
 #[derive(Clone, Copy, PartialEq, Eq, Drop)]
 pub struct FixedFieldLength(pub i32);
 
@@ -161,7 +161,7 @@ impl ShowItem for FixedFieldLength {
     }
 }
 
-/// The length of the invocation field of the initialization vector in bits.
+/// The length of the invocation field of the initialization vector in bits: KMIP 1.2, 3.6.
 #[derive(Clone, Copy, PartialEq, Eq, Drop)]
 pub struct InvocationFieldLength(pub i32);
 
@@ -199,7 +199,7 @@ impl ShowItem for InvocationFieldLength {
     }
 }
 
-/// The length of the counter of the initialization vector in bits.
+/// The length of the counter of the initialization vector in bits: KMIP 1.2, 3.6.
 #[derive(Clone, Copy, PartialEq, Eq, Drop)]
 pub struct CounterLength(pub i32);
 
@@ -237,7 +237,7 @@ impl ShowItem for CounterLength {
     }
 }
 
-/// Where the counter begins.
+/// Where the counter begins: KMIP 1.2, 3.6.
 #[derive(Clone, Copy, PartialEq, Eq, Drop)]
 pub struct InitialCounterValue(pub i32);
 

@@ -12,7 +12,7 @@ use kmip_wire::{Buffer, ItemRef, OutOfMemory, Tag, Text, TryClone};
 use std::alloc::Global;
 use std::fmt::{self, Display, Formatter, Write};
 
-/// The identifier of a managed object.
+/// The identifier of a managed object: KMIP 1.0, 3.1.
 #[derive(PartialEq, Eq, Drop)]
 pub struct UniqueIdentifier(pub Text);
 
@@ -72,7 +72,7 @@ impl ShowItem for UniqueIdentifier {
     }
 }
 
-/// The text of a name of an object.
+/// The text of a name of an object: KMIP 1.0, 3.2.
 #[derive(PartialEq, Eq, Drop)]
 pub struct NameValue(pub Text);
 
@@ -124,7 +124,7 @@ impl ShowItem for NameValue {
     }
 }
 
-/// What is said beside the reason for a revocation.
+/// What is said beside the reason for a revocation: KMIP 1.0, 3.26.
 #[derive(PartialEq, Eq, Drop)]
 pub struct RevocationMessage(pub Text);
 
@@ -168,7 +168,7 @@ impl ShowItem for RevocationMessage {
     }
 }
 
-/// The identifier of the object that a link leads to.
+/// The identifier of the object that a link leads to: KMIP 1.0, 3.29.
 #[derive(PartialEq, Eq, Drop)]
 pub struct LinkedObjectIdentifier(pub Text);
 
@@ -212,7 +212,7 @@ impl ShowItem for LinkedObjectIdentifier {
     }
 }
 
-/// The application, or the kind of application, that keeps data with an object.
+/// The application, or the kind of application, that keeps data with an object: KMIP 1.0, 3.30.
 #[derive(PartialEq, Eq, Drop)]
 pub struct ApplicationNamespace(pub Text);
 
@@ -256,7 +256,7 @@ impl ShowItem for ApplicationNamespace {
     }
 }
 
-/// What an application keeps with an object.
+/// What an application keeps with an object: KMIP 1.0, 3.30.
 #[derive(PartialEq, Eq, Drop)]
 pub struct ApplicationData(pub Text);
 

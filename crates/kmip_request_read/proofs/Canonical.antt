@@ -40,7 +40,7 @@ use Rattle.kmip_request.specs.Held.{AreTexts, IsHeld}
 use Rattle.kmip_request.proofs.Messages.{bytes_are}
 use Rattle.kmip_request_read.specs.Matched.{under_operation, IsMatched}
 use Rattle.kmip_request_read.specs.Message.{message_of, IsPlain, IsCanonical}
-use Rattle.kmip_request_read.proofs.Selected.{selected}
+use Rattle.kmip_shape.proofs.Selected.{selected}
 
 -- ---- the table of a message
 

@@ -1,4 +1,3 @@
-pub mod Selected
 pub mod Canonical
 pub mod Read
 mod Examples

@@ -3,6 +3,7 @@ pub mod Parts
 pub mod Cases
 pub mod Inside
 pub mod ReadBack
+pub mod Selected
 pub mod Lens
 pub mod Forms
 pub mod Aligned

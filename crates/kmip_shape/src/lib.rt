@@ -33,7 +33,7 @@ pub use enumeration::{Enumeration, distinct};
 pub use fields::{known_record, record_len, show_record, write_record};
 pub use item::{Item, WriteItem};
 pub use kmip_wire::{Blob, Buffer, List, OutOfMemory, Text, TryClone};
-pub use laws::{read_back, written};
+pub use laws::{read_back, read_selected, written};
 pub use read::{Outer, ReadError, ReadItem, ReadRoot, read_root};
 pub use record::read_record;
 pub use rows::{
