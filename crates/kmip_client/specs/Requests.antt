@@ -9,7 +9,7 @@ use Rattle.kmip_types.specs.TheHashingAlgorithm.{HashingAlgorithm}
 use Rattle.kmip_types.specs.declared.cryptographic_parameters.CryptographicParameters.{CryptographicParameters}
 use Rattle.kmip_types.specs.declared.attribute_value.AttributeValue.TheVariants as values
 use Rattle.kmip_request.specs.Constructors.{attribute_of}
-use Rattle.kmip_request.specs.declared.attribute.Attribute.{Attribute}
+use Rattle.kmip_request.specs.TheAttribute.{Attribute}
 use Rattle.kmip_request.specs.declared.payload.RequestPayload.{RequestPayload}
 
 abbrev pub query_request : RequestPayload

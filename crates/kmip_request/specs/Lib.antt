@@ -3,4 +3,6 @@ pub mod Values
 pub mod Same
 pub mod Message
 pub mod Held
-pub mod Constructors
+pub use Rattle.kmip_request_objects.specs.Constructors
+pub use Rattle.kmip_request_objects.specs.declared.attribute.Attribute as TheAttribute
+pub use Rattle.kmip_request_objects.specs.declared.managed_object.ManagedObject as TheManagedObject

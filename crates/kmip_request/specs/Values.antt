@@ -1,39 +1,18 @@
 -- The typed values of a request, as contracts see them: each a record of its fields in the order of its table.
 use Rattle.std.specs.Prelude.{[], ◌∷◌}
-use Rattle.kmip_shape.specs.Val.{Val, Number, Text, Bytes, Record, Case, AndField, NoField, One, Many}
+use Rattle.kmip_shape.specs.Val.{Val, Number, Text, Record, Case, AndField, NoField, One, Many}
 use Rattle.kmip_shape.specs.Writes.{optional, optional_list, vals}
-use Rattle.kmip_types.specs.Texts.{name_value_val, unique_identifier_val, revocation_message_val}
-use Rattle.kmip_enums.specs.NameTypes.{name_type_val}
+use Rattle.kmip_types.specs.Texts.{unique_identifier_val}
 use Rattle.kmip_types.specs.AttributeNames.{attribute_name_val}
-use Rattle.kmip_types.specs.Numbers.{attribute_index_val, cryptographic_length_val, compromise_occurrence_date_val, data_length_val}
-use Rattle.kmip_types.specs.AttributeValues.{attribute_value_val}
+use Rattle.kmip_types.specs.Numbers.{attribute_index_val, compromise_occurrence_date_val, data_length_val}
 use Rattle.kmip_types.specs.Parameters.{cryptographic_parameters_val}
-use Rattle.kmip_types.specs.WrappingMethods.{wrapping_method_val}
-use Rattle.kmip_types.specs.KeyMaterials.{key_material_val}
 use Rattle.kmip_types.specs.KeyFormatTypes.{key_format_type_val}
 use Rattle.kmip_types.specs.KeyCompressionTypes.{key_compression_type_val}
-use Rattle.kmip_types.specs.CryptographicAlgorithms.{cryptographic_algorithm_val}
-use Rattle.kmip_enums.specs.RevocationReasonCodes.{revocation_reason_code_val}
 use Rattle.kmip_enums.specs.ObjectTypes.{object_type_val}
 use Rattle.kmip_enums.specs.QueryFunctions.{query_function_val}
 use Rattle.kmip_types.specs.ByteStrings.{data_val, unique_batch_item_id_val}
 use Rattle.kmip_enums.specs.Operations.{operation_val}
 use Rattle.kmip_enums.specs.CredentialTypes.{credential_type_val}
-use Rattle.kmip_request.specs.declared.byte_strings.MACOrSignature.{MACOrSignature}
-use Rattle.kmip_request.specs.declared.byte_strings.IVOrCounterOrNonce.{IVOrCounterOrNonce}
-use Rattle.kmip_request.specs.declared.name.Name.{Name}
-use Rattle.kmip_request.specs.declared.attribute.Attribute.{Attribute}
-use Rattle.kmip_request.specs.declared.template_attribute.TemplateAttribute.{TemplateAttribute}
-use Rattle.kmip_request.specs.declared.template_attribute.CommonTemplateAttribute.{CommonTemplateAttribute}
-use Rattle.kmip_request.specs.declared.template_attribute.PrivateKeyTemplateAttribute.{PrivateKeyTemplateAttribute}
-use Rattle.kmip_request.specs.declared.template_attribute.PublicKeyTemplateAttribute.{PublicKeyTemplateAttribute}
-use Rattle.kmip_request.specs.declared.key_wrapping.EncryptionKeyInformation.{EncryptionKeyInformation}
-use Rattle.kmip_request.specs.declared.key_wrapping.MACOrSignatureKeyInformation.{MACOrSignatureKeyInformation}
-use Rattle.kmip_request.specs.declared.key_wrapping.KeyWrappingData.{KeyWrappingData}
-use Rattle.kmip_request.specs.declared.key_wrapping.KeyWrappingSpecification.{KeyWrappingSpecification}
-use Rattle.kmip_request.specs.declared.key_block.KeyValue.{KeyValue}
-use Rattle.kmip_request.specs.declared.key_block.KeyBlock.{KeyBlock}
-use Rattle.kmip_request.specs.declared.revocation_reason.RevocationReason.{RevocationReason}
 use Rattle.kmip_request.specs.declared.numbers.ProtocolVersionMajor.{ProtocolVersionMajor}
 use Rattle.kmip_request.specs.declared.numbers.ProtocolVersionMinor.{ProtocolVersionMinor}
 use Rattle.kmip_request.specs.declared.numbers.MaximumResponseSize.{MaximumResponseSize}
@@ -51,12 +30,7 @@ use Rattle.kmip_request.specs.declared.message.RequestMessage.{RequestMessage}
 use Rattle.kmip_request.specs.declared.writing.SingleRequest.{SingleRequest}
 use Rattle.kmip_request.specs.declared.payload.RequestPayload.{RequestPayload}
 use Rattle.kmip_request.specs.declared.payload.RequestPayload.TheVariants.{Create, CreateKeyPair, Register, Locate, Get, GetAttributes, GetAttributeList, AddAttribute, ModifyAttribute, DeleteAttribute, Activate, Revoke, Destroy, Query, DiscoverVersions, Sign, RNGRetrieve}
-use Rattle.kmip_request.specs.declared.managed_object.ManagedObject.{ManagedObject}
-use Rattle.kmip_request.specs.declared.managed_object.ManagedObject.TheVariants as objects
-use Rattle.kmip_request.specs.declared.managed_object.SymmetricKey.{SymmetricKey}
-use Rattle.kmip_request.specs.declared.managed_object.PublicKey.{PublicKey}
-use Rattle.kmip_request.specs.declared.managed_object.PrivateKey.{PrivateKey}
-use Rattle.kmip_request.specs.declared.managed_object.Template.{Template}
+use Rattle.kmip_request_objects.specs.Values.{attribute_val, template_attribute_val, common_template_attribute_val, private_key_template_attribute_val, public_key_template_attribute_val, key_wrapping_specification_val, managed_object_val, revocation_reason_val}
 
 abbrev pub major_val : ProtocolVersionMajor → Val
 major_val x = Number x.0
@@ -106,128 +80,6 @@ request_header_val x = Record
     (AndField (optional authentication_val x.2)
     (AndField (One (count_val x.3))
     NoField))))
-
-abbrev pub mac_or_signature_val : MACOrSignature → Val
-mac_or_signature_val x = Bytes x.0
-
-abbrev pub iv_or_counter_or_nonce_val : IVOrCounterOrNonce → Val
-iv_or_counter_or_nonce_val x = Bytes x.0
-
-abbrev pub name_val : Name → Val
-name_val x = Record
-    (AndField (One (name_value_val x.0))
-    (AndField (One (name_type_val x.1))
-    NoField))
-
-abbrev pub attribute_val : Attribute → Val
-attribute_val x = Record
-    (AndField (One (attribute_name_val x.0))
-    (AndField (optional attribute_index_val x.1)
-    (AndField (One (attribute_value_val x.2))
-    NoField)))
-
-abbrev pub template_attribute_val : TemplateAttribute → Val
-template_attribute_val x = Record
-    (AndField (optional_list name_val x.0)
-    (AndField (optional_list attribute_val x.1)
-    NoField))
-
-abbrev pub common_template_attribute_val : CommonTemplateAttribute → Val
-common_template_attribute_val x = Record
-    (AndField (optional_list name_val x.0)
-    (AndField (optional_list attribute_val x.1)
-    NoField))
-
-abbrev pub private_key_template_attribute_val : PrivateKeyTemplateAttribute → Val
-private_key_template_attribute_val x = Record
-    (AndField (optional_list name_val x.0)
-    (AndField (optional_list attribute_val x.1)
-    NoField))
-
-abbrev pub public_key_template_attribute_val : PublicKeyTemplateAttribute → Val
-public_key_template_attribute_val x = Record
-    (AndField (optional_list name_val x.0)
-    (AndField (optional_list attribute_val x.1)
-    NoField))
-
-abbrev pub encryption_key_information_val : EncryptionKeyInformation → Val
-encryption_key_information_val x = Record
-    (AndField (One (unique_identifier_val x.0))
-    (AndField (optional cryptographic_parameters_val x.1)
-    NoField))
-
-abbrev pub mac_or_signature_key_information_val : MACOrSignatureKeyInformation → Val
-mac_or_signature_key_information_val x = Record
-    (AndField (One (unique_identifier_val x.0))
-    (AndField (optional cryptographic_parameters_val x.1)
-    NoField))
-
-abbrev pub key_wrapping_data_val : KeyWrappingData → Val
-key_wrapping_data_val x = Record
-    (AndField (One (wrapping_method_val x.0))
-    (AndField (optional encryption_key_information_val x.1)
-    (AndField (optional mac_or_signature_key_information_val x.2)
-    (AndField (optional mac_or_signature_val x.3)
-    (AndField (optional iv_or_counter_or_nonce_val x.4)
-    (AndField (optional_list attribute_val x.5)
-    NoField))))))
-
-abbrev pub key_wrapping_specification_val : KeyWrappingSpecification → Val
-key_wrapping_specification_val x = Record
-    (AndField (One (wrapping_method_val x.0))
-    (AndField (optional encryption_key_information_val x.1)
-    (AndField (optional mac_or_signature_key_information_val x.2)
-    (AndField (optional_list attribute_val x.3)
-    NoField))))
-
-abbrev pub key_value_val : KeyValue → Val
-key_value_val x = Record
-    (AndField (One (key_material_val x.0))
-    (AndField (optional_list attribute_val x.1)
-    NoField))
-
-abbrev pub key_block_val : KeyBlock → Val
-key_block_val x = Record
-    (AndField (One (key_format_type_val x.0))
-    (AndField (optional key_compression_type_val x.1)
-    (AndField (optional key_value_val x.2)
-    (AndField (optional cryptographic_algorithm_val x.3)
-    (AndField (optional cryptographic_length_val x.4)
-    (AndField (optional key_wrapping_data_val x.5)
-    NoField))))))
-
-abbrev pub symmetric_key_val : SymmetricKey → Val
-symmetric_key_val x = Record
-    (AndField (One (key_block_val x.0))
-    NoField)
-
-abbrev pub public_key_val : PublicKey → Val
-public_key_val x = Record
-    (AndField (One (key_block_val x.0))
-    NoField)
-
-abbrev pub private_key_val : PrivateKey → Val
-private_key_val x = Record
-    (AndField (One (key_block_val x.0))
-    NoField)
-
-abbrev pub template_val : Template → Val
-template_val x = Record
-    (AndField (Many (vals attribute_val x.0))
-    NoField)
-
--- an object is the case of its tag
-abbrev pub managed_object_val : ManagedObject → Val
-managed_object_val (objects.SymmetricKey x) = Case 1 (symmetric_key_val x)
-managed_object_val (objects.PublicKey x) = Case 2 (public_key_val x)
-managed_object_val (objects.PrivateKey x) = Case 3 (private_key_val x)
-managed_object_val (objects.Template x) = Case 4 (template_val x)
-
-abbrev pub revocation_reason_val : RevocationReason → Val
-revocation_reason_val x = Record
-    (AndField (One (revocation_reason_code_val x.0))
-    (AndField (optional revocation_message_val x.1)
-    NoField))
 
 -- a payload is the case of its operation's number
 abbrev pub request_payload_val : RequestPayload → Val

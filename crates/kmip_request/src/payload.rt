@@ -2,21 +2,18 @@
 
 ghost use Rattle.std.specs.Prelude.{◌≡◌};
 ghost use Rattle.kmip_request.specs.Message.{operation_of, version_of};
-ghost use Rattle.kmip_request.specs.Tables.{attribute, name, public_key, private_key, template, request_payload};
+ghost use Rattle.kmip_request.specs.Tables.{request_payload};
+ghost use Rattle.kmip_request_objects.specs.Tables.{attribute, name, public_key, private_key, template};
 ghost use Rattle.kmip_request.specs.Values.{request_payload_val};
 ghost use Rattle.kmip_request.specs.Same.{request_payload_same};
 
-use crate::attribute::Attribute;
 use crate::header::ProtocolVersion;
-use crate::key_wrapping::KeyWrappingSpecification;
-use crate::managed_object::ManagedObject;
 use crate::numbers::{ProtocolVersionMajor, ProtocolVersionMinor};
-use crate::revocation_reason::RevocationReason;
-use crate::template_attribute::{
-    CommonTemplateAttribute, PrivateKeyTemplateAttribute, PublicKeyTemplateAttribute,
-    TemplateAttribute,
-};
 use kmip_enums::{ObjectType, Operation, QueryFunction};
+use kmip_request_objects::{
+    Attribute, CommonTemplateAttribute, KeyWrappingSpecification, ManagedObject,
+    PrivateKeyTemplateAttribute, PublicKeyTemplateAttribute, RevocationReason, TemplateAttribute,
+};
 use kmip_shape::columns::{Many, One, Opt, OptMany};
 use kmip_shape::record::{End, Row};
 use kmip_shape::{

@@ -10,7 +10,7 @@ use Rattle.kmip_types.specs.TheKeyFormatType.{KeyFormatType}
 use Rattle.kmip_types.specs.TheKeyFormatType.TheVariants as formats
 use Rattle.kmip_types.specs.TheKeyMaterial.{KeyMaterial}
 use Rattle.kmip_types.specs.TheKeyMaterial.TheVariants as materials
-use Rattle.kmip_request.specs.declared.managed_object.ManagedObject.TheVariants.{SymmetricKey}
+use Rattle.kmip_request.specs.TheManagedObject.TheVariants.{SymmetricKey}
 use Rattle.kmip_request.specs.declared.payload.RequestPayload.{RequestPayload}
 use Rattle.kmip_request.specs.declared.payload.RequestPayload.TheVariants.{AddAttribute, GetAttributes, Register}
 use Rattle.kmip_request_read.specs.Matched.{IsMatched}

@@ -7,7 +7,7 @@ ghost use Rattle.std.specs.Int.{cast_signed, w32};
 ghost use Rattle.kmip_enums.specs.declared.name_type.NameType.TheVariants as name_types;
 ghost use Rattle.kmip_types.specs.UsageMask.{usage_bits};
 ghost use Rattle.kmip_types.specs.declared.attribute_value.AttributeValue.TheVariants as values;
-ghost use Rattle.kmip_request.specs.Constructors.{attribute_of};
+ghost use Rattle.kmip_request_objects.specs.Constructors.{attribute_of};
 
 use crate::attribute::Attribute;
 use bitflags::Flags;

@@ -1,9 +1,9 @@
 //! Attributes.
 
 ghost use Rattle.std.specs.Prelude.{◌≡◌};
-ghost use Rattle.kmip_request.specs.Tables.{attribute, name};
-ghost use Rattle.kmip_request.specs.Values.{attribute_val};
-ghost use Rattle.kmip_request.specs.Same.{attribute_same};
+ghost use Rattle.kmip_request_objects.specs.Tables.{attribute, name};
+ghost use Rattle.kmip_request_objects.specs.Values.{attribute_val};
+ghost use Rattle.kmip_request_objects.specs.Same.{attribute_same};
 
 use kmip_shape::columns::{ChosenOne, One, Opt};
 use kmip_shape::record::{Choosing, End, Row};

@@ -2,8 +2,8 @@
 use Rattle.std.specs.Prelude.{ℕ, List, None}
 use Rattle.kmip_enums.specs.declared.name_type.NameType.TheVariants.{UninterpretedTextString}
 use Rattle.kmip_types.specs.declared.attribute_value.AttributeValue.{AttributeValue}
-use Rattle.kmip_request.specs.declared.attribute.Attribute.{Attribute}
-use Rattle.kmip_request.specs.declared.name.Name.{Name}
+use Rattle.kmip_request_objects.specs.declared.attribute.Attribute.{Attribute}
+use Rattle.kmip_request_objects.specs.declared.name.Name.{Name}
 
 -- the attribute of a name and a value, with no index
 abbrev pub attribute_of : List ℕ → AttributeValue → Attribute

@@ -1,9 +1,9 @@
 //! Keys with their format, algorithm and length.
 
 ghost use Rattle.std.specs.Prelude.{◌≡◌};
-ghost use Rattle.kmip_request.specs.Tables.{key_value, key_block};
-ghost use Rattle.kmip_request.specs.Values.{key_value_val, key_block_val};
-ghost use Rattle.kmip_request.specs.Same.{key_value_same, key_block_same};
+ghost use Rattle.kmip_request_objects.specs.Tables.{key_value, key_block};
+ghost use Rattle.kmip_request_objects.specs.Values.{key_value_val, key_block_val};
+ghost use Rattle.kmip_request_objects.specs.Same.{key_value_same, key_block_same};
 
 use crate::attribute::Attribute;
 use crate::key_wrapping::KeyWrappingData;

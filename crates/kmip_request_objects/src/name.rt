@@ -2,9 +2,9 @@
 
 ghost use Rattle.std.specs.Prelude.{◌≡◌};
 ghost use Rattle.std.specs.Prelude.{Some};
-ghost use Rattle.kmip_request.specs.Tables.{name};
-ghost use Rattle.kmip_request.specs.Values.{name_val};
-ghost use Rattle.kmip_request.specs.Same.{name_same};
+ghost use Rattle.kmip_request_objects.specs.Tables.{name};
+ghost use Rattle.kmip_request_objects.specs.Values.{name_val};
+ghost use Rattle.kmip_request_objects.specs.Same.{name_same};
 
 use kmip_enums::NameType;
 use kmip_shape::columns::One;

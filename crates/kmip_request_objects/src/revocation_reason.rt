@@ -1,9 +1,9 @@
 //! Why an object is revoked.
 
 ghost use Rattle.std.specs.Prelude.{◌≡◌};
-ghost use Rattle.kmip_request.specs.Tables.{revocation_reason};
-ghost use Rattle.kmip_request.specs.Values.{revocation_reason_val};
-ghost use Rattle.kmip_request.specs.Same.{revocation_reason_same};
+ghost use Rattle.kmip_request_objects.specs.Tables.{revocation_reason};
+ghost use Rattle.kmip_request_objects.specs.Values.{revocation_reason_val};
+ghost use Rattle.kmip_request_objects.specs.Same.{revocation_reason_same};
 
 use kmip_enums::RevocationReasonCode;
 use kmip_shape::columns::{One, Opt};
