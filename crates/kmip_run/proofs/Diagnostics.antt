@@ -13,11 +13,12 @@ use Rattle.kmip_run.specs.Exchange.{told_lines}
 
 shows_reading : OfMessages (λ answer. is_read answer ≡ true)
 shows_reading = record {
-    ok = λ payload. refl;
-    malformed = λ text. refl;
-    internal = λ text. refl;
-    server = λ text. refl;
-    not_found = λ text. refl }
+  ok = λ payload. refl;
+  malformed = λ text. refl;
+  internal = λ text. refl;
+  server = λ text. refl;
+  not_found = λ text. refl;
+}
 
 message_read : (operation : Operation) (here : Message) → is_read (answer_of operation here) ≡ true
 message_read operation Message.Ended = refl
