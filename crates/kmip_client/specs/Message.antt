@@ -1,4 +1,4 @@
--- What stands at the front of the bytes that are left.
+-- What stands at the front of the bytes that are left: a message is a head and the contents that it tells (KMIP 1.0, 9.1.1).
 use Rattle.std.specs.Prelude.{◌≡◌, ℕ, ◌+◌, ◌≤◌, List, length, take, Option, if◌then◌else◌, nat_lt, Result, Ok, Err}
 use Rattle.kmip_wire.specs.Heads.{head_says}
 use Rattle.kmip_wire.specs.declared.error.HeadError.{HeadError}

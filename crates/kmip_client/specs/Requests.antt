@@ -12,6 +12,7 @@ use Rattle.kmip_request.specs.Constructors.{attribute_of}
 use Rattle.kmip_request.specs.TheAttribute.{Attribute}
 use Rattle.kmip_request.specs.declared.payload.RequestPayload.{RequestPayload}
 
+-- what the server can do, with which objects, and who it is (KMIP 1.0, 4.24)
 abbrev pub query_request : RequestPayload
 query_request = RequestPayload.Query (QueryFunction.QueryOperations ∷ QueryFunction.QueryObjects ∷ QueryFunction.QueryServerInformation ∷ [])
 
@@ -29,13 +30,14 @@ key_attributes name usage =
     ∷ attribute_of (codes "Cryptographic Usage Mask") (values.Integer (pos usage))
     ∷ []
 
--- an RSA pair: the private key, which signs, and the public key, which verifies
+-- an RSA pair: the private key, which signs, and the public key, which verifies (KMIP 1.0, 4.2)
 abbrev pub key_pair_request : ℤ → List ℕ → List ℕ → RequestPayload
 key_pair_request key_length private_name public_name = RequestPayload.CreateKeyPair
     (Some (record { 0 = None; 1 = Some (pair_attributes key_length) }))
     (Some (record { 0 = None; 1 = Some (key_attributes private_name 0x1) }))
     (Some (record { 0 = None; 1 = Some (key_attributes public_name 0x2) }))
 
+-- random bytes (KMIP 1.2, 4.35)
 abbrev pub rng_request : ℤ → RequestPayload
 rng_request num_bytes = RequestPayload.RNGRetrieve (record { 0 = num_bytes })
 
@@ -57,23 +59,27 @@ signing_parameters = record {
   initial_counter_value = None;
 }
 
+-- a signature of these bytes (KMIP 1.2, 4.31)
 abbrev pub sign_request : List ℕ → List ℕ → RequestPayload
 sign_request id bytes = RequestPayload.Sign (Some (record { 0 = id })) (Some signing_parameters) (record { 0 = bytes })
 
+-- KMIP 1.0, 4.18
 abbrev pub activate_request : List ℕ → RequestPayload
 activate_request id = RequestPayload.Activate (Some (record { 0 = id }))
 
--- a key that is no longer needed, with no message and no date
+-- a key that is no longer needed, with no message and no date (KMIP 1.0, 4.19)
 abbrev pub revoke_request : List ℕ → RequestPayload
 revoke_request id = RequestPayload.Revoke (Some (record { 0 = id })) (record { 0 = RevocationReasonCode.CessationOfOperation; 1 = None }) None
 
+-- KMIP 1.0, 4.20
 abbrev pub destroy_request : List ℕ → RequestPayload
 destroy_request id = RequestPayload.Destroy (Some (record { 0 = id }))
 
+-- another name in the place of the first (KMIP 1.0, 4.14)
 abbrev pub rename_request : List ℕ → List ℕ → RequestPayload
 rename_request id name = RequestPayload.ModifyAttribute (Some (record { 0 = id }))
     (attribute_of (codes "Name") (values.Name (record { 0 = name }) UninterpretedTextString))
 
--- an object as it is, neither compressed nor wrapped, in whatever format
+-- an object as it is, neither compressed nor wrapped, in whatever format (KMIP 1.0, 4.10)
 abbrev pub get_request : List ℕ → RequestPayload
 get_request id = RequestPayload.Get (Some (record { 0 = id })) None None None
