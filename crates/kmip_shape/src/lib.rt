@@ -10,6 +10,7 @@ pub mod big;
 pub mod by_tag;
 pub mod children;
 pub mod columns;
+mod boxed;
 mod copies;
 mod enumeration;
 pub mod fields;

@@ -1,6 +1,7 @@
 //! The wire form of KMIP: items of a tag, a type, a length and a value (TTLV).
 #![tactic(auto)]
 
+mod boxed;
 mod buffer;
 mod config;
 mod error;
@@ -19,6 +20,7 @@ mod tree;
 mod value;
 mod write;
 
+pub use boxed::Boxed;
 pub use buffer::Buffer;
 pub use config::{Config, head};
 pub use error::{HeadError, WireError};
