@@ -46,6 +46,3 @@ pub use show::{ShowItem, show_case, show_in_brackets};
 pub use sink::Sink;
 pub use wrapped::{BigInteger, Timestamp};
 pub use write::{item_len, to_blob, write_item};
-
-#[cfg(test)]
-mod tests;

@@ -1,4 +1,4 @@
-use crate::{Outer, ReadError, ShowItem, Timestamp, read_list, read_one, read_opt, to_blob};
+use kmip_shape::{Outer, ReadError, ShowItem, Timestamp, read_list, read_one, read_opt, to_blob};
 use kmip_wire::{Blob, ItemRef, Tag, Text};
 
 // 7C{5C i1,5C i24}
