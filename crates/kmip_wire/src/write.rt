@@ -98,7 +98,7 @@ fn put_structure(tag: Tag, items: &[Tree], out: &mut Buffer)
     ensures { WritesInto (bytes (structure tag (trees_of items.now))) out.old out.new }
 {
     let Some(len) = contents_len(items) else {
-        return;
+        unreachable!()
     };
     out.put_head(tag, Kind::Structure, len as u32);
     for item in items {
