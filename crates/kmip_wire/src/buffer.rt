@@ -7,7 +7,7 @@ ghost use Rattle.kmip_wire.specs.Bytes.{head_bytes, item_bytes};
 ghost use Rattle.kmip_wire.specs.Room.{Appends};
 
 use crate::kind::Kind;
-use crate::memory::OutOfMemory;
+use crate::memory::{OutOfMemory, wipe};
 use crate::tag::Tag;
 use crate::text::Blob;
 use std::alloc::Global;
@@ -87,11 +87,33 @@ impl Buffer {
         self.bytes.as_slice()
     }
 
-    /// Leaves no bytes. Its room stays.
+    /// Leaves no bytes. Its room stays, and so does in memory what it held, until that is written over.
     pub fn clear(&mut self)
-        ensures { self.new.bytes ≡ [] }
+        ensures bytes { self.new.bytes ≡ [] }
+        ensures room { length self.old.bytes + self.old.spare ≤ self.new.spare }
     {
         self.bytes.clear();
+        self.spare = self.bytes.capacity();
+    }
+
+    /// Leaves no bytes and makes room for `room` of them: the buffer is ready for the next message. It takes memory only
+    /// where its room is smaller. Where memory runs out, it has no bytes and the room that it had.
+    pub fn reset(&mut self, room: usize) -> Result<(), OutOfMemory>
+        ensures bytes { self.new.bytes ≡ [] }
+        ensures room { OnOk result (room ≤ self.new.spare) }
+        ensures kept { length self.old.bytes + self.old.spare ≤ self.new.spare }
+    {
+        self.clear();
+        self.reserve(room)
+    }
+
+    /// Leaves no bytes, after it wrote zeros over those that it held. Its room stays. What stood in memory before an
+    /// earlier `clear`, or before the buffer grew, is not reached.
+    pub fn wipe(&mut self)
+        ensures bytes { self.new.bytes ≡ [] }
+        ensures room { length self.old.bytes + self.old.spare ≤ self.new.spare }
+    {
+        wipe(&mut self.bytes);
         self.spare = self.bytes.capacity();
     }
 

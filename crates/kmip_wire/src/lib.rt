@@ -31,7 +31,7 @@ pub use laws::{
     equality, list_equality, one_text, one_tree, parsed_ranges, tree_computed, written_parses,
 };
 pub use list::{List, clone_items};
-pub use memory::{OutOfMemory, TryClone, clone_optional};
+pub use memory::{OutOfMemory, TryClone, clone_optional, wipe};
 pub use read::{read_tree, split_front};
 pub use tag::Tag;
 pub use text::{Blob, Text};
