@@ -42,6 +42,7 @@ impl Sink {
 
     /// Appends the text, if memory suffices.
     #[tactic(auto, using(crate::proofs::Growth::growth))]
+    #[inline(always)]
     pub fn put(&mut self, text: &str)
         ensures { Grows self.old self.new text.now }
     {
