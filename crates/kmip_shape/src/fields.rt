@@ -527,9 +527,12 @@ where
     requires room { 8 + fields_size (R.fields lent) R.row_list ≤ out.old.spare }
     ensures { Appends out.old out.new (structure_head tag (fields_size (R.fields lent) R.row_list) ++ fields_text (R.fields lent) R.row_list) (8 + fields_size (R.fields lent) R.row_list) }
 {
-    if let Some(len) = R::len(lent) {
-        put_structure(tag, len as u32, out);
-        R::write(lent, out);
+    match R::len(lent) {
+        Some(len) => {
+            put_structure(tag, len as u32, out);
+            R::write(lent, out);
+        }
+        None => unreachable!(),
     }
 }
 

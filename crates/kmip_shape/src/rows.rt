@@ -116,8 +116,9 @@ pub fn begin_structure<T: Item>(item: &T, len: Option<u64>, tag: Tag, out: &mut 
     ensures head { Appends out.old out.new (structure_head tag (size_of T.shape (T.val item.now) - 8)) 8 }
     ensures contents { (n : ℕ) → size_of T.shape (T.val item.now) ≡ 8 + n → Appends out.old out.new (structure_head tag n) 8 }
 {
-    if let Some(len) = len {
-        put_structure(tag, (len - 8) as u32, out);
+    match len {
+        Some(len) => put_structure(tag, (len - 8) as u32, out),
+        None => unreachable!(),
     }
 }
 
