@@ -18,7 +18,7 @@ pub(crate) fn list_len<T: WriteItem>(items: &List<T>, tag: Tag) -> Option<u64>
 }
 
 /// Appends the canonical bytes of the items of a list, in order. Each has such bytes, and there is room for all.
-pub(crate) fn write_list<T: WriteItem>(items: &List<T>, tag: Tag, out: &mut Buffer)
+pub fn write_list<T: WriteItem>(items: &List<T>, tag: Tag, out: &mut Buffer)
     requires form { list_form (vals T.val items.now) T.shape }
     requires room { list_size (vals T.val items.now) T.shape ≤ out.old.spare }
     ensures { Appends out.old out.new (list_text (vals T.val items.now) T.shape tag) (list_size (vals T.val items.now) T.shape) }
