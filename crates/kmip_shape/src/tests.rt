@@ -1,6 +1,6 @@
 use crate::{
-    Boxed, Outer, ReadError, ReadItem, ShowItem, Timestamp, TryClone, WriteItem, read_list,
-    read_one, read_opt, to_blob,
+    BigInteger, Boxed, List, Outer, ReadError, ReadItem, ShowItem, Timestamp, TryClone, WriteItem,
+    copy_optional_list, read_list, read_one, read_opt, to_blob,
 };
 use kmip_wire::{Blob, ItemRef, Tag, Text};
 use std::alloc::Global;
@@ -83,26 +83,37 @@ const LETTER: [u8; 16] = [
     0x42, 0x00, 0x5C, 0x07, 0x00, 0x00, 0x00, 0x01, 0x61, 0x00, 0x00, 0x00, 0x00, 0x00, 0x00, 0x00,
 ];
 
-// The item of the bytes and its copy, and the copy's bytes and text.
-fn copied<T: ReadItem + WriteItem + ShowItem + TryClone>(
-    alloc: Global,
-    bytes: &[u8],
-    shown: &mut Text,
-) -> Option<(T, T, Blob)> {
+// 5C x0AFF
+const STRING: [u8; 16] = [
+    0x42, 0x00, 0x5C, 0x08, 0x00, 0x00, 0x00, 0x02, 0x0A, 0xFF, 0x00, 0x00, 0x00, 0x00, 0x00, 0x00,
+];
+
+// 5C b0000000000000018
+const BIG: [u8; 16] = [
+    0x42, 0x00, 0x5C, 0x04, 0x00, 0x00, 0x00, 0x08, 0x00, 0x00, 0x00, 0x00, 0x00, 0x00, 0x00, 0x18,
+];
+
+// Whether a copy of the item of the bytes equals it, is written as them and shown as this.
+fn copies<T>(alloc: Global, bytes: &[u8], text: &str) -> Option<bool>
+where
+    T: ReadItem + WriteItem + ShowItem + TryClone + PartialEq,
+{
     let item = T::read(alloc, Outer::none(), ItemRef::root(bytes)?).ok()?;
     let copy = item.try_clone(alloc).ok()?;
     copy.known();
-    copy.show(alloc, shown).ok()?;
+    let mut shown = Text::new(alloc);
+    copy.show(alloc, &mut shown).ok()?;
     let written = to_blob(alloc, &copy, Tag::of(0x42005C)).ok()?;
-    Some((item, copy, written))
+    Some(copy == item && written.as_slice() == bytes && shown.as_str() == text)
 }
 
 #[test]
-fn an_item_in_a_block(rt: HostRuntime) {
-    let mut shown = Text::new(rt.alloc());
-    let Some((item, copy, written)) = copied::<Boxed<Text>>(rt.alloc(), &LETTER, &mut shown) else {
-        panic!(rt; "memory")
-    };
-    assert!(rt; item == copy && written.as_slice() == &LETTER[..]);
-    assert!(rt; shown.as_str() == "\"a\"" && copy.into_inner().as_str() == "a");
+fn items_and_their_copies(rt: HostRuntime) {
+    let alloc = rt.alloc();
+    assert!(rt; copies::<Boxed<Text>>(alloc, &LETTER, "\"a\"") == Some(true));
+    assert!(rt; copies::<Blob>(alloc, &STRING, "x\"0AFF\"") == Some(true));
+    assert!(rt; copies::<BigInteger>(alloc, &BIG, "x\"0000000000000018\"") == Some(true));
+    let list = Some(List::of_vec(Vec::from_array(alloc, [1i32, 24]).expect(&rt, "memory")));
+    let copy = copy_optional_list(&list, alloc).expect(&rt, "memory");
+    assert!(rt; copy == list);
 }
