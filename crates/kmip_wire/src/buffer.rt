@@ -89,7 +89,8 @@ impl Buffer {
         self.bytes.as_slice()
     }
 
-    /// Leaves no bytes. Its room stays, and so does in memory what it held, until that is written over.
+    /// Leaves no bytes. Its room stays, and so does in memory what it held, until that is written
+    /// over.
     pub fn clear(&mut self)
         ensures bytes { self.new.bytes ≡ [] }
         ensures room { length self.old.bytes + self.old.spare ≤ self.new.spare }
@@ -98,8 +99,9 @@ impl Buffer {
         self.spare = self.bytes.capacity();
     }
 
-    /// Leaves no bytes and makes room for `room` of them: the buffer is ready for the next message. It takes memory only
-    /// where its room is smaller. Where memory runs out, it has no bytes and the room that it had.
+    /// Leaves no bytes and makes room for `room` of them: the buffer is ready for the next message.
+    /// It takes memory only where its room is smaller. Where memory runs out, it has no bytes and
+    /// the room that it had.
     pub fn reset(&mut self, room: usize) -> Result<(), OutOfMemory>
         ensures bytes { self.new.bytes ≡ [] }
         ensures room { OnOk result (room ≤ self.new.spare) }
@@ -109,8 +111,8 @@ impl Buffer {
         self.reserve(room)
     }
 
-    /// Leaves no bytes, after it wrote zeros over those that it held. Its room stays. What stood in memory before an
-    /// earlier `clear`, or before the buffer grew, is not reached.
+    /// Leaves no bytes, after it wrote zeros over those that it held. Its room stays. What stood in
+    /// memory before an earlier `clear`, or before the buffer grew, is not reached.
     pub fn wipe(&mut self)
         ensures bytes { self.new.bytes ≡ [] }
         ensures room { length self.old.bytes + self.old.spare ≤ self.new.spare }
