@@ -135,23 +135,23 @@ module _ (levels : ℕ) (bytes lefts : List ℕ) (depth left : ℕ) (rest : List
         same = ap (λ k. are_open k lefts depth (left - n) (drop n rest)) here ∙ item_closes (suc lower) lefts depth left rest n le (t.2 lower) ∙ same_here;
       }
 
-  pub found_deepest : (n : ℕ) → Opens n (take left rest) → depth + 1 ≡ levels → false ≡ is_some (items_of levels bytes)
+  pub found_deepest : (n : ℕ) → Opens n (take left rest) → 0 < n → depth + 1 ≡ levels → false ≡ is_some (items_of levels bytes)
   unfolding lower
-  found_deepest n t e =
+  found_deepest n t some_n e =
       let contents : List ℕ = take n (drop 8 (take left rest))
-      in let fits : n ≤ length (drop 8 (take left rest)) = omega (arith, t.1, length-drop 8 (take left rest))
-      in let some : 0 < length contents = omega (arith, length-take-le n (drop 8 (take left rest)) fits, t.0)
+      in let fits : n ≤ length (drop 8 (take left rest)) = omega (arith, t.0, length-drop 8 (take left rest))
+      in let some : 0 < length contents = omega (arith, length-take-le n (drop 8 (take left rest)) fits, some_n)
       in let last : lower ≡ 0 = omega (arith, e)
       in let after : Bool = is_some (items_of (suc lower) (drop n (drop 8 (take left rest))))
       in let deep : is_some (items_of lower contents) ≡ false = ap (λ k. is_some (items_of k contents)) last ∙ no_levels contents some
-      in let none : is_some (items_of (suc lower) (take left rest)) ≡ false = t.2 lower ∙ ap (λ b. b && after) deep
+      in let none : is_some (items_of (suc lower) (take left rest)) ≡ false = t.1 lower ∙ ap (λ b. b && after) deep
       in sym (ap (λ b. b && are_after (suc lower + 1) lefts depth (drop left rest)) none) ∙ same_here
 
   pub found_open : (n deep more : ℕ) → Opens n (take left rest) → depth + 1 ≢ levels → deep ≡ suc depth → more ≡ left - 8 - n
       → State levels bytes (set lefts depth more) deep n (drop 8 rest)
   unfolding lower rows
   found_open n deep more t ne e m =
-      let le : 8 + n ≤ left = omega (arith, whole, t.1)
+      let le : 8 + n ≤ left = omega (arith, whole, t.0)
       in let fits : depth < length lefts = omega (arith, s.room, s.within, most)
       in let P : ℕ → Type 0 = λ d. State levels bytes (set lefts depth more) d n (drop 8 rest)
       in subst P (sym e) (record {
@@ -160,7 +160,7 @@ module _ (levels : ℕ) (bytes lefts : List ℕ) (depth left : ℕ) (rest : List
         sum = omega (arith, total_opens (levels - suc depth) lefts depth left n more rest fits le m, length-drop 8 rest, s.sum, m, le);
         same =
             ap (λ k. are_open k (set lefts depth more) (suc depth) n (drop 8 rest)) (deeper levels depth)
-            ∙ opening lower lefts depth left n more rest fits le m (t.2 lower)
+            ∙ opening lower lefts depth left n more rest fits le m (t.1 lower)
             ∙ same_here;
       })
     where

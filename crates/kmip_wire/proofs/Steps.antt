@@ -154,13 +154,12 @@ module _ (b : List ℕ) (some : 0 < length b) where
                 ∙ ap (λ n. is_some (items_of (suc levels) (drop n b))) eight,
           )
 
-      opens : 0 < head_length b → head_length b % 8 ≡ 0 → Opens (head_length b) b
+      opens : head_length b % 8 ≡ 0 → Opens (head_length b) b
       unfolding after
-      opens lt even =
+      opens even =
           let long : size_at b ≡ 8 + head_length b = omega (arith, even)
           in let far : drop (size_at b) b ≡ drop (head_length b) (drop 8 b) = ap (λ k. drop k b) long ∙ sym (drop-drop (head_length b) 8 b)
           in (
-            lt,
             omega (arith, long, le),
             λ levels. structure_says levels ∙ ap (λ r. is_some (items_of levels (value_of b)) && is_some (items_of (suc levels) r)) far,
           )
@@ -181,11 +180,11 @@ module _ (b : List ℕ) (some : 0 < length b) where
   pub tells_unknown : None ≡ kind_of (head_code b) → NoItems b
   tells_unknown e = by_size (λ le. tells_unkind le e)
 
-  pub tells_open : (n : ℕ) → n ≡ head_length b → Some Structure ≡ kind_of (head_code b) → n ≢ 0 → n % 8 ≡ 0 → n ≤ length b - 8 → 8 ≤ length b → Opens n b
-  tells_open n e kind some_n even within eight =
+  pub tells_open : (n : ℕ) → n ≡ head_length b → Some Structure ≡ kind_of (head_code b) → n % 8 ≡ 0 → n ≤ length b - 8 → 8 ≤ length b → Opens n b
+  tells_open n e kind even within eight =
       let P : ℕ → Type 0 = λ k. Opens k b in
       let here : size_at b ≤ length b = omega (arith, e, even, within, eight) in
-      subst P (sym e) (opens here kind (omega (arith, e, some_n)) (ap (λ k. k % 8) (sym e) ∙ even))
+      subst P (sym e) (opens here kind (ap (λ k. k % 8) (sym e) ∙ even))
 
   pub tells_ragged : Some Structure ≡ kind_of (head_code b) → head_length b % 8 ≢ 0 → NoItems b
   tells_ragged kind n = by_size (λ le. ragged le kind n)

@@ -38,7 +38,7 @@ Passes n b = (8 ≤ n) × (n ≤ length b) × ((levels : ℕ) → is_some (items
 -- that a structure stands there with contents of n bytes, which come first
 abbrev pub Opens : ℕ → List ℕ → Type 0
 Opens n b =
-    (0 < n) × (8 + n ≤ length b)
+    (8 + n ≤ length b)
     × ((levels : ℕ) → is_some (items_of (suc levels) b) ≡ (is_some (items_of levels (take n (drop 8 b))) && is_some (items_of (suc levels) (drop n (drop 8 b)))))
 
 -- any n bytes, at most 8 and some, are a value of the type with this number

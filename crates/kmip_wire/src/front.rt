@@ -5,7 +5,7 @@ ghost use Rattle.kmip_wire.specs.Tree.{Tree};
 ghost use Rattle.kmip_wire.specs.Head.{head_code, head_length, size_at};
 ghost use Rattle.kmip_wire.specs.Parses.{IsFront, NoFront, IsLevel, Parses};
 ghost use Rattle.kmip_wire.specs.Reading.{well_formed, items_of, front_of};
-ghost use Rattle.kmip_wire.specs.Open.{NoItems, Passes, IsWord};
+ghost use Rattle.kmip_wire.specs.Open.{NoItems, Passes};
 
 use crate::kind::Kind;
 use crate::value::is_value;
@@ -58,14 +58,13 @@ static WORD_SIZES: [u64; 11] = [
     4,
 ];
 
-// Whether the head is that of a value of one word, whatever its bytes: the next item is then 16
-// bytes on, which is known before the length is computed.
-fn has_word(bytes: &[u8]) -> bool
-    requires head { 8 ≤ length bytes.now }
-    requires known { head_code bytes.now < 11 }
-    ensures { IsTrue result → IsWord (head_code bytes.now) (head_length bytes.now) }
+// Whether an item of 16 bytes stands at the front whose value is any word: the next item is then
+// found before this one's length is computed.
+fn is_word(bytes: &[u8]) -> bool
+    requires { 16 ≤ length bytes.now }
+    ensures { IsTrue result → Passes 16 bytes.now }
 {
-    WORD_SIZES[bytes[3] as usize] == head_length(bytes) as u64
+    bytes[3] <= 10 && WORD_SIZES[bytes[3] as usize] == head_length(bytes) as u64
 }
 
 // The whole length of the scalar at the front, where there is one.
@@ -105,45 +104,39 @@ fn are_items(bytes: &[u8], levels: u32) -> bool
     let mut rest = bytes;
     let mut left = bytes.len();
     'items: loop {
-        if left == 0 {
+        let front = &rest[..left];
+        if left >= 16 && is_word(front) {
+            rest = &rest[16..];
+            left -= 16;
+        } else if left == 0 {
             if depth == 0 {
                 return true;
             }
             depth -= 1;
             left = lefts[depth] as usize;
-        } else {
-            let front = &rest[..left];
-            if left < 8 || front[3] > 10 {
+        } else if left < 8 {
+            return false;
+        } else if front[3] == 1 {
+            let length = head_length(front) as usize;
+            if length % 8 != 0 || length > left - 8 {
                 return false;
             }
-            if has_word(front) {
-                if left < 16 {
-                    return false;
-                }
-                rest = &rest[16..];
-                left -= 16;
-            } else if front[3] == 1 {
-                let length = head_length(front) as usize;
-                if length % 8 != 0 || length > left - 8 {
-                    return false;
-                }
-                rest = &rest[8..];
-                if length == 0 {
-                    left -= 8;
-                } else if depth == deepest {
-                    return false;
-                } else {
-                    lefts[depth] = (left - 8 - length) as u32;
-                    depth += 1;
-                    left = length;
-                }
+            rest = &rest[8..];
+            if depth < deepest {
+                lefts[depth] = (left - 8 - length) as u32;
+                depth += 1;
+                left = length;
+            } else if length == 0 {
+                left -= 8;
             } else {
-                let Some(whole) = scalar_size(front) else {
-                    return false;
-                };
-                rest = &rest[whole..];
-                left -= whole;
+                return false;
             }
+        } else {
+            let Some(whole) = scalar_size(front) else {
+                return false;
+            };
+            rest = &rest[whole..];
+            left -= whole;
         }
     }
 }

@@ -2,14 +2,13 @@ use Rattle.std.proofs.Common.{◌≡◌, ◌∙◌, ap, refl, sym, subst, arith,
 use Rattle.std.proofs.lemmas.List.{take_rest}
 use Rattle.std.proofs.Math.Facts.{Fits-lt-pow}
 use Rattle.std.specs.Option.{is_some}
-use Rattle.kmip_wire.specs.Head.{head_code, head_length, size_at}
+use Rattle.kmip_wire.specs.Head.{head_length, size_at}
 use Rattle.kmip_wire.specs.Kinds.{kind_of}
 use Rattle.kmip_wire.specs.Reading.{items_of}
 use Rattle.kmip_wire.specs.Open.{State}
-use Rattle.kmip_wire.proofs.Steps.{none_left, tells_short, tells_unknown, tells_ragged, tells_open, empty}
-use Rattle.kmip_wire.proofs.Words.{unknown, size, passes_word}
+use Rattle.kmip_wire.proofs.Steps.{none_left, tells_short, tells_ragged, tells_open, empty}
 use Rattle.kmip_wire.proofs.Closings.{start, whole, found_malformed, found_item, found_deepest, found_open, found_end}
-use Rattle.kmip_wire.proofs.front.are_items.Goals.{then-left-lt8-via-then-left-lt8, then-left-lt8-via-else-left-lt8+then-front-gt10, then-length-ne0-via-then-length-ne0, then-length-ne0-via-else-length-ne0+then-length-left}
+use Rattle.kmip_wire.proofs.front.are_items.Goals.{then-length-ne0-via-then-length-ne0, then-length-ne0-via-else-length-ne0+then-length-left}
 use Rattle.kmip_wire.proofs.front.are_items.Goals as goal
 
 pub returns-then-levels-eq0 : goal.returns-then-levels-eq0
@@ -33,29 +32,14 @@ returns-then-left-lt8 c =
     in let b = take s.left s.rest.now
     in let l = whole c.args.levels c.args.bytes.now s.lefts s.depth s.left s.rest.now c.requires.levels s.invariant.0
     in let some : 0 < length b = omega (arith, l, c.if-left-eq0.false)
-    in found_malformed c.args.levels c.args.bytes.now s.lefts s.depth s.left s.rest.now c.requires.levels s.invariant.0 (elim c.then-left-lt8.branch [
-      | then-left-lt8-via-then-left-lt8 w ↦ tells_short b some (omega (arith, l, w.if-left-lt8.true))
-      | then-left-lt8-via-else-left-lt8+then-front-gt10 w ↦ tells_unknown b some (unknown (head_code b) (kind_of (head_code b)) refl w.if-front-gt10.true)
-    ])
+    in found_malformed c.args.levels c.args.bytes.now s.lefts s.depth s.left s.rest.now c.requires.levels s.invariant.0 (tells_short b some (omega (arith, l, c.if-left-lt8.true)))
 
-pub returns-then-left-lt16 : goal.returns-then-left-lt16
-returns-then-left-lt16 c =
+pub items-preserved-then-is_word : goal.items-preserved-then-is_word
+items-preserved-then-is_word c =
     let s = c.items
-    in let b = take s.left s.rest.now
-    in let l = whole c.args.levels c.args.bytes.now s.lefts s.depth s.left s.rest.now c.requires.levels s.invariant.0
-    in let some : 0 < length b = omega (arith, l, c.if-left-eq0.false)
-    in found_malformed c.args.levels c.args.bytes.now s.lefts s.depth s.left s.rest.now c.requires.levels s.invariant.0
-    (tells_short b some (omega (arith, l, c.if-left-lt16.true, size b some (c.has_word.ensures c.if-has_word.true))))
-
-pub items-preserved-then-has_word : goal.items-preserved-then-has_word
-items-preserved-then-has_word c =
-    let s = c.items
-    in let b = take s.left s.rest.now
-    in let l = whole c.args.levels c.args.bytes.now s.lefts s.depth s.left s.rest.now c.requires.levels s.invariant.0
-    in let some : 0 < length b = omega (arith, l, c.if-left-eq0.false)
     in (
       subst (State c.args.levels c.args.bytes.now s.lefts s.depth (s.left - 16)) (sym (take_rest s.rest.now 16))
-          (found_item c.args.levels c.args.bytes.now s.lefts s.depth s.left s.rest.now c.requires.levels s.invariant.0 16 (passes_word b some (c.has_word.ensures c.if-has_word.true) (omega (arith, l, c.if-left-lt16.false)))),
+          (found_item c.args.levels c.args.bytes.now s.lefts s.depth s.left s.rest.now c.requires.levels s.invariant.0 16 (c.is_word.ensures c.if-is_word.true)),
       omega (arith, s.invariant.1),
     )
 
@@ -85,29 +69,30 @@ items-preserved-then-length-eq0 c =
       omega (arith, s.invariant.1),
     )
 
-pub returns-then-depth-deepest : goal.returns-then-depth-deepest
-returns-then-depth-deepest c =
+pub returns-else-length-eq0 : goal.returns-else-length-eq0
+returns-else-length-eq0 c =
     let s = c.items
     in let b = take s.left s.rest.now
     in let l = whole c.args.levels c.args.bytes.now s.lefts s.depth s.left s.rest.now c.requires.levels s.invariant.0
     in let some : 0 < length b = omega (arith, l, c.if-left-eq0.false)
     in let n = c.head_length-length.result
-    in let e : s.depth + 1 ≡ c.args.levels = omega (arith, c.if-depth-deepest.true, c.if-levels-eq0.false)
+    in let contents : 0 < n = omega (arith, c.if-length-eq0.false)
+    in let e : s.depth + 1 ≡ c.args.levels = omega (arith, c.if-depth-deepest.false, c.if-levels-eq0.false, s.invariant.0.within)
     in found_deepest c.args.levels c.args.bytes.now s.lefts s.depth s.left s.rest.now c.requires.levels s.invariant.0 n
-    (tells_open b some n c.head_length-length.ensures (ap kind_of (sym c.if-front-eq1.true)) c.if-length-eq0.false c.if-length-ne0.false (omega (arith, l, c.if-length-left.false)) (omega (arith, l, c.if-left-lt8.false))) e
+    (tells_open b some n c.head_length-length.ensures (ap kind_of (sym c.if-front-eq1.true)) c.if-length-ne0.false (omega (arith, l, c.if-length-left.false)) (omega (arith, l, c.if-left-lt8.false))) contents e
 
-pub items-preserved-else-depth-deepest : goal.items-preserved-else-depth-deepest
-items-preserved-else-depth-deepest c =
+pub items-preserved-then-depth-deepest : goal.items-preserved-then-depth-deepest
+items-preserved-then-depth-deepest c =
     let s = c.items
     in let b = take s.left s.rest.now
     in let l = whole c.args.levels c.args.bytes.now s.lefts s.depth s.left s.rest.now c.requires.levels s.invariant.0
     in let some : 0 < length b = omega (arith, l, c.if-left-eq0.false)
     in let n = c.head_length-length.result
     in let more = s.left - 8 - n
-    in let opening = tells_open b some n c.head_length-length.ensures (ap kind_of (sym c.if-front-eq1.true)) c.if-length-eq0.false c.if-length-ne0.false (omega (arith, l, c.if-length-left.false)) (omega (arith, l, c.if-left-lt8.false))
+    in let opening = tells_open b some n c.head_length-length.ensures (ap kind_of (sym c.if-front-eq1.true)) c.if-length-ne0.false (omega (arith, l, c.if-length-left.false)) (omega (arith, l, c.if-left-lt8.false))
     in (
       subst (State c.args.levels c.args.bytes.now (set s.lefts s.depth more) (s.depth + 1) n) (sym (take_rest s.rest.now 8))
-          (found_open c.args.levels c.args.bytes.now s.lefts s.depth s.left s.rest.now c.requires.levels s.invariant.0 n (s.depth + 1) more opening (λ e. c.if-depth-deepest.false (omega (arith, e))) (omega arith) refl),
+          (found_open c.args.levels c.args.bytes.now s.lefts s.depth s.left s.rest.now c.requires.levels s.invariant.0 n (s.depth + 1) more opening (λ e. omega (arith, e, c.if-depth-deepest.true)) (omega arith) refl),
       c.head_length-length.type_inv,
     )
 
