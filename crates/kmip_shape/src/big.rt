@@ -36,9 +36,11 @@ impl<'a, const TAG: u32> Column<'a> for BigOne<TAG> {
 
     ghost row_reads = { λ rest o c xs. refl };
 
-    ghost reads = { λ o c xs. counted Required (read_of (Scalar big_integers) o) (filter (has_tag TAG) xs) };
+    ghost reads = { λ o c xs. counted Required (read_of (Scalar big_integers) o)
+        (filter (has_tag TAG) xs) };
 
-    ghost resume = { λ s o c xs. resume_single Required (read_of (Scalar big_integers) o) (option_map bytes s.slot) (filter (has_tag TAG) xs) };
+    ghost resume = { λ s o c xs. resume_single Required (read_of (Scalar big_integers) o)
+        (option_map bytes s.slot) (filter (has_tag TAG) xs) };
 
     ghost shows = { λ x. one (bytes x) };
 
@@ -122,9 +124,11 @@ impl<'a, const TAG: u32> Column<'a> for BigOpt<TAG> {
 
     ghost row_reads = { λ rest o c xs. refl };
 
-    ghost reads = { λ o c xs. counted Optional (read_of (Scalar big_integers) o) (filter (has_tag TAG) xs) };
+    ghost reads = { λ o c xs. counted Optional (read_of (Scalar big_integers) o)
+        (filter (has_tag TAG) xs) };
 
-    ghost resume = { λ s o c xs. resume_single Optional (read_of (Scalar big_integers) o) (option_map bytes s.slot) (filter (has_tag TAG) xs) };
+    ghost resume = { λ s o c xs. resume_single Optional (read_of (Scalar big_integers) o)
+        (option_map bytes s.slot) (filter (has_tag TAG) xs) };
 
     ghost shows = { λ x. optional bytes x };
 

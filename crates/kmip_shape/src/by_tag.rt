@@ -7,7 +7,8 @@ ghost use Rattle.std.proofs.Common.{ap};
 ghost use Rattle.kmip_wire.specs.Parts.{tag_of};
 ghost use Rattle.kmip_wire.specs.Items.{item_tree};
 ghost use Rattle.kmip_shape.specs.Val.{One as one};
-ghost use Rattle.kmip_shape.specs.Shape.{OuterValue, AndRow, ByCase, Required, Optional, Plain, among, own_tags};
+ghost use Rattle.kmip_shape.specs.Shape.{OuterValue, AndRow, ByCase, Required, Optional, Plain};
+ghost use Rattle.kmip_shape.specs.Shape.{among, own_tags};
 ghost use Rattle.kmip_shape.specs.Reads.{counted, read_of, read_rows, with_field};
 ghost use Rattle.kmip_shape.specs.Writes.{optional};
 ghost use Rattle.kmip_shape.specs.Resume.{resume_single};
@@ -46,11 +47,16 @@ impl<'a, T: OfTag> Column<'a> for TagOpt<T> {
 
     ghost row_above = { λ rest. AndRow [] ByCase Optional Plain T.shape rest };
 
-    ghost row_reads = { λ rest o c xs. ap (λ ns. with_field (counted Optional (read_of T.shape o) (filter (λ x. among (tag_of x) ns) xs)) (λ f. read_rows rest o c xs)) (T.own o) };
+    ghost row_reads = { λ rest o c xs.
+        ap (λ ns.
+        with_field (counted Optional (read_of T.shape o) (filter (λ x. among (tag_of x) ns) xs))
+        (λ f. read_rows rest o c xs)) (T.own o) };
 
-    ghost reads = { λ o c xs. counted Optional (read_of T.shape o) (filter (λ x. among (tag_of x) T.tags) xs) };
+    ghost reads = { λ o c xs. counted Optional (read_of T.shape o)
+        (filter (λ x. among (tag_of x) T.tags) xs) };
 
-    ghost resume = { λ s o c xs. resume_single Optional (read_of T.shape o) (option_map T.val s.slot) (filter (λ x. among (tag_of x) T.tags) xs) };
+    ghost resume = { λ s o c xs. resume_single Optional (read_of T.shape o)
+        (option_map T.val s.slot) (filter (λ x. among (tag_of x) T.tags) xs) };
 
     ghost shows = { λ x. optional T.val x };
 

@@ -11,16 +11,19 @@ use crate::read::{Outer, ReadError, ReadItem};
 use kmip_wire::{ItemRef, List, Tag};
 use std::alloc::Global;
 
-/// The one child of the tag. `Unread` comes exactly where the parent does not have exactly one child of the tag, or that
-/// child is not read.
+/// The one child of the tag. `Unread` comes exactly where the parent does not have exactly one
+/// child of the tag, or that child is not read.
 pub fn read_one<T: ReadItem>(
     alloc: Global,
     outer: Outer<'_>,
     parent: ItemRef<'_>,
     tag: Tag,
 ) -> Result<T, ReadError>
-    ensures ok { IfOk result (λ x. read_row Required T.shape (outer_of outer.entry) tag (item_tree parent.entry) ≡ Some (one (T.val x))) }
-    ensures unread { result ≡ Err ReadError.Unread → read_row Required T.shape (outer_of outer.entry) tag (item_tree parent.entry) ≡ None }
+    ensures ok { IfOk result (λ x.
+        read_row Required T.shape (outer_of outer.entry) tag (item_tree parent.entry)
+        ≡ Some (one (T.val x))) }
+    ensures unread { result ≡ Err ReadError.Unread →
+        read_row Required T.shape (outer_of outer.entry) tag (item_tree parent.entry) ≡ None }
 {
     let children = parent.children().ok_or(ReadError::Unread)?;
     let mut found: Option<T> = None;
@@ -35,16 +38,19 @@ pub fn read_one<T: ReadItem>(
     found.ok_or(ReadError::Unread)
 }
 
-/// The child of the tag, where there is one. `Unread` comes exactly where the parent is no Structure, or there are two or
-/// more children of the tag, or the one is not read.
+/// The child of the tag, where there is one. `Unread` comes exactly where the parent is no
+/// Structure, or there are two or more children of the tag, or the one is not read.
 pub fn read_opt<T: ReadItem>(
     alloc: Global,
     outer: Outer<'_>,
     parent: ItemRef<'_>,
     tag: Tag,
 ) -> Result<Option<T>, ReadError>
-    ensures ok { IfOk result (λ x. read_row Optional T.shape (outer_of outer.entry) tag (item_tree parent.entry) ≡ Some (optional T.val x)) }
-    ensures unread { result ≡ Err ReadError.Unread → read_row Optional T.shape (outer_of outer.entry) tag (item_tree parent.entry) ≡ None }
+    ensures ok { IfOk result (λ x.
+        read_row Optional T.shape (outer_of outer.entry) tag (item_tree parent.entry)
+        ≡ Some (optional T.val x)) }
+    ensures unread { result ≡ Err ReadError.Unread →
+        read_row Optional T.shape (outer_of outer.entry) tag (item_tree parent.entry) ≡ None }
 {
     let children = parent.children().ok_or(ReadError::Unread)?;
     let mut single: Option<T> = None;
@@ -59,7 +65,8 @@ pub fn read_opt<T: ReadItem>(
     Ok(single)
 }
 
-/// All children of the tag, in order. `Unread` comes exactly where the parent is no Structure or one is not read.
+/// All children of the tag, in order. `Unread` comes exactly where the parent is no Structure or
+/// one is not read.
 #[tactic(auto, using(crate::proofs::Gathered::gathering))]
 pub fn read_list<T: ReadItem>(
     alloc: Global,
@@ -67,8 +74,11 @@ pub fn read_list<T: ReadItem>(
     parent: ItemRef<'_>,
     tag: Tag,
 ) -> Result<List<T>, ReadError>
-    ensures ok { IfOk result (λ x. read_row AnyNumber T.shape (outer_of outer.entry) tag (item_tree parent.entry) ≡ Some (many (vals T.val x))) }
-    ensures unread { result ≡ Err ReadError.Unread → read_row AnyNumber T.shape (outer_of outer.entry) tag (item_tree parent.entry) ≡ None }
+    ensures ok { IfOk result (λ x.
+        read_row AnyNumber T.shape (outer_of outer.entry) tag (item_tree parent.entry)
+        ≡ Some (many (vals T.val x))) }
+    ensures unread { result ≡ Err ReadError.Unread →
+        read_row AnyNumber T.shape (outer_of outer.entry) tag (item_tree parent.entry) ≡ None }
 {
     let children = parent.children().ok_or(ReadError::Unread)?;
     let mut items = Vec::new(alloc);

@@ -1,14 +1,19 @@
 //! The items of one row, gathered in a walk over the children of a record.
-ghost use Rattle.std.specs.Prelude.{◌≡◌, ℕ, IfOk, Some, None, Err, Option, [], ◌∷◌, filter, map, refl};
+ghost use Rattle.std.specs.Prelude.{◌≡◌, ℕ, IfOk, Some, None, Err, Option, [], ◌∷◌, filter, map};
+ghost use Rattle.std.specs.Prelude.{refl};
 ghost use Rattle.std.specs.Prelude as p;
 ghost use Rattle.std.specs.Option.{option_map, option_and_then};
 ghost use Rattle.kmip_wire.specs.Tree.{Tree};
 ghost use Rattle.kmip_wire.specs.Items.{item_tree};
-ghost use Rattle.kmip_shape.specs.Val.{Val, Field, Absent as absent, One as one, Many as many, Case as case};
-ghost use Rattle.kmip_shape.specs.Shape.{OuterValue, RowList, AndRow, Under, Required, Optional, AnyNumber, AtLeastOne, OptionalList, Plain, Chooser as chooser, Chosen, has_tag, chosen_by};
+ghost use Rattle.kmip_shape.specs.Val.{Val, Field, Absent as absent, One as one, Many as many};
+ghost use Rattle.kmip_shape.specs.Val.{Case as case};
+ghost use Rattle.kmip_shape.specs.Shape.{OuterValue, RowList, AndRow, Under, Required, Optional};
+ghost use Rattle.kmip_shape.specs.Shape.{AnyNumber, AtLeastOne, OptionalList, Plain};
+ghost use Rattle.kmip_shape.specs.Shape.{Chooser as chooser, Chosen, has_tag, chosen_by};
 ghost use Rattle.kmip_shape.specs.Reads.{counted, read_of, read_rows, with_field};
 ghost use Rattle.kmip_shape.specs.Writes.{optional, vals, optional_list};
-ghost use Rattle.kmip_shape.specs.Resume.{outer_of, resume_only, resume_single, resume_kept, resume_many, gathered};
+ghost use Rattle.kmip_shape.specs.Resume.{outer_of, resume_only, resume_single, resume_kept};
+ghost use Rattle.kmip_shape.specs.Resume.{resume_many, gathered};
 
 use crate::item::Item;
 use crate::read::{Outer, ReadError, ReadItem};
@@ -24,7 +29,8 @@ pub trait Column<'a>: Drop {
     /// The row, above the rows that follow it.
     ghost row_above: { RowList → RowList };
 
-    /// The field of these children, from the outer value of the record and the one that its chooser gives.
+    /// The field of these children, from the outer value of the record and the one that its chooser
+    /// gives.
     ghost reads: { OuterValue → OuterValue → p.List Tree → Option Field };
 
     /// The field, where some children were taken already and these are left.
@@ -37,23 +43,32 @@ pub trait Column<'a>: Drop {
     fn new(alloc: Global) -> Self
         ensures { (o c : OuterValue) (xs : p.List Tree) → resume result o c xs ≡ reads o c xs };
 
-    /// Takes a child, if it is one of the row's. `Unread` comes where the row makes no field of whatever follows.
+    /// Takes a child, if it is one of the row's. `Unread` comes where the row makes no field of
+    /// whatever follows.
     fn take(&mut self, alloc: Global, outer: Outer<'_>, child: ItemRef<'a>) -> Result<(), ReadError>
-        ensures ok { IfOk result (λ _. (c : OuterValue) (xs : p.List Tree) → resume self.old (outer_of outer.entry) c (item_tree child.entry ∷ xs) ≡ resume self.new (outer_of outer.entry) c xs) }
-        ensures unread { result ≡ Err ReadError.Unread → (c : OuterValue) (xs : p.List Tree) → resume self.old (outer_of outer.entry) c (item_tree child.entry ∷ xs) ≡ None };
+        ensures ok { IfOk result (λ _. (c : OuterValue) (xs : p.List Tree) →
+            resume self.old (outer_of outer.entry) c (item_tree child.entry ∷ xs)
+            ≡ resume self.new (outer_of outer.entry) c xs) }
+        ensures unread { result ≡ Err ReadError.Unread → (c : OuterValue) (xs : p.List Tree) →
+            resume self.old (outer_of outer.entry) c (item_tree child.entry ∷ xs) ≡ None };
 
-    /// The field, once all children were taken. `Unread` comes exactly where the row makes none of them.
+    /// The field, once all children were taken. `Unread` comes exactly where the row makes none of
+    /// them.
     fn finish(
         self,
         alloc: Global,
         outer: Outer<'_>,
         chosen: Outer<'_>,
     ) -> Result<Self::Out, ReadError>
-        ensures ok { IfOk result (λ out. resume self (outer_of outer.entry) (outer_of chosen.entry) [] ≡ Some (shows out)) }
-        ensures unread { result ≡ Err ReadError.Unread → resume self (outer_of outer.entry) (outer_of chosen.entry) [] ≡ None };
+        ensures ok { IfOk result (λ out.
+            resume self (outer_of outer.entry) (outer_of chosen.entry) [] ≡ Some (shows out)) }
+        ensures unread { result ≡ Err ReadError.Unread →
+            resume self (outer_of outer.entry) (outer_of chosen.entry) [] ≡ None };
 
     /// It reads what the row reads.
-    ghost row_reads: { (rest : RowList) (o c : OuterValue) (xs : p.List Tree) → read_rows (row_above rest) o c xs ≡ with_field (reads o c xs) (λ f. read_rows rest o c xs) };
+    ghost row_reads: { (rest : RowList) (o c : OuterValue) (xs : p.List Tree) →
+        read_rows (row_above rest) o c xs
+        ≡ with_field (reads o c xs) (λ f. read_rows rest o c xs) };
 }
 
 /// A required item.
@@ -71,7 +86,8 @@ impl<'a, T: ReadItem, const TAG: u32> Column<'a> for One<T, TAG> {
 
     ghost reads = { λ o c xs. counted Required (read_of T.shape o) (filter (has_tag TAG) xs) };
 
-    ghost resume = { λ s o c xs. resume_single Required (read_of T.shape o) (option_map T.val s.slot) (filter (has_tag TAG) xs) };
+    ghost resume = { λ s o c xs. resume_single Required (read_of T.shape o)
+        (option_map T.val s.slot) (filter (has_tag TAG) xs) };
 
     ghost shows = { λ x. one (T.val x) };
 
@@ -115,7 +131,8 @@ impl<'a, T: ReadItem, const TAG: u32> Column<'a> for Opt<T, TAG> {
 
     ghost reads = { λ o c xs. counted Optional (read_of T.shape o) (filter (has_tag TAG) xs) };
 
-    ghost resume = { λ s o c xs. resume_single Optional (read_of T.shape o) (option_map T.val s.slot) (filter (has_tag TAG) xs) };
+    ghost resume = { λ s o c xs. resume_single Optional (read_of T.shape o)
+        (option_map T.val s.slot) (filter (has_tag TAG) xs) };
 
     ghost shows = { λ x. optional T.val x };
 
@@ -165,7 +182,8 @@ impl<'a, T: ReadItem, const TAG: u32> Column<'a> for ChosenOpt<'a, T, TAG> {
 
     ghost reads = { λ o c xs. counted Optional (read_of T.shape c) (filter (has_tag TAG) xs) };
 
-    ghost resume = { λ s o c xs. resume_kept Optional (read_of T.shape c) (option_map item_tree s.kept) (filter (has_tag TAG) xs) };
+    ghost resume = { λ s o c xs. resume_kept Optional (read_of T.shape c)
+        (option_map item_tree s.kept) (filter (has_tag TAG) xs) };
 
     ghost shows = { λ x. optional T.val x };
 
@@ -221,7 +239,8 @@ impl<'a, T: ReadItem, const TAG: u32> Column<'a> for ChosenOne<'a, T, TAG> {
 
     ghost reads = { λ o c xs. counted Required (read_of T.shape c) (filter (has_tag TAG) xs) };
 
-    ghost resume = { λ s o c xs. resume_kept Required (read_of T.shape c) (option_map item_tree s.kept) (filter (has_tag TAG) xs) };
+    ghost resume = { λ s o c xs. resume_kept Required (read_of T.shape c)
+        (option_map item_tree s.kept) (filter (has_tag TAG) xs) };
 
     ghost shows = { λ x. one (T.val x) };
 
@@ -258,14 +277,20 @@ impl<'a, T: ReadItem, const TAG: u32> Column<'a> for ChosenOne<'a, T, TAG> {
 
 /// Reads a further item of a row of many.
 #[tactic(auto, using(crate::proofs::Gathered::gathering))]
+#[inline(never)]
 pub(crate) fn push_item<T: ReadItem>(
     items: &mut Vec<T>,
     alloc: Global,
     outer: Outer<'_>,
     child: ItemRef<'_>,
 ) -> Result<(), ReadError>
-    ensures ok { IfOk result (λ _. (xs : p.List Tree) → gathered (read_of T.shape (outer_of outer.entry)) (map T.val items.old.items) (item_tree child.entry ∷ xs) ≡ gathered (read_of T.shape (outer_of outer.entry)) (map T.val items.new.items) xs) }
-    ensures unread { result ≡ Err ReadError.Unread → (xs : p.List Tree) → gathered (read_of T.shape (outer_of outer.entry)) (map T.val items.old.items) (item_tree child.entry ∷ xs) ≡ None }
+    ensures ok { IfOk result (λ _. (xs : p.List Tree) →
+        gathered (read_of T.shape (outer_of outer.entry)) (map T.val items.old.items)
+        (item_tree child.entry ∷ xs)
+        ≡ gathered (read_of T.shape (outer_of outer.entry)) (map T.val items.new.items) xs) }
+    ensures unread { result ≡ Err ReadError.Unread → (xs : p.List Tree) →
+        gathered (read_of T.shape (outer_of outer.entry)) (map T.val items.old.items)
+        (item_tree child.entry ∷ xs) ≡ None }
 {
     let value = T::read(alloc, outer, child)?;
     if items.is_empty() {
@@ -291,7 +316,8 @@ impl<'a, T: ReadItem, const TAG: u32> Column<'a> for Many<T, TAG> {
 
     ghost reads = { λ o c xs. counted AnyNumber (read_of T.shape o) (filter (has_tag TAG) xs) };
 
-    ghost resume = { λ s o c xs. resume_many AnyNumber (read_of T.shape o) (map T.val s.items.items) (filter (has_tag TAG) xs) };
+    ghost resume = { λ s o c xs. resume_many AnyNumber (read_of T.shape o) (map T.val s.items.items)
+        (filter (has_tag TAG) xs) };
 
     ghost shows = { λ x. many (vals T.val x) };
 
@@ -339,7 +365,8 @@ impl<'a, T: ReadItem, const TAG: u32> Column<'a> for NonEmpty<T, TAG> {
 
     ghost reads = { λ o c xs. counted AtLeastOne (read_of T.shape o) (filter (has_tag TAG) xs) };
 
-    ghost resume = { λ s o c xs. resume_many AtLeastOne (read_of T.shape o) (map T.val s.items.items) (filter (has_tag TAG) xs) };
+    ghost resume = { λ s o c xs. resume_many AtLeastOne (read_of T.shape o)
+        (map T.val s.items.items) (filter (has_tag TAG) xs) };
 
     ghost shows = { λ x. many (vals T.val x) };
 
@@ -390,7 +417,8 @@ impl<'a, T: ReadItem, const TAG: u32> Column<'a> for OptMany<T, TAG> {
 
     ghost reads = { λ o c xs. counted OptionalList (read_of T.shape o) (filter (has_tag TAG) xs) };
 
-    ghost resume = { λ s o c xs. resume_many OptionalList (read_of T.shape o) (map T.val s.items.items) (filter (has_tag TAG) xs) };
+    ghost resume = { λ s o c xs. resume_many OptionalList (read_of T.shape o)
+        (map T.val s.items.items) (filter (has_tag TAG) xs) };
 
     ghost shows = { λ x. optional_list T.val x };
 
@@ -442,7 +470,9 @@ pub trait Chooser<'a>: Column<'a> {
         ensures { outer_of result ≡ chosen_by (Self.shows out.now) };
 
     /// It reads what the row reads, and the rows below are chosen by that.
-    ghost chooser_reads: { (rest : RowList) (o c : OuterValue) (xs : p.List Tree) → read_rows (chooser_above rest) o c xs ≡ with_field (Self.reads o c xs) (λ f. read_rows rest o (chosen_by f) xs) };
+    ghost chooser_reads: { (rest : RowList) (o c : OuterValue) (xs : p.List Tree) →
+        read_rows (chooser_above rest) o c xs
+        ≡ with_field (Self.reads o c xs) (λ f. read_rows rest o (chosen_by f) xs) };
 }
 
 impl<'a, T: ReadItem + Chooses, const TAG: u32> Chooser<'a> for One<T, TAG> {
@@ -468,7 +498,8 @@ impl<'a, T: ReadItem + Chooses, const TAG: u32> Chooser<'a> for Opt<T, TAG> {
     }
 }
 
-/// A case of a choice that fixes its tag: the items under the tag, of which one is wanted if the case is chosen.
+/// A case of a choice that fixes its tag: the items under the tag, of which one is wanted if the
+/// case is chosen.
 #[derive(Drop)]
 pub struct Case<'a, T, const NUMBER: u32, const TAG: u32> {
     pub item: Option<ItemRef<'a>>,
@@ -479,7 +510,9 @@ pub struct Case<'a, T, const NUMBER: u32, const TAG: u32> {
 impl<'a, T: ReadItem, const NUMBER: u32, const TAG: u32> Case<'a, T, NUMBER, TAG> {
     /// No item yet.
     pub fn new() -> Self
-        ensures { (r : Tree → Option Val) (xs : p.List Tree) → resume_only r result.several (option_map item_tree result.item) (filter (has_tag TAG) xs) ≡ counted Required r (filter (has_tag TAG) xs) }
+        ensures { (r : Tree → Option Val) (xs : p.List Tree) →
+            resume_only r result.several (option_map item_tree result.item)
+            (filter (has_tag TAG) xs) ≡ counted Required r (filter (has_tag TAG) xs) }
     {
         Case {
             item: None,
@@ -490,7 +523,11 @@ impl<'a, T: ReadItem, const NUMBER: u32, const TAG: u32> Case<'a, T, NUMBER, TAG
 
     /// Keeps a child under the tag.
     pub fn take(&mut self, child: ItemRef<'a>)
-        ensures { (r : Tree → Option Val) (xs : p.List Tree) → resume_only r self.old.several (option_map item_tree self.old.item) (filter (has_tag TAG) (item_tree child.entry ∷ xs)) ≡ resume_only r self.new.several (option_map item_tree self.new.item) (filter (has_tag TAG) xs) }
+        ensures { (r : Tree → Option Val) (xs : p.List Tree) →
+            resume_only r self.old.several (option_map item_tree self.old.item)
+            (filter (has_tag TAG) (item_tree child.entry ∷ xs))
+            ≡ resume_only r self.new.several (option_map item_tree self.new.item)
+            (filter (has_tag TAG) xs) }
     {
         if child.tag().number() == TAG {
             if self.item.is_some() {
@@ -503,8 +540,13 @@ impl<'a, T: ReadItem, const NUMBER: u32, const TAG: u32> Case<'a, T, NUMBER, TAG
 
     /// What the one item under the tag reads as.
     pub fn read(self, alloc: Global, outer: Outer<'_>) -> Result<T, ReadError>
-        ensures ok { IfOk result (λ v. resume_only (λ x. option_map (case NUMBER) (read_of T.shape (outer_of outer.entry) x)) self.entry.several (option_map item_tree self.entry.item) [] ≡ Some (one (case NUMBER (T.val v)))) }
-        ensures unread { result ≡ Err ReadError.Unread → resume_only (λ x. option_map (case NUMBER) (read_of T.shape (outer_of outer.entry) x)) self.entry.several (option_map item_tree self.entry.item) [] ≡ None }
+        ensures ok { IfOk result (λ v. resume_only
+            (λ x. option_map (case NUMBER) (read_of T.shape (outer_of outer.entry) x))
+            self.entry.several (option_map item_tree self.entry.item) []
+            ≡ Some (one (case NUMBER (T.val v)))) }
+        ensures unread { result ≡ Err ReadError.Unread →
+            resume_only (λ x. option_map (case NUMBER) (read_of T.shape (outer_of outer.entry) x))
+            self.entry.several (option_map item_tree self.entry.item) [] ≡ None }
     {
         if self.several {
             return Err(ReadError::Unread);

@@ -2,7 +2,8 @@
 
 ghost use Rattle.std.specs.Prelude.{◌≡◌, List, map, true};
 ghost use Rattle.kmip_shape.specs.Shape.{Entry, OneOf};
-ghost use Rattle.kmip_shape.specs.Enumerations.{variant_at, are_distinct, enumeration_val, AreFound, AreDistinct, same_variant};
+ghost use Rattle.kmip_shape.specs.Enumerations.{variant_at, are_distinct, enumeration_val};
+ghost use Rattle.kmip_shape.specs.Enumerations.{AreFound, AreDistinct, same_variant};
 
 use crate::item::{Item, WriteItem};
 use crate::read::{Outer, ReadError, ReadItem};
@@ -75,7 +76,8 @@ impl<T: Enumeration> ShowItem for T {
     }
 }
 
-/// No two variants of an enumeration have one number or one name, and each is found by its number. It does nothing.
+/// No two variants of an enumeration have one number or one name, and each is found by its number.
+/// It does nothing.
 pub fn distinct<T: Enumeration>()
     ensures distinct { AreDistinct T.line }
     ensures table { are_distinct (map T.line T.variants) ≡ true }

@@ -1,18 +1,27 @@
 //! The fields of a record by its rows: known, written and shown, each in one call.
 //!
-//! A record's rows are one type, for reading as for these calls, as `Row<One<AttributeName, 0x42000A>, ..>`. Its fields
-//! are lent as nested pairs in the order of the rows: `(&self.name, (&self.index, ()))`.
+//! A record's rows are one type, for reading as for these calls, as `Row<One<AttributeName,
+//! 0x42000A>, ..>`. Its fields are lent as nested pairs in the order of the rows: `(&self.name,
+//! (&self.index, ()))`.
 //!
-//! `FieldRows`, `WriteRows` and `ShowRows` each name what lends the fields and what they are, with no trait above them
-//! and no bound on what lends: either is looked up anew at every row, more often with each row more, so that a check of
-//! thirteen rows would take minutes.
+//! `FieldRows`, `WriteRows` and `ShowRows` each name what lends the fields and what they are, with
+//! no trait above them and no bound on what lends: either is looked up anew at every row, more
+//! often with each row more, so that a check of thirteen rows would take minutes.
 
-ghost use Rattle.std.specs.Prelude.{◌≡◌, ◌≤◌, ◌<◌, ◌+◌, ◌^◌, ◌++◌, ◌||◌, ◌∷◌, ℕ, Bool, false, IfSome, [], true};
+ghost use Rattle.std.specs.Prelude.{◌≡◌, ◌≤◌, ◌<◌, ◌+◌, ◌^◌, ◌++◌, ◌||◌, ◌∷◌, ℕ, Bool, false};
+ghost use Rattle.std.specs.Prelude.{IfSome, [], true};
 ghost use Rattle.kmip_wire.specs.Room.{Appends};
-ghost use Rattle.kmip_shape.specs.Val.{Field, Fields, Val, NoField as no_fields, AndField as and_field, One as one, Many as many, Record as record_of};
-ghost use Rattle.kmip_shape.specs.Shape.{RowList, Shape, Mark, Required, Optional, AnyNumber, AtLeastOne, OptionalList, NoRow, AndRow, Under, Plain, NoCase, Rows as rows_of};
+ghost use Rattle.kmip_shape.specs.Val.{Field, Fields, Val, NoField as no_fields};
+ghost use Rattle.kmip_shape.specs.Val.{AndField as and_field, One as one, Many as many};
+ghost use Rattle.kmip_shape.specs.Val.{Record as record_of};
+ghost use Rattle.kmip_shape.specs.Shape.{RowList, Shape, Mark, Required, Optional, AnyNumber};
+ghost use Rattle.kmip_shape.specs.Shape.{AtLeastOne, OptionalList, NoRow, AndRow, Under, Plain};
+ghost use Rattle.kmip_shape.specs.Shape.{NoCase, Rows as rows_of};
 ghost use Rattle.kmip_shape.specs.Fits.{are_tags, mark_fits, field_fits, fields_fit};
-ghost use Rattle.kmip_shape.specs.Writes.{structure_head, optional, optional_list, vals, field_form, field_len, field_size, field_text, fields_form, fields_len, fields_size, fields_text, structure_len as len_of_structure};
+ghost use Rattle.kmip_shape.specs.Writes.{structure_head, optional, optional_list, vals};
+ghost use Rattle.kmip_shape.specs.Writes.{field_form, field_len, field_size, field_text};
+ghost use Rattle.kmip_shape.specs.Writes.{fields_form, fields_len, fields_size, fields_text};
+ghost use Rattle.kmip_shape.specs.Writes.{structure_len as len_of_structure};
 ghost use Rattle.kmip_shape.specs.Shown.{Grows, shown, row_shown, fields_shown, stands};
 
 use crate::columns::{ChosenOne, ChosenOpt, Many, NonEmpty, One, Opt, OptMany};
@@ -50,7 +59,8 @@ pub trait FieldRow<'b> {
 
 /// A row whose field is written.
 pub trait WriteRow<'b>: FieldRow<'b> {
-    /// The length of its items, and `None` exactly where one has no canonical bytes or they reach 2^32 bytes.
+    /// The length of its items, and `None` exactly where one has no canonical bytes or they reach
+    /// 2^32 bytes.
     fn len(lent: Self::Lent) -> Option<u64>
         requires { Self.tag < 2 ^ 24 }
         ensures { result ≡ field_len (Self.field lent) Self.shape };
@@ -60,15 +70,18 @@ pub trait WriteRow<'b>: FieldRow<'b> {
         requires tag { Self.tag < 2 ^ 24 }
         requires form { field_form (Self.field lent) Self.shape }
         requires room { field_size (Self.field lent) Self.shape ≤ out.old.spare }
-        ensures { Appends out.old out.new (field_text (Self.field lent) Self.shape Self.tag) (field_size (Self.field lent) Self.shape) };
+        ensures { Appends out.old out.new (field_text (Self.field lent) Self.shape Self.tag)
+            (field_size (Self.field lent) Self.shape) };
 }
 
 /// A row whose field is shown.
 pub trait ShowRow<'b>: FieldRow<'b> {
-    /// Appends the name and what the field shows, after others or not; tells whether a field stands now.
+    /// Appends the name and what the field shows, after others or not; tells whether a field stands
+    /// now.
     fn show(lent: Self::Lent, name: &str, after: bool, out: &mut Sink) -> bool
         ensures after { (a : Bool) → after ≡ a → result ≡ (a || stands (Self.field lent)) }
-        ensures text { (a : Bool) → after ≡ a → Grows out.old out.new (row_shown (Self.field lent) NoCase name.now Self.shape a) };
+        ensures text { (a : Bool) → after ≡ a →
+            Grows out.old out.new (row_shown (Self.field lent) NoCase name.now Self.shape a) };
 }
 
 /// The rows of a record, and its fields.
@@ -107,7 +120,8 @@ pub trait WriteRows<'b> {
         requires tags { are_tags Self.row_list ≡ true }
         requires form { fields_form (Self.fields lent) Self.row_list }
         requires room { fields_size (Self.fields lent) Self.row_list ≤ out.old.spare }
-        ensures { Appends out.old out.new (fields_text (Self.fields lent) Self.row_list) (fields_size (Self.fields lent) Self.row_list) };
+        ensures { Appends out.old out.new (fields_text (Self.fields lent) Self.row_list)
+            (fields_size (Self.fields lent) Self.row_list) };
 }
 
 /// Rows whose fields are shown, each under a name.
@@ -126,7 +140,8 @@ pub trait ShowRows<'b> {
 
     /// Appends what the fields show, after others or not.
     fn show(lent: Self::Lent, names: Self::Names, after: bool, out: &mut Sink)
-        ensures { (a : Bool) → after ≡ a → Grows out.old out.new (fields_shown (Self.fields lent) NoCase (named names) a) };
+        ensures { (a : Bool) → after ≡ a →
+            Grows out.old out.new (fields_shown (Self.fields lent) NoCase (named names) a) };
 }
 
 impl<'b, T: Item + 'b, const TAG: u32> FieldRow<'b> for One<T, TAG> {
@@ -435,7 +450,8 @@ impl<'b, A: ShowRow<'b>, B: ShowRows<'b>> ShowRows<'b> for Row<A, B> {
 
     ghost fields = { λ lent. and_field (A.field lent.0) (B.fields lent.1) };
 
-    ghost named = { λ names. AndRow names.0.now (Under A.tag) A.mark Plain A.shape (B.named names.1) };
+    ghost named = { λ names. AndRow names.0.now (Under A.tag) A.mark Plain A.shape
+        (B.named names.1) };
 
     fn show(lent: (A::Lent, B::Lent), names: (&'b str, B::Names), after: bool, out: &mut Sink) {
         let (field, rest) = lent;
@@ -489,7 +505,8 @@ impl<'b, A: ShowRow<'b>, B: ShowRows<'b>> ShowRows<'b> for Choosing<A, B> {
 
     ghost fields = { λ lent. and_field (A.field lent.0) (B.fields lent.1) };
 
-    ghost named = { λ names. AndRow names.0.now (Under A.tag) A.mark Plain A.shape (B.named names.1) };
+    ghost named = { λ names. AndRow names.0.now (Under A.tag) A.mark Plain A.shape
+        (B.named names.1) };
 
     fn show(lent: (A::Lent, B::Lent), names: (&'b str, B::Names), after: bool, out: &mut Sink) {
         let (field, rest) = lent;
@@ -525,7 +542,8 @@ where
     requires form { fields_form (R.fields lent) R.row_list }
     requires below { fields_size (R.fields lent) R.row_list < 2 ^ 32 }
     requires room { 8 + fields_size (R.fields lent) R.row_list ≤ out.old.spare }
-    ensures { Appends out.old out.new (structure_head tag (fields_size (R.fields lent) R.row_list) ++ fields_text (R.fields lent) R.row_list) (8 + fields_size (R.fields lent) R.row_list) }
+    ensures { Appends out.old out.new (structure_head tag (fields_size (R.fields lent) R.row_list)
+        ++ fields_text (R.fields lent) R.row_list) (8 + fields_size (R.fields lent) R.row_list) }
 {
     match R::len(lent) {
         Some(len) => {
@@ -538,7 +556,8 @@ where
 
 /// Appends the text of a record, its fields under their names.
 pub fn show_record<'b, R: ShowRows<'b>>(lent: R::Lent, names: R::Names, out: &mut Sink)
-    ensures { Grows out.old out.new (123 ∷ (fields_shown (R.fields lent) NoCase (R.named names) false ++ 125 ∷ [])) }
+    ensures { Grows out.old out.new
+        (123 ∷ (fields_shown (R.fields lent) NoCase (R.named names) false ++ 125 ∷ [])) }
 {
     out.put("{");
     R::show(lent, names, false, out);

@@ -35,5 +35,6 @@ pub trait WriteItem: Item {
     fn write_into(&self, tag: Tag, out: &mut Buffer)
         requires form { HasForm Self.shape (Self.val self.now) }
         requires room { size_of Self.shape (Self.val self.now) ≤ out.old.spare }
-        ensures { Appends out.old out.new (text_of Self.shape tag (Self.val self.now)) (size_of Self.shape (Self.val self.now)) };
+        ensures { Appends out.old out.new (text_of Self.shape tag (Self.val self.now))
+            (size_of Self.shape (Self.val self.now)) };
 }

@@ -1,9 +1,10 @@
-//! Typed values as items: what a value of a type means, how the type stands in a tree, and the traits by which types
-//! of items are written, read and shown.
+//! Typed values as items: what a value of a type means, how the type stands in a tree, and the
+//! traits by which types of items are written, read and shown.
 //!
-//! A type implements `Item`, and then what it needs of `WriteItem`, `ReadItem` and `ShowItem`. The rows of a record are
-//! one type, as `Row<One<AttributeName, 0x42000A>, Row<Opt<AttributeIndex, 0x420009>, End>>`, by which it is read
-//! (`read_record`), written (`record_len`, `write_record`) and shown (`show_record`).
+//! A type implements `Item`, and then what it needs of `WriteItem`, `ReadItem` and `ShowItem`. The
+//! rows of a record are one type, as `Row<One<AttributeName, 0x42000A>, Row<Opt<AttributeIndex,
+//! 0x420009>, End>>`, by which it is read (`read_record`), written (`record_len`, `write_record`)
+//! and shown (`show_record`).
 #![tactic(auto)]
 
 pub mod big;

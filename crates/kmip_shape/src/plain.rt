@@ -1,14 +1,18 @@
 //! Plain values as items: texts, bytes, numbers and truth values.
 //!
-//! A `Text` is a Text String, a `Blob` a Byte String, an `i32` an Integer, an `i64` a Long Integer, a `bool` a Boolean,
-//! a `u64` a Date-Time and a `u32` an Interval. `BigInteger` and `Timestamp` wrap a `Blob` that is a Big Integer and an
-//! `i64` that is a Date-Time.
+//! A `Text` is a Text String, a `Blob` a Byte String, an `i32` an Integer, an `i64` a Long Integer,
+//! a `bool` a Boolean, a `u64` a Date-Time and a `u32` an Interval. `BigInteger` and `Timestamp`
+//! wrap a `Blob` that is a Big Integer and an `i64` that is a Date-Time.
 
 ghost use Rattle.std.specs.Prelude.{◌≡◌, pos};
-ghost use Rattle.kmip_wire.specs.declared.kind.Kind.TheVariants.{TextString, ByteString, BigInteger as big_integer, Integer, LongInteger, Boolean, DateTime, Interval};
+ghost use Rattle.kmip_wire.specs.declared.kind.Kind.TheVariants.{TextString, ByteString};
+ghost use Rattle.kmip_wire.specs.declared.kind.Kind.TheVariants.{BigInteger as big_integer};
+ghost use Rattle.kmip_wire.specs.declared.kind.Kind.TheVariants.{Integer, LongInteger, Boolean};
+ghost use Rattle.kmip_wire.specs.declared.kind.Kind.TheVariants.{DateTime, Interval};
 ghost use Rattle.kmip_shape.specs.Val.{Number, Text as text, Bytes as bytes, Truth};
 ghost use Rattle.kmip_shape.specs.Shape.{Scalar};
-ghost use Rattle.kmip_shape.specs.Same.{same_text, same_bytes, same_number, same_truth, same_unsigned};
+ghost use Rattle.kmip_shape.specs.Same.{same_text, same_bytes, same_number, same_truth};
+ghost use Rattle.kmip_shape.specs.Same.{same_unsigned};
 
 use crate::item::{Item, WriteItem};
 use crate::read::{Outer, ReadError, ReadItem};

@@ -4,24 +4,31 @@ ghost use Rattle.std.specs.Prelude.{ℕ, ◌≡◌, ◌+◌, ◌-◌, ◌≤◌,
 ghost use Rattle.kmip_wire.specs.Room.{Appends};
 ghost use Rattle.kmip_shape.specs.Fits.{mark_fits, field_fits, vals_fit, AreBytes};
 ghost use Rattle.kmip_shape.specs.Shape.{NoCase, Optional, OptionalList};
-ghost use Rattle.kmip_shape.specs.Writes.{structure_head, list_form, list_size, list_text, list_len as len_of_list, field_form, field_size, field_text, field_len, optional, optional_list, vals, sum_len, structure_len as len_of_structure, plus_len, HasForm, size_of, wire_len_of};
+ghost use Rattle.kmip_shape.specs.Writes.{structure_head, list_form, list_size, list_text};
+ghost use Rattle.kmip_shape.specs.Writes.{list_len as len_of_list, field_form, field_size};
+ghost use Rattle.kmip_shape.specs.Writes.{field_text, field_len, optional, optional_list, vals};
+ghost use Rattle.kmip_shape.specs.Writes.{sum_len, structure_len as len_of_structure, plus_len};
+ghost use Rattle.kmip_shape.specs.Writes.{HasForm, size_of, wire_len_of};
 
 use crate::item::{Item, WriteItem};
 use crate::scalars::put_structure;
 use kmip_wire::{Buffer, List, Tag};
 
-/// The length of the items of a list, and `None` exactly where one has no canonical bytes or they reach 2^32 bytes.
+/// The length of the items of a list, and `None` exactly where one has no canonical bytes or they
+/// reach 2^32 bytes.
 pub(crate) fn list_len<T: WriteItem>(items: &List<T>, tag: Tag) -> Option<u64>
     ensures { result ≡ len_of_list (vals T.val items.now) T.shape }
 {
     items_len(items.as_slice(), tag)
 }
 
-/// Appends the canonical bytes of the items of a list, in order. Each has such bytes, and there is room for all.
+/// Appends the canonical bytes of the items of a list, in order. Each has such bytes, and there is
+/// room for all.
 pub fn write_list<T: WriteItem>(items: &List<T>, tag: Tag, out: &mut Buffer)
     requires form { list_form (vals T.val items.now) T.shape }
     requires room { list_size (vals T.val items.now) T.shape ≤ out.old.spare }
-    ensures { Appends out.old out.new (list_text (vals T.val items.now) T.shape tag) (list_size (vals T.val items.now) T.shape) }
+    ensures { Appends out.old out.new (list_text (vals T.val items.now) T.shape tag)
+        (list_size (vals T.val items.now) T.shape) }
 {
     write_items(items.as_slice(), tag, out);
 }
@@ -47,7 +54,8 @@ pub(crate) fn optional_len<T: WriteItem>(item: &Option<T>, tag: Tag) -> Option<u
 pub(crate) fn write_optional<T: WriteItem>(item: &Option<T>, tag: Tag, out: &mut Buffer)
     requires form { field_form (optional T.val item.now) T.shape }
     requires room { field_size (optional T.val item.now) T.shape ≤ out.old.spare }
-    ensures { Appends out.old out.new (field_text (optional T.val item.now) T.shape tag) (field_size (optional T.val item.now) T.shape) }
+    ensures { Appends out.old out.new (field_text (optional T.val item.now) T.shape tag)
+        (field_size (optional T.val item.now) T.shape) }
 {
     if let Some(value) = item {
         value.write_into(tag, out);
@@ -82,7 +90,8 @@ pub(crate) fn items_len<T: WriteItem>(items: &[T], tag: Tag) -> Option<u64>
 pub(crate) fn write_items<T: WriteItem>(items: &[T], tag: Tag, out: &mut Buffer)
     requires form { list_form (vals T.val items.now) T.shape }
     requires room { list_size (vals T.val items.now) T.shape ≤ out.old.spare }
-    ensures { Appends out.old out.new (list_text (vals T.val items.now) T.shape tag) (list_size (vals T.val items.now) T.shape) }
+    ensures { Appends out.old out.new (list_text (vals T.val items.now) T.shape tag)
+        (list_size (vals T.val items.now) T.shape) }
 {
     let mut rest = items;
     while let [item, tail @ ..] = rest {
@@ -91,8 +100,8 @@ pub(crate) fn write_items<T: WriteItem>(items: &[T], tag: Tag, out: &mut Buffer)
     }
 }
 
-#[tactic(auto, using(crate::proofs::Lens::plus_assoc, crate::proofs::Lens::sum_len_zero, crate::proofs::Lens::plus_end))]
 /// The length of a structure, from the lengths of its rows.
+#[tactic(auto, using(crate::proofs::Lens::plus_assoc, crate::proofs::Lens::sum_len_zero, crate::proofs::Lens::plus_end))]
 pub fn structure_len(rows: &[Option<u64>]) -> Option<u64>
     ensures { result ≡ len_of_structure (sum_len rows.now) }
 {
@@ -113,8 +122,10 @@ pub fn begin_structure<T: Item>(item: &T, len: Option<u64>, tag: Tag, out: &mut 
     requires whole { 8 ≤ size_of T.shape (T.val item.now) }
     requires below { size_of T.shape (T.val item.now) < 2 ^ 32 + 8 }
     requires room { 8 ≤ out.old.spare }
-    ensures head { Appends out.old out.new (structure_head tag (size_of T.shape (T.val item.now) - 8)) 8 }
-    ensures contents { (n : ℕ) → size_of T.shape (T.val item.now) ≡ 8 + n → Appends out.old out.new (structure_head tag n) 8 }
+    ensures head { Appends out.old out.new
+        (structure_head tag (size_of T.shape (T.val item.now) - 8)) 8 }
+    ensures contents { (n : ℕ) → size_of T.shape (T.val item.now) ≡ 8 + n →
+        Appends out.old out.new (structure_head tag n) 8 }
 {
     match len {
         Some(len) => put_structure(tag, (len - 8) as u32, out),
@@ -157,7 +168,8 @@ pub(crate) fn optional_list_len<T: WriteItem>(items: &Option<List<T>>, tag: Tag)
 pub(crate) fn write_optional_list<T: WriteItem>(items: &Option<List<T>>, tag: Tag, out: &mut Buffer)
     requires form { field_form (optional_list T.val items.now) T.shape }
     requires room { field_size (optional_list T.val items.now) T.shape ≤ out.old.spare }
-    ensures { Appends out.old out.new (field_text (optional_list T.val items.now) T.shape tag) (field_size (optional_list T.val items.now) T.shape) }
+    ensures { Appends out.old out.new (field_text (optional_list T.val items.now) T.shape tag)
+        (field_size (optional_list T.val items.now) T.shape) }
 {
     if let Some(items) = items {
         write_list(items, tag, out);

@@ -2,7 +2,8 @@
 
 ghost use Rattle.std.specs.Prelude.{◌≡◌, ◌≤◌, ◌<◌, ◌^◌, ◌%◌, length};
 ghost use Rattle.kmip_wire.specs.Room.{Appends};
-ghost use Rattle.kmip_wire.specs.Tree.{integer, long_integer, big_integer, enumeration, boolean, text_string, byte_string, date_time, interval};
+ghost use Rattle.kmip_wire.specs.Tree.{integer, long_integer, big_integer, enumeration, boolean};
+ghost use Rattle.kmip_wire.specs.Tree.{text_string, byte_string, date_time, interval};
 ghost use Rattle.kmip_shape.specs.Writes.{structure_head, leaf_size, leaf_text, maybe_len};
 ghost use Rattle.std.specs.Prelude.{Some as some};
 
@@ -31,7 +32,8 @@ pub fn put_integer(tag: Tag, value: i32, out: &mut Buffer)
 /// Appends a Long Integer.
 pub fn put_long_integer(tag: Tag, value: i64, out: &mut Buffer)
     requires { leaf_size (long_integer value) ≤ out.old.spare }
-    ensures { Appends out.old out.new (leaf_text tag (long_integer value)) (leaf_size (long_integer value)) }
+    ensures { Appends out.old out.new (leaf_text tag (long_integer value))
+        (leaf_size (long_integer value)) }
 {
     out.put_eight(tag, Kind::LongInteger, value.cast_unsigned());
 }
@@ -40,7 +42,8 @@ pub fn put_long_integer(tag: Tag, value: i64, out: &mut Buffer)
 pub fn put_big_integer(tag: Tag, value: &[u8], out: &mut Buffer)
     requires form { length value.now < 2 ^ 32 }
     requires room { leaf_size (big_integer value.now) ≤ out.old.spare }
-    ensures { Appends out.old out.new (leaf_text tag (big_integer value.now)) (leaf_size (big_integer value.now)) }
+    ensures { Appends out.old out.new (leaf_text tag (big_integer value.now))
+        (leaf_size (big_integer value.now)) }
 {
     out.put_item(tag, Kind::BigInteger, value);
 }
@@ -48,7 +51,8 @@ pub fn put_big_integer(tag: Tag, value: &[u8], out: &mut Buffer)
 /// Appends an Enumeration.
 pub fn put_enumeration(tag: Tag, value: u32, out: &mut Buffer)
     requires { leaf_size (enumeration value) ≤ out.old.spare }
-    ensures { Appends out.old out.new (leaf_text tag (enumeration value)) (leaf_size (enumeration value)) }
+    ensures { Appends out.old out.new (leaf_text tag (enumeration value))
+        (leaf_size (enumeration value)) }
 {
     out.put_four(tag, Kind::Enumeration, value);
 }
@@ -65,7 +69,8 @@ pub fn put_boolean(tag: Tag, value: bool, out: &mut Buffer)
 pub fn put_text(tag: Tag, value: &str, out: &mut Buffer)
     requires form { length value.now < 2 ^ 32 }
     requires room { leaf_size (text_string value.now) ≤ out.old.spare }
-    ensures { Appends out.old out.new (leaf_text tag (text_string value.now)) (leaf_size (text_string value.now)) }
+    ensures { Appends out.old out.new (leaf_text tag (text_string value.now))
+        (leaf_size (text_string value.now)) }
 {
     out.put_item(tag, Kind::TextString, value.as_bytes());
 }
@@ -74,7 +79,8 @@ pub fn put_text(tag: Tag, value: &str, out: &mut Buffer)
 pub fn put_bytes(tag: Tag, value: &[u8], out: &mut Buffer)
     requires form { length value.now < 2 ^ 32 }
     requires room { leaf_size (byte_string value.now) ≤ out.old.spare }
-    ensures { Appends out.old out.new (leaf_text tag (byte_string value.now)) (leaf_size (byte_string value.now)) }
+    ensures { Appends out.old out.new (leaf_text tag (byte_string value.now))
+        (leaf_size (byte_string value.now)) }
 {
     out.put_item(tag, Kind::ByteString, value);
 }
@@ -82,7 +88,8 @@ pub fn put_bytes(tag: Tag, value: &[u8], out: &mut Buffer)
 /// Appends a Date-Time, the eight bytes of the number.
 pub fn put_date(tag: Tag, value: u64, out: &mut Buffer)
     requires { leaf_size (date_time value) ≤ out.old.spare }
-    ensures { Appends out.old out.new (leaf_text tag (date_time value)) (leaf_size (date_time value)) }
+    ensures { Appends out.old out.new (leaf_text tag (date_time value))
+        (leaf_size (date_time value)) }
 {
     out.put_eight(tag, Kind::DateTime, value);
 }
@@ -90,7 +97,8 @@ pub fn put_date(tag: Tag, value: u64, out: &mut Buffer)
 /// Appends an Interval, in seconds.
 pub fn put_interval(tag: Tag, value: u32, out: &mut Buffer)
     requires { leaf_size (interval value) ≤ out.old.spare }
-    ensures { Appends out.old out.new (leaf_text tag (interval value)) (leaf_size (interval value)) }
+    ensures { Appends out.old out.new (leaf_text tag (interval value))
+        (leaf_size (interval value)) }
 {
     out.put_four(tag, Kind::Interval, value);
 }
@@ -119,7 +127,8 @@ pub fn bytes_len(value: &[u8]) -> Option<u64>
     }
 }
 
-/// The whole length of a Big Integer, and `None` from 2^32 bytes on or where the length is no multiple of 8.
+/// The whole length of a Big Integer, and `None` from 2^32 bytes on or where the length is no
+/// multiple of 8.
 pub fn big_integer_len(value: &[u8]) -> Option<u64>
     ensures { result ≡ maybe_len (some (big_integer value.now)) }
 {

@@ -14,7 +14,8 @@ use std::mem;
 
 /// An item that is shown as text.
 pub trait ShowItem: Item {
-    /// Appends its text to what grows until memory runs out. This is what a type writes; others call `show`.
+    /// Appends its text to what grows until memory runs out. This is what a type writes; others
+    /// call `show`.
     fn show_into(&self, out: &mut Sink)
         ensures { Grows out.old out.new (shown Self.shape (Self.val self.now)) };
 
@@ -34,7 +35,8 @@ pub trait ShowItem: Item {
 /// A field of one item, after others or not; whether a field stands now.
 pub fn show_one<T: ShowItem>(item: &T, name: &str, after: bool, out: &mut Sink) -> bool
     ensures after { (a : Bool) → after ≡ a → result ≡ (a || stands (one (T.val item.now))) }
-    ensures text { (a : Bool) → after ≡ a → Grows out.old out.new (row_shown (one (T.val item.now)) NoCase name.now T.shape a) }
+    ensures text { (a : Bool) → after ≡ a →
+        Grows out.old out.new (row_shown (one (T.val item.now)) NoCase name.now T.shape a) }
 {
     out.put_comma(after);
     out.put(name);
@@ -51,7 +53,8 @@ pub(crate) fn show_optional<T: ShowItem>(
     out: &mut Sink,
 ) -> bool
     ensures after { (a : Bool) → after ≡ a → result ≡ (a || stands (optional T.val item.now)) }
-    ensures text { (a : Bool) → after ≡ a → Grows out.old out.new (row_shown (optional T.val item.now) NoCase name.now T.shape a) }
+    ensures text { (a : Bool) → after ≡ a →
+        Grows out.old out.new (row_shown (optional T.val item.now) NoCase name.now T.shape a) }
 {
     match item {
         Some(item) => show_one(item, name, after, out),
@@ -80,7 +83,8 @@ pub(crate) fn show_list<T: ShowItem>(
     out: &mut Sink,
 ) -> bool
     ensures after { (a : Bool) → after ≡ a → result ≡ (a || stands (many (vals T.val items.now))) }
-    ensures text { (a : Bool) → after ≡ a → Grows out.old out.new (row_shown (many (vals T.val items.now)) NoCase name.now T.shape a) }
+    ensures text { (a : Bool) → after ≡ a →
+        Grows out.old out.new (row_shown (many (vals T.val items.now)) NoCase name.now T.shape a) }
 {
     out.put_comma(after);
     out.put(name);
@@ -97,8 +101,11 @@ pub(crate) fn show_optional_list<T: ShowItem>(
     after: bool,
     out: &mut Sink,
 ) -> bool
-    ensures after { (a : Bool) → after ≡ a → result ≡ (a || stands (optional_list T.val items.now)) }
-    ensures text { (a : Bool) → after ≡ a → Grows out.old out.new (row_shown (optional_list T.val items.now) NoCase name.now T.shape a) }
+    ensures after { (a : Bool) → after ≡ a →
+        result ≡ (a || stands (optional_list T.val items.now)) }
+    ensures text { (a : Bool) → after ≡ a →
+        Grows out.old out.new
+        (row_shown (optional_list T.val items.now) NoCase name.now T.shape a) }
 {
     match items {
         Some(items) => show_list(items, name, after, out),

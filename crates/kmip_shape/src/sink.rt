@@ -1,9 +1,11 @@
 //! What values are shown into.
 
-ghost use Rattle.std.specs.Prelude.{◌≡◌, ◌++◌, ◌*◌, ◌<◌, ◌≤◌, ◌∷◌, [], true, flat_map, length, take, IsAscii};
+ghost use Rattle.std.specs.Prelude.{◌≡◌, ◌++◌, ◌*◌, ◌<◌, ◌≤◌, ◌∷◌, [], true, flat_map, length};
+ghost use Rattle.std.specs.Prelude.{take, IsAscii};
 ghost use Rattle.std.specs.Fmt.{decimal, signed_decimal};
 ghost use Rattle.std.specs.Char.{encode_utf8};
-ghost use Rattle.kmip_shape.specs.Shown.{Grows, comma, escaped, hex_byte, hex_digit, text_shown, bytes_shown, truth_shown};
+ghost use Rattle.kmip_shape.specs.Shown.{Grows, comma, escaped, hex_byte, hex_digit, text_shown};
+ghost use Rattle.kmip_shape.specs.Shown.{bytes_shown, truth_shown};
 
 use itoa::Buffer as Digits;
 use kmip_wire::Text;
@@ -169,7 +171,8 @@ impl Sink {
         }
     }
 
-    /// A text in double quotes, `"` and `\` after a backslash, control characters as `\x` and two digits.
+    /// A text in double quotes, `"` and `\` after a backslash, control characters as `\x` and two
+    /// digits.
     pub fn put_text(&mut self, text: &str)
         ensures { Grows self.old self.new (text_shown text.now) }
     {

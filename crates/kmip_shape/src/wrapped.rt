@@ -2,7 +2,8 @@
 
 ghost use Rattle.std.specs.Prelude.{◌≡◌, ℕ, ℤ, List};
 ghost use Rattle.std.proofs.Common.{ap};
-ghost use Rattle.kmip_wire.specs.declared.kind.Kind.TheVariants.{BigInteger as big_integers, DateTime};
+ghost use Rattle.kmip_wire.specs.declared.kind.Kind.TheVariants.{BigInteger as big_integers};
+ghost use Rattle.kmip_wire.specs.declared.kind.Kind.TheVariants.{DateTime};
 ghost use Rattle.kmip_shape.specs.Val.{Bytes as bytes};
 ghost use Rattle.kmip_shape.specs.Shape.{Scalar};
 ghost use Rattle.kmip_shape.specs.Same.{same_bytes};
@@ -17,7 +18,8 @@ use crate::sink::Sink;
 use kmip_wire::{Blob, Buffer, ItemRef, OutOfMemory, Tag, TryClone};
 use std::alloc::Global;
 
-/// The bytes of a Big Integer, the highest first. It is written where their number is a multiple of 8.
+/// The bytes of a Big Integer, the highest first. It is written where their number is a multiple of
+/// 8.
 #[derive(PartialEq, Eq, Drop)]
 pub struct BigInteger(pub Blob);
 
@@ -64,7 +66,8 @@ impl ShowItem for BigInteger {
     }
 }
 
-/// A Date-Time that Rust holds as signed seconds since 1970. It is shown as the unsigned number of the same 64 bits.
+/// A Date-Time that Rust holds as signed seconds since 1970. It is shown as the unsigned number of
+/// the same 64 bits.
 #[derive(Clone, Copy, PartialEq, Eq, Drop)]
 pub struct Timestamp(pub i64);
 

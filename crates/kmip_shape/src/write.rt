@@ -20,13 +20,16 @@ pub fn item_len<T: WriteItem>(item: &T, tag: Tag) -> Option<u64>
 
 /// Appends the canonical bytes of an item.
 pub fn write_item<T: WriteItem>(item: &T, tag: Tag, out: &mut Buffer)
-    requires { IsSomeAnd (bytes_of T.shape tag (T.val item.now)) (λ bytes. length bytes ≤ out.old.spare) }
-    ensures { IfSome (bytes_of T.shape tag (T.val item.now)) (λ bytes. Appends out.old out.new bytes (length bytes)) }
+    requires { IsSomeAnd (bytes_of T.shape tag (T.val item.now))
+        (λ bytes. length bytes ≤ out.old.spare) }
+    ensures { IfSome (bytes_of T.shape tag (T.val item.now))
+        (λ bytes. Appends out.old out.new bytes (length bytes)) }
 {
     item.write_into(tag, out);
 }
 
-/// The canonical bytes of an item. `NoForm` comes exactly where there are none, and `Malformed` never.
+/// The canonical bytes of an item. `NoForm` comes exactly where there are none, and `Malformed`
+/// never.
 pub fn to_blob<T: WriteItem>(alloc: Global, item: &T, tag: Tag) -> Result<Blob, WireError>
     ensures { Writes result (bytes_of T.shape tag (T.val item.now)) }
 {

@@ -1,10 +1,11 @@
 use crate::support::Under::Nothing;
 use crate::support::{Case, are_read};
 use kmip_shape::{
-    Boxed, Item, Outer, ReadError, ReadItem, ShowItem, Timestamp, read_list, read_one, read_opt,
-    to_blob,
+    BigInteger, Boxed, Item, List, Outer, ReadError, ReadItem, ShowItem, Timestamp,
+    copy_optional_list, read_list, read_one, read_opt, to_blob, write_list,
 };
-use kmip_wire::{Blob, ItemRef, Tag, Text};
+use kmip_wire::{Blob, Buffer, ItemRef, Tag, Text};
+use std::alloc::Global;
 use std::test::Fail;
 
 // 7C{5C i1,5C i24}
@@ -83,18 +84,46 @@ fn shown_and_written(rt: HostRuntime) {
 // 5C "a"
 const LETTER: &str = "42005C07000000016100000000000000";
 
-#[test]
-fn an_item_in_a_block(rt: HostRuntime) -> Result<(), Fail> {
-    let case = Case {
+/// An item that no chooser stands above.
+fn plain(hex: &'static str, shown: &'static str) -> Case {
+    Case {
         under: Nothing,
-        hex: LETTER,
-        shown: Some("\"a\""),
-    };
-    are_read::<Boxed<Text>>(&rt, rt.alloc(), &[case])?;
-    let bytes = hex::decode(rt.alloc(), LETTER)?;
+        hex,
+        shown: Some(shown),
+    }
+}
+
+#[test]
+fn items_and_their_copies(rt: HostRuntime) -> Result<(), Fail> {
+    let alloc = rt.alloc();
+    are_read::<Boxed<Text>>(&rt, alloc, &[plain(LETTER, "\"a\"")])?;
+    // 5C x0AFF
+    let string = plain("42005C08000000020AFF000000000000", "x\"0AFF\"");
+    are_read::<Blob>(&rt, alloc, &[string])?;
+    // 5C b0000000000000018
+    let big = plain("42005C04000000080000000000000018", "x\"0000000000000018\"");
+    are_read::<BigInteger>(&rt, alloc, &[big])?;
+    let bytes = hex::decode(alloc, LETTER)?;
     let item = ItemRef::root(bytes.as_slice()).ok_or("no item")?;
-    let text = Boxed::<Text>::read(rt.alloc(), Outer::none(), item)?;
+    let text = Boxed::<Text>::read(alloc, Outer::none(), item)?;
     text.known();
-    assert!(rt; text.into_inner().as_str() == "a");
+    assert!(&rt; text.into_inner().as_str() == "a");
+    Ok(())
+}
+
+/// The list of the two numbers of `TWO`.
+fn two(alloc: Global) -> Result<List<i32>, Fail> {
+    Ok(List::of_vec(Vec::from_array(alloc, [1i32, 24])?))
+}
+
+#[test]
+fn lists(rt: HostRuntime) -> Result<(), Fail> {
+    let alloc = rt.alloc();
+    let list = Some(two(alloc)?);
+    assert!(&rt; copy_optional_list(&list, alloc)? == list);
+    let mut out = Buffer::new(alloc);
+    out.reserve(32)?;
+    write_list(&two(alloc)?, Tag::of(0x42005C), &mut out);
+    assert!(&rt; out.as_slice() == &TWO[8..]);
     Ok(())
 }
