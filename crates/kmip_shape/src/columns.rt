@@ -268,6 +268,9 @@ pub fn push_item<T: ReadItem>(
     ensures unread { result ≡ Err ReadError.Unread → (xs : p.List Tree) → gathered (read_of T.shape (outer_of outer.entry)) (map T.val items.old.items) (item_tree child.entry ∷ xs) ≡ None }
 {
     let value = T::read(alloc, outer, child)?;
+    if items.is_empty() {
+        items.reserve_exact(1)?;
+    }
     items.push(value)?;
     Ok(())
 }

@@ -7,10 +7,10 @@
 #![tactic(auto)]
 
 pub mod big;
+mod boxed;
 pub mod by_tag;
 pub mod children;
 pub mod columns;
-mod boxed;
 mod copies;
 mod enumeration;
 pub mod fields;
@@ -33,7 +33,7 @@ pub use copies::{copy_list, copy_optional_list};
 pub use enumeration::{Enumeration, distinct};
 pub use fields::{known_record, record_len, show_record, write_record};
 pub use item::{Item, WriteItem};
-pub use kmip_wire::{Blob, Buffer, List, OutOfMemory, Text, TryClone};
+pub use kmip_wire::{Blob, Boxed, Buffer, List, OutOfMemory, Text, TryClone};
 pub use laws::{read_back, read_selected, written};
 pub use read::{Outer, ReadError, ReadItem, ReadRoot, read_root};
 pub use record::read_record;

@@ -1,5 +1,9 @@
-use crate::{Outer, ReadError, ShowItem, Timestamp, read_list, read_one, read_opt, to_blob};
+use crate::{
+    Boxed, Outer, ReadError, ReadItem, ShowItem, Timestamp, TryClone, WriteItem, read_list,
+    read_one, read_opt, to_blob,
+};
 use kmip_wire::{Blob, ItemRef, Tag, Text};
+use std::alloc::Global;
 
 // 7C{5C i1,5C i24}
 const TWO: [u8; 40] = [
@@ -72,4 +76,33 @@ fn shown_and_written(rt: HostRuntime) {
     );
     let written = to_blob(alloc, &1i32, Tag::of(0x42005C)).expect(&rt, "a form");
     assert!(rt; written.as_slice() == &ITEM[..]);
+}
+
+// 5C "a"
+const LETTER: [u8; 16] = [
+    0x42, 0x00, 0x5C, 0x07, 0x00, 0x00, 0x00, 0x01, 0x61, 0x00, 0x00, 0x00, 0x00, 0x00, 0x00, 0x00,
+];
+
+// The item of the bytes and its copy, and the copy's bytes and text.
+fn copied<T: ReadItem + WriteItem + ShowItem + TryClone>(
+    alloc: Global,
+    bytes: &[u8],
+    shown: &mut Text,
+) -> Option<(T, T, Blob)> {
+    let item = T::read(alloc, Outer::none(), ItemRef::root(bytes)?).ok()?;
+    let copy = item.try_clone(alloc).ok()?;
+    copy.known();
+    copy.show(alloc, shown).ok()?;
+    let written = to_blob(alloc, &copy, Tag::of(0x42005C)).ok()?;
+    Some((item, copy, written))
+}
+
+#[test]
+fn an_item_in_a_block(rt: HostRuntime) {
+    let mut shown = Text::new(rt.alloc());
+    let Some((item, copy, written)) = copied::<Boxed<Text>>(rt.alloc(), &LETTER, &mut shown) else {
+        panic!(rt; "memory")
+    };
+    assert!(rt; item == copy && written.as_slice() == &LETTER[..]);
+    assert!(rt; shown.as_str() == "\"a\"" && copy.into_inner().as_str() == "a");
 }
