@@ -10,6 +10,7 @@ ghost use Rattle.kmip_client.specs.Diagnostics.{diagnostic_for, IsRequestText, I
 use crate::answered::Answered;
 use crate::error::Error;
 use crate::exchange::{exchange, serialize};
+use crate::room::{FIRST_ROOM, Room};
 use kmip_diag::PrettyPrinter;
 use kmip_link::Link;
 use kmip_request::{Authentication, RequestPayload};
@@ -69,47 +70,53 @@ fn keep<P: Drop>(
     }
 }
 
-/// Writes the request, sends it, reads its response and keeps the diagnostics of both.
+/// Writes the request, sends it, reads its response and keeps the diagnostics of both. Both messages stand in `room`.
 pub fn call<L: Link, P: Answered>(
     alloc: Global,
     link: &mut L,
-    settings: &mut Settings,
+    settings: &Settings,
     payload: RequestPayload,
     diagnostics: &mut Diagnostics,
+    room: &mut Room,
 ) -> Result<P, Error>
     requires answers { P.Answers (operation_of payload) }
     requires request { diagnostics.old.request ≡ None }
     requires response { diagnostics.old.response ≡ None }
     ensures keeps { Keeps (L.state link.old) (L.state link.new) }
-    ensures settings { settings.new ≡ settings.old }
     ensures exchange { IsTrue (L.state link.old).tells →
-        Exchanged (outcome payload (option_map credential_of settings.old.authentication) settings.old.config.max_bytes (left_for (L.state link.old) (L.state link.new)))
+        Exchanged (outcome payload (option_map credential_of settings.now.authentication) settings.now.config.max_bytes (left_for (L.state link.old) (L.state link.new)))
         (L.state link.old) (L.state link.new) (seen_by (P.val (operation_of payload)) result) }
-    ensures caused { Caused (request_bytes payload (option_map credential_of settings.old.authentication)) (operation_of payload) settings.old.config.max_bytes
+    ensures caused { Caused (request_bytes payload (option_map credential_of settings.now.authentication)) (operation_of payload) settings.now.config.max_bytes
         (L.state link.old).faults (L.state link.new).faults (seen_by (P.val (operation_of payload)) result) }
-    ensures request_text { IsRequestText settings.old.config.has_buf (request_bytes payload (option_map credential_of settings.old.authentication)) (seen_by (P.val (operation_of payload)) result) diagnostics.new.request }
+    ensures request_text { IsRequestText settings.now.config.has_buf (request_bytes payload (option_map credential_of settings.now.authentication)) (seen_by (P.val (operation_of payload)) result) diagnostics.new.request }
     ensures response_text { IsTrue (L.state link.old).tells →
-        IsResponseText settings.old.config.has_buf (take ((L.state link.new).pos - (L.state link.old).pos) (left_for (L.state link.old) (L.state link.new))) (seen_by (P.val (operation_of payload)) result) diagnostics.new.response }
-    ensures quiet { settings.old.config.has_buf ≡ false → diagnostics.new.response ≡ None }
+        IsResponseText settings.now.config.has_buf (take ((L.state link.new).pos - (L.state link.old).pos) (left_for (L.state link.old) (L.state link.new))) (seen_by (P.val (operation_of payload)) result) diagnostics.new.response }
+    ensures quiet { settings.now.config.has_buf ≡ false → diagnostics.new.response ≡ None }
 {
     let operation = payload.operation();
-    let request = match serialize(alloc, payload, &mut settings.authentication) {
-        Ok(request) => request,
+    match serialize(
+        alloc,
+        &payload,
+        &settings.authentication,
+        &mut room.request,
+    ) {
+        Ok(()) => {}
         Err(error) => return Err(error),
-    };
-    diagnostics.request = diagnostic_for(alloc, &settings.config, request.as_slice())?;
-    let mut taken = Vec::new(alloc);
+    }
+    diagnostics.request = diagnostic_for(alloc, &settings.config, room.request.as_slice())?;
+    room.taken.clear();
+    room.taken.reserve(FIRST_ROOM)?;
     let answer = exchange(
         alloc,
         link,
         &settings.config,
         operation,
-        request.as_slice(),
-        &mut taken,
+        room.request.as_slice(),
+        &mut room.taken,
     );
     if !is_read(&answer) {
         return answer;
     }
-    let made = diagnostic_for(alloc, &settings.config, &taken);
+    let made = diagnostic_for(alloc, &settings.config, &room.taken);
     keep(answer, made, &mut diagnostics.response)
 }

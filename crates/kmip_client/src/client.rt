@@ -13,6 +13,7 @@ ghost use Rattle.kmip_client.specs.Diagnostics.{IsRequestText, IsResponseText};
 use crate::answered::Answered;
 use crate::call::{Diagnostics, Settings, call};
 use crate::error::Error;
+use crate::room::Room;
 use kmip_link::Link;
 use kmip_request::{Authentication, RequestPayload};
 use kmip_response::ResponsePayload;
@@ -27,6 +28,7 @@ pub struct Client<T> {
     settings: Settings,
     errors: u8,
     diagnostics: Diagnostics,
+    room: Option<Room>,
 }
 
 impl<T> Model for Client<T> {
@@ -55,6 +57,7 @@ impl<T> Client<T> {
                 request: None,
                 response: None,
             },
+            room: None,
         }
     }
 
@@ -166,13 +169,16 @@ impl<T: Link> Client<T> {
             request: None,
             response: None,
         };
+        let mut room = Room::again(self.room.take(), alloc);
         let answer = call(
             alloc,
             &mut self.link,
-            &mut self.settings,
+            &self.settings,
             payload,
             &mut self.diagnostics,
+            &mut room,
         );
+        self.room = room.kept();
         self.errors = counted(self.errors, loses_connection(&answer));
         answer
     }

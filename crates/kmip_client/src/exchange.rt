@@ -14,22 +14,22 @@ use crate::message::read_message;
 use crate::transfer::write_all;
 use kmip_enums::Operation;
 use kmip_link::{Link, LinkError};
-use kmip_request::{Authentication, RequestPayload, write_request};
-use kmip_wire::{Blob, Config, Text, WireError};
+use kmip_request::{Authentication, RequestPayload, write_request_into};
+use kmip_wire::{Buffer, Config, Text, WireError};
 use std::alloc::Global;
 
-/// The one canonical message of a request.
+/// Writes the one canonical message of a request, in place of what was in the buffer.
 pub fn serialize(
     alloc: Global,
-    payload: RequestPayload,
-    authentication: &mut Option<Authentication>,
-) -> Result<Blob, Error>
-    ensures kept { authentication.new ≡ authentication.old }
-    ensures ok { IfOk result (λ b. request_bytes payload (option_map credential_of authentication.old) ≡ Some b) }
-    ensures err { IfErr result (λ e. ((e ≡ SerializeError (codes "request has no wire form")) × (request_bytes payload (option_map credential_of authentication.old) ≡ None)) ⊎ (e ≡ OutOfMemory)) }
+    payload: &RequestPayload,
+    authentication: &Option<Authentication>,
+    out: &mut Buffer,
+) -> Result<(), Error>
+    ensures ok { OnOk result (request_bytes payload.now (option_map credential_of authentication.now) ≡ Some out.new.bytes) }
+    ensures err { IfErr result (λ e. ((e ≡ SerializeError (codes "request has no wire form")) × (request_bytes payload.now (option_map credential_of authentication.now) ≡ None)) ⊎ (e ≡ OutOfMemory)) }
 {
-    match write_request(alloc, payload, authentication) {
-        Ok(request) => Ok(request),
+    match write_request_into(payload, authentication, out) {
+        Ok(()) => Ok(()),
         Err(WireError::OutOfMemory) => Err(Error::OutOfMemory),
         Err(_) => Err(Error::SerializeError(Text::of(alloc, "request has no wire form")?)),
     }
@@ -70,6 +70,6 @@ pub fn exchange<L: Link, P: Answered>(
         Ok(()) => {}
         Err(error) => return Err(error),
     }
-    let read = read_message(alloc, link, config, taken);
+    let read = read_message(link, config, taken);
     answer_to(alloc, operation, taken, read)
 }

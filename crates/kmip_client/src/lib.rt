@@ -17,6 +17,7 @@ mod helpers;
 mod laws;
 mod message;
 mod requests;
+mod room;
 mod session;
 #[cfg(test)]
 mod session_tests;
