@@ -76,8 +76,10 @@ impl Buffer {
         requires { length bytes.now ≤ self.old.spare }
         ensures { Appends self.old self.new bytes.now (length bytes.now) }
     {
-        let _ = self.bytes.extend_from_slice(bytes);
-        self.spare -= bytes.len();
+        match self.bytes.extend_from_slice(bytes) {
+            Ok(()) => self.spare -= bytes.len(),
+            Err(_) => unreachable!(),
+        }
     }
 
     /// Its bytes.

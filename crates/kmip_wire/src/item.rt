@@ -70,7 +70,7 @@ impl<'a> ItemRef<'a> {
     {
         match Kind::from_code(self.bytes[3]) {
             Some(kind) => kind,
-            None => Kind::Structure,
+            None => unreachable!(),
         }
     }
 
@@ -139,7 +139,7 @@ impl<'a> ItemRef<'a> {
         match self.kind() {
             Kind::TextString => match str::from_utf8(self.value()) {
                 Ok(text) => Some(text),
-                Err(_) => None,
+                Err(_) => unreachable!(),
             },
             _ => None,
         }
