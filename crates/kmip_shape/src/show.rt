@@ -23,7 +23,7 @@ pub trait ShowItem: Item {
         ensures all { OnOk result (out.new ≡ out.old ++ shown Self.shape (Self.val self.now)) }
         ensures part { AddsPart out.old out.new (shown Self.shape (Self.val self.now)) }
     {
-        let mut sink = Sink::over(alloc, mem::replace(out, Text::new(alloc)));
+        let mut sink = Sink::over(mem::replace(out, Text::new(alloc)));
         self.show_into(&mut sink);
         let (text, live) = sink.into_text();
         *out = text;

@@ -5,41 +5,15 @@ ghost use Rattle.std.specs.Fmt.{decimal, signed_decimal};
 ghost use Rattle.std.specs.Char.{encode_utf8};
 ghost use Rattle.kmip_shape.specs.Shown.{Grows, comma, escaped, hex_byte, hex_digit, text_shown, bytes_shown, truth_shown};
 
+use itoa::Buffer as Digits;
 use kmip_wire::Text;
-use std::alloc::Global;
 use std::marker::Model;
-
-/// A digit in upper-case hex.
-fn hex_digit(digit: u8) -> &'static str
-    requires { digit < 16 }
-    ensures { result.now ≡ hex_digit digit ∷ [] }
-{
-    match digit {
-        0 => "0",
-        1 => "1",
-        2 => "2",
-        3 => "3",
-        4 => "4",
-        5 => "5",
-        6 => "6",
-        7 => "7",
-        8 => "8",
-        9 => "9",
-        10 => "A",
-        11 => "B",
-        12 => "C",
-        13 => "D",
-        14 => "E",
-        _ => "F",
-    }
-}
 
 /// A text that grows until memory runs out, and then no more.
 #[derive(Drop)]
 pub struct Sink {
     text: Text,
     live: bool,
-    alloc: Global,
 }
 
 impl Model for Sink {
@@ -52,18 +26,14 @@ impl Model for Sink {
 
 impl Sink {
     /// A text that grows further.
-    pub fn over(alloc: Global, text: Text) -> Sink
+    pub(crate) fn over(text: Text) -> Sink
         ensures { result ≡ record { text = text; live = true } }
     {
-        Sink {
-            text,
-            live: true,
-            alloc,
-        }
+        Sink { text, live: true }
     }
 
     /// The text, and whether memory sufficed.
-    pub fn into_text(self) -> (Text, bool)
+    pub(crate) fn into_text(self) -> (Text, bool)
         ensures text { result.0 ≡ self.text }
         ensures live { result.1 ≡ self.live }
     {
@@ -98,10 +68,7 @@ impl Sink {
     pub fn put_signed(&mut self, number: i64)
         ensures { Grows self.old self.new (signed_decimal number) }
     {
-        match format!(in self.alloc; "{number}") {
-            Ok(text) => self.put(text.as_str()),
-            Err(_) => self.live = false,
-        }
+        self.put(Digits::new().format(number));
     }
 
     /// An unsigned number, in decimal.
@@ -109,10 +76,7 @@ impl Sink {
     pub fn put_unsigned(&mut self, number: u64)
         ensures { Grows self.old self.new (decimal number) }
     {
-        match format!(in self.alloc; "{number}") {
-            Ok(text) => self.put(text.as_str()),
-            Err(_) => self.live = false,
-        }
+        self.put(Digits::new().format(number));
     }
 
     /// A truth value.
@@ -122,12 +86,41 @@ impl Sink {
         self.put(if truth { "true" } else { "false" });
     }
 
+    /// Room for so many bytes more, if memory suffices.
+    #[tactic(auto, using(crate::proofs::Growth::growth))]
+    fn reserve(&mut self, more: usize)
+        ensures { Grows self.old self.new [] }
+    {
+        if self.live {
+            self.live = self.text.reserve(more).is_ok();
+        }
+    }
+
+    /// A digit in upper-case hex.
+    #[tactic(auto, using(crate::proofs::Growth::growth))]
+    #[inline(always)]
+    fn put_digit(&mut self, digit: u8)
+        requires { digit < 16 }
+        ensures { Grows self.old self.new (hex_digit digit ∷ []) }
+    {
+        let code = if digit < 10 {
+            b'0' + digit
+        } else {
+            b'A' - 10 + digit
+        };
+        if self.live {
+            self.live = self.text.push(code as char).is_ok();
+        }
+    }
+
     /// A byte, as two digits.
+    #[tactic(auto, using(crate::proofs::Growth::growth))]
+    #[inline(always)]
     fn put_hex(&mut self, byte: u8)
         ensures { Grows self.old self.new (hex_byte byte) }
     {
-        self.put(hex_digit(byte / 16));
-        self.put(hex_digit(byte % 16));
+        self.put_digit(byte / 16);
+        self.put_digit(byte % 16);
     }
 
     /// A byte as `\x` and two digits.
@@ -183,6 +176,7 @@ impl Sink {
     pub fn put_bytes(&mut self, bytes: &[u8])
         ensures { Grows self.old self.new (bytes_shown bytes.now) }
     {
+        self.reserve(bytes.len().saturating_mul(2));
         self.put("x\"");
         self.put_digits(bytes);
         self.put("\"");
