@@ -94,12 +94,7 @@ pub fn call<L: Link, P: Answered>(
     ensures quiet { settings.now.config.has_buf ≡ false → diagnostics.new.response ≡ None }
 {
     let operation = payload.operation();
-    match serialize(
-        alloc,
-        &payload,
-        &settings.authentication,
-        &mut room.request,
-    ) {
+    match serialize(alloc, &payload, &settings.authentication, &mut room.request) {
         Ok(()) => {}
         Err(error) => return Err(error),
     }

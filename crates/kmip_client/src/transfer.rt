@@ -57,11 +57,7 @@ pub fn write_all<L: Link>(link: &mut L, bytes: &[u8]) -> Result<(), LinkError>
 }
 
 /// Reads at most `room` bytes into their place, at the end of `taken`.
-fn read_piece<L: Link>(
-    link: &mut L,
-    room: usize,
-    taken: &mut Vec<u8>,
-) -> Result<usize, ReadStop>
+fn read_piece<L: Link>(link: &mut L, room: usize, taken: &mut Vec<u8>) -> Result<usize, ReadStop>
     requires some { 0 < room }
     requires small { room ≤ 65536 }
     ensures keeps { Keeps (L.state link.old) (L.state link.new) }
@@ -95,11 +91,7 @@ fn read_piece<L: Link>(
 }
 
 /// Reads `count` bytes to the end of `taken`, in pieces of at most 65,536. Room is taken only piece by piece.
-pub fn read_more<L: Link>(
-    link: &mut L,
-    count: usize,
-    taken: &mut Vec<u8>,
-) -> Result<(), ReadStop>
+pub fn read_more<L: Link>(link: &mut L, count: usize, taken: &mut Vec<u8>) -> Result<(), ReadStop>
     ensures keeps { Keeps (L.state link.old) (L.state link.new) }
     ensures kept { take (length taken.old.items) taken.new.items ≡ taken.old.items }
     ensures grown { OnOk result (vec_len taken.new ≡ vec_len taken.old + count) }

@@ -10,6 +10,7 @@ use kmip_wire::{OutOfMemory, Text};
 use std::alloc::Global;
 
 /// Adds `- ` and the error as a line.
+#[tactic(auto, using(std::proofs::lemmas::List::append_assoc))]
 fn show_error(error: &Error, line: &mut Text) -> Result<bool, OutOfMemory>
     ensures shown { OnOk result (line.new ≡ line.old ++ (codes "- " ++ (error_shown error.now ++ codes "\n"))) }
     ensures failed { IfOk result (λ failed. failed ≡ true) }
@@ -53,10 +54,7 @@ pub fn show<P: ShowItem + Drop>(
 }
 
 /// The same where there is nothing to tell but that it was done.
-pub fn show_done(
-    answer: Result<(), Error>,
-    line: &mut Text,
-) -> Result<bool, OutOfMemory>
+pub fn show_done(answer: Result<(), Error>, line: &mut Text) -> Result<bool, OutOfMemory>
     ensures { IfOk result (λ failed. Shows (λ done. codes "()") answer failed line.old line.new) }
 {
     match answer {
