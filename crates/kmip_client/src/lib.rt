@@ -19,14 +19,14 @@ mod message;
 mod requests;
 mod room;
 mod session;
-#[cfg(test)]
-mod session_tests;
-#[cfg(test)]
-mod tests;
 mod transfer;
 
 pub use builder::ClientBuilder;
 pub use client::Client;
 pub use error::{Error, Result};
-pub use laws::{diagnostics_of_sessions, messages_are_answered_in_order};
+pub use kmip_request as request;
+pub use kmip_response as response;
+pub use laws::{
+    diagnostics_of_sessions, messages_are_answered_in_order,
+};
 pub use session::{Answers, Exchange, exchange_all};
