@@ -258,7 +258,7 @@ impl<'a, T: ReadItem, const TAG: u32> Column<'a> for ChosenOne<'a, T, TAG> {
 
 /// Reads a further item of a row of many.
 #[tactic(auto, using(crate::proofs::Gathered::gathering))]
-pub fn push_item<T: ReadItem>(
+pub(crate) fn push_item<T: ReadItem>(
     items: &mut Vec<T>,
     alloc: Global,
     outer: Outer<'_>,

@@ -1,6 +1,6 @@
 //! What values are shown into.
 
-ghost use Rattle.std.specs.Prelude.{◌≡◌, ◌++◌, ◌<◌, ◌∷◌, [], true, flat_map};
+ghost use Rattle.std.specs.Prelude.{◌≡◌, ◌++◌, ◌*◌, ◌<◌, ◌≤◌, ◌∷◌, [], true, flat_map, length, take, IsAscii};
 ghost use Rattle.std.specs.Fmt.{decimal, signed_decimal};
 ghost use Rattle.std.specs.Char.{encode_utf8};
 ghost use Rattle.kmip_shape.specs.Shown.{Grows, comma, escaped, hex_byte, hex_digit, text_shown, bytes_shown, truth_shown};
@@ -8,6 +8,36 @@ ghost use Rattle.kmip_shape.specs.Shown.{Grows, comma, escaped, hex_byte, hex_di
 use itoa::Buffer as Digits;
 use kmip_wire::Text;
 use std::marker::Model;
+use std::str;
+
+/// How many bytes are shown at once.
+const BLOCK: usize = 32;
+
+/// A digit in upper-case hex.
+#[inline(always)]
+fn hex_digit(digit: u8) -> u8
+    requires { digit < 16 }
+    ensures digit { result ≡ hex_digit digit }
+    ensures ascii { result < 128 }
+{
+    if digit < 10 {
+        b'0' + digit
+    } else {
+        b'A' - 10 + digit
+    }
+}
+
+/// Writes the digits of bytes from the start on.
+fn write_digits(bytes: &[u8], out: &mut [u8])
+    requires { 2 * length bytes.now ≤ length out.old }
+    ensures digits { take (2 * length bytes.now) out.new ≡ flat_map hex_byte bytes.now }
+    ensures ascii { IsAscii (flat_map hex_byte bytes.now) }
+{
+    for i in 0..bytes.len() {
+        out[2 * i] = hex_digit(bytes[i] / 16);
+        out[2 * i + 1] = hex_digit(bytes[i] % 16);
+    }
+}
 
 /// A text that grows until memory runs out, and then no more.
 #[derive(Drop)]
@@ -42,6 +72,7 @@ impl Sink {
 
     /// Appends the text, if memory suffices.
     #[tactic(auto, using(crate::proofs::Growth::growth))]
+    #[inline(always)]
     pub fn put(&mut self, text: &str)
         ensures { Grows self.old self.new text.now }
     {
@@ -50,6 +81,17 @@ impl Sink {
                 Ok(()) => {}
                 Err(_) => self.live = false,
             }
+        }
+    }
+
+    /// Appends the character, if memory suffices.
+    #[tactic(auto, using(crate::proofs::Growth::growth))]
+    #[inline(always)]
+    fn put_char(&mut self, ch: char)
+        ensures { Grows self.old self.new (encode_utf8 ch) }
+    {
+        if self.live {
+            self.live = self.text.push(ch).is_ok();
         }
     }
 
@@ -96,39 +138,12 @@ impl Sink {
         }
     }
 
-    /// A digit in upper-case hex.
-    #[tactic(auto, using(crate::proofs::Growth::growth))]
-    #[inline(always)]
-    fn put_digit(&mut self, digit: u8)
-        requires { digit < 16 }
-        ensures { Grows self.old self.new (hex_digit digit ∷ []) }
-    {
-        let code = if digit < 10 {
-            b'0' + digit
-        } else {
-            b'A' - 10 + digit
-        };
-        if self.live {
-            self.live = self.text.push(code as char).is_ok();
-        }
-    }
-
-    /// A byte, as two digits.
-    #[tactic(auto, using(crate::proofs::Growth::growth))]
-    #[inline(always)]
-    fn put_hex(&mut self, byte: u8)
-        ensures { Grows self.old self.new (hex_byte byte) }
-    {
-        self.put_digit(byte / 16);
-        self.put_digit(byte % 16);
-    }
-
     /// A byte as `\x` and two digits.
     fn put_control(&mut self, byte: u8)
         ensures { Grows self.old self.new (92 ∷ 120 ∷ hex_byte byte) }
     {
         self.put("\\x");
-        self.put_hex(byte);
+        self.put_block(&[byte]);
     }
 
     /// A character of a text in double quotes.
@@ -141,7 +156,7 @@ impl Sink {
             '\\' => self.put("\\\\"),
             '\0'..='\x1f' => self.put_control(ch as u8),
             '\x7f' => self.put("\\x7F"),
-            _ => self.put(ch.encode_utf8(&mut [0; 4])),
+            _ => self.put_char(ch),
         }
     }
 
@@ -163,13 +178,30 @@ impl Sink {
         self.put("\"");
     }
 
+    /// The digits of bytes that are shown at once.
+    fn put_block(&mut self, bytes: &[u8])
+        requires { length bytes.now ≤ 32 }
+        ensures { Grows self.old self.new (flat_map hex_byte bytes.now) }
+    {
+        let mut digits = [0; 2 * BLOCK];
+        write_digits(bytes, &mut digits);
+        match str::from_utf8(&digits[..2 * bytes.len()]) {
+            Ok(text) => self.put(text),
+            Err(_) => unreachable!(),
+        }
+    }
+
     /// The digits of bytes.
     fn put_digits(&mut self, bytes: &[u8])
         ensures { Grows self.old self.new (flat_map hex_byte bytes.now) }
     {
-        for byte in bytes {
-            self.put_hex(*byte);
+        let mut rest = bytes;
+        while rest.len() > BLOCK {
+            let (first, tail) = rest.split_at(BLOCK);
+            self.put_block(first);
+            rest = tail;
         }
+        self.put_block(rest);
     }
 
     /// Bytes as `x"` hex `"`.

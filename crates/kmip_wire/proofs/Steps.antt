@@ -1,7 +1,7 @@
 -- What the item at the front says of bytes that are to be items.
 use Rattle.std.proofs.Common.{◌≡◌, ◌≢◌, ℕ, zero, suc, ◌+◌, ◌-◌, ◌%◌, ◌≤◌, ◌<◌, Bool, true, false, ◌&&◌, eqb, List, [], ◌∷◌, length, take, drop, inl, inr, Option, Some, None, refl, sym, ap, subst, ◌∙◌, arith}
 use Rattle.std.specs.Option.{is_some}
-use Rattle.std.proofs.lemmas.Bool.{false≢true, eqb-true}
+use Rattle.std.proofs.lemmas.Bool.{eqb-true}
 use Rattle.std.proofs.lemmas.Bool.Decides.{leb_tells}
 use Rattle.std.proofs.lemmas.Option.{none-some}
 use Rattle.std.proofs.lemmas.List.{length-drop, length-take, drop-drop}
@@ -11,7 +11,7 @@ use Rattle.kmip_wire.specs.Tree.{Tree, Trees, more}
 use Rattle.kmip_wire.specs.Kinds.{kind_of}
 use Rattle.kmip_wire.specs.Head.{head_tag, head_code, head_length, size_at, value_of}
 use Rattle.kmip_wire.specs.Reading.{items_by, item_of, items_of, joined, well_formed, scalar_at, is_whole, node_at}
-use Rattle.kmip_wire.specs.Open.{NoItems, Passes, Opens, IsWord}
+use Rattle.kmip_wire.specs.Open.{NoItems, Passes, Opens}
 use Rattle.kmip_wire.proofs.Values.{chosen}
 use Rattle.kmip_wire.proofs.Computed.{items_by-fuel, is_some-map, item_step_says, items_stop, front_short, front_deep, is_whole-says, some_of, size_at-take, take_take}
 

@@ -196,6 +196,10 @@ pub fn front_len(bytes: &[u8]) -> Option<usize>
 }
 
 /// Whether the bytes are one well-formed item and nothing more. It takes no memory.
+///
+/// It passes over the bytes once, and looks at each head, each Boolean and each text, pads included: not at other
+/// values. A text of ASCII is looked at once. Another is read as UTF-8 from its start, after its words of eight bytes
+/// up to the first character past ASCII were looked at.
 pub fn check(bytes: &[u8]) -> bool
     ensures { IsTrue result ↔ ((tree : Tree) × Parses tree 1 bytes.now) }
 {

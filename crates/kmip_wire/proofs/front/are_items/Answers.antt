@@ -8,7 +8,7 @@ use Rattle.kmip_wire.specs.Reading.{items_of}
 use Rattle.kmip_wire.specs.Open.{State}
 use Rattle.kmip_wire.proofs.Steps.{none_left, tells_short, tells_unknown, tells_ragged, tells_open, empty}
 use Rattle.kmip_wire.proofs.Words.{unknown, size, passes_word}
-use Rattle.kmip_wire.proofs.Closings.{start, whole, found_malformed, found_item, found_deepest, found_open, found_end, found_all}
+use Rattle.kmip_wire.proofs.Closings.{start, whole, found_malformed, found_item, found_deepest, found_open, found_end}
 use Rattle.kmip_wire.proofs.front.are_items.Goals.{then-left-lt8-via-then-left-lt8, then-left-lt8-via-else-left-lt8+then-front-gt10, then-length-ne0-via-then-length-ne0, then-length-ne0-via-else-length-ne0+then-length-left}
 use Rattle.kmip_wire.proofs.front.are_items.Goals as goal
 
