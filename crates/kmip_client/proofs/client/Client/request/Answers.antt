@@ -1,7 +1,5 @@
-use Rattle.std.proofs.Common.{◌∙◌, ap, IsTrue, Bool}
-use Rattle.std.specs.Option.{option_map}
+use Rattle.std.proofs.Common.{◌∙◌, ap, refl, IsTrue, Bool}
 use Rattle.kmip_request.specs.Message.{request_bytes, operation_of, credential_of}
-use Rattle.kmip_client.specs.declared.call.Settings.{Settings}
 use Rattle.kmip_client.specs.Client.{counted}
 use Rattle.kmip_client.specs.Outcome.{seen_by, outcome, left_for, Exchanged}
 use Rattle.kmip_client.proofs.Headlines.{headline, seen_variant}
@@ -20,9 +18,9 @@ returns-clause-call g c =
       caused = rw (← c.self.view_is) e.caused;
       headline = λ tells. headline (request_bytes c.args.payload c.args.self.now.credential) (operation_of c.args.payload) c.args.self.now.limit _ (exchange tells);
       keeps = rw (← c.self.view_is) e.keeps;
-      credential = rw (← c.self.view_is) (ap (λ (s : Settings). option_map credential_of s.authentication) e.settings);
-      limit = rw (← c.self.view_is) (ap (λ (s : Settings). s.config.max_bytes) e.settings);
-      buffered = rw (← c.self.view_is) (ap (λ (s : Settings). s.config.has_buf) e.settings);
+      credential = rw (← c.self.view_is) refl;
+      limit = rw (← c.self.view_is) refl;
+      buffered = rw (← c.self.view_is) refl;
       count = rw (← c.self.view_is) (c.counted-self-inside.ensures ∙ ap (λ (lost : Bool). counted c.self.inside.errors lost) (c.loses_connection.ensures (g.P.Answered.val (operation_of c.args.payload))));
       request_text = rw (← c.self.view_is) e.request_text;
       response_text = rw (← c.self.view_is) e.response_text;
