@@ -75,26 +75,26 @@ pub fn call<L: Link, P: Answered>(
     alloc: Global,
     link: &mut L,
     settings: &Settings,
-    payload: RequestPayload,
+    payload: &RequestPayload,
     diagnostics: &mut Diagnostics,
     room: &mut Room,
 ) -> Result<P, Error>
-    requires answers { P.Answers (operation_of payload) }
+    requires answers { P.Answers (operation_of payload.now) }
     requires request { diagnostics.old.request ≡ None }
     requires response { diagnostics.old.response ≡ None }
     ensures keeps { Keeps (L.state link.old) (L.state link.new) }
     ensures exchange { IsTrue (L.state link.old).tells →
-        Exchanged (outcome payload (option_map credential_of settings.now.authentication) settings.now.config.max_bytes (left_for (L.state link.old) (L.state link.new)))
-        (L.state link.old) (L.state link.new) (seen_by (P.val (operation_of payload)) result) }
-    ensures caused { Caused (request_bytes payload (option_map credential_of settings.now.authentication)) (operation_of payload) settings.now.config.max_bytes
-        (L.state link.old).faults (L.state link.new).faults (seen_by (P.val (operation_of payload)) result) }
-    ensures request_text { IsRequestText settings.now.config.has_buf (request_bytes payload (option_map credential_of settings.now.authentication)) (seen_by (P.val (operation_of payload)) result) diagnostics.new.request }
+        Exchanged (outcome payload.now (option_map credential_of settings.now.authentication) settings.now.config.max_bytes (left_for (L.state link.old) (L.state link.new)))
+        (L.state link.old) (L.state link.new) (seen_by (P.val (operation_of payload.now)) result) }
+    ensures caused { Caused (request_bytes payload.now (option_map credential_of settings.now.authentication)) (operation_of payload.now) settings.now.config.max_bytes
+        (L.state link.old).faults (L.state link.new).faults (seen_by (P.val (operation_of payload.now)) result) }
+    ensures request_text { IsRequestText settings.now.config.has_buf (request_bytes payload.now (option_map credential_of settings.now.authentication)) (seen_by (P.val (operation_of payload.now)) result) diagnostics.new.request }
     ensures response_text { IsTrue (L.state link.old).tells →
-        IsResponseText settings.now.config.has_buf (take ((L.state link.new).pos - (L.state link.old).pos) (left_for (L.state link.old) (L.state link.new))) (seen_by (P.val (operation_of payload)) result) diagnostics.new.response }
+        IsResponseText settings.now.config.has_buf (take ((L.state link.new).pos - (L.state link.old).pos) (left_for (L.state link.old) (L.state link.new))) (seen_by (P.val (operation_of payload.now)) result) diagnostics.new.response }
     ensures quiet { settings.now.config.has_buf ≡ false → diagnostics.new.response ≡ None }
 {
     let operation = payload.operation();
-    match serialize(alloc, &payload, &settings.authentication, &mut room.request) {
+    match serialize(alloc, payload, &settings.authentication, &mut room.request) {
         Ok(()) => {}
         Err(error) => return Err(error),
     }

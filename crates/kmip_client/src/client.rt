@@ -152,18 +152,18 @@ impl<T: Link> Client<T> {
             IsResponseText self.old.buffered (take ((T.state self.new.link).pos - (T.state self.old.link).pos) (left_for (T.state self.old.link) (T.state self.new.link))) (seen result) self.new.response_text }
         ensures quiet { self.old.buffered ≡ false → self.new.response_text ≡ None }
     {
-        self.request(alloc, payload)
+        self.request(alloc, &payload)
     }
 
     /// The same, over any payload that a call answers.
     pub(crate) fn request<P: Answered>(
         &mut self,
         alloc: Global,
-        payload: RequestPayload,
+        payload: &RequestPayload,
     ) -> Result<P, Error>
-        requires { P.Answers (operation_of payload) }
-        ensures call { IsCall T.state payload self.old self.new (seen_by (P.val (operation_of payload)) result) }
-        ensures variant { IfOk result (λ answer. IsOfOperation (operation_of payload) (P.val (operation_of payload) answer)) }
+        requires { P.Answers (operation_of payload.now) }
+        ensures call { IsCall T.state payload.now self.old self.new (seen_by (P.val (operation_of payload.now)) result) }
+        ensures variant { IfOk result (λ answer. IsOfOperation (operation_of payload.now) (P.val (operation_of payload.now) answer)) }
     {
         self.diagnostics = Diagnostics {
             request: None,

@@ -74,7 +74,7 @@ fn exchanges<T: Link, P: AnsweredByAny>(
     P::answers_any();
     let mut exchanges = List::new(alloc);
     for payload in payloads {
-        let answer = client.request(alloc, payload);
+        let answer = client.request(alloc, &payload);
         if lacks_memory(&answer) {
             return Err(Error::OutOfMemory);
         }

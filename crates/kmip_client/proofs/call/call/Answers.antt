@@ -7,7 +7,7 @@ use Rattle.kmip_client.proofs.call.call.Goals as goal
 
 pub returns-in-Err-clause-exchange : goal.returns-in-Err-clause-exchange
 returns-in-Err-clause-exchange g c = λ tells.
-    serialize_stopped (request_bytes c.args.payload (option_map credential_of c.args.settings.now.authentication)) (operation_of c.args.payload) c.args.settings.now.config.max_bytes _ _ c.in-Err.error c.in-Err.ensures.err
+    serialize_stopped (request_bytes c.args.payload.now (option_map credential_of c.args.settings.now.authentication)) (operation_of c.args.payload.now) c.args.settings.now.config.max_bytes _ _ c.in-Err.error c.in-Err.ensures.err
 
 pub returns-in_err-diagnostics-clause-exchange : goal.returns-in_err-diagnostics-clause-exchange
 returns-in_err-diagnostics-clause-exchange g c = λ tells.
@@ -21,24 +21,24 @@ returns-in_err-reserve-clause-exchange g c = λ tells.
 
 pub returns-then-not-is_read-clause-exchange : goal.returns-then-not-is_read-clause-exchange
 returns-then-not-is_read-clause-exchange g c = λ tells.
-    of_request (λ operation. seen_by (g.P.Answered.val operation) c.exchange-answer.result) (request_bytes c.args.payload (option_map credential_of c.args.settings.now.authentication)) c.serialize.new.out.bytes c.as_slice-2.result.now (operation_of c.args.payload) c.operation-operation.result c.args.settings.now.config.max_bytes _
+    of_request (λ operation. seen_by (g.P.Answered.val operation) c.exchange-answer.result) (request_bytes c.args.payload.now (option_map credential_of c.args.settings.now.authentication)) c.serialize.new.out.bytes c.as_slice-2.result.now (operation_of c.args.payload.now) c.operation-operation.result c.args.settings.now.config.max_bytes _
     c.in-Ok.ensures.ok c.as_slice-2.ensures c.operation-operation.ensures (c.exchange-answer.ensures.exchange tells)
 
 pub returns-then-not-is_read-clause-caused : goal.returns-then-not-is_read-clause-caused
 returns-then-not-is_read-clause-caused g c =
-    caused_by (λ operation. seen_by (g.P.Answered.val operation) c.exchange-answer.result) (request_bytes c.args.payload (option_map credential_of c.args.settings.now.authentication)) c.serialize.new.out.bytes c.as_slice-2.result.now (operation_of c.args.payload) c.operation-operation.result c.args.settings.now.config.max_bytes
+    caused_by (λ operation. seen_by (g.P.Answered.val operation) c.exchange-answer.result) (request_bytes c.args.payload.now (option_map credential_of c.args.settings.now.authentication)) c.serialize.new.out.bytes c.as_slice-2.result.now (operation_of c.args.payload.now) c.operation-operation.result c.args.settings.now.config.max_bytes
     c.in-Ok.ensures.ok c.as_slice-2.ensures c.operation-operation.ensures c.exchange-answer.ensures.caused
 
 pub returns-clause-exchange : goal.returns-clause-exchange
 returns-clause-exchange g c = λ tells.
-    kept_exchanged (seen_by (g.P.Answered.val (operation_of c.args.payload)) c.exchange-answer.result) (seen_by (g.P.Answered.val (operation_of c.args.payload)) c.keep.result)
-    (kept_is (g.P.Answered.val (operation_of c.args.payload)) _ _ c.keep.ensures)
-    (of_request (λ operation. seen_by (g.P.Answered.val operation) c.exchange-answer.result) (request_bytes c.args.payload (option_map credential_of c.args.settings.now.authentication)) c.serialize.new.out.bytes c.as_slice-2.result.now (operation_of c.args.payload) c.operation-operation.result c.args.settings.now.config.max_bytes _
+    kept_exchanged (seen_by (g.P.Answered.val (operation_of c.args.payload.now)) c.exchange-answer.result) (seen_by (g.P.Answered.val (operation_of c.args.payload.now)) c.keep.result)
+    (kept_is (g.P.Answered.val (operation_of c.args.payload.now)) _ _ c.keep.ensures)
+    (of_request (λ operation. seen_by (g.P.Answered.val operation) c.exchange-answer.result) (request_bytes c.args.payload.now (option_map credential_of c.args.settings.now.authentication)) c.serialize.new.out.bytes c.as_slice-2.result.now (operation_of c.args.payload.now) c.operation-operation.result c.args.settings.now.config.max_bytes _
     c.in-Ok.ensures.ok c.as_slice-2.ensures c.operation-operation.ensures (c.exchange-answer.ensures.exchange tells))
 
 pub returns-clause-caused : goal.returns-clause-caused
 returns-clause-caused g c =
-    kept_caused (seen_by (g.P.Answered.val (operation_of c.args.payload)) c.exchange-answer.result) (seen_by (g.P.Answered.val (operation_of c.args.payload)) c.keep.result)
-    (kept_is (g.P.Answered.val (operation_of c.args.payload)) _ _ c.keep.ensures)
-    (caused_by (λ operation. seen_by (g.P.Answered.val operation) c.exchange-answer.result) (request_bytes c.args.payload (option_map credential_of c.args.settings.now.authentication)) c.serialize.new.out.bytes c.as_slice-2.result.now (operation_of c.args.payload) c.operation-operation.result c.args.settings.now.config.max_bytes
+    kept_caused (seen_by (g.P.Answered.val (operation_of c.args.payload.now)) c.exchange-answer.result) (seen_by (g.P.Answered.val (operation_of c.args.payload.now)) c.keep.result)
+    (kept_is (g.P.Answered.val (operation_of c.args.payload.now)) _ _ c.keep.ensures)
+    (caused_by (λ operation. seen_by (g.P.Answered.val operation) c.exchange-answer.result) (request_bytes c.args.payload.now (option_map credential_of c.args.settings.now.authentication)) c.serialize.new.out.bytes c.as_slice-2.result.now (operation_of c.args.payload.now) c.operation-operation.result c.args.settings.now.config.max_bytes
     c.in-Ok.ensures.ok c.as_slice-2.ensures c.operation-operation.ensures c.exchange-answer.ensures.caused)

@@ -10,18 +10,18 @@ pub returns-clause-call : goal.returns-clause-call
 returns-clause-call g c =
     let e = c.call-answer.ensures in
     let exchange : IsTrue (g.T.Link.state c.args.self.now.link).tells →
-    Exchanged (outcome c.args.payload c.args.self.now.credential c.args.self.now.limit (left_for (g.T.Link.state c.args.self.now.link) (g.T.Link.state c.call-answer.new.link)))
-    (g.T.Link.state c.args.self.now.link) (g.T.Link.state c.call-answer.new.link) (seen_by (g.P.Answered.val (operation_of c.args.payload)) c.call-answer.result) =
+    Exchanged (outcome c.args.payload.now c.args.self.now.credential c.args.self.now.limit (left_for (g.T.Link.state c.args.self.now.link) (g.T.Link.state c.call-answer.new.link)))
+    (g.T.Link.state c.args.self.now.link) (g.T.Link.state c.call-answer.new.link) (seen_by (g.P.Answered.val (operation_of c.args.payload.now)) c.call-answer.result) =
     rw (← c.self.view_is) e.exchange in
     record {
       exchange = exchange;
       caused = rw (← c.self.view_is) e.caused;
-      headline = λ tells. headline (request_bytes c.args.payload c.args.self.now.credential) (operation_of c.args.payload) c.args.self.now.limit _ (exchange tells);
+      headline = λ tells. headline (request_bytes c.args.payload.now c.args.self.now.credential) (operation_of c.args.payload.now) c.args.self.now.limit _ (exchange tells);
       keeps = rw (← c.self.view_is) e.keeps;
       credential = rw (← c.self.view_is) refl;
       limit = rw (← c.self.view_is) refl;
       buffered = rw (← c.self.view_is) refl;
-      count = rw (← c.self.view_is) (c.counted-self-inside.ensures ∙ ap (λ (lost : Bool). counted c.self.inside.errors lost) (c.loses_connection.ensures (g.P.Answered.val (operation_of c.args.payload))));
+      count = rw (← c.self.view_is) (c.counted-self-inside.ensures ∙ ap (λ (lost : Bool). counted c.self.inside.errors lost) (c.loses_connection.ensures (g.P.Answered.val (operation_of c.args.payload.now))));
       request_text = rw (← c.self.view_is) e.request_text;
       response_text = rw (← c.self.view_is) e.response_text;
       quiet = rw (← c.self.view_is) e.quiet;
@@ -29,4 +29,4 @@ returns-clause-call g c =
 
 pub returns-clause-variant : goal.returns-clause-variant
 returns-clause-variant g c =
-    seen_variant (g.P.Answered.val (operation_of c.args.payload)) (request_bytes c.args.payload c.args.self.now.credential) (operation_of c.args.payload) c.args.self.now.limit c.call-answer.result (returns-clause-call g c).caused
+    seen_variant (g.P.Answered.val (operation_of c.args.payload.now)) (request_bytes c.args.payload.now c.args.self.now.credential) (operation_of c.args.payload.now) c.args.self.now.limit c.call-answer.result (returns-clause-call g c).caused
