@@ -25,7 +25,5 @@ pub use client::Client;
 pub use error::{Error, Result};
 pub use kmip_request as request;
 pub use kmip_response as response;
-pub use laws::{
-    diagnostics_of_sessions, messages_are_answered_in_order,
-};
+pub use laws::{diagnostics_of_sessions, messages_are_answered_in_order};
 pub use session::{Answers, Exchange, exchange_all};
