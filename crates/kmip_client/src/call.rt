@@ -3,7 +3,7 @@ ghost use Rattle.std.specs.Prelude.{◌≡◌, ◌⊎◌, ◌-◌, take, false, 
 ghost use Rattle.kmip_link.specs.State.{Keeps};
 ghost use Rattle.kmip_shape.specs.Val.{Val};
 ghost use Rattle.kmip_request.specs.Message.{request_bytes, credential_of, operation_of};
-ghost use Rattle.kmip_client.specs.Outcome.{Exchanged, Caused, outcome, left_for, seen_by};
+ghost use Rattle.kmip_client.specs.Outcome.{Exchanged, Caused, FailsReading, reading_failed, outcome, left_for, seen_by};
 ghost use Rattle.kmip_client.specs.declared.error.Error.TheVariants.{OutOfMemory as no_memory};
 ghost use Rattle.kmip_client.specs.Diagnostics.{diagnostic_for, IsRequestText, IsResponseText, is_read};
 
@@ -88,6 +88,8 @@ pub fn call<L: Link, P: Answered>(
         (L.state link.old) (L.state link.new) (seen_by (P.val (operation_of payload.now)) result) }
     ensures caused { Caused (request_bytes payload.now (option_map credential_of settings.now.authentication)) (operation_of payload.now) settings.now.config.max_bytes
         (L.state link.old).faults (L.state link.new).faults (seen_by (P.val (operation_of payload.now)) result) }
+    ensures reading { IsTrue (L.state link.old).tells → seen_by (P.val (operation_of payload.now)) result ≡ reading_failed →
+        FailsReading L.state (request_bytes payload.now (option_map credential_of settings.now.authentication)) link.old link.new }
     ensures request_text { IsRequestText settings.now.config.has_buf (request_bytes payload.now (option_map credential_of settings.now.authentication)) (seen_by (P.val (operation_of payload.now)) result) diagnostics.new.request }
     ensures response_text { IsTrue (L.state link.old).tells →
         IsResponseText settings.now.config.has_buf (take ((L.state link.new).pos - (L.state link.old).pos) (left_for (L.state link.old) (L.state link.new))) (seen_by (P.val (operation_of payload.now)) result) diagnostics.new.response }

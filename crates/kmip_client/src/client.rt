@@ -5,7 +5,7 @@ ghost use Rattle.kmip_request.specs.Message.{request_bytes, operation_of, creden
 ghost use Rattle.kmip_shape.specs.Val.{Val};
 ghost use Rattle.kmip_response.specs.Values.{response_payload_val};
 ghost use Rattle.kmip_client.specs.Client.{ClientState, loses_connection, lacks_memory, counted, IsOfOperation};
-ghost use Rattle.kmip_client.specs.Outcome.{Exchanged, Caused, outcome, left_for, seen, seen_by};
+ghost use Rattle.kmip_client.specs.Outcome.{Exchanged, Caused, FailsReading, reading_failed, outcome, left_for, seen, seen_by};
 ghost use Rattle.kmip_client.specs.Headline.{Headline};
 ghost use Rattle.kmip_client.specs.Calls.{IsCall};
 ghost use Rattle.kmip_client.specs.Diagnostics.{IsRequestText, IsResponseText};
@@ -130,7 +130,9 @@ impl<T: Link> Client<T> {
     ///   were taken; or the message is not well formed, and was taken whole, as after the next three.
     /// - `ServerError`, `ItemNotFound`: the server refused the request, or there is not one batch item.
     /// - `InternalError`: the message is no success of the request's operation.
-    /// - `OutOfMemory`: a part of the request was sent and nothing taken, or all of it and a part of one message.
+    /// - `OutOfMemory`: a first part of the request was sent, of which none or all may be, and nothing was taken; or all
+    ///   of it was sent, and a first part was taken of what would have been taken with memory, of which none or all may
+    ///   be. Each diagnostic is then that of this call or none.
     pub fn do_request(
         &mut self,
         alloc: Global,
@@ -141,6 +143,8 @@ impl<T: Link> Client<T> {
             (T.state self.old.link) (T.state self.new.link) (seen result) }
         ensures caused { Caused (request_bytes payload self.old.credential) (operation_of payload) self.old.limit
             (T.state self.old.link).faults (T.state self.new.link).faults (seen result) }
+        ensures reading { IsTrue (T.state self.old.link).tells → seen result ≡ reading_failed →
+            FailsReading T.state (request_bytes payload self.old.credential) self.old.link self.new.link }
         ensures headline { IsTrue (T.state self.old.link).tells →
             Headline (request_bytes payload self.old.credential) (operation_of payload) self.old.limit (T.state self.old.link) (T.state self.new.link) (seen result) }
         ensures variant { IfOk result (λ answer. IsOfOperation (operation_of payload) (response_payload_val answer)) }

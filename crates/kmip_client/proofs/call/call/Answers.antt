@@ -2,7 +2,7 @@ use Rattle.std.specs.Prelude.{option_map}
 use Rattle.std.proofs.lemmas.Result.{err_from_is_err_and}
 use Rattle.kmip_request.specs.Message.{request_bytes, credential_of, operation_of}
 use Rattle.kmip_client.specs.Outcome.{seen_by}
-use Rattle.kmip_client.proofs.Exchanges.{serialize_stopped, short_at_start, of_request, caused_by, kept_is, kept_exchanged, kept_caused}
+use Rattle.kmip_client.proofs.Exchanges.{serialize_stopped, serialize_not_reading, short_at_start, of_request, caused_by, reading_of, kept_is, kept_exchanged, kept_caused, kept_reading}
 use Rattle.kmip_client.proofs.call.call.Goals as goal
 
 pub returns-in-Err-clause-exchange : goal.returns-in-Err-clause-exchange
@@ -42,3 +42,18 @@ returns-clause-caused g c =
     (kept_is (g.P.Answered.val (operation_of c.args.payload.now)) _ _ c.keep.ensures)
     (caused_by (λ operation. seen_by (g.P.Answered.val operation) c.exchange-answer.result) (request_bytes c.args.payload.now (option_map credential_of c.args.settings.now.authentication)) c.serialize.new.out.bytes c.as_slice-2.result.now (operation_of c.args.payload.now) c.operation-operation.result c.args.settings.now.config.max_bytes
     c.in-Ok.ensures.ok c.as_slice-2.ensures c.operation-operation.ensures c.exchange-answer.ensures.caused)
+
+pub returns-in-Err-clause-reading : goal.returns-in-Err-clause-reading
+returns-in-Err-clause-reading g c = λ tells is. absurd (serialize_not_reading c.in-Err.error c.in-Err.ensures.err is)
+
+pub returns-then-not-is_read-clause-reading : goal.returns-then-not-is_read-clause-reading
+returns-then-not-is_read-clause-reading g c = λ tells.
+    reading_of g.L.Link.state c.args.link.now c.exchange-answer.new.link (λ operation. seen_by (g.P.Answered.val operation) c.exchange-answer.result) (request_bytes c.args.payload.now (option_map credential_of c.args.settings.now.authentication)) c.serialize.new.out.bytes c.as_slice-2.result.now (operation_of c.args.payload.now) c.operation-operation.result
+    c.in-Ok.ensures.ok c.as_slice-2.ensures c.operation-operation.ensures (c.exchange-answer.ensures.reading tells)
+
+pub returns-clause-reading : goal.returns-clause-reading
+returns-clause-reading g c = λ tells.
+    kept_reading (seen_by (g.P.Answered.val (operation_of c.args.payload.now)) c.exchange-answer.result) (seen_by (g.P.Answered.val (operation_of c.args.payload.now)) c.keep.result)
+    (kept_is (g.P.Answered.val (operation_of c.args.payload.now)) _ _ c.keep.ensures)
+    (reading_of g.L.Link.state c.args.link.now c.exchange-answer.new.link (λ operation. seen_by (g.P.Answered.val operation) c.exchange-answer.result) (request_bytes c.args.payload.now (option_map credential_of c.args.settings.now.authentication)) c.serialize.new.out.bytes c.as_slice-2.result.now (operation_of c.args.payload.now) c.operation-operation.result
+    c.in-Ok.ensures.ok c.as_slice-2.ensures c.operation-operation.ensures (c.exchange-answer.ensures.reading tells))

@@ -16,6 +16,7 @@ returns-clause-call g c =
     record {
       exchange = exchange;
       caused = rw (← c.self.view_is) e.caused;
+      reading = rw (← c.self.view_is) e.reading;
       headline = λ tells. headline (request_bytes c.args.payload.now c.args.self.now.credential) (operation_of c.args.payload.now) c.args.self.now.limit _ (exchange tells);
       keeps = rw (← c.self.view_is) e.keeps;
       credential = rw (← c.self.view_is) refl;
