@@ -1,12 +1,14 @@
 //! One call of a client, with its diagnostics.
-ghost use Rattle.std.specs.Prelude.{◌≡◌, ◌⊎◌, ◌-◌, take, false, None, Ok, Err, IfOk, IsTrue, option_map};
+ghost use Rattle.std.specs.Prelude.{◌≡◌, ◌⊎◌, ◌-◌, take, false, None, Ok, Err};
+ghost use Rattle.std.specs.Prelude.{IfOk, IsTrue, option_map};
 ghost use Rattle.kmip_link.specs.State.{Keeps};
 ghost use Rattle.kmip_shape.specs.Val.{Val};
 ghost use Rattle.kmip_request.specs.Message.{request_bytes, credential_of, operation_of};
 ghost use Rattle.kmip_client.specs.Outcome.{Exchanged, Caused, FailsReading, reading_failed};
 ghost use Rattle.kmip_client.specs.Outcome.{outcome, left_for, seen_by};
 ghost use Rattle.kmip_client.specs.declared.error.Error.TheVariants.{OutOfMemory as no_memory};
-ghost use Rattle.kmip_client.specs.Diagnostics.{diagnostic_for, IsRequestText, IsResponseText, is_read};
+ghost use Rattle.kmip_client.specs.Diagnostics.{diagnostic_for, is_read};
+ghost use Rattle.kmip_client.specs.Diagnostics.{IsRequestText, IsResponseText};
 
 use crate::answered::Answered;
 use crate::error::Error;
@@ -60,7 +62,8 @@ fn keep<P: Drop>(
     made: Result<Option<Text>, OutOfMemory>,
     kept: &mut Option<Text>,
 ) -> Result<P, Error>
-    ensures { ((made ≡ Ok kept.new) × (result ≡ answer)) ⊎ ((kept.new ≡ kept.old) × (result ≡ Err no_memory)) }
+    ensures { ((made ≡ Ok kept.new) × (result ≡ answer))
+        ⊎ ((kept.new ≡ kept.old) × (result ≡ Err no_memory)) }
 {
     match made {
         Ok(text) => {
@@ -71,7 +74,8 @@ fn keep<P: Drop>(
     }
 }
 
-/// Writes the request, sends it, reads its response and keeps the diagnostics of both. The messages stand in `room`.
+/// Writes the request, sends it, reads its response and keeps the diagnostics of both. The messages
+/// stand in `room`.
 pub fn call<L: Link, P: Answered>(
     alloc: Global,
     link: &mut L,
@@ -88,17 +92,23 @@ pub fn call<L: Link, P: Answered>(
         Exchanged (outcome payload.now (option_map credential_of settings.now.authentication)
         settings.now.config.max_bytes (left_for (L.state link.old) (L.state link.new)))
         (L.state link.old) (L.state link.new) (seen_by (P.val (operation_of payload.now)) result) }
-    ensures caused { Caused (request_bytes payload.now (option_map credential_of settings.now.authentication))
+    ensures caused { Caused
+        (request_bytes payload.now (option_map credential_of settings.now.authentication))
         (operation_of payload.now) settings.now.config.max_bytes
-        (L.state link.old).faults (L.state link.new).faults (seen_by (P.val (operation_of payload.now)) result) }
-    ensures reading { IsTrue (L.state link.old).tells → seen_by (P.val (operation_of payload.now)) result ≡ reading_failed →
-        FailsReading L.state (request_bytes payload.now (option_map credential_of settings.now.authentication)) link.old link.new }
+        (L.state link.old).faults (L.state link.new).faults
+        (seen_by (P.val (operation_of payload.now)) result) }
+    ensures reading { IsTrue (L.state link.old).tells →
+        seen_by (P.val (operation_of payload.now)) result ≡ reading_failed →
+        FailsReading L.state
+        (request_bytes payload.now (option_map credential_of settings.now.authentication))
+        link.old link.new }
     ensures request_text { IsRequestText settings.now.config.has_buf
         (request_bytes payload.now (option_map credential_of settings.now.authentication))
         (seen_by (P.val (operation_of payload.now)) result) diagnostics.new.request }
     ensures response_text { IsTrue (L.state link.old).tells →
         IsResponseText settings.now.config.has_buf
-        (take ((L.state link.new).pos - (L.state link.old).pos) (left_for (L.state link.old) (L.state link.new)))
+        (take ((L.state link.new).pos - (L.state link.old).pos)
+        (left_for (L.state link.old) (L.state link.new)))
         (seen_by (P.val (operation_of payload.now)) result) diagnostics.new.response }
     ensures quiet { settings.now.config.has_buf ≡ false → diagnostics.new.response ≡ None }
 {
