@@ -10,8 +10,9 @@ use Rattle.kmip_client.specs.declared.message.MessageStop.{MessageStop}
 use Rattle.kmip_client.specs.Transfer.{Takes, WritesPart}
 use Rattle.kmip_client.specs.Message.{Message, message_at, taken_for, Comes, ReadsMessage, IsRead}
 use Rattle.kmip_client.specs.Client.{lacks_memory}
-use Rattle.kmip_client.specs.Outcome.{Answer, seen_by, Outcome, outcome_of, answer_of, left_for, Moves, Exchanged, completed, write_failed, read_failed, sending_cut, reading_cut, Gives, said, Caused, not_valid, given, no_memory}
+use Rattle.kmip_client.specs.Outcome.{Answer, seen_by, Outcome, outcome_of, answer_of, left_for, Moves, Exchanged, completed, write_failed, read_failed, sending_cut, reading_cut, Gives, said, Caused, not_valid, given, no_memory, FailsReading, reading_failed, read_answer}
 use Rattle.kmip_client.proofs.Messages.{message_short}
+use Rattle.kmip_client.proofs.Said.{OfMessages, message_says}
 
 append_none : (xs : List ℕ) → xs ≡ xs ++ []
 append_none xs = grind (arith, common_steps)
@@ -201,3 +202,67 @@ caused_by answer request bytes sent operation named limit has same op caused = r
 pub kept_is : {P Q S : Type 0} (val : S → Val) (answer kept : Result S Error) → (P × (kept ≡ answer)) ⊎ (Q × (kept ≡ Err OutOfMemory)) → IsKept (seen_by val answer) (seen_by val kept)
 kept_is val answer kept (inl it) = inl (ap (seen_by val) it.1)
 kept_is val answer kept (inr it) = inr (ap (seen_by val) it.1)
+
+-- ---- a failed reading
+
+abbrev NotReading : Answer → Type 0
+NotReading answer = answer ≡ reading_failed → ⊥
+
+writing_not_reading : (text : List ℕ) → NotReading (Err (RequestWriteError text))
+writing_not_reading text is = cc
+
+memory_not_reading : NotReading (Err OutOfMemory)
+memory_not_reading is = cc
+
+serializing_not_reading : (text : List ℕ) → NotReading (Err (SerializeError text))
+serializing_not_reading text is = cc
+
+refused_not_reading : (text : List ℕ) → NotReading (Err (DeserializeError text))
+refused_not_reading text is = cc
+
+end_not_reading : NotReading (Err (ResponseReadError (codes "end of input")))
+end_not_reading is = cc
+
+messages_not_reading : OfMessages NotReading
+messages_not_reading = record { ok = λ p is. cc; malformed = refused_not_reading; internal = λ t is. cc; server = λ t is. cc; not_found = λ t is. cc }
+
+-- a failed sending is none
+pub send_not_reading : {R : Type 0} (error : Error) → ((error ≡ RequestWriteError (codes "link failed")) × R) ⊎ (error ≡ OutOfMemory) → NotReading (Err error)
+send_not_reading error (inl failed) = subst (λ e. NotReading (Err e)) (sym failed.0) (writing_not_reading _)
+send_not_reading error (inr short) = subst (λ e. NotReading (Err e)) (sym short) memory_not_reading
+
+-- nor is a request that was not written out
+pub serialize_not_reading : {R : Type 0} (error : Error) → ((error ≡ SerializeError (codes "request has no wire form")) × R) ⊎ (error ≡ OutOfMemory) → NotReading (Err error)
+serialize_not_reading error (inl refused) = subst (λ e. NotReading (Err e)) (sym refused.0) (serializing_not_reading _)
+serialize_not_reading error (inr short) = subst (λ e. NotReading (Err e)) (sym short) memory_not_reading
+
+gives_not_reading : (expected answer : Answer) → NotReading expected → Gives expected answer → NotReading answer
+gives_not_reading expected answer not gives =
+    elim (gives_cases expected answer gives) [
+      | inl is ↦ subst NotReading (sym is) not
+      | inr is ↦ subst NotReading (sym is) memory_not_reading
+    ]
+
+-- a reading that answers so failed
+pub fails_reading : {T : Type 0} (state : T → LinkState) (before between after : T) (request : List ℕ) (operation : Operation) (taken : List ℕ) (read : Result (Unit {0}) MessageStop) (answer : Answer) →
+    Writes (state before) (state between) request → (IsErrOf read MessageStop.Fault → Rose (state between).faults (state after).faults) → Gives (said operation taken read) answer →
+    answer ≡ reading_failed → FailsReading state (Some request) before after
+fails_reading state before between after request operation taken (Ok u) answer writes rose gives is =
+    absurd (gives_not_reading (read_answer operation taken) answer (message_says messages_not_reading operation taken) gives is)
+fails_reading state before between after request operation taken (Err MessageStop.Ended) answer writes rose gives is =
+    absurd (gives_not_reading (Err (ResponseReadError (codes "end of input"))) answer end_not_reading gives is)
+fails_reading state before between after request operation taken (Err (MessageStop.Refused error)) answer writes rose gives is =
+    absurd (gives_not_reading _ answer (refused_not_reading _) gives is)
+fails_reading state before between after request operation taken (Err MessageStop.Fault) answer writes rose gives is =
+    record { message = request; request_is = refl; between = between; writes = writes; rose = rose refl }
+fails_reading state before between after request operation taken (Err MessageStop.OutOfMemory) answer writes rose gives is =
+    absurd (gives_not_reading (Err OutOfMemory) answer memory_not_reading gives is)
+
+-- a failed reading after the bytes of a request is one after the request
+pub reading_of : {T : Type 0} (state : T → LinkState) (before after : T) (answer : Operation → Answer) (request : Option (List ℕ)) (bytes sent : List ℕ) (operation named : Operation) →
+    request ≡ Some bytes → sent ≡ bytes → named ≡ operation → (answer named ≡ reading_failed → FailsReading state (Some sent) before after) → answer operation ≡ reading_failed → FailsReading state request before after
+reading_of state before after answer request bytes sent operation named has same op fails = rw (has, ← same, ← op) fails
+
+pub kept_reading : {R : Type 0} (answer kept : Answer) → IsKept answer kept → (answer ≡ reading_failed → R) → kept ≡ reading_failed → R
+kept_reading answer kept (inl same) fails is = fails (sym same ∙ is)
+kept_reading answer kept (inr short) fails is = absurd (subst NotReading (sym short) memory_not_reading is)

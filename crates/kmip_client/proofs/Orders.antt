@@ -1,7 +1,7 @@
 -- A session over messages that stand whole.
 use Rattle.std.proofs.Common.{◌≡◌, ℕ, false, List, [], ◌∷◌, length, drop, map, refl, ◌∙◌, sym, ap, subst, Option, Some, None, true, cond, Bool}
 use Rattle.std.specs.Prelude.{IsSome, ◌↔◌}
-use Rattle.kmip_wire.specs.Bytes.{AreBytes}
+use Rattle.kmip_wire.specs.Bytes.{HasRanges}
 use Rattle.kmip_wire.specs.Tree.{Tree}
 use Rattle.kmip_wire.specs.Parses.{Parses}
 use Rattle.kmip_diag.specs.Skeleton.{Skeleton, skeleton}
@@ -111,7 +111,7 @@ are_told (payload ∷ payloads) credential limit rest =
 -- ---- diagnostics and skeletons
 
 abbrev Tell : Type 0
-Tell = (prefix : Option ℕ) (t u : Tree) (b c : List ℕ) → AreBytes b → AreBytes c → Parses t 1 b → Parses u 1 c → (diagnostic prefix b ≡ diagnostic prefix c) ↔ (skeleton t ≡ skeleton u)
+Tell = (prefix : Option ℕ) (t u : Tree) (b c : List ℕ) → HasRanges t → HasRanges u → Parses t 1 b → Parses u 1 c → (diagnostic prefix b ≡ diagnostic prefix c) ↔ (skeleton t ≡ skeleton u)
 
 cons_same : {A : Type 0} {x y : A} {xs ys : List A} → x ∷ xs ≡ y ∷ ys → (x ≡ y) × (xs ≡ ys)
 cons_same h = (cc, cc)

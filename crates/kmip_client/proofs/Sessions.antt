@@ -1,10 +1,9 @@
 -- Several calls, one after the other.
-use Rattle.std.proofs.Common.{◌≡◌, ℕ, ◌+◌, ◌-◌, ◌<◌, ◌≤◌, List, [], ◌∷◌, ◌++◌, length, take, drop, map, refl, ◌∙◌, ap, sym, arith, append_assoc, IsTrue, subst, Bool, true, false, Option, Some, None, Result, Ok, Err, codes, cond}
+use Rattle.std.proofs.Common.{◌≡◌, ℕ, ◌+◌, ◌-◌, ◌<◌, ◌≤◌, List, [], ◌∷◌, ◌++◌, length, take, drop, map, refl, ◌∙◌, ap, sym, arith, append_assoc, IsTrue, subst, Bool, true, false, Option, Some, None, Result, Ok, Err, OnErr, codes, cond}
 use Rattle.std.proofs.lemmas.Grind.{common_steps}
 use Rattle.std.proofs.lemmas.List.{drop-drop, length-append, map-append}
 use Rattle.kmip_shape.specs.Val.{Val}
 use Rattle.kmip_types.specs.declared.auth.CredentialType.{CredentialType}
-use Rattle.kmip_enums.specs.declared.operation.Operation.{Operation}
 use Rattle.kmip_request.specs.Message.{request_bytes, operation_of}
 use Rattle.kmip_request.specs.declared.payload.RequestPayload.{RequestPayload}
 use Rattle.kmip_link.specs.State.{LinkState, left, Keeps, Rose}
@@ -12,11 +11,11 @@ use Rattle.kmip_client.specs.declared.error.Error.{Error}
 use Rattle.kmip_client.specs.declared.error.Error.TheVariants.{ConfigurationError, SerializeError, RequestWriteError, ResponseReadError, DeserializeError, ServerError, InternalError, ItemNotFound, Unknown, OutOfMemory}
 use Rattle.kmip_client.specs.declared.session.Exchange.{Exchange}
 use Rattle.kmip_client.specs.Transfer.{Grows}
-use Rattle.kmip_client.specs.Outcome.{Answer, seen_by, Outcome, outcome, left_for, Moves, Exchanged, completed, write_failed, read_failed, sending_cut, reading_cut, Caused, not_valid, given, no_memory}
+use Rattle.kmip_client.specs.Outcome.{Answer, seen_by, Outcome, outcome, left_for, Moves, Exchanged, completed, write_failed, read_failed, sending_cut, reading_cut}
 use Rattle.kmip_client.specs.Client.{ClientState, loses_connection, lacks_memory}
 use Rattle.kmip_client.specs.Calls.{IsCall}
-use Rattle.kmip_client.specs.Diagnostics.{IsRequestText, IsResponseText}
-use Rattle.kmip_client.specs.Session.{Turn, turn_of, then_on, session, Told, exchange_told, told_of, turn_told, all_sent, all_taken, BrokenOff, writing, reading, Ran, whole, broken, Stops, at_end, at_loss, later, AllCaused, ends_lost}
+use Rattle.kmip_client.specs.Diagnostics.{diagnostic_of, IsRequestText, IsResponseText}
+use Rattle.kmip_client.specs.Session.{Turn, turn_of, then_on, session, Told, exchange_told, told_of, turn_told, all_sent, all_taken, BrokenOff, writing, reading, Ran, whole, broken, GoesOn, GoOn, Stops, at_end, at_loss, later, told_by, Calls, CutOff, held_texts, last_texts, AreRequestTexts, ends_lost}
 use Rattle.kmip_client.proofs.Helped.{seen_same}
 
 append_none : {A : Type 0} (xs : List A) → xs ≡ xs ++ []
@@ -237,43 +236,99 @@ stop exchanges credential limit payload payloads answer keeps so_far step (readi
 abbrev pub StopsOn : List RequestPayload → List Told → List RequestPayload → Type 0
 StopsOn payloads exchanges rest = (more : List Told) → Stops rest more → Stops payloads (exchanges ++ more)
 
-pub stops_on : (payloads : List RequestPayload) (exchanges : List Told) (payload : RequestPayload) (rest : List RequestPayload) (told : Told) → loses_connection told.answer ≡ false →
+pub stops_on : (payloads : List RequestPayload) (exchanges : List Told) (payload : RequestPayload) (rest : List RequestPayload) (told : Told) → GoesOn told.answer →
     StopsOn payloads exchanges (payload ∷ rest) → StopsOn payloads (exchanges ++ told ∷ []) rest
-stops_on payloads exchanges payload rest told kept so_far more stops =
+stops_on payloads exchanges payload rest told on so_far more stops =
     let P : List Told → Type 0 = λ l. Stops payloads l in
-    subst P (sym (append_assoc exchanges (told ∷ []) more)) (so_far (told ∷ more) (later payload rest told more kept stops))
+    subst P (sym (append_assoc exchanges (told ∷ []) more)) (so_far (told ∷ more) (later payload rest told more on stops))
 
 pub stops_end : (payloads : List RequestPayload) (exchanges : List Told) → StopsOn payloads exchanges [] → Stops payloads exchanges
 stops_end payloads exchanges so_far =
     let P : List Told → Type 0 = λ l. Stops payloads l in
     subst P (sym (append_none exchanges)) (so_far [] at_end)
 
--- a cause within a part of the session
-caused_within : {request : Option (List ℕ)} {operation : Operation} {limit : Option ℕ} {before now after end : ℕ} {answer : Answer} → before ≤ now → after ≤ end →
-    Caused request operation limit now after answer → Caused request operation limit before end answer
-caused_within first last (not_valid has is) = not_valid has is
-caused_within first last (Caused.write_failed has is rose) = Caused.write_failed has is (omega (arith, first, last, rose))
-caused_within first last (Caused.read_failed has is rose) = Caused.read_failed has is (omega (arith, first, last, rose))
-caused_within first last (given has rest is) = given has rest is
-caused_within first last (no_memory is) = no_memory is
+-- whatever calls are made for the rest of the requests, with those so far they are the calls of all
+abbrev pub CallsOn : {T : Type 0} → (T → LinkState) → List RequestPayload → ClientState T → List Told → ClientState T → List RequestPayload → Type 0
+CallsOn {T} state payloads before exchanges now rest =
+    (after : ClientState T) (more : List Told) → Calls state rest now more after → Calls state payloads before (exchanges ++ more) after
 
--- whatever causes come for the rest of the requests, with those so far they are the causes of all
-abbrev pub CausedOn : Option CredentialType → Option ℕ → ℕ → ℕ → List RequestPayload → List Told → List RequestPayload → Type 0
-CausedOn credential limit before now payloads exchanges rest =
-    (end : ℕ) → now ≤ end → (more : List Told) → AllCaused credential limit before end rest more → AllCaused credential limit before end payloads (exchanges ++ more)
+pub calls_on : {T : Type 0} (state : T → LinkState) (payloads : List RequestPayload) (before : ClientState T) (exchanges : List Told) (now next : ClientState T) (payload : RequestPayload) (rest : List RequestPayload) (answer : Answer) →
+    IsCall state payload now next answer → CallsOn state payloads before exchanges now (payload ∷ rest) → CallsOn state payloads before (exchanges ++ told_by answer next ∷ []) next rest
+calls_on {T} state payloads before exchanges now next payload rest answer call so_far after more calls =
+    let P : List Told → Type 0 = λ l. Calls state payloads before l after in
+    subst P (sym (append_assoc exchanges (told_by answer next ∷ []) more)) (so_far after (told_by answer next ∷ more) (next, call, refl, calls))
 
-pub caused_on : (credential : Option CredentialType) (limit : Option ℕ) (before now after : ℕ) (payloads : List RequestPayload) (exchanges : List Told) (payload : RequestPayload) (rest : List RequestPayload) (told : Told) →
-    before ≤ now → now ≤ after → Caused (request_bytes payload credential) (operation_of payload) limit now after told.answer →
-    CausedOn credential limit before now payloads exchanges (payload ∷ rest) → CausedOn credential limit before after payloads (exchanges ++ told ∷ []) rest
-caused_on credential limit before now after payloads exchanges payload rest told first next caused so_far end last more causes =
-    let P : List Told → Type 0 = λ l. AllCaused credential limit before end payloads l in
-    subst P (sym (append_assoc exchanges (told ∷ []) more)) (so_far end (omega (arith, next, last)) (told ∷ more) (caused_within first last caused, causes))
+pub calls_end : {T : Type 0} (state : T → LinkState) (payloads : List RequestPayload) (before : ClientState T) (exchanges : List Told) (now : ClientState T) (rest : List RequestPayload) →
+    CallsOn state payloads before exchanges now rest → Calls state payloads before exchanges now
+calls_end state payloads before exchanges now rest so_far =
+    let P : List Told → Type 0 = λ l. Calls state payloads before l now in
+    subst P (sym (append_none exchanges)) (so_far now [] refl)
 
-pub caused_end : (credential : Option CredentialType) (limit : Option ℕ) (before now : ℕ) (payloads : List RequestPayload) (exchanges : List Told) (rest : List RequestPayload) →
-    CausedOn credential limit before now payloads exchanges rest → AllCaused credential limit before now payloads exchanges
-caused_end credential limit before now payloads exchanges rest so_far =
-    let P : List Told → Type 0 = λ l. AllCaused credential limit before now payloads l in
-    subst P (sym (append_none exchanges)) (so_far now (omega arith) [] tt)
+-- no answer so far lacked memory or lost the connection
+abbrev pub AllGoOn : List Told → Type 0
+AllGoOn [] = Unit {0}
+AllGoOn (exchange ∷ exchanges) = GoesOn exchange.answer × AllGoOn exchanges
+
+pub all_one : (exchanges : List Told) (told : Told) → AllGoOn exchanges → GoesOn told.answer → AllGoOn (exchanges ++ told ∷ [])
+all_one [] told all on = (on, tt)
+all_one (x ∷ exchanges) told all on = (all.0, all_one exchanges told all.1 on)
+
+pub all_but_last : (exchanges : List Told) (told : Told) → AllGoOn exchanges → GoOn (exchanges ++ told ∷ [])
+all_but_last [] told all = tt
+all_but_last (x ∷ []) told all = (all.0, tt)
+all_but_last (x ∷ y ∷ exchanges) told all = (all.0, all_but_last (y ∷ exchanges) told all.1)
+
+-- the calls so far, and one whose answer is lost
+pub cut_off : {T : Type 0} (state : T → LinkState) (payloads : List RequestPayload) (before : ClientState T) (exchanges : List Told) (now next : ClientState T) (payload : RequestPayload) (rest : List RequestPayload) (answer : Answer) →
+    IsCall state payload now next answer → CallsOn state payloads before exchanges now (payload ∷ rest) → AllGoOn exchanges → CutOff state payloads before next
+cut_off state payloads before exchanges now next payload rest answer call so_far all = record {
+  exchanges = exchanges ++ told_by answer next ∷ [];
+  made = calls_end state payloads before (exchanges ++ told_by answer next ∷ []) next rest (calls_on state payloads before exchanges now next payload rest answer call so_far);
+  on = all_but_last exchanges (told_by answer next) all;
+}
+
+pub on_err : {A E P : Type 0} (r : Result A E) → P → OnErr r P
+on_err (Ok a) p = tt
+on_err (Err e) p = p
+
+-- the client holds the texts of the last of its calls
+pub calls_texts : {T : Type 0} (state : T → LinkState) (payloads : List RequestPayload) (before : ClientState T) (exchanges : List Told) (after : ClientState T) →
+    Calls state payloads before exchanges after → held_texts after ≡ last_texts (held_texts before) exchanges
+calls_texts state payloads before [] after calls = ap held_texts calls
+calls_texts state [] before (x ∷ exchanges) after calls = absurd calls
+calls_texts state (payload ∷ payloads) before (x ∷ exchanges) after calls =
+    let later = calls_texts state payloads calls.0 exchanges after calls.3 in
+    later ∙ ap (λ (t : Told). last_texts (t.request_text, t.response_text) exchanges) (sym calls.2)
+
+-- the diagnostic of a request whose call did not lack memory
+request_told : (buffered : Bool) (request : Option (List ℕ)) (answer : Answer) (text : Option (List ℕ)) → lacks_memory answer ≡ false → IsRequestText buffered request answer text → text ≡ diagnostic_of buffered request
+request_told buffered request (Ok payload) text room is = is
+request_told buffered request (Err OutOfMemory) text room is = absurd (let e : true ≡ false = room in cc)
+request_told buffered request (Err error) text room is = is
+
+abbrev pub HaveRoom : List Told → Type 0
+HaveRoom [] = Unit {0}
+HaveRoom (exchange ∷ exchanges) = (lacks_memory exchange.answer ≡ false) × HaveRoom exchanges
+
+pub have_room : (exchanges : List Told) → AllGoOn exchanges → HaveRoom exchanges
+have_room [] all = tt
+have_room (x ∷ exchanges) all = (all.0.1, have_room exchanges all.1)
+
+pub room_one : (exchanges : List Told) (told : Told) → AllGoOn exchanges → lacks_memory told.answer ≡ false → HaveRoom (exchanges ++ told ∷ [])
+room_one [] told all room = (room, tt)
+room_one (x ∷ exchanges) told all room = (all.0.1, room_one exchanges told all.1 room)
+
+-- each exchange has the diagnostic of its request
+pub calls_requests : {T : Type 0} (state : T → LinkState) (buffered : Bool) (credential : Option CredentialType) (payloads : List RequestPayload) (before : ClientState T) (exchanges : List Told) (after : ClientState T) →
+    before.buffered ≡ buffered → before.credential ≡ credential → HaveRoom exchanges → Calls state payloads before exchanges after → AreRequestTexts buffered credential payloads exchanges
+calls_requests state buffered credential payloads before [] after same own room calls = tt
+calls_requests state buffered credential [] before (x ∷ exchanges) after same own room calls = absurd calls
+calls_requests state buffered credential (payload ∷ payloads) before (x ∷ exchanges) after same own room calls =
+    let call = calls.1 in
+    let told : calls.0.request_text ≡ diagnostic_of before.buffered (request_bytes payload before.credential) = request_told before.buffered (request_bytes payload before.credential) x.answer calls.0.request_text room.0 call.request_text in (
+      ap (λ (t : Told). t.request_text) calls.2 ∙ told ∙ ap (λ (b : Bool). diagnostic_of b (request_bytes payload before.credential)) same ∙ ap (λ (c : Option CredentialType). diagnostic_of buffered (request_bytes payload c)) own,
+      calls_requests state buffered credential payloads calls.0 exchanges after (call.buffered ∙ same) (call.credential ∙ own) room.1 calls.3,
+    )
 
 pub ends_one : (exchanges : List Told) (told : Told) → ends_lost (exchanges ++ told ∷ []) ≡ loses_connection told.answer
 ends_one [] told = refl

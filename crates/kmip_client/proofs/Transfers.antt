@@ -1,8 +1,8 @@
 -- Several calls of a link, one after the other.
 use Rattle.std.proofs.Common.{◌≡◌, ℕ, ◌+◌, ◌-◌, ◌≤◌, List, [], ◌++◌, length, take, drop, refl, ◌∙◌, ap, sym, arith, append_assoc, subst}
 use Rattle.std.proofs.lemmas.Grind.{common_steps}
-use Rattle.std.proofs.lemmas.List.{drop-drop, length-drop, length-take, take-take}
-use Rattle.std.proofs.Math.Seq.{take-add, take-length}
+use Rattle.std.proofs.lemmas.List.{drop-drop, length-drop, length-take, take-take, take-append-le}
+use Rattle.std.proofs.Math.Seq.{take-add, take-length, take-append-add}
 use Rattle.kmip_link.specs.State.{LinkState, Writes, Keeps, left}
 use Rattle.kmip_client.specs.Transfer.{Takes, TakesPart}
 
@@ -81,3 +81,14 @@ pub kept_on : (xs ys zs : List ℕ) → take (length xs) ys ≡ xs → take (len
 kept_on xs ys zs a b =
     let short : length xs ≤ length ys = omega (arith, ap length a, length-take (length xs) ys) in
     sym (take-take (length xs) (length ys) zs short) ∙ ap (λ l. take (length xs) l) b ∙ a
+
+-- what was read into its place, once the room after it is cut off
+pub read_in_place : (old m into p q : List ℕ) (n got len : ℕ) → take n m ≡ old → n ≡ length old → got ≤ length into → n + got ≤ len → take (n + got) (take len ((take n m ++ (into ++ p)) ++ q)) ≡ old ++ take got into
+read_in_place old m into p q n got len is at within all =
+    take-take (n + got) len ((take n m ++ (into ++ p)) ++ q) all
+    ∙ (rw (is, at, append_assoc old (into ++ p) q, append_assoc into p q) (take-append-add old (into ++ (p ++ q)) got))
+    ∙ ap (λ l. old ++ l) (take-append-le got into (p ++ q) within)
+
+-- bytes that room was added to begin with themselves
+pub with_room : (old more : List ℕ) (n room : ℕ) → n ≡ length old → take n (take (n + room) old ++ more) ≡ old
+with_room old more n room is = grind (arith, common_steps, is)

@@ -10,7 +10,7 @@ use Rattle.kmip_response.specs.declared.payload.ResponsePayload.{ResponsePayload
 use Rattle.kmip_response.specs.declared.payloads.identifiers.CreateKeyPairResponsePayload.{CreateKeyPairResponsePayload}
 use Rattle.kmip_client.specs.declared.error.Error.{Error}
 use Rattle.kmip_client.specs.declared.error.Error.TheVariants.{OutOfMemory}
-use Rattle.kmip_client.specs.Outcome.{Answer, seen_by, Exchanged, Caused, outcome, left_for}
+use Rattle.kmip_client.specs.Outcome.{Answer, seen_by, Exchanged, Caused, FailsReading, reading_failed, outcome, left_for}
 use Rattle.kmip_client.specs.Headline.{Headline}
 use Rattle.kmip_client.specs.Client.{ClientState, loses_connection, counted}
 use Rattle.kmip_client.specs.Diagnostics.{IsRequestText, IsResponseText}
@@ -20,6 +20,8 @@ pub record IsCall {T : Type 0} (state : T → LinkState) (payload : RequestPaylo
   pub exchange : IsTrue (state before.link).tells →
       Exchanged (outcome payload before.credential before.limit (left_for (state before.link) (state after.link))) (state before.link) (state after.link) answer
   pub caused : Caused (request_bytes payload before.credential) (operation_of payload) before.limit (state before.link).faults (state after.link).faults answer
+  pub reading : IsTrue (state before.link).tells → answer ≡ reading_failed →
+      FailsReading state (request_bytes payload before.credential) before.link after.link
   pub headline : IsTrue (state before.link).tells →
       Headline (request_bytes payload before.credential) (operation_of payload) before.limit (state before.link) (state after.link) answer
   pub keeps : Keeps (state before.link) (state after.link)

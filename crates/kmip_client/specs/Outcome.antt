@@ -14,7 +14,7 @@ use Rattle.kmip_request.specs.declared.payload.RequestPayload.{RequestPayload}
 use Rattle.kmip_response.specs.Tables.{response_message}
 use Rattle.kmip_response.specs.Values.{response_payload_val}
 use Rattle.kmip_response.specs.declared.payload.ResponsePayload.{ResponsePayload}
-use Rattle.kmip_link.specs.State.{LinkState, Rose}
+use Rattle.kmip_link.specs.State.{LinkState, Rose, Writes}
 use Rattle.kmip_client.specs.Transfer.{Grows}
 use Rattle.kmip_client.specs.declared.error.Error.{Error}
 use Rattle.kmip_client.specs.declared.error.Error.TheVariants.{SerializeError, RequestWriteError, ResponseReadError, DeserializeError, InternalError, OutOfMemory}
@@ -104,6 +104,18 @@ pub data Exchanged (o : Outcome) (before after : LinkState) (answer : Answer) : 
   -- memory ran out afterwards
   reading_cut : answer ≡ Err OutOfMemory →
       (n : ℕ) → n ≤ o.taken → Moves before after o.sent n → Exchanged o before after answer
+
+-- The link failed while the response was read: once it had taken the whole request it stood as `between`, and from there on its count rose.
+pub record FailsReading {T : Type 0} (state : T → LinkState) (request : Option (List ℕ)) (before after : T) : Type 0 where
+  pub message : List ℕ
+  pub request_is : request ≡ Some message
+  pub between : T
+  pub writes : Writes (state before) (state between) message
+  pub rose : Rose (state between).faults (state after).faults
+
+-- the answer after such a failure
+abbrev pub reading_failed : Answer
+reading_failed = Err (ResponseReadError (codes "link failed"))
 
 -- this answer, or want of memory
 abbrev pub Gives : Answer → Answer → Type 0

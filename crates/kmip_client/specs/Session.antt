@@ -2,14 +2,15 @@
 use Rattle.std.specs.Prelude.{◌≡◌, ℕ, ◌+◌, ◌<◌, ◌≤◌, List, [], ◌∷◌, ◌++◌, length, take, drop, map, Bool, true, false, Option, None, if◌then◌else◌, Ok, Err, codes}
 use Rattle.kmip_shape.specs.Val.{Val}
 use Rattle.kmip_types.specs.declared.auth.CredentialType.{CredentialType}
-use Rattle.kmip_request.specs.Message.{request_bytes, operation_of}
+use Rattle.kmip_request.specs.Message.{request_bytes}
 use Rattle.kmip_request.specs.declared.payload.RequestPayload.{RequestPayload}
 use Rattle.kmip_link.specs.State.{LinkState, Rose}
 use Rattle.kmip_client.specs.declared.error.Error.{Error}
 use Rattle.kmip_client.specs.declared.error.Error.TheVariants.{SerializeError, RequestWriteError, ResponseReadError}
 use Rattle.kmip_client.specs.declared.session.Exchange.{Exchange}
-use Rattle.kmip_client.specs.Outcome.{Answer, seen_by, Outcome, outcome, Moves, Caused}
-use Rattle.kmip_client.specs.Client.{loses_connection}
+use Rattle.kmip_client.specs.Outcome.{Answer, seen_by, Outcome, outcome, Moves}
+use Rattle.kmip_client.specs.Client.{ClientState, loses_connection, lacks_memory}
+use Rattle.kmip_client.specs.Calls.{IsCall}
 use Rattle.kmip_client.specs.Diagnostics.{diagnostic_for, diagnostic_of}
 
 -- one request of a session
@@ -79,19 +80,58 @@ pub data Ran (buffered : Bool) (turns : List Turn) (before after : LinkState) (e
       BrokenOff turn.outcome last sent taken → Rose before.faults after.faults →
       Moves before after (all_sent done ++ sent) (all_taken done + taken) → Ran buffered turns before after exchanges
 
--- Over any link: there is one exchange for each request, up to the first that lost the connection.
+-- after this answer the next request's call is made
+abbrev pub GoesOn : Answer → Type 0
+GoesOn answer = (loses_connection answer ≡ false) × (lacks_memory answer ≡ false)
+
+-- Over any link: there is one exchange for each request, up to the first that lost the connection, and none that lacked memory.
 pub data Stops : List RequestPayload → List Told → Type 0 where
   at_end : Stops [] []
   at_loss : (payload : RequestPayload) (payloads : List RequestPayload) (exchange : Told) → loses_connection exchange.answer ≡ true → Stops (payload ∷ payloads) (exchange ∷ [])
-  later : (payload : RequestPayload) (payloads : List RequestPayload) (exchange : Told) (exchanges : List Told) → loses_connection exchange.answer ≡ false →
+  later : (payload : RequestPayload) (payloads : List RequestPayload) (exchange : Told) (exchanges : List Told) → GoesOn exchange.answer →
       Stops payloads exchanges → Stops (payload ∷ payloads) (exchange ∷ exchanges)
 
--- Over any link: each answer has its cause, of its own request and of the faults of the whole session.
-abbrev pub AllCaused : Option CredentialType → Option ℕ → ℕ → ℕ → List RequestPayload → List Told → Type 0
-AllCaused credential limit before after payloads [] = Unit {0}
-AllCaused credential limit before after [] (exchange ∷ exchanges) = ⊥
-AllCaused credential limit before after (payload ∷ payloads) (exchange ∷ exchanges) =
-    Caused (request_bytes payload credential) (operation_of payload) limit before after exchange.answer × AllCaused credential limit before after payloads exchanges
+-- what a call told that left the client so
+abbrev pub told_by : {T : Type 0} → Answer → ClientState T → Told
+told_by answer client = record { answer = answer; request_text = client.request_text; response_text = client.response_text }
+
+-- Over any link: each exchange is what a call of `do_request` told, for the requests in order, each call made on the client that the one before left.
+abbrev pub Calls : {T : Type 0} → (T → LinkState) → List RequestPayload → ClientState T → List Told → ClientState T → Type 0
+Calls state payloads before [] after = after ≡ before
+Calls state [] before (exchange ∷ exchanges) after = ⊥
+Calls {T} state (payload ∷ payloads) before (exchange ∷ exchanges) after =
+    (between : ClientState T) × IsCall state payload before between exchange.answer × (exchange ≡ told_by exchange.answer between) × Calls state payloads between exchanges after
+
+-- each but the last answer let the session go on
+abbrev pub GoOn : List Told → Type 0
+GoOn [] = Unit {0}
+GoOn (exchange ∷ []) = Unit {0}
+GoOn (exchange ∷ next ∷ exchanges) = GoesOn exchange.answer × GoOn (next ∷ exchanges)
+
+-- Calls were made for the first of the requests, up to one whose answer is lost, since memory ran out.
+pub record CutOff {T : Type 0} (state : T → LinkState) (payloads : List RequestPayload) (before after : ClientState T) : Type 0 where
+  pub exchanges : List Told
+  pub made : Calls state payloads before exchanges after
+  pub on : GoOn exchanges
+
+abbrev pub Texts : Type 0
+Texts = Option (List ℕ) × Option (List ℕ)
+
+-- the diagnostics that a client holds
+abbrev pub held_texts : {T : Type 0} → ClientState T → Texts
+held_texts client = (client.request_text, client.response_text)
+
+-- those of the last exchange, and these where there is none
+abbrev pub last_texts : Texts → List Told → Texts
+last_texts texts [] = texts
+last_texts texts (exchange ∷ exchanges) = last_texts (exchange.request_text, exchange.response_text) exchanges
+
+-- Over any link: each exchange has the diagnostic of its request.
+abbrev pub AreRequestTexts : Bool → Option CredentialType → List RequestPayload → List Told → Type 0
+AreRequestTexts buffered credential payloads [] = Unit {0}
+AreRequestTexts buffered credential [] (exchange ∷ exchanges) = ⊥
+AreRequestTexts buffered credential (payload ∷ payloads) (exchange ∷ exchanges) =
+    (exchange.request_text ≡ diagnostic_of buffered (request_bytes payload credential)) × AreRequestTexts buffered credential payloads exchanges
 
 -- whether the last answer is a connection error
 abbrev pub ends_lost : List Told → Bool

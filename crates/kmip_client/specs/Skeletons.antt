@@ -1,6 +1,6 @@
 -- What the diagnostics of a session tell.
 use Rattle.std.specs.Prelude.{◌≡◌, ℕ, List, [], ◌∷◌, map, take, Option, Some, true}
-use Rattle.kmip_wire.specs.Bytes.{AreBytes}
+use Rattle.kmip_wire.specs.Bytes.{HasRanges}
 use Rattle.kmip_wire.specs.Tree.{Tree}
 use Rattle.kmip_wire.specs.Parses.{Parses}
 use Rattle.kmip_diag.specs.Skeleton.{Skeleton, skeleton}
@@ -10,14 +10,14 @@ use Rattle.kmip_client.specs.Session.{Turn, turn_told}
 abbrev pub taken_by : Turn → List ℕ
 taken_by turn = take turn.outcome.taken turn.rest
 
--- A turn's request and what it takes both parse, as these trees.
+-- A turn's request and what it takes both parse, as these trees, whose numbers are in their ranges.
 pub record Parse (turn : Turn) : Type 0 where
   pub message : List ℕ
   pub request : Tree
   pub response : Tree
   pub is_request : turn.request ≡ Some message
-  pub request_parses : AreBytes message × Parses request 1 message
-  pub response_parses : AreBytes (taken_by turn) × Parses response 1 (taken_by turn)
+  pub request_parses : HasRanges request × Parses request 1 message
+  pub response_parses : HasRanges response × Parses response 1 (taken_by turn)
 
 abbrev pub AllParse : List Turn → Type 0
 AllParse [] = Unit {0}

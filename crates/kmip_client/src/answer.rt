@@ -39,7 +39,7 @@ fn refused(alloc: Global, error: HeadError) -> Result<ResponsePayload, Error>
         }
         HeadError::TooLong { size, limit } => {
             let text = format!(in alloc; "response size {size} exceeds limit {limit}")?;
-            Err(Error::DeserializeError(Text::of(alloc, text.as_str())?))
+            Err(Error::DeserializeError(Text::of_string(text)))
         }
     }
 }

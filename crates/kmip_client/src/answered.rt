@@ -81,7 +81,7 @@ impl Answered for GetResponsePayload {
 
     fn of(_operation: Operation, payload: ResponsePayload) -> GetResponsePayload {
         match payload {
-            ResponsePayload::Get(payload) => payload,
+            ResponsePayload::Get(payload) => payload.into_inner(),
             _ => unreachable!(),
         }
     }

@@ -1,15 +1,19 @@
 //! One call of a client, with its diagnostics.
-ghost use Rattle.std.specs.Prelude.{◌≡◌, ◌⊎◌, ◌-◌, take, false, None, Ok, Err, IfOk, IsTrue, option_map};
+ghost use Rattle.std.specs.Prelude.{◌≡◌, ◌⊎◌, ◌-◌, take, false, None, Ok, Err};
+ghost use Rattle.std.specs.Prelude.{IfOk, IsTrue, option_map};
 ghost use Rattle.kmip_link.specs.State.{Keeps};
 ghost use Rattle.kmip_shape.specs.Val.{Val};
 ghost use Rattle.kmip_request.specs.Message.{request_bytes, credential_of, operation_of};
-ghost use Rattle.kmip_client.specs.Outcome.{Exchanged, Caused, outcome, left_for, seen_by};
+ghost use Rattle.kmip_client.specs.Outcome.{Exchanged, Caused, FailsReading, reading_failed};
+ghost use Rattle.kmip_client.specs.Outcome.{outcome, left_for, seen_by};
 ghost use Rattle.kmip_client.specs.declared.error.Error.TheVariants.{OutOfMemory as no_memory};
-ghost use Rattle.kmip_client.specs.Diagnostics.{diagnostic_for, IsRequestText, IsResponseText, is_read};
+ghost use Rattle.kmip_client.specs.Diagnostics.{diagnostic_for, is_read};
+ghost use Rattle.kmip_client.specs.Diagnostics.{IsRequestText, IsResponseText};
 
 use crate::answered::Answered;
 use crate::error::Error;
 use crate::exchange::{exchange, serialize};
+use crate::room::{FIRST_ROOM, Room};
 use kmip_diag::PrettyPrinter;
 use kmip_link::Link;
 use kmip_request::{Authentication, RequestPayload};
@@ -58,7 +62,8 @@ fn keep<P: Drop>(
     made: Result<Option<Text>, OutOfMemory>,
     kept: &mut Option<Text>,
 ) -> Result<P, Error>
-    ensures { ((made ≡ Ok kept.new) × (result ≡ answer)) ⊎ ((kept.new ≡ kept.old) × (result ≡ Err no_memory)) }
+    ensures { ((made ≡ Ok kept.new) × (result ≡ answer))
+        ⊎ ((kept.new ≡ kept.old) × (result ≡ Err no_memory)) }
 {
     match made {
         Ok(text) => {
@@ -69,47 +74,63 @@ fn keep<P: Drop>(
     }
 }
 
-/// Writes the request, sends it, reads its response and keeps the diagnostics of both.
+/// Writes the request, sends it, reads its response and keeps the diagnostics of both. The messages
+/// stand in `room`.
 pub fn call<L: Link, P: Answered>(
     alloc: Global,
     link: &mut L,
-    settings: &mut Settings,
-    payload: RequestPayload,
+    settings: &Settings,
+    payload: &RequestPayload,
     diagnostics: &mut Diagnostics,
+    room: &mut Room,
 ) -> Result<P, Error>
-    requires answers { P.Answers (operation_of payload) }
+    requires answers { P.Answers (operation_of payload.now) }
     requires request { diagnostics.old.request ≡ None }
     requires response { diagnostics.old.response ≡ None }
     ensures keeps { Keeps (L.state link.old) (L.state link.new) }
-    ensures settings { settings.new ≡ settings.old }
     ensures exchange { IsTrue (L.state link.old).tells →
-        Exchanged (outcome payload (option_map credential_of settings.old.authentication) settings.old.config.max_bytes (left_for (L.state link.old) (L.state link.new)))
-        (L.state link.old) (L.state link.new) (seen_by (P.val (operation_of payload)) result) }
-    ensures caused { Caused (request_bytes payload (option_map credential_of settings.old.authentication)) (operation_of payload) settings.old.config.max_bytes
-        (L.state link.old).faults (L.state link.new).faults (seen_by (P.val (operation_of payload)) result) }
-    ensures request_text { IsRequestText settings.old.config.has_buf (request_bytes payload (option_map credential_of settings.old.authentication)) (seen_by (P.val (operation_of payload)) result) diagnostics.new.request }
+        Exchanged (outcome payload.now (option_map credential_of settings.now.authentication)
+        settings.now.config.max_bytes (left_for (L.state link.old) (L.state link.new)))
+        (L.state link.old) (L.state link.new) (seen_by (P.val (operation_of payload.now)) result) }
+    ensures caused { Caused
+        (request_bytes payload.now (option_map credential_of settings.now.authentication))
+        (operation_of payload.now) settings.now.config.max_bytes
+        (L.state link.old).faults (L.state link.new).faults
+        (seen_by (P.val (operation_of payload.now)) result) }
+    ensures reading { IsTrue (L.state link.old).tells →
+        seen_by (P.val (operation_of payload.now)) result ≡ reading_failed →
+        FailsReading L.state
+        (request_bytes payload.now (option_map credential_of settings.now.authentication))
+        link.old link.new }
+    ensures request_text { IsRequestText settings.now.config.has_buf
+        (request_bytes payload.now (option_map credential_of settings.now.authentication))
+        (seen_by (P.val (operation_of payload.now)) result) diagnostics.new.request }
     ensures response_text { IsTrue (L.state link.old).tells →
-        IsResponseText settings.old.config.has_buf (take ((L.state link.new).pos - (L.state link.old).pos) (left_for (L.state link.old) (L.state link.new))) (seen_by (P.val (operation_of payload)) result) diagnostics.new.response }
-    ensures quiet { settings.old.config.has_buf ≡ false → diagnostics.new.response ≡ None }
+        IsResponseText settings.now.config.has_buf
+        (take ((L.state link.new).pos - (L.state link.old).pos)
+        (left_for (L.state link.old) (L.state link.new)))
+        (seen_by (P.val (operation_of payload.now)) result) diagnostics.new.response }
+    ensures quiet { settings.now.config.has_buf ≡ false → diagnostics.new.response ≡ None }
 {
     let operation = payload.operation();
-    let request = match serialize(alloc, payload, &mut settings.authentication) {
-        Ok(request) => request,
+    match serialize(alloc, payload, &settings.authentication, &mut room.request) {
+        Ok(()) => {}
         Err(error) => return Err(error),
-    };
-    diagnostics.request = diagnostic_for(alloc, &settings.config, request.as_slice())?;
-    let mut taken = Vec::new(alloc);
+    }
+    diagnostics.request = diagnostic_for(alloc, &settings.config, room.request.as_slice())?;
+    room.taken.clear();
+    room.taken.reserve(FIRST_ROOM)?;
     let answer = exchange(
         alloc,
         link,
         &settings.config,
         operation,
-        request.as_slice(),
-        &mut taken,
+        room.request.as_slice(),
+        &mut room.taken,
     );
     if !is_read(&answer) {
         return answer;
     }
-    let made = diagnostic_for(alloc, &settings.config, &taken);
+    let made = diagnostic_for(alloc, &settings.config, &room.taken);
     keep(answer, made, &mut diagnostics.response)
 }

@@ -44,7 +44,7 @@ fn not_single(alloc: Global, count: usize) -> Result<ResponsePayload, Error>
     ensures { Gives (Err (ServerError (count_text count))) (seen result) }
 {
     let text = format!(in alloc; "Expected one batch item in response but received {count}")?;
-    Err(Error::ServerError(Text::of(alloc, text.as_str())?))
+    Err(Error::ServerError(Text::of_string(text)))
 }
 
 /// What the server says of a failure.
@@ -60,8 +60,7 @@ fn failure(
         Some(message) => message.as_str(),
         None => "",
     };
-    let text = format!(in alloc; "Operation {operation} failed: {message}")?;
-    let text = Text::of(alloc, text.as_str())?;
+    let text = Text::of_string(format!(in alloc; "Operation {operation} failed: {message}")?);
     if is_not_found(reason) {
         Err(Error::ItemNotFound(text))
     } else {
@@ -87,7 +86,7 @@ fn mismatch(
             format!(in alloc; "Response operation None does not match request operation {asked}")?
         }
     };
-    Err(Error::InternalError(Text::of(alloc, text.as_str())?))
+    Err(Error::InternalError(Text::of_string(text)))
 }
 
 /// The payload of a batch item, where there is one.

@@ -5,7 +5,7 @@ ghost use Rattle.kmip_request.specs.Message.{request_bytes, operation_of, creden
 ghost use Rattle.kmip_shape.specs.Val.{Val};
 ghost use Rattle.kmip_response.specs.Values.{response_payload_val};
 ghost use Rattle.kmip_client.specs.Client.{ClientState, loses_connection, lacks_memory, counted, IsOfOperation};
-ghost use Rattle.kmip_client.specs.Outcome.{Exchanged, Caused, outcome, left_for, seen, seen_by};
+ghost use Rattle.kmip_client.specs.Outcome.{Exchanged, Caused, FailsReading, reading_failed, outcome, left_for, seen, seen_by};
 ghost use Rattle.kmip_client.specs.Headline.{Headline};
 ghost use Rattle.kmip_client.specs.Calls.{IsCall};
 ghost use Rattle.kmip_client.specs.Diagnostics.{IsRequestText, IsResponseText};
@@ -13,6 +13,7 @@ ghost use Rattle.kmip_client.specs.Diagnostics.{IsRequestText, IsResponseText};
 use crate::answered::Answered;
 use crate::call::{Diagnostics, Settings, call};
 use crate::error::Error;
+use crate::room::Room;
 use kmip_link::Link;
 use kmip_request::{Authentication, RequestPayload};
 use kmip_response::ResponsePayload;
@@ -27,6 +28,7 @@ pub struct Client<T> {
     settings: Settings,
     errors: u8,
     diagnostics: Diagnostics,
+    room: Option<Room>,
 }
 
 impl<T> Model for Client<T> {
@@ -55,6 +57,7 @@ impl<T> Client<T> {
                 request: None,
                 response: None,
             },
+            room: None,
         }
     }
 
@@ -127,7 +130,9 @@ impl<T: Link> Client<T> {
     ///   were taken; or the message is not well formed, and was taken whole, as after the next three.
     /// - `ServerError`, `ItemNotFound`: the server refused the request, or there is not one batch item.
     /// - `InternalError`: the message is no success of the request's operation.
-    /// - `OutOfMemory`: a part of the request was sent and nothing taken, or all of it and a part of one message.
+    /// - `OutOfMemory`: a first part of the request was sent, of which none or all may be, and nothing was taken; or all
+    ///   of it was sent, and a first part was taken of what would have been taken with memory, of which none or all may
+    ///   be. Each diagnostic is then that of this call or none.
     pub fn do_request(
         &mut self,
         alloc: Global,
@@ -138,6 +143,8 @@ impl<T: Link> Client<T> {
             (T.state self.old.link) (T.state self.new.link) (seen result) }
         ensures caused { Caused (request_bytes payload self.old.credential) (operation_of payload) self.old.limit
             (T.state self.old.link).faults (T.state self.new.link).faults (seen result) }
+        ensures reading { IsTrue (T.state self.old.link).tells → seen result ≡ reading_failed →
+            FailsReading T.state (request_bytes payload self.old.credential) self.old.link self.new.link }
         ensures headline { IsTrue (T.state self.old.link).tells →
             Headline (request_bytes payload self.old.credential) (operation_of payload) self.old.limit (T.state self.old.link) (T.state self.new.link) (seen result) }
         ensures variant { IfOk result (λ answer. IsOfOperation (operation_of payload) (response_payload_val answer)) }
@@ -149,30 +156,33 @@ impl<T: Link> Client<T> {
             IsResponseText self.old.buffered (take ((T.state self.new.link).pos - (T.state self.old.link).pos) (left_for (T.state self.old.link) (T.state self.new.link))) (seen result) self.new.response_text }
         ensures quiet { self.old.buffered ≡ false → self.new.response_text ≡ None }
     {
-        self.request(alloc, payload)
+        self.request(alloc, &payload)
     }
 
     /// The same, over any payload that a call answers.
     pub(crate) fn request<P: Answered>(
         &mut self,
         alloc: Global,
-        payload: RequestPayload,
+        payload: &RequestPayload,
     ) -> Result<P, Error>
-        requires { P.Answers (operation_of payload) }
-        ensures call { IsCall T.state payload self.old self.new (seen_by (P.val (operation_of payload)) result) }
-        ensures variant { IfOk result (λ answer. IsOfOperation (operation_of payload) (P.val (operation_of payload) answer)) }
+        requires { P.Answers (operation_of payload.now) }
+        ensures call { IsCall T.state payload.now self.old self.new (seen_by (P.val (operation_of payload.now)) result) }
+        ensures variant { IfOk result (λ answer. IsOfOperation (operation_of payload.now) (P.val (operation_of payload.now) answer)) }
     {
         self.diagnostics = Diagnostics {
             request: None,
             response: None,
         };
+        let mut room = Room::again(self.room.take(), alloc);
         let answer = call(
             alloc,
             &mut self.link,
-            &mut self.settings,
+            &self.settings,
             payload,
             &mut self.diagnostics,
+            &mut room,
         );
+        self.room = room.kept();
         self.errors = counted(self.errors, loses_connection(&answer));
         answer
     }

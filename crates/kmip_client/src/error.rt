@@ -47,8 +47,8 @@ impl Error {
         )
     }
 
-    /// What kind of error it is, as printed before its text.
-    fn kind(&self) -> &'static str
+    /// What kind of error it is, as printed before its text. It takes no memory.
+    pub fn kind(&self) -> &'static str
         ensures { result.now ≡ kind_shown self.now }
     {
         match self {
@@ -65,8 +65,8 @@ impl Error {
         }
     }
 
-    /// Its text, empty where it has none.
-    fn text(&self) -> &str
+    /// Its text, empty where it has none. It takes no memory.
+    pub fn text(&self) -> &str
         ensures { result.now ≡ text_of self.now }
     {
         match self {

@@ -4,7 +4,7 @@ ghost use Rattle.std.specs.Option.{option_map};
 ghost use Rattle.kmip_link.specs.State.{Keeps, Rose, Writes, left};
 ghost use Rattle.kmip_request.specs.Message.{request_bytes, credential_of, operation_of};
 ghost use Rattle.kmip_client.specs.Transfer.{WritesPart};
-ghost use Rattle.kmip_client.specs.Outcome.{Exchanged, Caused, outcome_of, left_for, seen_by};
+ghost use Rattle.kmip_client.specs.Outcome.{Exchanged, Caused, FailsReading, reading_failed, outcome_of, left_for, seen_by};
 ghost use Rattle.kmip_client.specs.Client.{lacks_memory};
 ghost use Rattle.kmip_client.specs.declared.error.Error.TheVariants.{SerializeError, RequestWriteError, OutOfMemory};
 
@@ -14,22 +14,22 @@ use crate::message::read_message;
 use crate::transfer::write_all;
 use kmip_enums::Operation;
 use kmip_link::{Link, LinkError};
-use kmip_request::{Authentication, RequestPayload, write_request};
-use kmip_wire::{Blob, Config, Text, WireError};
+use kmip_request::{Authentication, RequestPayload, write_request_into};
+use kmip_wire::{Buffer, Config, Text, WireError};
 use std::alloc::Global;
 
-/// The one canonical message of a request.
+/// Writes the one canonical message of a request, in place of what was in the buffer.
 pub fn serialize(
     alloc: Global,
-    payload: RequestPayload,
-    authentication: &mut Option<Authentication>,
-) -> Result<Blob, Error>
-    ensures kept { authentication.new ≡ authentication.old }
-    ensures ok { IfOk result (λ b. request_bytes payload (option_map credential_of authentication.old) ≡ Some b) }
-    ensures err { IfErr result (λ e. ((e ≡ SerializeError (codes "request has no wire form")) × (request_bytes payload (option_map credential_of authentication.old) ≡ None)) ⊎ (e ≡ OutOfMemory)) }
+    payload: &RequestPayload,
+    authentication: &Option<Authentication>,
+    out: &mut Buffer,
+) -> Result<(), Error>
+    ensures ok { OnOk result (request_bytes payload.now (option_map credential_of authentication.now) ≡ Some out.new.bytes) }
+    ensures err { IfErr result (λ e. ((e ≡ SerializeError (codes "request has no wire form")) × (request_bytes payload.now (option_map credential_of authentication.now) ≡ None)) ⊎ (e ≡ OutOfMemory)) }
 {
-    match write_request(alloc, payload, authentication) {
-        Ok(request) => Ok(request),
+    match write_request_into(payload, authentication, out) {
+        Ok(()) => Ok(()),
         Err(WireError::OutOfMemory) => Err(Error::OutOfMemory),
         Err(_) => Err(Error::SerializeError(Text::of(alloc, "request has no wire form")?)),
     }
@@ -63,6 +63,7 @@ pub fn exchange<L: Link, P: Answered>(
     ensures keeps { Keeps (L.state link.old) (L.state link.new) }
     ensures exchange { IsTrue (L.state link.old).tells → Exchanged (outcome_of (Some request.now) operation config.now.max_bytes (left_for (L.state link.old) (L.state link.new))) (L.state link.old) (L.state link.new) (seen_by (P.val operation) result) }
     ensures caused { Caused (Some request.now) operation config.now.max_bytes (L.state link.old).faults (L.state link.new).faults (seen_by (P.val operation) result) }
+    ensures reading { IsTrue (L.state link.old).tells → seen_by (P.val operation) result ≡ reading_failed → FailsReading L.state (Some request.now) link.old link.new }
     ensures bytes { IsTrue (L.state link.old).tells → lacks_memory (seen_by (P.val operation) result) ≡ false →
         taken.new.items ≡ take ((L.state link.new).pos - (L.state link.old).pos) (left_for (L.state link.old) (L.state link.new)) }
 {
@@ -70,6 +71,6 @@ pub fn exchange<L: Link, P: Answered>(
         Ok(()) => {}
         Err(error) => return Err(error),
     }
-    let read = read_message(alloc, link, config, taken);
+    let read = read_message(link, config, taken);
     answer_to(alloc, operation, taken, read)
 }

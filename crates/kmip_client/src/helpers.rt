@@ -56,7 +56,7 @@ impl<T: Link> Client<T> {
     ) -> Result<RNGRetrieveResponsePayload>
         ensures { IsCall T.state (requests.rng_request num_bytes) self.old self.new (seen_by (λ payload. response_payload_val (payloads.RNGRetrieve payload)) result) }
     {
-        self.request(alloc, RequestPayload::RNGRetrieve(DataLength(num_bytes)))
+        self.request(alloc, &RequestPayload::RNGRetrieve(DataLength(num_bytes)))
     }
 
     /// Asks for a signature of these bytes, by RSA with PKCS #1 v1.5 padding of their SHA-256 digest: KMIP 1.2, 4.31.
@@ -121,7 +121,7 @@ impl<T: Link> Client<T> {
         ensures { Asked T.state request P.val self.old self.new result }
     {
         match request {
-            Ok(payload) => self.request(alloc, payload),
+            Ok(payload) => self.request(alloc, &payload),
             Err(_) => Err(Error::OutOfMemory),
         }
     }

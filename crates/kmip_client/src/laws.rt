@@ -17,7 +17,7 @@ pub fn messages_are_answered_in_order()
         map (λ turn. turn.outcome.answer) (session payloads credential limit rest) ≡ answers_to payloads messages }
 {}
 
-/// Two sessions whose messages all parse have equal diagnostics at every call exactly where the skeletons of their
+/// Two sessions whose requests and messages all parse, with numbers in their ranges, have equal diagnostics at every call exactly where the skeletons of their
 /// requests and of their responses are equal at every call. So a diagnostic tells tags, types, nesting and the numbers
 /// of enumerations, all of them, and nothing else.
 pub fn diagnostics_of_sessions()

@@ -17,15 +17,14 @@ mod helpers;
 mod laws;
 mod message;
 mod requests;
+mod room;
 mod session;
-#[cfg(test)]
-mod session_tests;
-#[cfg(test)]
-mod tests;
 mod transfer;
 
 pub use builder::ClientBuilder;
 pub use client::Client;
 pub use error::{Error, Result};
+pub use kmip_request as request;
+pub use kmip_response as response;
 pub use laws::{diagnostics_of_sessions, messages_are_answered_in_order};
 pub use session::{Answers, Exchange, exchange_all};

@@ -8,7 +8,6 @@ ghost use Rattle.kmip_client.specs.MessageStop.{head_stop_of};
 use crate::transfer::{ReadStop, read_more};
 use kmip_link::Link;
 use kmip_wire::{Config, HeadError, head};
-use std::alloc::Global;
 
 /// Why no message was read.
 #[derive(Clone, Copy, Debug, PartialEq, Eq)]
@@ -53,7 +52,6 @@ fn contents_len(bytes: &[u8], config: &Config) -> Result<u32, MessageStop>
 
 /// Reads one message to the end of `taken`, which is empty: the head, then exactly the contents that it tells.
 pub fn read_message<L: Link>(
-    alloc: Global,
     link: &mut L,
     config: &Config,
     taken: &mut Vec<u8>,
@@ -64,8 +62,8 @@ pub fn read_message<L: Link>(
     ensures read { IsRead config.now.max_bytes taken.new.items result }
     ensures fault { IsErrOf result MessageStop.Fault → Rose (L.state link.old).faults (L.state link.new).faults }
 {
-    read_more(alloc, link, 8, taken)?;
+    read_more(link, 8, taken)?;
     let len = contents_len(taken, config)?;
-    read_more(alloc, link, len as usize, taken)?;
+    read_more(link, len as usize, taken)?;
     Ok(())
 }

@@ -1,9 +1,9 @@
 //! Several requests over one client.
-ghost use Rattle.std.specs.Prelude.{◌≡◌, ◌+◌, ◌<◌, map, IfOk, IfErr, IsTrue};
+ghost use Rattle.std.specs.Prelude.{◌≡◌, ◌+◌, ◌<◌, map, IfOk, IfErr, OnErr, IsTrue};
 ghost use Rattle.kmip_link.specs.State.{Keeps, left};
 ghost use Rattle.kmip_response.specs.Values.{response_payload_val};
 ghost use Rattle.kmip_client.specs.Client.{counted};
-ghost use Rattle.kmip_client.specs.Session.{session, exchange_told, Ran, Stops, AllCaused, ends_lost};
+ghost use Rattle.kmip_client.specs.Session.{session, exchange_told, Ran, Stops, Calls, CutOff, held_texts, last_texts, AreRequestTexts, ends_lost};
 ghost use Rattle.kmip_client.specs.declared.error.Error.TheVariants.{OutOfMemory as no_memory};
 
 use crate::answered::AnsweredByAny;
@@ -31,8 +31,9 @@ pub type Answers = List<Exchange>;
 
 /// Calls `do_request` for each payload in order, and makes no call after the first answer that is a connection error.
 ///
-/// Its only error is `OutOfMemory`, which also stands for a call that answered so: the answers before it are lost, and
-/// the calls that were made stay made. Each exchange holds copies of the diagnostics of its call.
+/// Each exchange holds copies of the diagnostics of its call. Afterwards the client holds those of the last call, and
+/// with no payload what it held before. Its only error is `OutOfMemory`, which also stands for a call that answered so:
+/// no call is made after it, its answers are lost, and the calls that were made stay made.
 pub fn exchange_all<T: Link>(
     alloc: Global,
     client: &mut Client<T>,
@@ -43,8 +44,10 @@ pub fn exchange_all<T: Link>(
         Ran client.old.buffered (session payloads client.old.credential client.old.limit (left (T.state client.old.link)))
         (T.state client.old.link) (T.state client.new.link) (map (exchange_told response_payload_val) answers)) }
     ensures stops { IfOk result (λ answers. Stops payloads (map (exchange_told response_payload_val) answers)) }
-    ensures caused { IfOk result (λ answers. AllCaused client.old.credential client.old.limit
-        (T.state client.old.link).faults (T.state client.new.link).faults payloads (map (exchange_told response_payload_val) answers)) }
+    ensures calls { IfOk result (λ answers. Calls T.state payloads client.old (map (exchange_told response_payload_val) answers) client.new) }
+    ensures cut { OnErr result (CutOff T.state payloads client.old client.new) }
+    ensures texts { IfOk result (λ answers. held_texts client.new ≡ last_texts (held_texts client.old) (map (exchange_told response_payload_val) answers)) }
+    ensures requests { IfOk result (λ answers. AreRequestTexts client.old.buffered client.old.credential payloads (map (exchange_told response_payload_val) answers)) }
     ensures keeps { Keeps (T.state client.old.link) (T.state client.new.link) }
     ensures settings { (client.new.credential ≡ client.old.credential) × (client.new.limit ≡ client.old.limit) × (client.new.buffered ≡ client.old.buffered) }
     ensures count { IfOk result (λ answers. client.new.errors ≡ counted client.old.errors (ends_lost (map (exchange_told response_payload_val) answers))) }
@@ -64,8 +67,10 @@ fn exchanges<T: Link, P: AnsweredByAny>(
         Ran client.old.buffered (session payloads.items client.old.credential client.old.limit (left (T.state client.old.link)))
         (T.state client.old.link) (T.state client.new.link) (map (exchange_told P.whole) answers)) }
     ensures stops { IfOk result (λ answers. Stops payloads.items (map (exchange_told P.whole) answers)) }
-    ensures caused { IfOk result (λ answers. AllCaused client.old.credential client.old.limit
-        (T.state client.old.link).faults (T.state client.new.link).faults payloads.items (map (exchange_told P.whole) answers)) }
+    ensures calls { IfOk result (λ answers. Calls T.state payloads.items client.old (map (exchange_told P.whole) answers) client.new) }
+    ensures cut { OnErr result (CutOff T.state payloads.items client.old client.new) }
+    ensures texts { IfOk result (λ answers. held_texts client.new ≡ last_texts (held_texts client.old) (map (exchange_told P.whole) answers)) }
+    ensures requests { IfOk result (λ answers. AreRequestTexts client.old.buffered client.old.credential payloads.items (map (exchange_told P.whole) answers)) }
     ensures keeps { Keeps (T.state client.old.link) (T.state client.new.link) }
     ensures settings { (client.new.credential ≡ client.old.credential) × (client.new.limit ≡ client.old.limit) × (client.new.buffered ≡ client.old.buffered) }
     ensures count { IfOk result (λ answers. client.new.errors ≡ counted client.old.errors (ends_lost (map (exchange_told P.whole) answers))) }
@@ -74,7 +79,7 @@ fn exchanges<T: Link, P: AnsweredByAny>(
     P::answers_any();
     let mut exchanges = List::new(alloc);
     for payload in payloads {
-        let answer = client.request(alloc, payload);
+        let answer = client.request(alloc, &payload);
         if lacks_memory(&answer) {
             return Err(Error::OutOfMemory);
         }

@@ -4,7 +4,7 @@ ghost use Rattle.kmip_link.specs.State.{Keeps, Writes, Rose, left};
 ghost use Rattle.kmip_client.specs.Transfer.{WritesPart, Takes, TakesPart};
 
 use kmip_link::{Link, LinkError};
-use std::alloc::{AllocError, Global};
+use std::alloc::AllocError;
 
 /// The most room that one read is offered.
 const MAX_PIECE: usize = 65536;
@@ -56,16 +56,10 @@ pub fn write_all<L: Link>(link: &mut L, bytes: &[u8]) -> Result<(), LinkError>
     Ok(())
 }
 
-/// Reads at most `room` bytes by way of `piece`, and adds them to the end of `taken`.
-fn read_piece<L: Link>(
-    link: &mut L,
-    piece: &mut [u8],
-    room: usize,
-    taken: &mut Vec<u8>,
-) -> Result<usize, ReadStop>
+/// Reads at most `room` bytes into their place, at the end of `taken`.
+fn read_piece<L: Link>(link: &mut L, room: usize, taken: &mut Vec<u8>) -> Result<usize, ReadStop>
     requires some { 0 < room }
-    requires within { room ≤ length piece.old }
-    requires small { length piece.old ≤ 65536 }
+    requires small { room ≤ 65536 }
     ensures keeps { Keeps (L.state link.old) (L.state link.new) }
     ensures some { IfOk result (λ n. (0 < n) × (n ≤ room) × (vec_len taken.new ≡ vec_len taken.old + n)) }
     ensures ok { IfOk result (λ n. IsTrue (L.state link.old).tells →
@@ -79,21 +73,25 @@ fn read_piece<L: Link>(
     ensures kept { take (length taken.old.items) taken.new.items ≡ taken.old.items }
     ensures part { IsTrue (L.state link.old).tells → TakesPart (L.state link.old) (L.state link.new) room }
 {
-    let got = link.read(&mut piece[..room])?;
-    if got == 0 {
-        return Err(ReadStop::Ended);
+    let len = taken.len();
+    taken.resize(len + room, 0)?;
+    match link.read(&mut taken[len..]) {
+        Ok(got) => {
+            taken.truncate(len + got);
+            if got == 0 {
+                return Err(ReadStop::Ended);
+            }
+            Ok(got)
+        }
+        Err(error) => {
+            taken.truncate(len);
+            Err(ReadStop::from(error))
+        }
     }
-    taken.extend_from_slice(&piece[..got])?;
-    Ok(got)
 }
 
 /// Reads `count` bytes to the end of `taken`, in pieces of at most 65,536. Room is taken only piece by piece.
-pub fn read_more<L: Link>(
-    alloc: Global,
-    link: &mut L,
-    count: usize,
-    taken: &mut Vec<u8>,
-) -> Result<(), ReadStop>
+pub fn read_more<L: Link>(link: &mut L, count: usize, taken: &mut Vec<u8>) -> Result<(), ReadStop>
     ensures keeps { Keeps (L.state link.old) (L.state link.new) }
     ensures kept { take (length taken.old.items) taken.new.items ≡ taken.old.items }
     ensures grown { OnOk result (vec_len taken.new ≡ vec_len taken.old + count) }
@@ -110,11 +108,10 @@ pub fn read_more<L: Link>(
         × (taken.new.items ≡ taken.old.items ++ take n (left (L.state link.old))) }
     ensures part { IsTrue (L.state link.old).tells → TakesPart (L.state link.old) (L.state link.new) count }
 {
-    let mut piece = vec![in alloc; 0u8; count.min(MAX_PIECE)]?;
     let mut done = 0;
     while done < count {
         let room = (count - done).min(MAX_PIECE);
-        done += read_piece(link, &mut piece, room, taken)?;
+        done += read_piece(link, room, taken)?;
     }
     Ok(())
 }

@@ -5,7 +5,7 @@ use Rattle.std.specs.Option.{option_map, option_and_then}
 use Rattle.std.proofs.lemmas.Int.{ints}
 use Rattle.kmip_wire.specs.Tree.{Tree}
 use Rattle.kmip_wire.specs.Parts.{tag_of}
-use Rattle.kmip_wire.specs.Bytes.{bytes}
+use Rattle.kmip_wire.specs.Bytes.{bytes, HasRanges}
 use Rattle.kmip_wire.specs.Parses.{Parses}
 use Rattle.kmip_wire.proofs.Written.{written_parses}
 use Rattle.kmip_wire.proofs.Computed.{one_tree}
@@ -44,7 +44,7 @@ use Rattle.kmip_shape.proofs.Selected.{selected}
 
 -- ---- the table of a message
 
-table_once : tags_once request_message ≡ true
+pub table_once : tags_once request_message ≡ true
 table_once = refl
 
 table_in_range : tags_in_range request_message ≡ true
@@ -66,11 +66,18 @@ written val b f h =
     let k : Keeps (Some s.0) (depth request_message) = subst (λ (o : Option Tree). Keeps o (depth request_message)) s.1 (fits_ranges request_message val 0x420078 table_in_range (omega arith) f) in
     (s.0, s.1, written_parses s.0 1 b k.0 (omega arith) (omega (arith, k.1, table_depth)) s.2)
 
-written_as : (val : Val) (root : Tree) (b : List ℕ) → Fits request_message val → bytes_of request_message 0x420078 val ≡ Some b → Parses root 1 b → tree_of request_message 0x420078 val ≡ Some root
+pub written_as : (val : Val) (root : Tree) (b : List ℕ) → Fits request_message val → bytes_of request_message 0x420078 val ≡ Some b → Parses root 1 b → tree_of request_message 0x420078 val ≡ Some root
 written_as val root b f h p =
     let w = written val b f h in w.1 ∙ ap (λ (t : Tree). Some t) (one_tree w.0 root 1 b w.2 p)
 
-root_of : (shape : Shape) (tag : ℕ) (t : Tree) (val : Val) → root_read shape tag t ≡ Some val → read_of shape no_outer t ≡ Some val
+-- it has its ranges
+written_ranges : (val : Val) (root : Tree) (b : List ℕ) → Fits request_message val → bytes_of request_message 0x420078 val ≡ Some b → Parses root 1 b → HasRanges root
+written_ranges val root b f h p =
+    let k : Keeps (tree_of request_message 0x420078 val) (depth request_message) = fits_ranges request_message val 0x420078 table_in_range (omega arith) f in
+    let l : Keeps (Some root) (depth request_message) = subst (λ (o : Option Tree). Keeps o (depth request_message)) (written_as val root b f h p) k in
+    l.0
+
+pub root_of : (shape : Shape) (tag : ℕ) (t : Tree) (val : Val) → root_read shape tag t ≡ Some val → read_of shape no_outer t ≡ Some val
 root_of shape tag t val h = go (tag_of t == tag) h
   where
     go : (b : Bool) → cond b (read_of shape no_outer t) None ≡ Some val → read_of shape no_outer t ≡ Some val
@@ -195,6 +202,10 @@ pub parsed : (p : RequestPayload) (c : Option CredentialType) (b : List ℕ) →
 parsed p c b h e =
     let w = written (request_message_val (message_of p (option_map item_of c))) b (message_fits p c h) (bytes_are p (option_map item_of c) ∙ (ap (λ d. request_bytes p d) (credentials_back c) ∙ e)) in
     (w.0, w.2)
+
+pub ranged : (p : RequestPayload) (c : Option CredentialType) (b : List ℕ) (root : Tree) → IsHeld p c → request_bytes p c ≡ Some b → Parses root 1 b → HasRanges root
+ranged p c b root h e parses =
+    written_ranges (request_message_val (message_of p (option_map item_of c))) root b (message_fits p c h) (bytes_are p (option_map item_of c) ∙ (ap (λ d. request_bytes p d) (credentials_back c) ∙ e)) parses
 
 -- ---- a message of the right parts
 

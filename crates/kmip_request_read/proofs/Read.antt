@@ -15,6 +15,7 @@ use Rattle.kmip_shape.specs.Val.{Val, Case, Number, Record, Absent, One, NoField
 use Rattle.kmip_shape.specs.Trees.{tree_of}
 use Rattle.kmip_shape.specs.Reads.{root_read}
 use Rattle.kmip_shape.specs.Writes.{bytes_of}
+use Rattle.kmip_wire.specs.Same.{same_tree-sound, same_tree-refl}
 use Rattle.kmip_shape.specs.Enumerations.{variant_at}
 use Rattle.kmip_enums.specs.Operations.{operation_line, operation_variants, operation_found, operation_same}
 use Rattle.kmip_enums.specs.declared.operation.Operation.{Operation}
@@ -37,8 +38,8 @@ use Rattle.kmip_request.specs.Held.{IsHeld}
 use Rattle.kmip_request_read.specs.declared.reading.RequestReadError.{RequestReadError}
 use Rattle.kmip_request_read.specs.declared.reading.RequestReadError.TheVariants.{Malformed, NotCanonical}
 use Rattle.kmip_request_read.specs.Matched.{IsMatched}
-use Rattle.kmip_request_read.proofs.Canonical.{err_same, canonical_of, item_of as credential_item, parsed as root_of_request}
-use Rattle.kmip_request_read.specs.Reading.{Request, request_for, minor_for, message_bytes, item_request, is_plain_header, under_header, request_in, are_bytes, canonical_in, request_read}
+use Rattle.kmip_request_read.proofs.Canonical.{err_same, canonical_of, written_as, item_of as credential_item, parsed as root_of_request}
+use Rattle.kmip_request_read.specs.Reading.{Request, request_for, minor_for, message_bytes, item_request, is_plain_header, under_header, request_in, are_bytes, is_tree, canonical_in, request_read}
 
 -- ---- a payload and its operation
 
@@ -124,17 +125,17 @@ other_item o p other =
 
 -- ---- a header
 
-abbrev plain_test : ℕ → ℤ → ℤ → ℤ → Bool
+abbrev pub plain_test : ℕ → ℤ → ℤ → ℤ → Bool
 plain_test minor major own count = int_eq major (pos 1) && (int_eq own (pos minor) && int_eq count (pos 1))
 
 plain_passes : (minor : ℕ) → plain_test minor (pos 1) (pos minor) (pos 1) ≡ true
 plain_passes minor = let e : int_eq (pos minor) (pos minor) ≡ true = (Decides-int_eq (pos minor) (pos minor)).1 refl in rw e refl
 
-both : (a b : Bool) → (a && b) ≡ true → (a ≡ true) × (b ≡ true)
+pub both : (a b : Bool) → (a && b) ≡ true → (a ≡ true) × (b ≡ true)
 both true b h = (refl, h)
 both false b h = absurd (cc)
 
-plain_says : (minor : ℕ) (major own count : ℤ) → plain_test minor major own count ≡ true → (major ≡ pos 1) × (own ≡ pos minor) × (count ≡ pos 1)
+pub plain_says : (minor : ℕ) (major own count : ℤ) → plain_test minor major own count ≡ true → (major ≡ pos 1) × (own ≡ pos minor) × (count ≡ pos 1)
 plain_says minor major own count h =
     let p = both (int_eq major (pos 1)) (int_eq own (pos minor) && int_eq count (pos 1)) h in
     let q = both (int_eq own (pos minor)) (int_eq count (pos 1)) p.1 in
@@ -205,17 +206,24 @@ first_level = (omega arith, omega arith)
 parsed : (root : Tree) (b : List ℕ) → Parses root 1 b → item_of 64 b ≡ Some root
 parsed root b p = (tree_computed root 1 b first_level).1 p
 
-written : (b : List ℕ) (message : Val) → bytes_of request_message 0x420078 message ≡ Some b → canonical_in b message ≡ request_in message
-written b message h =
-    let e : are_bytes b (bytes_of request_message 0x420078 message) ≡ true = ap (are_bytes b) h ∙ (bytes_eq-Decides b b).1 refl in rw e refl
+both_hold : (x y : Bool) → x ≡ true → y ≡ true → (x && y) ≡ true
+both_hold x y p q = rw (p, q) refl
+
+written : (b : List ℕ) (root : Tree) (message : Val) → tree_of request_message 0x420078 message ≡ Some root → bytes root ≡ Some b → canonical_in b root message ≡ request_in message
+written b root message t h =
+    let e : is_tree root (tree_of request_message 0x420078 message) ≡ true = ap (is_tree root) t ∙ same_tree-refl root in
+    let f : are_bytes b (bytes root) ≡ true = ap (are_bytes b) h ∙ (bytes_eq-Decides b b).1 refl in
+    let g : (is_tree root (tree_of request_message 0x420078 message) && are_bytes b (bytes root)) ≡ true = both_hold _ _ e f in rw g refl
 
 -- where a message is canonical, what is read is what it holds
 pub held : (root : Tree) (b : List ℕ) (message : Val) → Parses root 1 b → IsCanonical request_message 0x420078 root b message → request_read b ≡ request_in message
 unfolding request_read
 held root b message p c =
-    let P : Option Val → Type 0 = λ o. option_and_then (canonical_in b) o ≡ request_in message in
-    let Q : Option Tree → Type 0 = λ o. option_and_then (λ tree. option_and_then (canonical_in b) (root_read request_message 0x420078 tree)) o ≡ request_in message in
-    subst Q (sym (parsed root b p)) (subst P (sym c.1) (written b message c.2))
+    let P : Option Val → Type 0 = λ o. option_and_then (canonical_in b root) o ≡ request_in message in
+    let Q : Option Tree → Type 0 = λ o. option_and_then (λ tree. option_and_then (canonical_in b tree) (root_read request_message 0x420078 tree)) o ≡ request_in message in
+    let tree : tree_of request_message 0x420078 message ≡ Some root = written_as message root b c.0 c.2 p in
+    let own : bytes root ≡ Some b = sym (ap (λ (o : Option Tree). option_and_then bytes o) tree) ∙ c.2 in
+    subst Q (sym (parsed root b p)) (subst P (sym c.1) (written b root message tree own))
 
 pub plain_read : (m : RequestMessage) (p : RequestPayload) (a : Option Authentication) (root : Tree) (b : List ℕ) → m ≡ message_of p a → Parses root 1 b → IsCanonical request_message 0x420078 root b (request_message_val m) → request_read b ≡ Some (request_for p)
 plain_read m p a root b is parses c = held root b (request_message_val m) parses c ∙ (ap (λ (x : RequestMessage). request_in (request_message_val x)) is ∙ plain_request p a)
@@ -223,32 +231,40 @@ plain_read m p a root b is parses c = held root b (request_message_val m) parses
 pub other_read : (m : RequestMessage) (root : Tree) (b : List ℕ) → Parses root 1 b → IsCanonical request_message 0x420078 root b (request_message_val m) → (IsPlain m → ⊥) → request_read b ≡ None
 other_read m root b parses c other = held root b (request_message_val m) parses c ∙ other_request m other
 
-not_written : (b : List ℕ) (message : Val) (o : Option (List ℕ)) → (o ≡ Some b → ⊥) → are_bytes b o ≡ false
-not_written b message None none = refl
-not_written b message (Some c) none = go (bytes_eq c b) refl
-  where
-    go : (t : Bool) → bytes_eq c b ≡ t → t ≡ false
-    go true h = absurd (none (ap (λ (x : List ℕ). Some x) ((bytes_eq-Decides c b).0 h)))
-    go false h = refl
+pub are_bytes_says : (b : List ℕ) (o : Option (List ℕ)) → are_bytes b o ≡ true → o ≡ Some b
+are_bytes_says b None h = absurd (cc)
+are_bytes_says b (Some c) h = ap (λ (x : List ℕ). Some x) ((bytes_eq-Decides c b).0 h)
+
+pub is_tree_says : (root : Tree) (o : Option Tree) → is_tree root o ≡ true → o ≡ Some root
+is_tree_says root None h = absurd (cc)
+is_tree_says root (Some t) h = ap (λ (x : Tree). Some x) (same_tree-sound t root h)
+
+not_written : (b : List ℕ) (root : Tree) (message : Val) → (tree_of request_message 0x420078 message ≡ Some root → bytes root ≡ Some b → ⊥) → (t : Bool) →
+    (is_tree root (tree_of request_message 0x420078 message) && are_bytes b (bytes root)) ≡ t → t ≡ false
+not_written b root message none false h = refl
+not_written b root message none true h =
+    let p = both (is_tree root (tree_of request_message 0x420078 message)) (are_bytes b (bytes root)) h in
+    absurd (none (is_tree_says root _ p.0) (are_bytes_says b _ p.1))
 
 -- where no value is written as the bytes that it is read from, nothing is read
 pub none_read : (root : Tree) (b : List ℕ) → Parses root 1 b → ((val : Val) → IsWrittenAs request_message 0x420078 root b val → ⊥) → request_read b ≡ None
 unfolding request_read
 none_read root b p none =
-    let Q : Option Tree → Type 0 = λ o. option_and_then (λ tree. option_and_then (canonical_in b) (root_read request_message 0x420078 tree)) o ≡ None in
+    let Q : Option Tree → Type 0 = λ o. option_and_then (λ tree. option_and_then (canonical_in b tree) (root_read request_message 0x420078 tree)) o ≡ None in
     subst Q (sym (parsed root b p)) (go (root_read request_message 0x420078 root) refl)
   where
-    go : (o : Option Val) → root_read request_message 0x420078 root ≡ o → option_and_then (canonical_in b) o ≡ None
+    go : (o : Option Val) → root_read request_message 0x420078 root ≡ o → option_and_then (canonical_in b root) o ≡ None
     go None h = refl
     go (Some val) h =
-        let e : are_bytes b (bytes_of request_message 0x420078 val) ≡ false = not_written b val (bytes_of request_message 0x420078 val) (λ is. none val (h, is)) in rw e refl
+        let e : (is_tree root (tree_of request_message 0x420078 val) && are_bytes b (bytes root)) ≡ false =
+        not_written b root val (λ tree own. none val (h, ap (λ (o : Option Tree). option_and_then bytes o) tree ∙ own)) _ refl in rw e refl
 
 -- where the bytes are no item, nothing is read
 pub no_item : (b : List ℕ) → ((t : Tree) → Parses t 1 b → ⊥) → request_read b ≡ None
 unfolding request_read
 no_item b none = go (item_of 64 b) refl
   where
-    go : (o : Option Tree) → item_of 64 b ≡ o → option_and_then (λ tree. option_and_then (canonical_in b) (root_read request_message 0x420078 tree)) o ≡ None
+    go : (o : Option Tree) → item_of 64 b ≡ o → option_and_then (λ tree. option_and_then (canonical_in b tree) (root_read request_message 0x420078 tree)) o ≡ None
     go None h = refl
     go (Some t) h = absurd (none t ((tree_computed t 1 b first_level).0 h))
 

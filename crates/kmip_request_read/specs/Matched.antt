@@ -1,19 +1,24 @@
 -- Which payloads are matched: each choice in them holds the case that is selected where it stands.
 use Rattle.std.specs.Prelude.{Some, None, IsSome}
+use Rattle.kmip_shape.specs.Val.{Val}
 use Rattle.kmip_shape.specs.Shape.{OuterValue, NoCase}
 use Rattle.kmip_shape.specs.Trees.{tree_of}
 use Rattle.kmip_shape.specs.Fits.{selected_in}
 use Rattle.kmip_enums.specs.Operations.{operation_line}
+use Rattle.kmip_enums.specs.declared.operation.Operation.{Operation}
 use Rattle.kmip_request.specs.declared.payload.RequestPayload.{RequestPayload}
 use Rattle.kmip_request.specs.Message.{operation_of}
 use Rattle.kmip_request.specs.Tables.{request_payload}
 use Rattle.kmip_request.specs.Values.{request_payload_val}
 
 -- what a payload is chosen by: the number of its operation (KMIP 1.0, 7.2)
-abbrev pub under_operation : RequestPayload → OuterValue
-under_operation payload = record { number = Some (operation_line (operation_of payload)).number; name = None }
+abbrev pub under_number : Operation → OuterValue
+under_number operation = record { number = Some (operation_line operation).number; name = None }
 
--- A payload is matched where it has a tree and each value in it is selected.
+abbrev pub under_operation : RequestPayload → OuterValue
+under_operation payload = under_number (operation_of payload)
+
+-- A payload of an operation, as a value, is matched where it has a tree and each value in it is selected.
 --
 -- It has a tree exactly where no child of a custom structure writes a structure and no key material is `Structure` or
 -- `Wrapped`. What is selected goes by the payload's table, choice by choice:
@@ -24,7 +29,9 @@ under_operation payload = record { number = Some (operation_line (operation_of p
 --   formats 7 to 13, and in a key block of another format there is none (KMIP 1.0, 2.1.3 and 2.1.7);
 -- - the payload is that of its operation, and an object stands under its own tag, which always holds;
 -- - no optional list is Some of an empty one.
+abbrev pub IsMatchedValue : Operation → Val → Type 0
+IsMatchedValue operation payload =
+    IsSome (tree_of request_payload 0x420079 payload) × selected_in payload NoCase request_payload (under_number operation) 0x420079
+
 abbrev pub IsMatched : RequestPayload → Type 0
-IsMatched payload =
-    IsSome (tree_of request_payload 0x420079 (request_payload_val payload))
-    × selected_in (request_payload_val payload) NoCase request_payload (under_operation payload) 0x420079
+IsMatched payload = IsMatchedValue (operation_of payload) (request_payload_val payload)

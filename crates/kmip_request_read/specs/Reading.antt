@@ -2,13 +2,14 @@
 use Rattle.std.specs.Prelude.{ℕ, ℤ, pos, ◌==◌, ◌&&◌, Bool, true, false, List, Option, Some, None, if◌then◌else◌, bytes_eq}
 use Rattle.std.specs.Option.{option_map, option_and_then}
 use Rattle.std.specs.Ordering.{int_eq}
+use Rattle.kmip_wire.specs.Tree.{Tree}
 use Rattle.kmip_wire.specs.Bytes.{bytes}
+use Rattle.kmip_wire.specs.Same.{same_tree}
 use Rattle.kmip_wire.specs.Reading.{item_of}
 use Rattle.kmip_shape.specs.Val.{Val, Number, Record, Case, Absent, One, Many, NoField, AndField, NoVal, AndVal}
 use Rattle.kmip_shape.specs.Enumerations.{variant_at}
 use Rattle.kmip_shape.specs.Trees.{tree_of}
 use Rattle.kmip_shape.specs.Reads.{root_read}
-use Rattle.kmip_shape.specs.Writes.{bytes_of}
 use Rattle.kmip_enums.specs.Operations.{operation_line, operation_variants}
 use Rattle.kmip_enums.specs.declared.operation.Operation.{Operation}
 use Rattle.kmip_enums.specs.declared.operation.Operation.TheVariants.{Query, DiscoverVersions, Sign, RNGRetrieve}
@@ -34,11 +35,15 @@ minor_for Sign = 2
 minor_for RNGRetrieve = 2
 minor_for _ = 0
 
+-- the one canonical message of a request, with these items of a credential in its header, where it has one
+abbrev pub message_with : Request → List Tree → Option (List ℕ)
+message_with request authentication = option_and_then bytes (option_map
+    (message_tree (header_tree (minor_for request.operation) authentication) (operation_line request.operation).number)
+    (tree_of request_payload 0x420079 request.payload))
+
 -- the one canonical message of a request and a credential, where it has one
 abbrev pub message_bytes : Request → Option CredentialType → Option (List ℕ)
-message_bytes request credential = option_and_then bytes (option_map
-    (message_tree (header_tree (minor_for request.operation) (authentication_trees credential)) (operation_line request.operation).number)
-    (tree_of request_payload 0x420079 request.payload))
+message_bytes request credential = message_with request (authentication_trees credential)
 
 -- the request in a batch item, which has no identifier, and whose operation is that of its payload (KMIP 1.0, 7.2)
 abbrev pub item_request : Val → Option Request
@@ -65,10 +70,15 @@ abbrev pub are_bytes : List ℕ → Option (List ℕ) → Bool
 are_bytes b None = false
 are_bytes b (Some written) = bytes_eq written b
 
--- the same, where the bytes are those of the message
-abbrev pub canonical_in : List ℕ → Val → Option Request
-canonical_in b message = if are_bytes b (bytes_of request_message 0x420078 message) then request_in message else None
+abbrev pub is_tree : Tree → Option Tree → Bool
+is_tree tree None = false
+is_tree tree (Some written) = same_tree written tree
 
--- the request that bytes are: they are one item, which reads as a message that is written as these bytes, and which a client writes
+-- the same, where the message is written as this tree, and that as these bytes
+abbrev pub canonical_in : List ℕ → Tree → Val → Option Request
+canonical_in b tree message =
+    if is_tree tree (tree_of request_message 0x420078 message) && are_bytes b (bytes tree) then request_in message else None
+
+-- the request that bytes are: they are one item, which reads as a message that is written as the item and as these bytes, and which a client writes
 unfoldable pub request_read : List ℕ → Option Request
-request_read b = option_and_then (λ tree. option_and_then (canonical_in b) (root_read request_message 0x420078 tree)) (item_of 64 b)
+request_read b = option_and_then (λ tree. option_and_then (canonical_in b tree) (root_read request_message 0x420078 tree)) (item_of 64 b)

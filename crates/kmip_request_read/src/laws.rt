@@ -3,12 +3,13 @@
 ghost use Rattle.std.specs.Prelude.{◌≡◌, ℕ, List, Option, Some};
 ghost use Rattle.kmip_wire.specs.Tree.{Tree};
 ghost use Rattle.kmip_wire.specs.Parses.{Parses};
+ghost use Rattle.kmip_wire.specs.Bytes.{HasRanges};
 ghost use Rattle.kmip_types.specs.declared.auth.CredentialType.{CredentialType};
 ghost use Rattle.kmip_request.specs.declared.payload.RequestPayload.{RequestPayload};
 ghost use Rattle.kmip_request.specs.Message.{request_bytes};
 ghost use Rattle.kmip_request.specs.Held.{IsHeld};
-ghost use Rattle.kmip_request_read.specs.Matched.{IsMatched};
-ghost use Rattle.kmip_request_read.specs.Reading.{request_for, message_bytes, request_read};
+ghost use Rattle.kmip_request_read.specs.Matched.{IsMatched, IsMatchedValue};
+ghost use Rattle.kmip_request_read.specs.Reading.{Request, request_for, message_bytes, message_with, request_read};
 
 /// Two matched requests of the same bytes are equal, in payload and credential. The premises `IsHeld` hold of every
 /// payload and credential that Rust can hold.
@@ -27,7 +28,14 @@ pub fn request_is_read()
     ensures { (p : RequestPayload) (c : Option CredentialType) (b : List ℕ) → IsHeld p c → IsMatched p → request_bytes p c ≡ Some b → request_read b ≡ Some (request_for p) }
 {}
 
-/// The bytes of a request parse. The premise `IsHeld` holds of every payload and credential that Rust can hold.
+/// Where bytes are read as a request, by values, this is matched, and they are its message, with the items of a
+/// credential, if there is one, in its header.
+pub fn read_request_is_matched()
+    ensures { (b : List ℕ) (r : Request) → request_read b ≡ Some r → IsMatchedValue r.operation r.payload × ((trees : List Tree) × (message_with r trees ≡ Some b)) }
+{}
+
+/// The bytes of a request parse, as a tree whose numbers, texts and bytes are in their ranges. The premise `IsHeld` holds of every payload and credential that Rust can hold.
 pub fn request_parses()
-    ensures { (p : RequestPayload) (c : Option CredentialType) (b : List ℕ) → IsHeld p c → request_bytes p c ≡ Some b → (t : Tree) × Parses t 1 b }
+    ensures parses { (p : RequestPayload) (c : Option CredentialType) (b : List ℕ) → IsHeld p c → request_bytes p c ≡ Some b → (t : Tree) × Parses t 1 b }
+    ensures ranges { (p : RequestPayload) (c : Option CredentialType) (b : List ℕ) (t : Tree) → IsHeld p c → request_bytes p c ≡ Some b → Parses t 1 b → HasRanges t }
 {}

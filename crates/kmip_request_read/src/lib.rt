@@ -8,7 +8,9 @@
 mod laws;
 mod reading;
 
-pub use laws::{one_request, request_is_read, request_parses, same_message};
+pub use laws::{
+    one_request, read_request_is_matched, request_is_read, request_parses, same_message,
+};
 pub use reading::{RequestReadError, from_slice};
 
 #[cfg(test)]

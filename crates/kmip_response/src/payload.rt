@@ -17,7 +17,7 @@ use crate::payloads::identifiers::{
 use crate::payloads::query::DiscoverVersionsResponsePayload;
 use crate::payloads::server::QueryResponsePayload;
 use kmip_shape::{Item, Outer, ReadError, ReadItem, ShowItem, Sink, show_case};
-use kmip_wire::{ItemRef, OutOfMemory, TryClone};
+use kmip_wire::{Boxed, ItemRef, OutOfMemory, TryClone};
 use std::alloc::Global;
 
 /// What an operation answers, chosen by the operation of its batch item.
@@ -27,7 +27,7 @@ pub enum ResponsePayload {
     CreateKeyPair(CreateKeyPairResponsePayload),
     Register(RegisterResponsePayload),
     Locate(LocateResponsePayload),
-    Get(GetResponsePayload),
+    Get(Boxed<GetResponsePayload>),
     GetAttributes(GetAttributesResponsePayload),
     GetAttributeList(GetAttributeListResponsePayload),
     AddAttribute(AttributeEditResponsePayload),
@@ -141,7 +141,7 @@ impl ReadItem for ResponsePayload {
             Some(8) => Ok(ResponsePayload::Locate(LocateResponsePayload::read(
                 alloc, outer, item,
             )?)),
-            Some(10) => Ok(ResponsePayload::Get(GetResponsePayload::read(alloc, outer, item)?)),
+            Some(10) => Ok(ResponsePayload::Get(Boxed::read(alloc, outer, item)?)),
             Some(11) => Ok(ResponsePayload::GetAttributes(GetAttributesResponsePayload::read(
                 alloc, outer, item,
             )?)),

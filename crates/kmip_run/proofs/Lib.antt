@@ -11,3 +11,4 @@ pub mod Runs
 pub mod Texts
 pub mod Whole
 pub mod SentBytes
+pub mod Tellings

@@ -1,16 +1,23 @@
 -- What a session sends.
-use Rattle.std.proofs.Common.{◌≡◌, ℕ, Bool, true, false, cond, List, [], ◌∷◌, ◌++◌, length, take, drop, map, refl, ◌∙◌, sym, ap, Option, Some, None}
+use Rattle.std.proofs.Common.{◌≡◌, ℕ, Bool, true, false, cond, List, [], ◌∷◌, ◌++◌, length, take, drop, map, refl, ◌∙◌, sym, ap, subst, Option, Some, None, Result, Ok, Err, IfOk, ◌⊎◌, inl, inr}
 use Rattle.kmip_wire.specs.Tree.{Tree}
 use Rattle.kmip_wire.specs.Parses.{Parses, AreTexts, joined_texts}
 use Rattle.kmip_types.specs.declared.auth.CredentialType.{CredentialType}
 use Rattle.kmip_enums.specs.declared.operation.Operation.{Operation}
-use Rattle.kmip_request.specs.Held.{IsHeld}
+use Rattle.kmip_shape.specs.Shape.{NoCase}
+use Rattle.kmip_shape.specs.Fits.{vals_fit}
+use Rattle.kmip_shape.specs.Writes.{vals}
+use Rattle.kmip_request.specs.Held.{AreTexts as AreCredentialTexts, IsHeld}
+use Rattle.kmip_request.specs.Tables.{request_payload}
+use Rattle.kmip_request.specs.Values.{request_payload_val}
 use Rattle.kmip_request.specs.Message.{request_bytes, operation_of}
 use Rattle.kmip_request.specs.declared.payload.RequestPayload.{RequestPayload}
 use Rattle.kmip_client.specs.Client.{loses_connection}
 use Rattle.kmip_client.specs.Outcome.{outcome, outcome_of}
 use Rattle.kmip_client.specs.Session.{Turn, turn_of, then_on, session, all_sent}
-use Rattle.kmip_run.specs.Sent.{with_message, messages_of, AreHeld}
+use Rattle.kmip_request_read.specs.declared.reading.RequestReadError.{RequestReadError}
+use Rattle.kmip_request_read.specs.declared.reading.RequestReadError.TheVariants.{Malformed, NotCanonical, OutOfMemory}
+use Rattle.kmip_run.specs.Sent.{with_message, messages_of, AreHeld, IsSent, GivesBack}
 
 -- ---- the texts
 
@@ -92,3 +99,44 @@ requests (payload ∷ payloads) credential limit rest =
     either (AreFirst (payload ∷ payloads) credential) (loses_connection turn.outcome.answer) turn later
     (first_next payload payloads credential limit rest [] refl)
     (first_next payload payloads credential limit rest later (requests payloads credential limit (drop (outcome payload credential limit rest).taken rest)))
+
+-- ---- what is read of them
+
+abbrev IsFound : RequestPayload → Option CredentialType → List ℕ → Type 0
+IsFound payload credential text = IsHeld payload credential × (request_bytes payload credential ≡ Some text)
+
+abbrev Finds : RequestPayload → Option CredentialType → List ℕ → List RequestPayload → List Turn → Type 0
+Finds payload credential text payloads turns = IsSent payload text turns payloads → IsFound payload credential text
+
+found_first : (p payload : RequestPayload) (payloads : List RequestPayload) (credential : Option CredentialType) (limit : Option ℕ) (rest text : List ℕ) (later : List Turn) → IsHeld p credential →
+    Finds payload credential text payloads later → Finds payload credential text (p ∷ payloads) (turn_of p credential limit rest ∷ later)
+found_first p payload payloads credential limit rest text later held next (inl here) =
+    subst (λ (q : RequestPayload). IsFound q credential text) here.0 (held, here.1)
+found_first p payload payloads credential limit rest text later held next (inr there) = next there
+
+none_found : (payload : RequestPayload) (credential : Option CredentialType) (text : List ℕ) (payloads : List RequestPayload) → Finds payload credential text payloads []
+none_found payload credential text payloads sent = absurd sent
+
+pub found : (payloads : List RequestPayload) (credential : Option CredentialType) (limit : Option ℕ) (rest : List ℕ) (payload : RequestPayload) (text : List ℕ) → AreHeld payloads credential →
+    Finds payload credential text payloads (session payloads credential limit rest)
+unfolding session
+found [] credential limit rest payload text held = none_found payload credential text []
+found (p ∷ payloads) credential limit rest payload text held =
+    let turn : Turn = turn_of p credential limit rest in
+    let later : List Turn = session payloads credential limit (drop (outcome p credential limit rest).taken rest) in
+    either (Finds payload credential text (p ∷ payloads)) (loses_connection turn.outcome.answer) turn later
+    (found_first p payload payloads credential limit rest text [] held.0 (none_found payload credential text payloads))
+    (found_first p payload payloads credential limit rest text later held.0 (found payloads credential limit (drop (outcome p credential limit rest).taken rest) payload text held.1))
+
+pub gives_back : (payload : RequestPayload) (credential : Option CredentialType) (result : Result (RequestPayload × Option CredentialType) RequestReadError) →
+    IfOk result (λ read. (read.0 ≡ payload) × (read.1 ≡ credential)) → (result ≡ Err Malformed → ⊥) → (result ≡ Err NotCanonical → ⊥) → GivesBack payload credential result
+gives_back payload credential (Ok read) back malformed other = back
+gives_back payload credential (Err Malformed) back malformed other = absurd (malformed refl)
+gives_back payload credential (Err NotCanonical) back malformed other = absurd (other refl)
+gives_back payload credential (Err OutOfMemory) back malformed other = refl
+
+-- ---- what Rust holds
+
+pub held_all : (payloads : List RequestPayload) (credential : Option CredentialType) → vals_fit (vals request_payload_val payloads) NoCase request_payload → AreCredentialTexts credential → AreHeld payloads credential
+held_all [] credential fit texts = tt
+held_all (payload ∷ payloads) credential fit texts = ((fit.0, texts), held_all payloads credential fit.1 texts)

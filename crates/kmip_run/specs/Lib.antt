@@ -9,3 +9,4 @@ pub mod Exchange
 pub mod Making
 pub mod Transcript
 pub mod Sent
+pub mod Told

@@ -1,8 +1,10 @@
 -- What a session sends, as texts.
-use Rattle.std.specs.Prelude.{ℕ, List, [], ◌∷◌, Option, Some, None}
+use Rattle.std.specs.Prelude.{◌≡◌, ℕ, List, [], ◌∷◌, Option, Some, None, Result, Ok, Err, ◌⊎◌}
 use Rattle.kmip_types.specs.declared.auth.CredentialType.{CredentialType}
 use Rattle.kmip_request.specs.Held.{IsHeld}
 use Rattle.kmip_request.specs.declared.payload.RequestPayload.{RequestPayload}
+use Rattle.kmip_request_read.specs.declared.reading.RequestReadError.{RequestReadError}
+use Rattle.kmip_request_read.specs.declared.reading.RequestReadError.TheVariants.{OutOfMemory}
 use Rattle.kmip_client.specs.Session.{Turn}
 
 abbrev pub with_message : Option (List ℕ) → List (List ℕ) → List (List ℕ)
@@ -18,3 +20,14 @@ messages_of (turn ∷ turns) = with_message turn.request (messages_of turns)
 abbrev pub AreHeld : List RequestPayload → Option CredentialType → Type 0
 AreHeld [] credential = Unit {0}
 AreHeld (payload ∷ payloads) credential = IsHeld payload credential × AreHeld payloads credential
+
+-- The text is what this request was sent as, which is one of these whose calls were made.
+abbrev pub IsSent : RequestPayload → List ℕ → List Turn → List RequestPayload → Type 0
+IsSent payload text [] payloads = ⊥
+IsSent payload text (turn ∷ turns) [] = ⊥
+IsSent payload text (turn ∷ turns) (p ∷ payloads) = ((p ≡ payload) × (turn.request ≡ Some text)) ⊎ IsSent payload text turns payloads
+
+-- The reader gives this request and credential, or memory ran out.
+abbrev pub GivesBack : RequestPayload → Option CredentialType → Result (RequestPayload × Option CredentialType) RequestReadError → Type 0
+GivesBack payload credential (Ok read) = (read.0 ≡ payload) × (read.1 ≡ credential)
+GivesBack payload credential (Err error) = error ≡ OutOfMemory

@@ -1,7 +1,7 @@
 //! The calls of the client, each with the line of its answer.
 ghost use Rattle.std.specs.Prelude.{◌≡◌, drop, IfOk};
 ghost use Rattle.kmip_run.specs.Exchange.{settings_of, step, Answers};
-ghost use Rattle.kmip_run.specs.declared.call.Call.TheVariants.{CreateRsa, Rng, Raw};
+ghost use Rattle.kmip_run.specs.declared.call.Call.TheVariants.{CreateRsa, Rng, Get, Raw};
 ghost use Rattle.kmip_request_read.specs.Reading.{Request};
 
 use crate::call::Call;
@@ -42,7 +42,22 @@ fn rng(
     show(alloc, client.rng_retrieve(alloc, num_bytes), line)
 }
 
+/// Asks for an object, and adds the line of the answer. It is apart since such a payload is large.
+#[inline(never)]
+fn get(
+    alloc: Global,
+    client: &mut Client<MemoryLink>,
+    id: Text,
+    line: &mut Text,
+) -> Result<bool, OutOfMemory>
+    ensures { IfOk result (λ failed. Answers (step (settings_of client.old) (Get id) (drop client.old.link.pos client.old.link.ever))
+        client.old client.new failed line.old line.new) }
+{
+    show(alloc, client.get_key(alloc, id.as_str()), line)
+}
+
 /// Makes the request of a line's bytes, and adds the line of the answer, which is shown as a choice.
+#[inline(never)]
 fn raw(
     alloc: Global,
     client: &mut Client<MemoryLink>,
@@ -92,15 +107,15 @@ pub fn answer(
             client.sign(alloc, id.as_str(), bytes.as_slice()),
             line,
         ),
-        Call::Activate { id } => show_done(alloc, client.activate_key(alloc, id.as_str()), line),
-        Call::Revoke { id } => show_done(alloc, client.revoke_key(alloc, id.as_str()), line),
-        Call::Destroy { id } => show_done(alloc, client.destroy_key(alloc, id.as_str()), line),
+        Call::Activate { id } => show_done(client.activate_key(alloc, id.as_str()), line),
+        Call::Revoke { id } => show_done(client.revoke_key(alloc, id.as_str()), line),
+        Call::Destroy { id } => show_done(client.destroy_key(alloc, id.as_str()), line),
         Call::Rename { id, new_name } => show(
             alloc,
             client.rename_key(alloc, id.as_str(), new_name),
             line,
         ),
-        Call::Get { id } => show(alloc, client.get_key(alloc, id.as_str()), line),
+        Call::Get { id } => get(alloc, client, id, line),
         Call::Raw { request } => raw(alloc, client, request, line),
     }
 }

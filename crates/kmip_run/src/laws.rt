@@ -1,31 +1,103 @@
-//! Laws over what the program stands on, each the contract of a function that does nothing.
+//! Laws over what the program stands on, each the contract of a function that does nothing, or only reads.
 
-ghost use Rattle.std.specs.Prelude.{◌≡◌, ℕ, List, Option, map, take, length};
+ghost use Rattle.std.specs.Prelude.{◌≡◌, ◌↔◌, ℕ, List, Option, map, take, length};
+ghost use Rattle.kmip_wire.specs.Bytes.{AreBytes};
 ghost use Rattle.kmip_wire.specs.Parses.{AreTexts, joined_texts};
-ghost use Rattle.kmip_types.specs.declared.auth.CredentialType.{CredentialType};
+ghost use Rattle.kmip_types.specs.declared.auth.CredentialType.{CredentialType as Credential};
+ghost use Rattle.kmip_request.specs.Held.{AreTexts as AreCredentialTexts};
 ghost use Rattle.kmip_request.specs.Message.{request_bytes};
-ghost use Rattle.kmip_request.specs.declared.payload.RequestPayload.{RequestPayload};
+ghost use Rattle.kmip_request.specs.declared.payload.RequestPayload.{RequestPayload as Payload};
+ghost use Rattle.kmip_request_read.specs.Matched.{IsMatched};
 ghost use Rattle.kmip_client.specs.Session.{session, all_sent};
-ghost use Rattle.kmip_run.specs.Sent.{messages_of, AreHeld};
+ghost use Rattle.kmip_client.specs.Skeletons.{texts_of};
+ghost use Rattle.kmip_run.specs.Sent.{messages_of, AreHeld, IsSent, GivesBack};
+ghost use Rattle.kmip_run.specs.Told.{AllAnswered, skeletons_in};
 
-use kmip_request_read::request_parses;
-use kmip_wire::one_tree;
+use kmip_client::diagnostics_of_sessions;
+use kmip_request::RequestPayload;
+use kmip_request_read::{RequestReadError, from_slice, request_parses};
+use kmip_shape::{Item, known_items};
+use kmip_types::auth::CredentialType;
+use kmip_wire::{one_tree, parsed_ranges, tree_computed};
+use std::alloc::Global;
 
 /// Without a fault, what a session sends splits in exactly one way into texts that parse. They are, in order, the
 /// canonical messages of the valid requests whose calls were made, which are the first of the session's requests.
 ///
-/// The request reader gives back each of them that is of a matched request, with the credential: that is a clause of
-/// `kmip_request_read::from_slice`. The premise `AreHeld` holds of all payloads and credentials that Rust can hold.
+/// The premise `AreHeld` holds of all payloads and credentials that Rust can hold.
 pub fn sent_bytes_of_sessions()
-    ensures joined { (payloads : List RequestPayload) (credential : Option CredentialType) (limit : Option ℕ) (rest : List ℕ) →
+    ensures joined { (payloads : List Payload) (credential : Option Credential) (limit : Option ℕ) (rest : List ℕ) →
         all_sent (session payloads credential limit rest) ≡ joined_texts (messages_of (session payloads credential limit rest)) }
-    ensures parse { (payloads : List RequestPayload) (credential : Option CredentialType) (limit : Option ℕ) (rest : List ℕ) → AreHeld payloads credential →
+    ensures parse { (payloads : List Payload) (credential : Option Credential) (limit : Option ℕ) (rest : List ℕ) → AreHeld payloads credential →
         AreTexts 1 (messages_of (session payloads credential limit rest)) }
-    ensures only { (payloads : List RequestPayload) (credential : Option CredentialType) (limit : Option ℕ) (rest : List ℕ) (texts : List (List ℕ)) → AreHeld payloads credential →
+    ensures only { (payloads : List Payload) (credential : Option Credential) (limit : Option ℕ) (rest : List ℕ) (texts : List (List ℕ)) → AreHeld payloads credential →
         AreTexts 1 texts → joined_texts texts ≡ all_sent (session payloads credential limit rest) → texts ≡ messages_of (session payloads credential limit rest) }
-    ensures requests { (payloads : List RequestPayload) (credential : Option CredentialType) (limit : Option ℕ) (rest : List ℕ) →
+    ensures requests { (payloads : List Payload) (credential : Option Credential) (limit : Option ℕ) (rest : List ℕ) →
         map (λ turn. turn.request) (session payloads credential limit rest) ≡ map (λ payload. request_bytes payload credential) (take (length (session payloads credential limit rest)) payloads) }
 {
     request_parses();
     one_tree();
+}
+
+/// The request reader gives back each of a session's messages whose request is matched, as this request and with the
+/// session's credential.
+pub fn sent_requests_are_read(
+    alloc: Global,
+    text: &[u8],
+) -> Result<(RequestPayload, Option<CredentialType>), RequestReadError>
+    ensures { (payloads : List Payload) (credential : Option Credential) (limit : Option ℕ) (rest : List ℕ) (payload : Payload) → AreHeld payloads credential →
+        IsSent payload text.now (session payloads credential limit rest) payloads → IsMatched payload → GivesBack payload credential result }
+{
+    request_parses();
+    from_slice(alloc, text)
+}
+
+/// The texts of a credential are UTF-8.
+fn known_credential(credential: &Option<CredentialType>)
+    ensures { AreCredentialTexts credential.now }
+{
+    if let Some(CredentialType::UsernameAndPassword(known)) = credential {
+        known.username.known();
+        if let Some(password) = &known.password {
+            password.known();
+        }
+    }
+}
+
+/// What the types of Rust keep of payloads and a credential.
+fn held(payloads: &[RequestPayload], credential: &Option<CredentialType>)
+    ensures { AreHeld payloads.now credential.now }
+{
+    known_items(payloads);
+    known_credential(credential);
+}
+
+/// Each number is below 256.
+fn bytes_known(bytes: &[u8])
+    ensures { AreBytes bytes.now }
+{}
+
+/// Two sessions whose requests are valid and whose messages parse have equal diagnostics at every call exactly where
+/// the skeletons of their requests and of their responses are equal at every call. So a diagnostic tells tags, types,
+/// nesting and the numbers of enumerations, all of them, and nothing else.
+pub fn diagnostics_of_whole_sessions(
+    payloads: &[RequestPayload],
+    credential: &Option<CredentialType>,
+    rest: &[u8],
+    others: &[RequestPayload],
+    other: &Option<CredentialType>,
+    bytes: &[u8],
+)
+    ensures { (limit most : Option ℕ) → AllAnswered (session payloads.now credential.now limit rest.now) → AllAnswered (session others.now other.now most bytes.now) →
+        (texts_of (session payloads.now credential.now limit rest.now) ≡ texts_of (session others.now other.now most bytes.now))
+        ↔ (skeletons_in (session payloads.now credential.now limit rest.now) ≡ skeletons_in (session others.now other.now most bytes.now)) }
+{
+    held(payloads, credential);
+    held(others, other);
+    bytes_known(rest);
+    bytes_known(bytes);
+    request_parses();
+    tree_computed();
+    parsed_ranges();
+    diagnostics_of_sessions();
 }

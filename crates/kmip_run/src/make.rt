@@ -39,11 +39,13 @@ fn left_len(client: &mut Client<MemoryLink>) -> usize
     client.inner().rest().len()
 }
 
-/// Feeds the response of a call, and makes it. Says whether the answer is an error, and how many bytes it took.
+/// Feeds the response of a call, and makes it. Says whether the answer is an error, and how many bytes it took. `line`
+/// is room for the line of the answer, in place of what it holds.
 fn make_call(
     alloc: Global,
     client: &mut Client<MemoryLink>,
     recorded: Recorded,
+    line: &mut Text,
 ) -> Result<(bool, usize), OutOfMemory>
     ensures settings { OnOk result (settings_of client.new ≡ settings_of client.old) }
     ensures makes { IfOk result (λ did. MakesCall (step (settings_of client.old) recorded.call (drop client.old.link.pos client.old.link.ever ++ recorded.response))
@@ -51,8 +53,8 @@ fn make_call(
 {
     feed(client, recorded.response.as_slice())?;
     let before = left_len(client);
-    let mut line = Text::new(alloc);
-    let failed = answer(alloc, client, recorded.call, &mut line)?;
+    line.clear();
+    let failed = answer(alloc, client, recorded.call, line)?;
     Ok((failed, before - left_len(client)))
 }
 
@@ -96,11 +98,12 @@ fn make_calls(
         taken: 0,
     };
     let mut x = 1;
+    let mut line = Text::new(alloc);
     let mut done = 0;
     while done < count {
         x = next_of(x);
         let recorded = exchange_of(alloc, x)?;
-        let (failed, taken) = make_call(alloc, client, recorded)?;
+        let (failed, taken) = make_call(alloc, client, recorded, &mut line)?;
         tally = counted(tally, failed, taken);
         done += 1;
     }

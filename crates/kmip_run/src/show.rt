@@ -10,7 +10,8 @@ use kmip_wire::{OutOfMemory, Text};
 use std::alloc::Global;
 
 /// Adds `- ` and the error as a line.
-fn show_error(alloc: Global, error: &Error, line: &mut Text) -> Result<bool, OutOfMemory>
+#[tactic(auto, using(std::proofs::lemmas::List::append_assoc))]
+fn show_error(error: &Error, line: &mut Text) -> Result<bool, OutOfMemory>
     ensures shown { OnOk result (line.new ≡ line.old ++ (codes "- " ++ (error_shown error.now ++ codes "\n"))) }
     ensures failed { IfOk result (λ failed. failed ≡ true) }
     ensures memory { OnOk result (error.now ≢ Error.OutOfMemory) }
@@ -18,8 +19,10 @@ fn show_error(alloc: Global, error: &Error, line: &mut Text) -> Result<bool, Out
     if matches!(error, Error::OutOfMemory) {
         return Err(OutOfMemory);
     }
-    let text = format!(in alloc; "- {error}\n")?;
-    line.push_str(text.as_str())?;
+    line.push_str("- ")?;
+    line.push_str(error.kind())?;
+    line.push_str(error.text())?;
+    line.push_str("\n")?;
     Ok(true)
 }
 
@@ -46,16 +49,12 @@ pub fn show<P: ShowItem + Drop>(
             push_payload(alloc, &payload, line)?;
             Ok(false)
         }
-        Err(error) => show_error(alloc, &error, line),
+        Err(error) => show_error(&error, line),
     }
 }
 
 /// The same where there is nothing to tell but that it was done.
-pub fn show_done(
-    alloc: Global,
-    answer: Result<(), Error>,
-    line: &mut Text,
-) -> Result<bool, OutOfMemory>
+pub fn show_done(answer: Result<(), Error>, line: &mut Text) -> Result<bool, OutOfMemory>
     ensures { IfOk result (λ failed. Shows (λ done. codes "()") answer failed line.old line.new) }
 {
     match answer {
@@ -63,7 +62,7 @@ pub fn show_done(
             line.push_str("= ()\n")?;
             Ok(false)
         }
-        Err(error) => show_error(alloc, &error, line),
+        Err(error) => show_error(&error, line),
     }
 }
 
@@ -92,6 +91,6 @@ pub fn show_pair(
             push_pair(alloc, &first, &second, line)?;
             Ok(false)
         }
-        Err(error) => show_error(alloc, &error, line),
+        Err(error) => show_error(&error, line),
     }
 }

@@ -8,7 +8,6 @@ use std::test::Fail;
 
 mod hostile;
 mod raw;
-mod sent;
 
 /// What the program writes for these words over this script, and with which status it ends.
 struct Row {

@@ -1,5 +1,5 @@
 use Rattle.std.proofs.Common.{arith}
-use Rattle.kmip_client.proofs.Exchanges.{send_stopped, read_ended, read_caused}
+use Rattle.kmip_client.proofs.Exchanges.{send_stopped, send_not_reading, read_ended, read_caused, fails_reading}
 use Rattle.kmip_client.proofs.exchange.exchange.Goals as goal
 
 pub returns-in-Err-clause-exchange : goal.returns-in-Err-clause-exchange
@@ -18,3 +18,11 @@ returns-clause-caused g c =
     c.read_message-read.ensures.read
     (λ is. omega (arith, c.send.ensures.keeps.faults, c.read_message-read.ensures.fault is))
     (rw c.deref.ensures.value at c.answer_to.ensures)
+
+pub returns-in-Err-clause-reading : goal.returns-in-Err-clause-reading
+returns-in-Err-clause-reading g c = λ tells is. absurd (send_not_reading c.in-Err.error c.in-Err.ensures.err is)
+
+pub returns-clause-reading : goal.returns-clause-reading
+returns-clause-reading g c = λ tells is.
+    fails_reading g.L.Link.state c.args.link.now c.send.new.link c.read_message-read.new.link c.args.request.now c.args.operation c.read_message-read.new.taken.items c.read_message-read.result _
+    (c.in-Ok.ensures.ok tells) c.read_message-read.ensures.fault (rw c.deref.ensures.value at c.answer_to.ensures) is

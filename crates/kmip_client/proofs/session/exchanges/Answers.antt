@@ -6,9 +6,9 @@ use Rattle.kmip_link.specs.State.{left}
 use Rattle.kmip_client.specs.Client.{counted, loses_connection, lacks_memory}
 use Rattle.kmip_client.specs.Calls.{IsCall}
 use Rattle.kmip_client.specs.Outcome.{Answer, seen_by}
-use Rattle.kmip_client.specs.Session.{Told, exchange_told, at_loss, Stops, AllCaused, ends_lost}
+use Rattle.kmip_client.specs.Session.{Told, exchange_told, at_loss, Stops, told_by, Calls, ends_lost}
 use Rattle.kmip_client.proofs.Transfers.{keeps_self, keeps_on}
-use Rattle.kmip_client.proofs.Sessions.{SoFar, StopsOn, CausedOn, Step, turn, stop, end, call_whole, step_of, telling, pushed, nothing_yet, grows_none, grows_on, same_before, exchanged_grows, empty_of, stops_on, stops_end, caused_on, caused_end, ends_one}
+use Rattle.kmip_client.proofs.Sessions.{SoFar, StopsOn, CausedOn, Step, turn, stop, end, call_whole, step_of, telling, pushed, nothing_yet, grows_none, grows_on, same_before, exchanged_grows, empty_of, stops_on, stops_end, CallsOn, calls_on, calls_end, calls_texts, calls_requests, all_one, have_room, room_one, cut_off, on_err, ends_one}
 use Rattle.kmip_client.proofs.session.exchanges.Goals as goal
 
 pub loop-payload-init : goal.loop-payload-init
@@ -28,7 +28,8 @@ loop-payload-init g c =
       grows = λ tells. grows_none _;
       so_far = λ tells same. rw (none, items.0) (nothing_yet _ _ _);
       stops = λ more stops. rw none (rw items.0 at stops);
-      caused = λ end last more causes. rw none (rw items.0 at causes);
+      calls = λ after more calls. rw none (rw items.0 at calls);
+      all = rw none tt;
     }
 
 pub loop-payload-preserved : goal.loop-payload-preserved
@@ -51,7 +52,7 @@ loop-payload-preserved g c =
     let is : map (exchange_told all) c.push.new.self ≡ before ++ told ∷ [] =
     ap (λ l. map (exchange_told all) l) c.in_ok-push.ensures ∙ pushed all c.loop-payload.exchanges c.in_ok-told.field-0 told (ap (exchange_told all) c.in_ok-told.ensures) in
     let stops : StopsOn c.args.payloads.items before (payload ∷ rest) = rw steps.0 at i.stops in
-    let caused : CausedOn start.credential start.limit (g.T.Link.state start.link).faults (g.T.Link.state old.link).faults c.args.payloads.items before (payload ∷ rest) = rw steps.0 at i.caused in
+    let so_far : CallsOn g.T.Link.state c.args.payloads.items start before old (payload ∷ rest) = rw steps.0 at i.calls in
     record {
       next = tt;
       finite = tt;
@@ -69,8 +70,9 @@ loop-payload-preserved g c =
           let step : Step start.buffered start.credential start.limit payload (g.T.Link.state old.link) (g.T.Link.state new.link) seen new.request_text new.response_text =
           rw (i.buffered, i.credential, i.limit) at (step_of call tells_on (same ∙ sym quiet) room) in
           rw is (turn before start.credential start.limit payload rest seen i.keeps (rw steps.0 at (i.so_far tells quiet)) step step.exchanged kept);
-      stops = rw is (stops_on c.args.payloads.items before payload rest told kept stops);
-      caused = rw is (caused_on start.credential start.limit _ (g.T.Link.state old.link).faults _ c.args.payloads.items before payload rest told i.keeps.faults call.keeps.faults (rw (i.credential, i.limit) at call.caused) caused);
+      stops = rw is (stops_on c.args.payloads.items before payload rest told (kept, room) stops);
+      calls = rw is (calls_on _ _ _ before old new payload rest seen call so_far);
+      all = rw is (all_one before told i.all (kept, room));
     }
 
 pub returns-then-lost-clause-session : goal.returns-then-lost-clause-session
@@ -115,8 +117,8 @@ returns-then-lost-clause-stops g c =
     let stops : StopsOn c.args.payloads.items before (payload ∷ rest) = rw steps.0 at i.stops in
     rw is (stops (told ∷ []) (at_loss payload rest told lost))
 
-pub returns-then-lost-clause-caused : goal.returns-then-lost-clause-caused
-returns-then-lost-clause-caused g c =
+pub returns-then-lost-clause-calls : goal.returns-then-lost-clause-calls
+returns-then-lost-clause-calls g c =
     let i = c.loop-payload.invariant in
     let start = c.args.client.now in
     let payload = c.in-Some.payload in
@@ -128,13 +130,59 @@ returns-then-lost-clause-caused g c =
     let new = c.request-answer.new.self in
     let call : IsCall g.T.Link.state payload old new seen =
     call_whole (g.P.Answered.val (operation_of payload)) all c.request-answer.result c.request-answer.ensures.call (c.answers_any.ensures.whole (operation_of payload)) in
-    let told : Told = telling seen new.request_text new.response_text in
+    let told : Told = told_by seen new in
     let before : List Told = map (exchange_told all) c.loop-payload.exchanges in
     let is : map (exchange_told all) c.push.new.self ≡ before ++ told ∷ [] =
     ap (λ l. map (exchange_told all) l) c.in_ok-push.ensures ∙ pushed all c.loop-payload.exchanges c.in_ok-told.field-0 told (ap (exchange_told all) c.in_ok-told.ensures) in
-    let caused : CausedOn start.credential start.limit (g.T.Link.state start.link).faults (g.T.Link.state old.link).faults c.args.payloads.items before (payload ∷ rest) = rw steps.0 at i.caused in
-    rw is (caused_end start.credential start.limit _ (g.T.Link.state new.link).faults c.args.payloads.items (before ++ told ∷ []) rest
-    (caused_on start.credential start.limit _ (g.T.Link.state old.link).faults _ c.args.payloads.items before payload rest told i.keeps.faults call.keeps.faults (rw (i.credential, i.limit) at call.caused) caused))
+    let so_far : CallsOn g.T.Link.state c.args.payloads.items start before old (payload ∷ rest) = rw steps.0 at i.calls in
+    let made : Calls g.T.Link.state c.args.payloads.items start (before ++ told ∷ []) new =
+    calls_end _ _ _ (before ++ told ∷ []) new rest (calls_on _ _ _ before old new payload rest seen call so_far) in
+    rw is made
+
+pub returns-then-lost-clause-texts : goal.returns-then-lost-clause-texts
+returns-then-lost-clause-texts g c =
+    let i = c.loop-payload.invariant in
+    let start = c.args.client.now in
+    let payload = c.in-Some.payload in
+    let rest : List RequestPayload = into_iter_items c.next.new.self in
+    let steps = c.in-Some.ensures.steps in
+    let all = g.P.AnsweredByAny.whole in
+    let seen : Answer = seen_by all c.request-answer.result in
+    let old = c.loop-payload.client in
+    let new = c.request-answer.new.self in
+    let call : IsCall g.T.Link.state payload old new seen =
+    call_whole (g.P.Answered.val (operation_of payload)) all c.request-answer.result c.request-answer.ensures.call (c.answers_any.ensures.whole (operation_of payload)) in
+    let told : Told = told_by seen new in
+    let before : List Told = map (exchange_told all) c.loop-payload.exchanges in
+    let is : map (exchange_told all) c.push.new.self ≡ before ++ told ∷ [] =
+    ap (λ l. map (exchange_told all) l) c.in_ok-push.ensures ∙ pushed all c.loop-payload.exchanges c.in_ok-told.field-0 told (ap (exchange_told all) c.in_ok-told.ensures) in
+    let so_far : CallsOn g.T.Link.state c.args.payloads.items start before old (payload ∷ rest) = rw steps.0 at i.calls in
+    let made : Calls g.T.Link.state c.args.payloads.items start (before ++ told ∷ []) new =
+    calls_end _ _ _ (before ++ told ∷ []) new rest (calls_on _ _ _ before old new payload rest seen call so_far) in
+    rw is (calls_texts _ _ start (before ++ told ∷ []) new made)
+
+pub returns-then-lost-clause-requests : goal.returns-then-lost-clause-requests
+returns-then-lost-clause-requests g c =
+    let i = c.loop-payload.invariant in
+    let start = c.args.client.now in
+    let payload = c.in-Some.payload in
+    let rest : List RequestPayload = into_iter_items c.next.new.self in
+    let steps = c.in-Some.ensures.steps in
+    let all = g.P.AnsweredByAny.whole in
+    let seen : Answer = seen_by all c.request-answer.result in
+    let old = c.loop-payload.client in
+    let new = c.request-answer.new.self in
+    let call : IsCall g.T.Link.state payload old new seen =
+    call_whole (g.P.Answered.val (operation_of payload)) all c.request-answer.result c.request-answer.ensures.call (c.answers_any.ensures.whole (operation_of payload)) in
+    let room : lacks_memory seen ≡ false = sym (c.lacks_memory.ensures all) ∙ c.if-lacks_memory.false in
+    let told : Told = told_by seen new in
+    let before : List Told = map (exchange_told all) c.loop-payload.exchanges in
+    let is : map (exchange_told all) c.push.new.self ≡ before ++ told ∷ [] =
+    ap (λ l. map (exchange_told all) l) c.in_ok-push.ensures ∙ pushed all c.loop-payload.exchanges c.in_ok-told.field-0 told (ap (exchange_told all) c.in_ok-told.ensures) in
+    let so_far : CallsOn g.T.Link.state c.args.payloads.items start before old (payload ∷ rest) = rw steps.0 at i.calls in
+    let made : Calls g.T.Link.state c.args.payloads.items start (before ++ told ∷ []) new =
+    calls_end _ _ _ (before ++ told ∷ []) new rest (calls_on _ _ _ before old new payload rest seen call so_far) in
+    rw is (calls_requests _ start.buffered start.credential c.args.payloads.items start (before ++ told ∷ []) new refl refl (room_one before told i.all room) made)
 
 pub returns-then-lost-clause-count : goal.returns-then-lost-clause-count
 returns-then-lost-clause-count g c =
@@ -167,6 +215,68 @@ returns-clause-stops g c =
     let stops : StopsOn c.args.payloads.items before [] = rw none at i.stops in
     stops_end c.args.payloads.items before stops
 
-pub returns-clause-caused : goal.returns-clause-caused
-returns-clause-caused g c =
-    caused_end c.args.client.now.credential c.args.client.now.limit _ _ c.args.payloads.items (map (exchange_told g.P.AnsweredByAny.whole) c.loop-payload.exchanges) (into_iter_items c.loop-payload.payload-iterator) c.loop-payload.invariant.caused
+pub returns-clause-calls : goal.returns-clause-calls
+returns-clause-calls g c =
+    calls_end _ _ _ (map (exchange_told g.P.AnsweredByAny.whole) c.loop-payload.exchanges) c.loop-payload.client (into_iter_items c.loop-payload.payload-iterator) c.loop-payload.invariant.calls
+
+pub returns-clause-texts : goal.returns-clause-texts
+returns-clause-texts g c =
+    let before : List Told = map (exchange_told g.P.AnsweredByAny.whole) c.loop-payload.exchanges in
+    calls_texts _ _ c.args.client.now before c.loop-payload.client (calls_end _ _ _ before c.loop-payload.client (into_iter_items c.loop-payload.payload-iterator) c.loop-payload.invariant.calls)
+
+pub returns-clause-requests : goal.returns-clause-requests
+returns-clause-requests g c =
+    let before : List Told = map (exchange_told g.P.AnsweredByAny.whole) c.loop-payload.exchanges in
+    calls_requests _ c.args.client.now.buffered c.args.client.now.credential c.args.payloads.items c.args.client.now before c.loop-payload.client refl refl (have_room before c.loop-payload.invariant.all)
+    (calls_end _ _ _ before c.loop-payload.client (into_iter_items c.loop-payload.payload-iterator) c.loop-payload.invariant.calls)
+
+pub returns-then-lacks_memory-clause-cut : goal.returns-then-lacks_memory-clause-cut
+returns-then-lacks_memory-clause-cut g c =
+    let i = c.loop-payload.invariant in
+    let start = c.args.client.now in
+    let payload = c.in-Some.payload in
+    let rest : List RequestPayload = into_iter_items c.next.new.self in
+    let steps = c.in-Some.ensures.steps in
+    let all = g.P.AnsweredByAny.whole in
+    let seen : Answer = seen_by all c.request-answer.result in
+    let old = c.loop-payload.client in
+    let new = c.request-answer.new.self in
+    let call : IsCall g.T.Link.state payload old new seen =
+    call_whole (g.P.Answered.val (operation_of payload)) all c.request-answer.result c.request-answer.ensures.call (c.answers_any.ensures.whole (operation_of payload)) in
+    let before : List Told = map (exchange_told all) c.loop-payload.exchanges in
+    let so_far : CallsOn g.T.Link.state c.args.payloads.items start before old (payload ∷ rest) = rw steps.0 at i.calls in
+    on_err _ (cut_off _ _ _ before old new payload rest seen call so_far i.all)
+
+pub returns-in_err-told-clause-cut : goal.returns-in_err-told-clause-cut
+returns-in_err-told-clause-cut g c =
+    let i = c.loop-payload.invariant in
+    let start = c.args.client.now in
+    let payload = c.in-Some.payload in
+    let rest : List RequestPayload = into_iter_items c.next.new.self in
+    let steps = c.in-Some.ensures.steps in
+    let all = g.P.AnsweredByAny.whole in
+    let seen : Answer = seen_by all c.request-answer.result in
+    let old = c.loop-payload.client in
+    let new = c.request-answer.new.self in
+    let call : IsCall g.T.Link.state payload old new seen =
+    call_whole (g.P.Answered.val (operation_of payload)) all c.request-answer.result c.request-answer.ensures.call (c.answers_any.ensures.whole (operation_of payload)) in
+    let before : List Told = map (exchange_told all) c.loop-payload.exchanges in
+    let so_far : CallsOn g.T.Link.state c.args.payloads.items start before old (payload ∷ rest) = rw steps.0 at i.calls in
+    on_err _ (cut_off _ _ _ before old new payload rest seen call so_far i.all)
+
+pub returns-in_err-push-clause-cut : goal.returns-in_err-push-clause-cut
+returns-in_err-push-clause-cut g c =
+    let i = c.loop-payload.invariant in
+    let start = c.args.client.now in
+    let payload = c.in-Some.payload in
+    let rest : List RequestPayload = into_iter_items c.next.new.self in
+    let steps = c.in-Some.ensures.steps in
+    let all = g.P.AnsweredByAny.whole in
+    let seen : Answer = seen_by all c.request-answer.result in
+    let old = c.loop-payload.client in
+    let new = c.request-answer.new.self in
+    let call : IsCall g.T.Link.state payload old new seen =
+    call_whole (g.P.Answered.val (operation_of payload)) all c.request-answer.result c.request-answer.ensures.call (c.answers_any.ensures.whole (operation_of payload)) in
+    let before : List Told = map (exchange_told all) c.loop-payload.exchanges in
+    let so_far : CallsOn g.T.Link.state c.args.payloads.items start before old (payload ∷ rest) = rw steps.0 at i.calls in
+    on_err _ (cut_off _ _ _ before old new payload rest seen call so_far i.all)

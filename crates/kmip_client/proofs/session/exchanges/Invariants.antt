@@ -3,7 +3,7 @@ use Rattle.std.specs.Vec.Iter.{into_iter_items, into_iter_len}
 use Rattle.kmip_link.specs.State.{Keeps, left}
 use Rattle.kmip_client.specs.Transfer.{Grows}
 use Rattle.kmip_client.specs.Session.{session, exchange_told, ends_lost}
-use Rattle.kmip_client.proofs.Sessions.{SoFar, StopsOn, CausedOn}
+use Rattle.kmip_client.proofs.Sessions.{SoFar, StopsOn, CallsOn, AllGoOn}
 use Rattle.kmip_client.proofs.session.exchanges.Given as goal
 
 abbrev pub invariant-loop-payload : goal.invariant-loop-payload
@@ -23,6 +23,6 @@ invariant-loop-payload g l = record {
       (g.T.Link.state l.initial.client.link) (g.T.Link.state l.client.link) (map (exchange_told g.P.AnsweredByAny.whole) l.exchanges)
       (session (into_iter_items l.payload-iterator) l.initial.client.credential l.initial.client.limit (left (g.T.Link.state l.client.link)));
   stops : StopsOn l.fn.payloads.items (map (exchange_told g.P.AnsweredByAny.whole) l.exchanges) (into_iter_items l.payload-iterator);
-  caused : CausedOn l.initial.client.credential l.initial.client.limit (g.T.Link.state l.initial.client.link).faults (g.T.Link.state l.client.link).faults
-      l.fn.payloads.items (map (exchange_told g.P.AnsweredByAny.whole) l.exchanges) (into_iter_items l.payload-iterator);
+  calls : CallsOn g.T.Link.state l.fn.payloads.items l.initial.client (map (exchange_told g.P.AnsweredByAny.whole) l.exchanges) l.client (into_iter_items l.payload-iterator);
+  all : AllGoOn (map (exchange_told g.P.AnsweredByAny.whole) l.exchanges);
 }

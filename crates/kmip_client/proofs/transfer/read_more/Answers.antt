@@ -8,7 +8,6 @@ loop-done-preserved g c =
     let within : c.loop-done.done + c.in_ok-done.field-0 ≤ c.args.count = omega (arith, c.in_ok-done.ensures.some) in
     record {
       within = within;
-      room = i.room;
       grown = omega (arith, c.in_ok-done.ensures.some);
       kept = kept_on _ _ _ i.kept c.read_piece.ensures.kept;
       keeps = keeps_on i.keeps c.read_piece.ensures.keeps;

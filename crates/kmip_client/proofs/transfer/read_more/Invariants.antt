@@ -1,4 +1,4 @@
-use Rattle.std.proofs.Common.{◌≡◌, ◌+◌, ◌-◌, ◌≤◌, ◌++◌, length, take, min, IsTrue, vec_len}
+use Rattle.std.proofs.Common.{◌≡◌, ◌+◌, ◌-◌, ◌≤◌, ◌++◌, length, take, IsTrue, vec_len}
 use Rattle.kmip_link.specs.State.{Keeps, left}
 use Rattle.kmip_client.specs.Transfer.{Takes}
 use Rattle.kmip_client.proofs.transfer.read_more.Given as goal
@@ -6,7 +6,6 @@ use Rattle.kmip_client.proofs.transfer.read_more.Given as goal
 abbrev pub invariant-loop-done : goal.invariant-loop-done
 invariant-loop-done g l = record {
   within : l.done ≤ l.count;
-  room : vec_len l.piece ≡ min l.count 65536;
   grown : vec_len l.taken ≡ vec_len l.initial.taken + l.done;
   kept : take (length l.initial.taken.items) l.taken.items ≡ l.initial.taken.items;
   keeps : Keeps (g.L.Link.state l.initial.link) (g.L.Link.state l.link);

@@ -1,11 +1,11 @@
 use Rattle.std.proofs.Common.{refl, codes}
 use Rattle.kmip_shape.specs.Shown.{shown}
-use Rattle.kmip_response.specs.Tables.{query_payload, sign_payload, attribute_edit_payload, get_payload}
-use Rattle.kmip_response.specs.Values.{query_payload_val, sign_payload_val, attribute_edit_payload_val, get_payload_val}
+use Rattle.kmip_response.specs.Tables.{query_payload, sign_payload, attribute_edit_payload}
+use Rattle.kmip_response.specs.Values.{query_payload_val, sign_payload_val, attribute_edit_payload_val}
 use Rattle.kmip_response.specs.declared.payload.ResponsePayload.TheVariants as payloads
 use Rattle.kmip_client.specs.Calls.{nothing_of}
-use Rattle.kmip_client.specs.Requests.{query_request, sign_request, activate_request, revoke_request, destroy_request, rename_request, get_request}
-use Rattle.kmip_run.specs.declared.call.Call.TheVariants.{Query, Sign, Activate, Revoke, Destroy, Rename, Get}
+use Rattle.kmip_client.specs.Requests.{query_request, sign_request, activate_request, revoke_request, destroy_request, rename_request}
+use Rattle.kmip_run.specs.declared.call.Call.TheVariants.{Query, Sign, Activate, Revoke, Destroy, Rename}
 use Rattle.kmip_run.proofs.Exchanges.{helper_shown}
 use Rattle.kmip_run.proofs.answer.answer.Goals as goal
 
@@ -38,8 +38,3 @@ pub returns-in-Rename : goal.returns-in-Rename
 returns-in-Rename c =
     rw c.in-Rename.is
     (helper_shown (Rename c.in-Rename.id c.in-Rename.new_name) (rename_request c.in-Rename.id c.in-Rename.new_name) payloads.ModifyAttribute (λ payload. payload) (λ payload. shown attribute_edit_payload (attribute_edit_payload_val payload)) c.rename_key.result c.show-in-Rename.result c.args.line.now c.show-in-Rename.new.line (λ credential. refl) (λ payload. refl) (rw c.as_str-in-Rename.ensures.bytes at c.rename_key.ensures) c.show-in-Rename.ensures)
-
-pub returns-in-Get : goal.returns-in-Get
-returns-in-Get c =
-    rw c.in-Get.is
-    (helper_shown (Get c.in-Get.id) (get_request c.in-Get.id) payloads.Get (λ payload. payload) (λ payload. shown get_payload (get_payload_val payload)) c.get_key.result c.show-in-Get.result c.args.line.now c.show-in-Get.new.line (λ credential. refl) (λ payload. refl) (rw c.as_str-in-Get.ensures.bytes at c.get_key.ensures) c.show-in-Get.ensures)

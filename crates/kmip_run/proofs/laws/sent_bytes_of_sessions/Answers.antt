@@ -5,10 +5,10 @@ pub returns-clause-joined : goal.returns-clause-joined
 returns-clause-joined c = laws.joined
 
 pub returns-clause-parse : goal.returns-clause-parse
-returns-clause-parse c = laws.parse c.request_parses.ensures
+returns-clause-parse c = laws.parse c.request_parses.ensures.parses
 
 pub returns-clause-only : goal.returns-clause-only
-returns-clause-only c = laws.only c.request_parses.ensures c.one_tree.ensures.split
+returns-clause-only c = laws.only c.request_parses.ensures.parses c.one_tree.ensures.split
 
 pub returns-clause-requests : goal.returns-clause-requests
 returns-clause-requests c = laws.requests

@@ -8,3 +8,6 @@ returns-clause-caused g c = c.request.ensures.call.caused
 
 pub returns-clause-headline : goal.returns-clause-headline
 returns-clause-headline g c = c.request.ensures.call.headline
+
+pub returns-clause-reading : goal.returns-clause-reading
+returns-clause-reading g c = c.request.ensures.call.reading

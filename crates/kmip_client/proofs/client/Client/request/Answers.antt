@@ -1,7 +1,5 @@
-use Rattle.std.proofs.Common.{◌∙◌, ap, IsTrue, Bool}
-use Rattle.std.specs.Option.{option_map}
+use Rattle.std.proofs.Common.{◌∙◌, ap, refl, IsTrue, Bool}
 use Rattle.kmip_request.specs.Message.{request_bytes, operation_of, credential_of}
-use Rattle.kmip_client.specs.declared.call.Settings.{Settings}
 use Rattle.kmip_client.specs.Client.{counted}
 use Rattle.kmip_client.specs.Outcome.{seen_by, outcome, left_for, Exchanged}
 use Rattle.kmip_client.proofs.Headlines.{headline, seen_variant}
@@ -12,18 +10,19 @@ pub returns-clause-call : goal.returns-clause-call
 returns-clause-call g c =
     let e = c.call-answer.ensures in
     let exchange : IsTrue (g.T.Link.state c.args.self.now.link).tells →
-    Exchanged (outcome c.args.payload c.args.self.now.credential c.args.self.now.limit (left_for (g.T.Link.state c.args.self.now.link) (g.T.Link.state c.call-answer.new.link)))
-    (g.T.Link.state c.args.self.now.link) (g.T.Link.state c.call-answer.new.link) (seen_by (g.P.Answered.val (operation_of c.args.payload)) c.call-answer.result) =
+    Exchanged (outcome c.args.payload.now c.args.self.now.credential c.args.self.now.limit (left_for (g.T.Link.state c.args.self.now.link) (g.T.Link.state c.call-answer.new.link)))
+    (g.T.Link.state c.args.self.now.link) (g.T.Link.state c.call-answer.new.link) (seen_by (g.P.Answered.val (operation_of c.args.payload.now)) c.call-answer.result) =
     rw (← c.self.view_is) e.exchange in
     record {
       exchange = exchange;
       caused = rw (← c.self.view_is) e.caused;
-      headline = λ tells. headline (request_bytes c.args.payload c.args.self.now.credential) (operation_of c.args.payload) c.args.self.now.limit _ (exchange tells);
+      reading = rw (← c.self.view_is) e.reading;
+      headline = λ tells. headline (request_bytes c.args.payload.now c.args.self.now.credential) (operation_of c.args.payload.now) c.args.self.now.limit _ (exchange tells);
       keeps = rw (← c.self.view_is) e.keeps;
-      credential = rw (← c.self.view_is) (ap (λ (s : Settings). option_map credential_of s.authentication) e.settings);
-      limit = rw (← c.self.view_is) (ap (λ (s : Settings). s.config.max_bytes) e.settings);
-      buffered = rw (← c.self.view_is) (ap (λ (s : Settings). s.config.has_buf) e.settings);
-      count = rw (← c.self.view_is) (c.counted-self-inside.ensures ∙ ap (λ (lost : Bool). counted c.self.inside.errors lost) (c.loses_connection.ensures (g.P.Answered.val (operation_of c.args.payload))));
+      credential = rw (← c.self.view_is) refl;
+      limit = rw (← c.self.view_is) refl;
+      buffered = rw (← c.self.view_is) refl;
+      count = rw (← c.self.view_is) (c.counted-self-inside.ensures ∙ ap (λ (lost : Bool). counted c.self.inside.errors lost) (c.loses_connection.ensures (g.P.Answered.val (operation_of c.args.payload.now))));
       request_text = rw (← c.self.view_is) e.request_text;
       response_text = rw (← c.self.view_is) e.response_text;
       quiet = rw (← c.self.view_is) e.quiet;
@@ -31,4 +30,4 @@ returns-clause-call g c =
 
 pub returns-clause-variant : goal.returns-clause-variant
 returns-clause-variant g c =
-    seen_variant (g.P.Answered.val (operation_of c.args.payload)) (request_bytes c.args.payload c.args.self.now.credential) (operation_of c.args.payload) c.args.self.now.limit c.call-answer.result (returns-clause-call g c).caused
+    seen_variant (g.P.Answered.val (operation_of c.args.payload.now)) (request_bytes c.args.payload.now c.args.self.now.credential) (operation_of c.args.payload.now) c.args.self.now.limit c.call-answer.result (returns-clause-call g c).caused

@@ -1,12 +1,13 @@
 //! Sessions over links with planned pieces and faults.
-use crate::tests::RESPONSE;
-use crate::{Client, ClientBuilder, Exchange, Result, exchange_all};
+use crate::client::RESPONSE;
+use kmip_client::{Client, ClientBuilder, Exchange, Result, exchange_all};
 use kmip_link::{Link, MemoryLink, PlannedLink};
 use kmip_request::RequestPayload;
 use kmip_shape::ShowItem;
 use kmip_types::DataLength;
 use kmip_wire::{Config, List, Text};
 use std::alloc::Global;
+use std::process::Abort;
 use std::test::Fail;
 
 /// The request for 16 random bytes: 120 bytes.
@@ -219,5 +220,45 @@ fn each_exchange_has_its_own_diagnostics(rt: HostRuntime) -> std::result::Result
         let expected = joined(rt.alloc(), &[answered, refused, last])?;
         assert_eq!(rt; told.as_str(), expected.as_str(), "at {call}");
     }
+    Ok(())
+}
+
+/// Whether these bytes are a first part of the request, sent again and again.
+fn is_first_part(sent: &[u8]) -> bool {
+    for part in sent.chunks(120) {
+        if !REQUEST.starts_with(part) {
+            return false;
+        }
+    }
+    true
+}
+
+/// How many bytes were sent, where they are a first part of what is to be sent.
+fn sent_len(rt: &impl Abort, client: &mut Client<MemoryLink>) -> usize {
+    let sent = client.inner().sent();
+    assert!(rt; is_first_part(sent), "sent otherwise");
+    sent.len()
+}
+
+/// Whether there are answers.
+fn is_whole<A: Drop, E: Drop>(answers: std::result::Result<A, E>) -> bool {
+    answers.is_ok()
+}
+
+/// `tools/refuse_memory.py` runs this with each request for memory refused in turn.
+#[test]
+fn what_is_sent_as_memory_runs_out(rt: HostRuntime) -> std::result::Result<(), Fail> {
+    let link = link_of(rt.alloc(), &[40])?;
+    let config = Config::new().with_read_buf();
+    let mut client = ClientBuilder::new(link).with_reader_config(config).build();
+    let payloads = three(
+        rt.alloc(),
+        RequestPayload::RNGRetrieve(DataLength(16)),
+        RequestPayload::RNGRetrieve(DataLength(16)),
+        RequestPayload::RNGRetrieve(DataLength(16)),
+    )?;
+    let whole = is_whole(exchange_all(rt.alloc(), &mut client, payloads));
+    let sent = sent_len(&rt, &mut client);
+    assert!(&rt; !whole || sent == 360, "sent otherwise");
     Ok(())
 }

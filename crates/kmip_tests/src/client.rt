@@ -1,5 +1,5 @@
 //! The client over links with planned faults, and over a link of this file's own.
-use crate::{Client, ClientBuilder, Error};
+use kmip_client::{Client, ClientBuilder, Error};
 use kmip_link::{Link, LinkError, MemoryLink, PlannedLink};
 use kmip_request::{Attribute, RequestPayload};
 use kmip_shape::ShowItem;
@@ -221,7 +221,7 @@ fn id(alloc: Global, text: &str) -> Result<UniqueIdentifier, Fail> {
 }
 
 /// An answer as it is shown: the payload, or the printed error.
-fn shown<P: ShowItem + Drop>(alloc: Global, answer: crate::Result<P>) -> Result<Text, Fail> {
+fn shown<P: ShowItem + Drop>(alloc: Global, answer: kmip_client::Result<P>) -> Result<Text, Fail> {
     let mut shown = Text::new(alloc);
     match answer {
         Ok(payload) => payload.show(alloc, &mut shown)?,

@@ -1,0 +1,146 @@
+-- What is read as a request is matched, and the bytes are its message.
+use Rattle.std.proofs.Common.{◌≡◌, ℕ, ◌==◌, ◌&&◌, pos, Bool, true, false, cond, List, [], ◌∷◌, Option, Some, None, refl, sym, ◌∙◌, ap, subst}
+use Rattle.std.specs.Prelude.{IsSome, nat_eq}
+use Rattle.std.specs.Option.{option_map, option_and_then}
+use Rattle.std.specs.Cmp.{unsigned_Decides}
+use Rattle.std.proofs.lemmas.Bool.Decides.{Decides-eqb}
+use Rattle.kmip_wire.specs.Tree.{Tree, scalar, structure, trees_of, integer, enumeration}
+use Rattle.kmip_wire.specs.Bytes.{bytes}
+use Rattle.kmip_wire.specs.Reading.{item_of}
+use Rattle.kmip_shape.specs.Val.{Val, Field, Case, Number, Record, Absent, One, Many, NoField, AndField, NoVal, AndVal}
+use Rattle.kmip_shape.specs.Shape.{Entry, NoCase, no_outer}
+use Rattle.kmip_shape.specs.Enumerations.{variant_at}
+use Rattle.kmip_shape.specs.Trees.{tree_of, trees_in, structure_of, then_trees, one_tree}
+use Rattle.kmip_shape.specs.Reads.{root_read}
+use Rattle.kmip_shape.specs.Fits.{selected_in}
+use Rattle.kmip_shape.proofs.Parts.{none_some, some_same}
+use Rattle.kmip_shape.proofs.Selected.{selected}
+use Rattle.kmip_enums.specs.Operations.{operation_line, operation_variants}
+use Rattle.kmip_enums.specs.declared.operation.Operation.{Operation}
+use Rattle.kmip_request.specs.Tables.{request_message, request_payload, authentication}
+use Rattle.kmip_request.specs.Message.{header_tree, message_tree}
+use Rattle.kmip_request_read.specs.Matched.{under_number, IsMatchedValue}
+use Rattle.kmip_request_read.specs.Reading.{Request, minor_for, message_with, item_request, is_plain_header, under_header, request_in, are_bytes, is_tree, canonical_in, request_read}
+use Rattle.kmip_request_read.proofs.Canonical.{table_once, root_of}
+use Rattle.kmip_request_read.proofs.Read.{both, plain_says, plain_test, is_tree_says, are_bytes_says}
+
+-- ---- options
+
+and_then_some : {A B : Type 0} (o : Option A) (f : A → Option B) (y : B) → option_and_then f o ≡ Some y → (x : A) × (o ≡ Some x) × (f x ≡ Some y)
+and_then_some None f y h = none_some _ h
+and_then_some (Some x) f y h = (x, refl, h)
+
+map_some : {A B : Type 0} (o : Option A) (f : A → B) (y : B) → option_map f o ≡ Some y → (x : A) × (o ≡ Some x) × (f x ≡ y)
+map_some None f y h = none_some _ h
+map_some (Some x) f y h = (x, refl, some_same (f x) y h)
+
+test_some : {A : Type 0} (t : Bool) (o : Option A) (y : A) → cond t o None ≡ Some y → (t ≡ true) × (o ≡ Some y)
+test_some true o y h = (refl, h)
+test_some false o y h = none_some _ h
+
+-- ---- an item
+
+variant_number : {T : Type 0} (line : T → Entry) (xs : List T) (n : ℕ) (x : T) → variant_at line xs n ≡ Some x → (line x).number ≡ n
+variant_number line [] n x h = none_some _ h
+variant_number {T} line (y ∷ ys) n x h = go (nat_eq (line y).number n) refl h (variant_number line ys n x)
+  where
+    go : (b : Bool) → nat_eq (line y).number n ≡ b → cond b (Some y) (variant_at line ys n) ≡ Some x → (variant_at line ys n ≡ Some x → (line x).number ≡ n) → (line x).number ≡ n
+    go true e k later = ap (λ (z : T). (line z).number) (sym (some_same y x k)) ∙ (unsigned_Decides (line y).number n).0 e
+    go false e k later = later k
+
+abbrev item_of_request : Request → Val
+item_of_request r = Record (AndField (One (Number (pos (operation_line r.operation).number))) (AndField Absent (AndField (One r.payload) NoField)))
+
+item_says : (item : Val) (r : Request) → item_request item ≡ Some r → item ≡ item_of_request r
+item_says (Record (AndField (One (Number (pos n))) (AndField Absent (AndField (One (Case m val)) NoField)))) r h =
+    let made : Operation → Request = λ operation. record { operation = operation; payload = Case m val } in
+    let t = test_some (m == n) (option_map made (variant_at operation_line operation_variants n)) r h in
+    let o = map_some (variant_at operation_line operation_variants n) made r t.1 in
+    let number : (operation_line o.0).number ≡ n = variant_number operation_line operation_variants n o.0 o.1 in
+    let made_is : Record (AndField (One (Number (pos n))) (AndField Absent (AndField (One (Case m val)) NoField))) ≡ item_of_request (made o.0) =
+    ap (λ (k : ℕ). Record (AndField (One (Number (pos k))) (AndField Absent (AndField (One (Case m val)) NoField)))) (sym number) in
+    made_is ∙ ap item_of_request o.2
+item_says _ r h = none_some _ h
+
+-- ---- a header
+
+abbrev header_with : ℕ → Field → Val
+header_with minor credential = Record (AndField (One (Record (AndField (One (Number (pos 1))) (AndField (One (Number (pos minor))) NoField)))) (AndField Absent (AndField credential (AndField (One (Number (pos 1))) NoField))))
+
+header_says : (minor : ℕ) (header : Val) → is_plain_header minor header ≡ true → (credential : Field) × (header ≡ header_with minor credential)
+header_says minor (Record (AndField (One (Record (AndField (One (Number major)) (AndField (One (Number own)) NoField)))) (AndField Absent (AndField credential (AndField (One (Number count)) NoField))))) h =
+    let s = plain_says minor major own count h in
+    (credential, λ i. Record (AndField (One (Record (AndField (One (Number (s.0 i))) (AndField (One (Number (s.1 i))) NoField)))) (AndField Absent (AndField credential (AndField (One (Number (s.2 i))) NoField)))))
+header_says minor _ h = absurd (cc)
+
+-- ---- a message
+
+abbrev message_round : Val → Val → Val
+message_round header item = Record (AndField (One header) (AndField (Many (AndVal item NoVal)) NoField))
+
+abbrev Parts : Val → Request → Type 0
+Parts message r = (header : Val) × (item : Val) × (message ≡ message_round header item) × (under_header header (item_request item) ≡ Some r)
+
+parts_say : (message : Val) (r : Request) → request_in message ≡ Some r → Parts message r
+parts_say (Record (AndField (One header) (AndField (Many (AndVal item NoVal)) NoField))) r h = (header, item, refl, h)
+parts_say _ r h = none_some _ h
+
+under_says : (header : Val) (o : Option Request) (r : Request) → under_header header o ≡ Some r → (o ≡ Some r) × (is_plain_header (minor_for r.operation) header ≡ true)
+under_says header None r h = none_some _ h
+under_says header (Some s) r h =
+    let t = test_some (is_plain_header (minor_for s.operation) header) (Some s) r h in
+    (t.1, subst (λ (q : Request). is_plain_header (minor_for q.operation) header ≡ true) (some_same s r t.1) t.0)
+
+-- a message of a request is one round its item and a plain header
+abbrev IsOf : Val → Request → Type 0
+IsOf message r = (credential : Field) × (message ≡ message_round (header_with (minor_for r.operation) credential) (item_of_request r))
+
+message_says : (message : Val) (r : Request) → request_in message ≡ Some r → IsOf message r
+message_says message r h =
+    let p = parts_say message r h in
+    let u = under_says p.0 (item_request p.1) r p.3 in
+    let item : p.1 ≡ item_of_request r = item_says p.1 r u.0 in
+    let header = header_says (minor_for r.operation) p.0 u.1 in
+    (header.0, p.2 ∙ λ i. message_round (header.1 i) (item i))
+
+-- the tree of such a message, from the trees of its credential and its payload
+whole_tree : (minor n : ℕ) (credential : Option (List Tree)) (payload : Option Tree) (root : Tree) →
+    structure_of 0x420078 (then_trees (one_tree (structure_of 0x420077 (then_trees (Some (structure 0x420069 (trees_of (scalar 0x42006A (integer (pos 1)) ∷ scalar 0x42006B (integer (pos minor)) ∷ [])) ∷ [])) (then_trees (Some []) (then_trees credential (then_trees (Some (scalar 0x42000D (integer (pos 1)) ∷ [])) (Some [])))))))
+    (then_trees (then_trees (one_tree (structure_of 0x42000F (then_trees (Some (scalar 0x42005C (enumeration n) ∷ [])) (then_trees (Some []) (then_trees (one_tree payload) (Some [])))))) (Some [])) (Some []))) ≡ Some root →
+    (authentication : List Tree) × (option_map (message_tree (header_tree minor authentication) n) payload ≡ Some root)
+whole_tree minor n None payload root h = none_some _ h
+whole_tree minor n (Some trees) None root h = none_some _ h
+whole_tree minor n (Some trees) (Some p) root h = (trees, h)
+
+has_payload : (o : Option Tree) (f : Tree → Tree) (root : Tree) → option_map f o ≡ Some root → IsSome o
+has_payload None f root h = none_some _ h
+has_payload (Some t) f root h = refl
+
+payload_selected : (r : Request) (credential : Field) →
+    selected_in (message_round (header_with (minor_for r.operation) credential) (item_of_request r)) NoCase request_message no_outer 0x420078 →
+    selected_in r.payload NoCase request_payload (under_number r.operation) 0x420079
+payload_selected r credential s = ((s.2).1).0.2.2.1
+
+of_message : (message : Val) (r : Request) (root : Tree) (b : List ℕ) → IsOf message r → tree_of request_message 0x420078 message ≡ Some root → bytes root ≡ Some b →
+    selected_in message NoCase request_message no_outer 0x420078 → IsMatchedValue r.operation r.payload × ((trees : List Tree) × (message_with r trees ≡ Some b))
+of_message message r root b is tree own s =
+    let made : Val = message_round (header_with (minor_for r.operation) is.0) (item_of_request r) in
+    let tree_made : tree_of request_message 0x420078 made ≡ Some root = subst (λ (m : Val). tree_of request_message 0x420078 m ≡ Some root) is.1 tree in
+    let s_made : selected_in made NoCase request_message no_outer 0x420078 = subst (λ (m : Val). selected_in m NoCase request_message no_outer 0x420078) is.1 s in
+    let w = whole_tree (minor_for r.operation) (operation_line r.operation).number (trees_in is.0 NoCase authentication 0x42000C) (tree_of request_payload 0x420079 r.payload) root tree_made in (
+      (has_payload (tree_of request_payload 0x420079 r.payload) _ root w.1, payload_selected r is.0 s_made),
+      (w.0, ap (λ (o : Option Tree). option_and_then bytes o) w.1 ∙ own),
+    )
+
+pub read_matched : (b : List ℕ) (r : Request) → request_read b ≡ Some r → IsMatchedValue r.operation r.payload × ((trees : List Tree) × (message_with r trees ≡ Some b))
+unfolding request_read
+read_matched b r h =
+    let p = and_then_some (item_of 64 b) (λ tree. option_and_then (canonical_in b tree) (root_read request_message 0x420078 tree)) r h in
+    let root : Tree = p.0 in
+    let m = and_then_some (root_read request_message 0x420078 root) (canonical_in b root) r p.2 in
+    let message : Val = m.0 in
+    let t = test_some (is_tree root (tree_of request_message 0x420078 message) && are_bytes b (bytes root)) (request_in message) r m.2 in
+    let tests = both (is_tree root (tree_of request_message 0x420078 message)) (are_bytes b (bytes root)) t.0 in
+    let tree : tree_of request_message 0x420078 message ≡ Some root = is_tree_says root _ tests.0 in
+    of_message message r root b (message_says message r t.1) tree (are_bytes_says b _ tests.1)
+    (selected message NoCase request_message no_outer 0x420078 root table_once tree (root_of request_message 0x420078 root message m.1))

@@ -1,0 +1,25 @@
+//! Tests that stand on several crates, and nothing else.
+//!
+//! Each public call that takes memory is made once with ample memory: that it comes to its end is no clause's matter,
+//! since want of memory is free. They stand here and not in the crates that have the calls, since a crate with tests
+//! is proved twice.
+#![tactic(auto)]
+
+#[cfg(test)]
+mod calls;
+#[cfg(test)]
+mod client;
+#[cfg(test)]
+mod helpers;
+#[cfg(test)]
+mod keys;
+#[cfg(test)]
+mod plain;
+#[cfg(test)]
+mod requests;
+#[cfg(test)]
+mod responses;
+#[cfg(test)]
+mod sent;
+#[cfg(test)]
+mod sessions;
