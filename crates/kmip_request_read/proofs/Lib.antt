@@ -2,3 +2,4 @@ pub mod Canonical
 pub mod Read
 mod Examples
 pub mod Matching
+mod Framed

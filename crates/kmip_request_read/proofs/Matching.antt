@@ -21,7 +21,8 @@ use Rattle.kmip_request.specs.Tables.{request_message, request_payload, authenti
 use Rattle.kmip_request.specs.Message.{header_tree, message_tree}
 use Rattle.kmip_request_read.specs.Matched.{under_number, IsMatchedValue}
 use Rattle.kmip_request_read.specs.Reading.{Request, minor_for, message_with, item_request, is_plain_header, under_header, request_in, are_bytes, is_tree, canonical_in, request_read}
-use Rattle.kmip_request_read.proofs.Canonical.{table_once, root_of}
+use Rattle.kmip_request.proofs.Tables.{message_once}
+use Rattle.kmip_request_read.proofs.Canonical.{root_of}
 use Rattle.kmip_request_read.proofs.Read.{both, plain_says, plain_test, is_tree_says, are_bytes_says}
 
 -- ---- options
@@ -143,4 +144,4 @@ read_matched b r h =
     let tests = both (is_tree root (tree_of request_message 0x420078 message)) (are_bytes b (bytes root)) t.0 in
     let tree : tree_of request_message 0x420078 message ≡ Some root = is_tree_says root _ tests.0 in
     of_message message r root b (message_says message r t.1) tree (are_bytes_says b _ tests.1)
-    (selected message NoCase request_message no_outer 0x420078 root table_once tree (root_of request_message 0x420078 root message m.1))
+    (selected message NoCase request_message no_outer 0x420078 root message_once tree (root_of request_message 0x420078 root message m.1))

@@ -1,6 +1,7 @@
 //! Laws over the definitions, each the contract of a function that does nothing.
 
-ghost use Rattle.std.specs.Prelude.{◌≡◌, ℕ, List, Option, Some};
+ghost use Rattle.std.specs.Prelude.{◌≡◌, ◌≤◌, ◌+◌, ℕ, List, length, Option, Some};
+ghost use Rattle.kmip_wire.specs.Head.{head_length};
 ghost use Rattle.kmip_wire.specs.Tree.{Tree};
 ghost use Rattle.kmip_wire.specs.Parses.{Parses};
 ghost use Rattle.kmip_wire.specs.Bytes.{HasRanges};
@@ -38,4 +39,10 @@ pub fn read_request_is_matched()
 pub fn request_parses()
     ensures parses { (p : RequestPayload) (c : Option CredentialType) (b : List ℕ) → IsHeld p c → request_bytes p c ≡ Some b → (t : Tree) × Parses t 1 b }
     ensures ranges { (p : RequestPayload) (c : Option CredentialType) (b : List ℕ) (t : Tree) → IsHeld p c → request_bytes p c ≡ Some b → Parses t 1 b → HasRanges t }
+{}
+
+/// The bytes of a request are one message: a head of 8 bytes, and after it as many bytes as its length field says
+/// (KMIP 1.0, 9.1.1.3).
+pub fn request_is_message()
+    ensures { (p : RequestPayload) (c : Option CredentialType) (b : List ℕ) → request_bytes p c ≡ Some b → (8 ≤ length b) × (length b ≡ 8 + head_length b) }
 {}

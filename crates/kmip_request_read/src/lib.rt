@@ -9,7 +9,8 @@ mod laws;
 mod reading;
 
 pub use laws::{
-    one_request, read_request_is_matched, request_is_read, request_parses, same_message,
+    one_request, read_request_is_matched, request_is_message, request_is_read, request_parses,
+    same_message,
 };
 pub use reading::{RequestReadError, from_slice};
 

@@ -38,7 +38,7 @@ pub use kmip_wire::{Blob, Boxed, Buffer, List, OutOfMemory, Text, TryClone};
 pub use laws::{read_back, read_selected, written};
 pub use read::{Outer, ReadError, ReadItem, ReadRoot, read_root};
 pub use record::read_record;
-pub use rows::{begin_structure, plus_len, structure_len, write_list};
+pub use rows::{begin_structure, known_items, plus_len, structure_len, write_list};
 pub use show::{ShowItem, show_case, show_in_brackets};
 pub use sink::Sink;
 pub use wrapped::{BigInteger, Timestamp};

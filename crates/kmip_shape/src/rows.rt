@@ -144,7 +144,7 @@ pub(crate) fn known_optional<T: Item>(item: &Option<T>)
 }
 
 /// The items of a list fit. It does nothing.
-pub(crate) fn known_items<T: Item>(items: &[T])
+pub fn known_items<T: Item>(items: &[T])
     ensures { vals_fit (vals T.val items.now) NoCase T.shape }
 {
     let mut rest = items;
