@@ -1,5 +1,5 @@
 -- Requests of the same bytes have the same tree, and no request's bytes begin another's.
-use Rattle.std.proofs.Common.{◌≡◌, ℕ, ◌<◌, ◌≤◌, ◌^◌, pos, true, List, [], ◌∷◌, ◌++◌, Option, Some, None, refl, ap, arith}
+use Rattle.std.proofs.Common.{◌≡◌, ℕ, ◌<◌, ◌≤◌, ◌^◌, nat_lt, ltb-true, pos, true, List, [], ◌∷◌, ◌++◌, Option, Some, None, refl, ap, arith}
 use Rattle.std.specs.Prelude.{IsUtf8, IfSome, FitsSigned}
 use Rattle.std.specs.Int.{w32}
 use Rattle.std.proofs.lemmas.Int.{ints}
@@ -18,60 +18,65 @@ use Rattle.kmip_request.specs.Tables.{request_payload}
 use Rattle.kmip_request.specs.Values.{request_payload_val}
 use Rattle.kmip_request.specs.Message.{operation_of, minor_of, password_trees, authentication_trees, header_tree, message_tree, request_tree, request_bytes}
 use Rattle.kmip_request.specs.Held.{AreTexts, IsHeld}
-use Rattle.kmip_shape.proofs.Ranges.{tags_in_range, depth, Keeps, AllKeep, keeps_more, then_keeps, fits_ranges}
+use Rattle.kmip_request.proofs.Tables.{payload_in_range, payload_depth}
+use Rattle.kmip_shape.proofs.Ranges.{depth, Keeps, AllKeep, keeps_more, then_keeps, fits_ranges}
 
 -- ---- the table of a payload
 
-table_in_range : tags_in_range request_payload ≡ true
-table_in_range = refl
-
-table_depth : depth request_payload ≤ 32
-table_depth = omega arith
-
 payload_keeps : (p : RequestPayload) (c : Option CredentialType) → IsHeld p c → Keeps (tree_of request_payload 0x420079 (request_payload_val p)) 32
 payload_keeps p c h =
-    keeps_more (tree_of request_payload 0x420079 (request_payload_val p)) (depth request_payload) 32 table_depth
-    (fits_ranges request_payload (request_payload_val p) 0x420079 table_in_range (omega arith) h.0)
+    keeps_more (tree_of request_payload 0x420079 (request_payload_val p)) (depth request_payload) 32 payload_depth
+    (fits_ranges request_payload (request_payload_val p) 0x420079 payload_in_range (omega arith) h.0)
 
 -- ---- the head of a request, and the message
 
+-- a test of numbers that computes
+below : (m n : ℕ) → nat_lt m n ≡ true → m < n
+below m n h = ltb-true m n h
+
+operation_test : (p : RequestPayload) → nat_lt (operation_line (operation_of p)).number (2 ^ 32) ≡ true
+operation_test (Create a b) = refl
+operation_test (CreateKeyPair a b c) = refl
+operation_test (Register a b c) = refl
+operation_test (Locate a) = refl
+operation_test (Get a b c d) = refl
+operation_test (GetAttributes a b) = refl
+operation_test (GetAttributeList a) = refl
+operation_test (AddAttribute a b) = refl
+operation_test (ModifyAttribute a b) = refl
+operation_test (DeleteAttribute a b c) = refl
+operation_test (Activate a) = refl
+operation_test (Revoke a b c) = refl
+operation_test (Destroy a) = refl
+operation_test (Query a) = refl
+operation_test (DiscoverVersions a) = refl
+operation_test (Sign a b c) = refl
+operation_test (RNGRetrieve a) = refl
+
 operation_fits : (p : RequestPayload) → (operation_line (operation_of p)).number < 2 ^ 32
-operation_fits (Create a b) = omega arith
-operation_fits (CreateKeyPair a b c) = omega arith
-operation_fits (Register a b c) = omega arith
-operation_fits (Locate a) = omega arith
-operation_fits (Get a b c d) = omega arith
-operation_fits (GetAttributes a b) = omega arith
-operation_fits (GetAttributeList a) = omega arith
-operation_fits (AddAttribute a b) = omega arith
-operation_fits (ModifyAttribute a b) = omega arith
-operation_fits (DeleteAttribute a b c) = omega arith
-operation_fits (Activate a) = omega arith
-operation_fits (Revoke a b c) = omega arith
-operation_fits (Destroy a) = omega arith
-operation_fits (Query a) = omega arith
-operation_fits (DiscoverVersions a) = omega arith
-operation_fits (Sign a b c) = omega arith
-operation_fits (RNGRetrieve a) = omega arith
+operation_fits p = below (operation_line (operation_of p)).number (2 ^ 32) (operation_test p)
+
+minor_test : (p : RequestPayload) → nat_lt (minor_of p) 3 ≡ true
+minor_test (Create a b) = refl
+minor_test (CreateKeyPair a b c) = refl
+minor_test (Register a b c) = refl
+minor_test (Locate a) = refl
+minor_test (Get a b c d) = refl
+minor_test (GetAttributes a b) = refl
+minor_test (GetAttributeList a) = refl
+minor_test (AddAttribute a b) = refl
+minor_test (ModifyAttribute a b) = refl
+minor_test (DeleteAttribute a b c) = refl
+minor_test (Activate a) = refl
+minor_test (Revoke a b c) = refl
+minor_test (Destroy a) = refl
+minor_test (Query a) = refl
+minor_test (DiscoverVersions a) = refl
+minor_test (Sign a b c) = refl
+minor_test (RNGRetrieve a) = refl
 
 minor_fits : (p : RequestPayload) → minor_of p ≤ 2
-minor_fits (Create a b) = omega arith
-minor_fits (CreateKeyPair a b c) = omega arith
-minor_fits (Register a b c) = omega arith
-minor_fits (Locate a) = omega arith
-minor_fits (Get a b c d) = omega arith
-minor_fits (GetAttributes a b) = omega arith
-minor_fits (GetAttributeList a) = omega arith
-minor_fits (AddAttribute a b) = omega arith
-minor_fits (ModifyAttribute a b) = omega arith
-minor_fits (DeleteAttribute a b c) = omega arith
-minor_fits (Activate a) = omega arith
-minor_fits (Revoke a b c) = omega arith
-minor_fits (Destroy a) = omega arith
-minor_fits (Query a) = omega arith
-minor_fits (DiscoverVersions a) = omega arith
-minor_fits (Sign a b c) = omega arith
-minor_fits (RNGRetrieve a) = omega arith
+minor_fits p = let h : minor_of p < 3 = below (minor_of p) 3 (minor_test p) in omega (arith, h)
 
 password_keeps : (password : Option (List ℕ)) → IfSome password (λ p. IsUtf8 p) → AllKeep (Some (password_trees password)) 1
 password_keeps None h = (tt, omega arith)

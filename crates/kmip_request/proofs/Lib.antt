@@ -1,2 +1,4 @@
 pub mod Messages
+mod Sized
+pub mod Tables
 pub mod Distinct

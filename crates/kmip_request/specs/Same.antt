@@ -1,8 +1,6 @@
 -- Equal values make equal typed values.
-use Rattle.std.specs.Prelude.{ℕ, ℤ, List, Option, ◌≡◌, [], ◌∷◌}
+use Rattle.std.specs.Prelude.{ℕ, ℤ, List, Option, ◌≡◌}
 use Rattle.std.proofs.Common.{ap}
-use Rattle.kmip_shape.specs.Val.{Many}
-use Rattle.kmip_shape.specs.Writes.{vals}
 use Rattle.kmip_shape.specs.Same.{IsFaithful, same_record, same_number, same_text, same_case, one_row, optional_row, list_row, optional_list_row, and_row, no_row}
 use Rattle.kmip_types.specs.Texts.{unique_identifier_same}
 use Rattle.kmip_types.specs.AttributeNames.{attribute_name_same}
@@ -18,7 +16,7 @@ use Rattle.kmip_enums.specs.Operations.{operation_same}
 use Rattle.kmip_enums.specs.declared.operation.Operation.{Operation}
 use Rattle.kmip_enums.specs.CredentialTypes.{credential_type_same}
 use Rattle.kmip_enums.specs.declared.credential_type.CredentialType.{CredentialType}
-use Rattle.kmip_request.specs.Values.{major_val, minor_val, size_val, count_val, username_val, password_val, protocol_version_val, credential_value_val, credential_val, authentication_val, request_header_val, batch_item_val, request_message_val, single_request_val, request_payload_val}
+use Rattle.kmip_request.specs.Values.{major_val, minor_val, size_val, count_val, username_val, password_val, protocol_version_val, credential_value_val, credential_val, authentication_val, request_header_val, batch_item_val, request_message_val, request_payload_val}
 use Rattle.kmip_types.specs.TheAttributeName.{AttributeName}
 use Rattle.kmip_types.specs.TheAttributeIndex.{AttributeIndex}
 use Rattle.kmip_request_objects.specs.declared.attribute.Attribute.{Attribute}
@@ -51,7 +49,6 @@ use Rattle.kmip_request.specs.declared.authentication.Authentication.{Authentica
 use Rattle.kmip_request.specs.declared.header.RequestHeader.{RequestHeader}
 use Rattle.kmip_request.specs.declared.message.BatchItem.{BatchItem}
 use Rattle.kmip_request.specs.declared.message.RequestMessage.{RequestMessage}
-use Rattle.kmip_request.specs.declared.writing.SingleRequest.{SingleRequest}
 use Rattle.kmip_request.specs.declared.payload.RequestPayload.{RequestPayload}
 use Rattle.kmip_request.specs.declared.payload.RequestPayload.TheVariants.{Create, CreateKeyPair, Register, Locate, Get, GetAttributes, GetAttributeList, AddAttribute, ModifyAttribute, DeleteAttribute, Activate, Revoke, Destroy, Query, DiscoverVersions, Sign, RNGRetrieve}
 use Rattle.kmip_request_objects.specs.declared.managed_object.ManagedObject.{ManagedObject}
@@ -201,17 +198,3 @@ pub request_message_same : IsFaithful request_message_val
 request_message_same x y h =
     ap message (and_row (one_row request_header_same) (and_row (list_row batch_item_same) no_row)
     (x.0, (x.1, tt)) (y.0, (y.1, tt)) (same_record h))
-
-only : {x y : BatchItem} → x ∷ [] ≡ y ∷ [] → x ≡ y
-only h = cc
-
-one_item : IsFaithful (λ (x : BatchItem). Many (vals batch_item_val (x ∷ [])))
-one_item x y h = only (list_row batch_item_same (x ∷ []) (y ∷ []) h)
-
-abbrev single : RequestHeader × (BatchItem × Unit {0}) → SingleRequest
-single t = record { header = t.0; item = (t.1).0 }
-
-pub single_request_same : IsFaithful single_request_val
-single_request_same x y h =
-    ap single (and_row (one_row request_header_same) (and_row one_item no_row)
-    (x.header, (x.item, tt)) (y.header, (y.item, tt)) (same_record h))

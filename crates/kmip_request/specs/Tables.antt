@@ -1,7 +1,8 @@
 -- The tables of a request: for each type its fields in order, with their tags, marks and types.
-use Rattle.std.specs.Prelude.{[], ◌∷◌, None, codes}
+use Rattle.std.specs.Prelude.{Bool, true, ◌&&◌, List, [], ◌∷◌, None, codes}
 use Rattle.kmip_wire.specs.declared.kind.Kind.TheVariants.{Integer, TextString, ByteString, DateTime}
 use Rattle.kmip_shape.specs.Shape.{Shape, Scalar, OneOf, Rows, NoRow, AndRow, Required, Optional, AnyNumber, OptionalList, Plain, Chooser, Chosen, Under, ByCase, Cases, NoCase, AndCase, Choice, OfNumber, OfTag, ByNumbers}
+use Rattle.kmip_shape.specs.Fits.{tags_once, choosers_stand}
 use Rattle.kmip_types.specs.Parameters.{cryptographic_parameters}
 use Rattle.kmip_types.specs.KeyFormatTypes.{key_format_types}
 use Rattle.kmip_types.specs.KeyCompressionTypes.{key_compression_types}
@@ -197,17 +198,36 @@ request_payloads =
 abbrev pub request_payload : Shape
 request_payload = Choice OfNumber request_payloads
 
--- Batch Item of a request (KMIP 1.0, 7.2)
-abbrev pub batch_item : Shape
-batch_item = Rows
+-- Batch Item of a request (KMIP 1.0, 7.2), for a payload of this shape
+abbrev pub batch_item_of : Shape → Shape
+batch_item_of payload = Rows
     (AndRow (codes "operation") (Under 0x42005C) Required Chooser (OneOf operations)
     (AndRow (codes "unique_batch_item_id") (Under 0x420093) Optional Plain (Scalar ByteString)
-    (AndRow (codes "request_payload") (Under 0x420079) Required Chosen request_payload
+    (AndRow (codes "request_payload") (Under 0x420079) Required Chosen payload
     NoRow)))
 
--- Request Message (KMIP 1.0, 7.1)
-abbrev pub request_message : Shape
-request_message = Rows
+abbrev pub batch_item : Shape
+batch_item = batch_item_of request_payload
+
+-- Request Message (KMIP 1.0, 7.1), for payloads of this shape
+abbrev pub request_message_of : Shape → Shape
+request_message_of payload = Rows
     (AndRow (codes "request_header") (Under 0x420077) Required Plain request_header
-    (AndRow (codes "batch_items") (Under 0x42000F) AnyNumber Plain batch_item
+    (AndRow (codes "batch_items") (Under 0x42000F) AnyNumber Plain (batch_item_of payload)
     NoRow))
+
+abbrev pub request_message : Shape
+request_message = request_message_of request_payload
+
+-- the tables of a request's roots: its message, what stands in that, and each payload
+abbrev pub root_tables : List Shape
+root_tables =
+    request_message ∷ batch_item ∷ request_header ∷ authentication ∷ credential ∷ request_payload
+    ∷ create ∷ create_key_pair ∷ register ∷ locate ∷ get ∷ get_attributes ∷ get_attribute_list ∷ add_attribute
+    ∷ modify_attribute ∷ delete_attribute ∷ activate ∷ revoke ∷ destroy ∷ query ∷ discover_versions ∷ sign
+    ∷ rng_retrieve ∷ []
+
+-- in each table no tag stands twice, at any depth, and choosers stand above what they choose
+abbrev pub all_stand : List Shape → Bool
+all_stand [] = true
+all_stand (table ∷ tables) = tags_once table && (choosers_stand table && all_stand tables)

@@ -1,6 +1,6 @@
 -- The typed values of a request, as contracts see them: each a record of its fields in the order of its table.
-use Rattle.std.specs.Prelude.{[], ◌∷◌}
-use Rattle.kmip_shape.specs.Val.{Val, Number, Text, Record, Case, AndField, NoField, One, Many}
+use Rattle.std.specs.Prelude.{pos, Option, None}
+use Rattle.kmip_shape.specs.Val.{Val, Number, Text, Record, Case, AndField, NoField, Absent, One, Many, NoVal, AndVal}
 use Rattle.kmip_shape.specs.Writes.{optional, optional_list, vals}
 use Rattle.kmip_types.specs.Texts.{unique_identifier_val}
 use Rattle.kmip_types.specs.AttributeNames.{attribute_name_val}
@@ -12,6 +12,7 @@ use Rattle.kmip_enums.specs.ObjectTypes.{object_type_val}
 use Rattle.kmip_enums.specs.QueryFunctions.{query_function_val}
 use Rattle.kmip_types.specs.ByteStrings.{data_val, unique_batch_item_id_val}
 use Rattle.kmip_enums.specs.Operations.{operation_val}
+use Rattle.kmip_enums.specs.declared.operation.Operation.{Operation}
 use Rattle.kmip_enums.specs.CredentialTypes.{credential_type_val}
 use Rattle.kmip_request.specs.declared.numbers.ProtocolVersionMajor.{ProtocolVersionMajor}
 use Rattle.kmip_request.specs.declared.numbers.ProtocolVersionMinor.{ProtocolVersionMinor}
@@ -27,7 +28,6 @@ use Rattle.kmip_request.specs.declared.authentication.Credential.{Credential}
 use Rattle.kmip_request.specs.declared.authentication.Authentication.{Authentication}
 use Rattle.kmip_request.specs.declared.message.BatchItem.{BatchItem}
 use Rattle.kmip_request.specs.declared.message.RequestMessage.{RequestMessage}
-use Rattle.kmip_request.specs.declared.writing.SingleRequest.{SingleRequest}
 use Rattle.kmip_request.specs.declared.payload.RequestPayload.{RequestPayload}
 use Rattle.kmip_request.specs.declared.payload.RequestPayload.TheVariants.{Create, CreateKeyPair, Register, Locate, Get, GetAttributes, GetAttributeList, AddAttribute, ModifyAttribute, DeleteAttribute, Activate, Revoke, Destroy, Query, DiscoverVersions, Sign, RNGRetrieve}
 use Rattle.kmip_request_objects.specs.Values.{attribute_val, template_attribute_val, common_template_attribute_val, private_key_template_attribute_val, public_key_template_attribute_val, key_wrapping_specification_val, managed_object_val, revocation_reason_val}
@@ -114,9 +114,20 @@ request_message_val x = Record
     (AndField (Many (vals batch_item_val x.1))
     NoField))
 
--- a message with one batch item
-abbrev pub single_request_val : SingleRequest → Val
-single_request_val x = Record
-    (AndField (One (request_header_val x.header))
-    (AndField (Many (vals batch_item_val (x.item ∷ [])))
+-- The message that is written for a payload: a head with its version and the credential, and one batch item with no
+-- identifier.
+abbrev pub lent_header_val : ProtocolVersion → Option Authentication → Val
+lent_header_val version authentication = request_header_val (record { 0 = version; 1 = None; 2 = authentication; 3 = record { 0 = pos 1 } })
+
+abbrev pub lent_item_val : Operation → Val → Val
+lent_item_val operation payload = Record
+    (AndField (One (operation_val operation))
+    (AndField Absent
+    (AndField (One payload)
+    NoField)))
+
+abbrev pub lent_message_val : ProtocolVersion → Option Authentication → Operation → Val → Val
+lent_message_val version authentication operation payload = Record
+    (AndField (One (lent_header_val version authentication))
+    (AndField (Many (AndVal (lent_item_val operation payload) NoVal))
     NoField))

@@ -63,7 +63,7 @@ pub struct RequestHeader(
     pub BatchCount,
 );
 
-type RequestHeaderRows = Row<
+pub(crate) type RequestHeaderRows = Row<
     One<ProtocolVersion, 0x420069>,
     Row<
         Opt<MaximumResponseSize, 0x420050>,

@@ -1,10 +1,11 @@
 //! Laws over the definitions, each the contract of a function that does nothing.
 
-ghost use Rattle.std.specs.Prelude.{◌≡◌, ℕ, List, [], ◌++◌, Option, Some};
+ghost use Rattle.std.specs.Prelude.{◌≡◌, ℕ, true, List, [], ◌++◌, Option, Some};
 ghost use Rattle.kmip_types.specs.declared.auth.CredentialType.{CredentialType};
 ghost use Rattle.kmip_request.specs.declared.payload.RequestPayload.{RequestPayload};
 ghost use Rattle.kmip_request.specs.Message.{request_tree, request_bytes};
 ghost use Rattle.kmip_request.specs.Held.{IsHeld};
+ghost use Rattle.kmip_request.specs.Tables.{root_tables, all_stand};
 
 /// Two valid requests whose trees differ have different bytes, and neither message's bytes begin the other's.
 /// The premises hold of every payload and credential that Rust can hold.
@@ -13,4 +14,10 @@ pub fn distinct_requests()
         request_bytes p c ≡ Some b → request_bytes q d ≡ Some b → request_tree p c ≡ request_tree q d }
     ensures apart { (p q : RequestPayload) (c d : Option CredentialType) (b rest : List ℕ) → IsHeld p c → IsHeld q d →
         request_bytes p c ≡ Some b → request_bytes q d ≡ Some (b ++ rest) → rest ≡ [] }
+{}
+
+/// In the table of a request's message and of each payload no tag stands twice, at any depth, and at most one field
+/// chooses, above what it chooses. So what is read of a field never depends on the order of the items.
+pub fn tables_stand()
+    ensures { all_stand root_tables ≡ true }
 {}

@@ -18,11 +18,8 @@ pub use kmip_request_objects::{
     PublicKey, PublicKeyTemplateAttribute, RevocationReason, SymmetricKey, Template,
     TemplateAttribute,
 };
-pub use laws::distinct_requests;
+pub use laws::{distinct_requests, tables_stand};
 pub use message::{BatchItem, RequestMessage};
 pub use numbers::{BatchCount, MaximumResponseSize, ProtocolVersionMajor, ProtocolVersionMinor};
 pub use payload::RequestPayload;
 pub use writing::{to_vec, write_request};
-
-#[cfg(test)]
-mod tests;

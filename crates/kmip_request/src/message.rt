@@ -26,9 +26,9 @@ pub struct BatchItem(
     pub RequestPayload,
 );
 
-type BatchItemRows<'a> = Choosing<
+pub(crate) type BatchItemRows<'a, P> = Choosing<
     One<Operation, 0x42005C>,
-    Row<Opt<UniqueBatchItemID, 0x420093>, Row<ChosenOne<'a, RequestPayload, 0x420079>, End>>,
+    Row<Opt<UniqueBatchItemID, 0x420093>, Row<ChosenOne<'a, P, 0x420079>, End>>,
 >;
 
 impl TryClone for BatchItem {
@@ -47,7 +47,7 @@ impl Item for BatchItem {
     ghost val = { batch_item_val };
 
     fn known(&self) {
-        known_record::<BatchItemRows<'_>>(fields![&self.0, &self.1, &self.2]);
+        known_record::<BatchItemRows<'_, RequestPayload>>(fields![&self.0, &self.1, &self.2]);
     }
 
     ghost same = { batch_item_same };
@@ -55,19 +55,23 @@ impl Item for BatchItem {
 
 impl WriteItem for BatchItem {
     fn wire_len(&self, _tag: Tag) -> Option<u64> {
-        record_len::<BatchItemRows<'_>>(fields![&self.0, &self.1, &self.2])
+        record_len::<BatchItemRows<'_, RequestPayload>>(fields![&self.0, &self.1, &self.2])
     }
 
     fn write_into(&self, tag: Tag, out: &mut Buffer) {
-        write_record::<BatchItemRows<'_>>(fields![&self.0, &self.1, &self.2], tag, out);
+        write_record::<BatchItemRows<'_, RequestPayload>>(
+            fields![&self.0, &self.1, &self.2],
+            tag,
+            out,
+        );
     }
 }
 
 impl ReadItem for BatchItem {
     fn read(alloc: Global, outer: Outer<'_>, item: ItemRef<'_>) -> Result<Self, ReadError> {
-        let fields![operation, identifier, payload] = read_record::<BatchItemRows<'_>>(
-            alloc, outer, item,
-        )?;
+        let fields![operation, identifier, payload] = read_record::<
+            BatchItemRows<'_, RequestPayload>,
+        >(alloc, outer, item)?;
         Ok(BatchItem(operation, identifier, payload))
     }
 }

@@ -1,64 +1,201 @@
 //! A request written as its one canonical message.
 
-ghost use Rattle.std.specs.Prelude.{◌≡◌, ◌≢◌, Some, None, IfOk, IfErr, IsErrOf};
+ghost use Rattle.std.specs.Prelude.{◌≡◌, ◌≢◌, ◌≤◌, [], Some, None, IfSome};
+ghost use Rattle.std.specs.Prelude.{OnOk, OnErr, IfOk, IfErr, IsErrOf};
 ghost use Rattle.std.specs.Option.{option_map};
 ghost use Rattle.kmip_wire.specs.Found.{Writes};
-ghost use Rattle.kmip_request.specs.Tables.{request_message};
-ghost use Rattle.kmip_request.specs.Values.{single_request_val};
-ghost use Rattle.kmip_request.specs.Same.{single_request_same};
+ghost use Rattle.kmip_wire.specs.Room.{Appends};
+ghost use Rattle.kmip_shape.specs.Writes.{HasForm, size_of, text_of, wire_len_of, bytes_of};
+ghost use Rattle.kmip_request.specs.Tables.{request_header, batch_item_of, request_message_of};
+ghost use Rattle.kmip_request.specs.Values.{lent_header_val, lent_item_val, lent_message_val};
 ghost use Rattle.kmip_request.specs.Message.{request_bytes, credential_of};
-ghost use Rattle.kmip_shape.specs.Writes.{bytes_of};
 
 use crate::authentication::Authentication;
-use crate::header::RequestHeader;
-use crate::message::BatchItem;
+use crate::header::{ProtocolVersion, RequestHeaderRows};
+use crate::message::BatchItemRows;
 use crate::numbers::BatchCount;
 use crate::payload::RequestPayload;
-use kmip_shape::{Item, WriteItem, begin_structure, structure_len, to_blob};
+use kmip_enums::Operation;
+use kmip_shape::scalars::put_structure;
+use kmip_shape::{WriteItem, fields, record_len, structure_len, write_record};
 use kmip_types::auth;
 use kmip_wire::{Blob, Buffer, Tag, WireError};
 use std::alloc::Global;
 
-/// A message with one batch item, which is written with no list made for it.
-#[derive(Drop)]
-struct SingleRequest {
-    header: RequestHeader,
-    item: BatchItem,
-}
-
-impl Item for SingleRequest {
-    ghost shape = { request_message };
-
-    ghost val = { single_request_val };
-
-    fn known(&self) {
-        self.header.known();
-        self.item.known();
-    }
-
-    ghost same = { single_request_same };
-}
-
-impl WriteItem for SingleRequest {
-    fn wire_len(&self, _tag: Tag) -> Option<u64> {
-        structure_len(&[
-            self.header.wire_len(Tag::of(0x420077)),
-            self.item.wire_len(Tag::of(0x42000F)),
-        ])
-    }
-
-    fn write_into(&self, tag: Tag, out: &mut Buffer) {
-        begin_structure(self, self.wire_len(tag), tag, out);
-        self.header.write_into(Tag::of(0x420077), out);
-        self.item.write_into(Tag::of(0x42000F), out);
-    }
-}
-
-/// The canonical bytes of a message.
-fn written(alloc: Global, message: &SingleRequest) -> Result<Blob, WireError>
-    ensures { Writes result (bytes_of request_message 0x420078 (single_request_val message.now)) }
+/// The length of the head of a message with one batch item, whose credential is lent.
+fn header_len(version: &ProtocolVersion, authentication: &Option<Authentication>) -> Option<u64>
+    ensures { result ≡ wire_len_of request_header (lent_header_val version.now authentication.now) }
 {
-    to_blob(alloc, message, Tag::of(0x420078))
+    record_len::<RequestHeaderRows>(fields![version, &None, authentication, &BatchCount(1)])
+}
+
+/// Appends that head.
+fn write_header(
+    version: &ProtocolVersion,
+    authentication: &Option<Authentication>,
+    out: &mut Buffer,
+)
+    requires form { HasForm request_header (lent_header_val version.now authentication.now) }
+    requires room { size_of request_header (lent_header_val version.now authentication.now)
+        ≤ out.old.spare }
+    ensures { Appends out.old out.new
+        (text_of request_header 0x420077 (lent_header_val version.now authentication.now))
+        (size_of request_header (lent_header_val version.now authentication.now)) }
+{
+    write_record::<RequestHeaderRows>(
+        fields![version, &None, authentication, &BatchCount(1)],
+        Tag::of(0x420077),
+        out,
+    );
+}
+
+/// The length of a batch item with no identifier, whose payload is lent.
+fn item_len<P: WriteItem>(operation: &Operation, payload: &P) -> Option<u64>
+    ensures { result ≡ wire_len_of (batch_item_of P.shape)
+        (lent_item_val operation.now (P.val payload.now)) }
+{
+    record_len::<BatchItemRows<'_, P>>(fields![operation, &None, payload])
+}
+
+/// Appends that batch item.
+fn write_item<P: WriteItem>(operation: &Operation, payload: &P, out: &mut Buffer)
+    requires form { HasForm (batch_item_of P.shape)
+        (lent_item_val operation.now (P.val payload.now)) }
+    requires room { size_of (batch_item_of P.shape)
+        (lent_item_val operation.now (P.val payload.now)) ≤ out.old.spare }
+    ensures { Appends out.old out.new
+        (text_of (batch_item_of P.shape) 0x42000F (lent_item_val operation.now (P.val payload.now)))
+        (size_of (batch_item_of P.shape) (lent_item_val operation.now (P.val payload.now))) }
+{
+    write_record::<BatchItemRows<'_, P>>(
+        fields![operation, &None, payload],
+        Tag::of(0x42000F),
+        out,
+    );
+}
+
+/// The length of the message of these parts, and `None` exactly where it has no canonical bytes.
+fn message_len<P: WriteItem>(
+    version: &ProtocolVersion,
+    authentication: &Option<Authentication>,
+    operation: &Operation,
+    payload: &P,
+) -> Option<u64>
+    ensures { result ≡ wire_len_of (request_message_of P.shape)
+        (lent_message_val version.now authentication.now operation.now (P.val payload.now)) }
+{
+    structure_len(&[
+        header_len(version, authentication),
+        item_len(operation, payload),
+    ])
+}
+
+/// That length, and what it tells of the message.
+fn message_size<P: WriteItem>(
+    version: &ProtocolVersion,
+    authentication: &Option<Authentication>,
+    operation: &Operation,
+    payload: &P,
+) -> Option<u64>
+    ensures none { result ≡ None → bytes_of (request_message_of P.shape) 0x420078
+        (lent_message_val version.now authentication.now operation.now (P.val payload.now)) ≡ None }
+    ensures form { IfSome result (λ _. HasForm (request_message_of P.shape)
+        (lent_message_val version.now authentication.now operation.now (P.val payload.now))) }
+    ensures size { IfSome result (λ len. len ≡ size_of (request_message_of P.shape)
+        (lent_message_val version.now authentication.now operation.now (P.val payload.now))) }
+{
+    message_len(version, authentication, operation, payload)
+}
+
+/// Appends the message of these parts, whose length is `len`.
+fn write_parts<P: WriteItem>(
+    version: &ProtocolVersion,
+    authentication: &Option<Authentication>,
+    operation: &Operation,
+    payload: &P,
+    len: u64,
+    out: &mut Buffer,
+)
+    requires form { HasForm (request_message_of P.shape)
+        (lent_message_val version.now authentication.now operation.now (P.val payload.now)) }
+    requires len { len ≡ size_of (request_message_of P.shape)
+        (lent_message_val version.now authentication.now operation.now (P.val payload.now)) }
+    requires room { len ≤ out.old.spare }
+    ensures { Appends out.old out.new (text_of (request_message_of P.shape) 0x420078
+        (lent_message_val version.now authentication.now operation.now (P.val payload.now))) len }
+{
+    put_structure(Tag::of(0x420078), (len - 8) as u32, out);
+    write_header(version, authentication, out);
+    write_item(operation, payload, out);
+}
+
+/// Writes that message into `out`, which is empty.
+fn write_whole<P: WriteItem>(
+    version: &ProtocolVersion,
+    authentication: &Option<Authentication>,
+    operation: &Operation,
+    payload: &P,
+    len: u64,
+    out: &mut Buffer,
+)
+    requires empty { out.old.bytes ≡ [] }
+    requires form { HasForm (request_message_of P.shape)
+        (lent_message_val version.now authentication.now operation.now (P.val payload.now)) }
+    requires len { len ≡ size_of (request_message_of P.shape)
+        (lent_message_val version.now authentication.now operation.now (P.val payload.now)) }
+    requires room { len ≤ out.old.spare }
+    ensures { bytes_of (request_message_of P.shape) 0x420078
+        (lent_message_val version.now authentication.now operation.now (P.val payload.now))
+        ≡ Some out.new.bytes }
+{
+    write_parts(version, authentication, operation, payload, len, out);
+}
+
+/// Writes the canonical bytes of the message of these parts into `out`, which is empty. After an
+/// error it is empty still.
+fn write_message<P: WriteItem>(
+    version: &ProtocolVersion,
+    authentication: &Option<Authentication>,
+    operation: &Operation,
+    payload: &P,
+    out: &mut Buffer,
+) -> Result<(), WireError>
+    requires { out.old.bytes ≡ [] }
+    ensures ok { OnOk result (bytes_of (request_message_of P.shape) 0x420078
+        (lent_message_val version.now authentication.now operation.now (P.val payload.now))
+        ≡ Some out.new.bytes) }
+    ensures no_form { IsErrOf result WireError.NoForm →
+        bytes_of (request_message_of P.shape) 0x420078
+        (lent_message_val version.now authentication.now operation.now (P.val payload.now)) ≡ None }
+    ensures never { IfErr result (λ e. e ≢ WireError.Malformed) }
+    ensures empty { OnErr result (out.new.bytes ≡ []) }
+{
+    let Some(len) = message_size(version, authentication, operation, payload) else {
+        return Err(WireError::NoForm);
+    };
+    out.reserve(len as usize)?;
+    write_whole(version, authentication, operation, payload, len, out);
+    Ok(())
+}
+
+/// Writes the canonical bytes of the request message round `payload` into `out`, which is empty.
+/// After an error it is empty still.
+fn write_empty(
+    payload: &RequestPayload,
+    authentication: &Option<Authentication>,
+    out: &mut Buffer,
+) -> Result<(), WireError>
+    requires { out.old.bytes ≡ [] }
+    ensures ok { OnOk result (request_bytes payload.now (option_map credential_of authentication.now)
+        ≡ Some out.new.bytes) }
+    ensures no_form { IsErrOf result WireError.NoForm →
+        request_bytes payload.now (option_map credential_of authentication.now) ≡ None }
+    ensures never { IfErr result (λ e. e ≢ WireError.Malformed) }
+    ensures empty { OnErr result (out.new.bytes ≡ []) }
+{
+    let version = payload.protocol_version();
+    let operation = payload.operation();
+    write_message(&version, authentication, &operation, payload, out)
 }
 
 /// What `to_vec` gives, for a credential that the caller keeps: it is lent, not copied.
@@ -67,30 +204,25 @@ pub fn write_request(
     payload: RequestPayload,
     authentication: &mut Option<Authentication>,
 ) -> Result<Blob, WireError>
-    ensures bytes { Writes result (request_bytes payload (option_map credential_of authentication.old)) }
-    ensures ok { IfOk result (λ b. request_bytes payload (option_map credential_of authentication.old) ≡ Some b) }
-    ensures no_form { IsErrOf result WireError.NoForm → request_bytes payload (option_map credential_of authentication.old) ≡ None }
+    ensures bytes { Writes result
+        (request_bytes payload (option_map credential_of authentication.old)) }
+    ensures ok { IfOk result (λ b.
+        request_bytes payload (option_map credential_of authentication.old) ≡ Some b) }
+    ensures no_form { IsErrOf result WireError.NoForm →
+        request_bytes payload (option_map credential_of authentication.old) ≡ None }
     ensures never { IfErr result (λ e. e ≢ WireError.Malformed) }
     ensures kept { authentication.new ≡ authentication.old }
 {
-    let header = RequestHeader(
-        payload.protocol_version(),
-        None,
-        authentication.take(),
-        BatchCount(1),
-    );
-    let item = BatchItem(payload.operation(), None, payload);
-    let message = SingleRequest { header, item };
-    let bytes = written(alloc, &message);
-    *authentication = message.header.2;
-    bytes
+    let mut out = Buffer::new(alloc);
+    write_empty(&payload, &*authentication, &mut out)?;
+    Ok(out.into_blob())
 }
 
-/// The canonical bytes of the request message round `payload`: its version, the credential where there is
-/// one, no maximum response size, batch count 1 and no batch item identifier.
+/// The canonical bytes of the request message round `payload`: its version, the credential where
+/// there is one, no maximum response size, batch count 1 and no batch item identifier.
 ///
-/// `NoForm` comes exactly where the request is not valid: where an item's length reaches 2^32, or a value has
-/// no wire form. `Malformed` never comes. Memory is taken once, before the first byte is written.
+/// `NoForm` comes exactly where the request is not valid: where an item's length reaches 2^32, or a
+/// value has no wire form. `Malformed` never comes. Memory is taken once, before the first byte is written.
 pub fn to_vec(
     alloc: Global,
     payload: RequestPayload,

@@ -1,4 +1,5 @@
 -- The tables of what requests tell of objects: for each type its fields in order, with their tags, marks and types.
+-- What stands in a field is opened only where it is looked at, so that a proof over one table has no other before it.
 use Rattle.std.specs.Prelude.{Some, codes}
 use Rattle.kmip_wire.specs.declared.kind.Kind.TheVariants.{Integer, TextString, ByteString}
 use Rattle.kmip_shape.specs.Shape.{Shape, Scalar, OneOf, Rows, NoRow, AndRow, Required, Optional, AnyNumber, OptionalList, Plain, Chooser, Chosen, Under, Cases, NoCase, AndCase, ByTag}
@@ -13,14 +14,14 @@ use Rattle.kmip_types.specs.CryptographicAlgorithms.{cryptographic_algorithms}
 use Rattle.kmip_enums.specs.RevocationReasonCodes.{revocation_reason_codes}
 
 -- Name (KMIP 1.0, 3.2)
-abbrev pub name : Shape
+unfoldable pub name : Shape
 name = Rows
     (AndRow (codes "name_value") (Under 0x420055) Required Plain (Scalar TextString)
     (AndRow (codes "name_type") (Under 0x420054) Required Plain (OneOf name_types)
     NoRow))
 
 -- Attribute (KMIP 1.0, 2.1.1)
-abbrev pub attribute : Shape
+unfoldable pub attribute : Shape
 attribute = Rows
     (AndRow (codes "attribute_name") (Under 0x42000A) Required Chooser (Scalar TextString)
     (AndRow (codes "attribute_index") (Under 0x420009) Optional Plain (Scalar Integer)
@@ -28,28 +29,28 @@ attribute = Rows
     NoRow)))
 
 -- Template-Attribute, Common Template-Attribute, Private Key Template-Attribute and Public Key Template-Attribute (KMIP 1.0, 2.1.8)
-abbrev pub template_attribute : Shape
+unfoldable pub template_attribute : Shape
 template_attribute = Rows
     (AndRow (codes "names") (Under 0x420053) OptionalList Plain name
     (AndRow (codes "attributes") (Under 0x420008) OptionalList Plain attribute
     NoRow))
 
 -- Encryption Key Information (KMIP 1.0, 2.1.5)
-abbrev pub encryption_key_information : Shape
+unfoldable pub encryption_key_information : Shape
 encryption_key_information = Rows
     (AndRow (codes "unique_identifier") (Under 0x420094) Required Plain (Scalar TextString)
     (AndRow (codes "cryptographic_parameters") (Under 0x42002B) Optional Plain cryptographic_parameters
     NoRow))
 
 -- MAC/Signature Key Information (KMIP 1.0, 2.1.5)
-abbrev pub mac_or_signature_key_information : Shape
+unfoldable pub mac_or_signature_key_information : Shape
 mac_or_signature_key_information = Rows
     (AndRow (codes "unique_identifier") (Under 0x420094) Required Plain (Scalar TextString)
     (AndRow (codes "cryptographic_parameters") (Under 0x42002B) Optional Plain cryptographic_parameters
     NoRow))
 
 -- Key Wrapping Data (KMIP 1.0, 2.1.5)
-abbrev pub key_wrapping_data : Shape
+unfoldable pub key_wrapping_data : Shape
 key_wrapping_data = Rows
     (AndRow (codes "wrapping_method") (Under 0x42009E) Required Plain (OneOf wrapping_methods)
     (AndRow (codes "encryption_key_information") (Under 0x420036) Optional Plain encryption_key_information
@@ -60,7 +61,7 @@ key_wrapping_data = Rows
     NoRow))))))
 
 -- Key Wrapping Specification (KMIP 1.0, 2.1.6)
-abbrev pub key_wrapping_specification : Shape
+unfoldable pub key_wrapping_specification : Shape
 key_wrapping_specification = Rows
     (AndRow (codes "wrapping_method") (Under 0x42009E) Required Plain (OneOf wrapping_methods)
     (AndRow (codes "encryption_key_information") (Under 0x420036) Optional Plain encryption_key_information
@@ -69,14 +70,14 @@ key_wrapping_specification = Rows
     NoRow))))
 
 -- Key Value (KMIP 1.0, 2.1.4)
-abbrev pub key_value : Shape
+unfoldable pub key_value : Shape
 key_value = Rows
     (AndRow (codes "key_material") (Under 0x420043) Required Plain key_material
     (AndRow (codes "attributes") (Under 0x420008) OptionalList Plain attribute
     NoRow))
 
 -- Key Block (KMIP 1.0, 2.1.3)
-abbrev pub key_block : Shape
+unfoldable pub key_block : Shape
 key_block = Rows
     (AndRow (codes "key_format_type") (Under 0x420042) Required Chooser (OneOf key_format_types)
     (AndRow (codes "key_compression_type") (Under 0x420041) Optional Plain (OneOf key_compression_types)
@@ -120,7 +121,7 @@ managed_objects =
     NoCase)))
 
 -- Revocation Reason (KMIP 1.0, 3.26)
-abbrev pub revocation_reason : Shape
+unfoldable pub revocation_reason : Shape
 revocation_reason = Rows
     (AndRow (codes "revocation_reason_code") (Under 0x420082) Required Plain (OneOf revocation_reason_codes)
     (AndRow (codes "revocation_message") (Under 0x420080) Optional Plain (Scalar TextString)

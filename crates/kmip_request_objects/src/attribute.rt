@@ -34,6 +34,7 @@ impl TryClone for Attribute {
     }
 }
 
+#[tactic(auto, unfolding(crate::specs::Tables::attribute))]
 impl Item for Attribute {
     ghost shape = { attribute };
 
@@ -46,6 +47,7 @@ impl Item for Attribute {
     ghost same = { attribute_same };
 }
 
+#[tactic(auto, unfolding(crate::specs::Tables::attribute))]
 impl WriteItem for Attribute {
     fn wire_len(&self, _tag: Tag) -> Option<u64> {
         record_len::<AttributeRows<'_>>(fields![&self.0, &self.1, &self.2])
@@ -56,6 +58,7 @@ impl WriteItem for Attribute {
     }
 }
 
+#[tactic(auto, unfolding(crate::specs::Tables::attribute))]
 impl ReadItem for Attribute {
     fn read(alloc: Global, outer: Outer<'_>, item: ItemRef<'_>) -> Result<Self, ReadError> {
         let fields![name, index, value] = read_record::<AttributeRows<'_>>(alloc, outer, item)?;

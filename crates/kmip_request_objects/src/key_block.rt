@@ -31,6 +31,7 @@ impl TryClone for KeyValue {
     }
 }
 
+#[tactic(auto, unfolding(crate::specs::Tables::key_value))]
 impl Item for KeyValue {
     ghost shape = { key_value };
 
@@ -43,6 +44,7 @@ impl Item for KeyValue {
     ghost same = { key_value_same };
 }
 
+#[tactic(auto, unfolding(crate::specs::Tables::key_value))]
 impl WriteItem for KeyValue {
     fn wire_len(&self, _tag: Tag) -> Option<u64> {
         record_len::<KeyValueRows>(fields![&self.0, &self.1])
@@ -53,6 +55,7 @@ impl WriteItem for KeyValue {
     }
 }
 
+#[tactic(auto, unfolding(crate::specs::Tables::key_value))]
 impl ReadItem for KeyValue {
     fn read(alloc: Global, outer: Outer<'_>, item: ItemRef<'_>) -> Result<Self, ReadError> {
         let fields![material, attributes] = read_record::<KeyValueRows>(alloc, outer, item)?;
@@ -98,6 +101,7 @@ impl TryClone for KeyBlock {
     }
 }
 
+#[tactic(auto, unfolding(crate::specs::Tables::key_block))]
 impl Item for KeyBlock {
     ghost shape = { key_block };
 
@@ -112,6 +116,7 @@ impl Item for KeyBlock {
     ghost same = { key_block_same };
 }
 
+#[tactic(auto, unfolding(crate::specs::Tables::key_block))]
 impl WriteItem for KeyBlock {
     fn wire_len(&self, _tag: Tag) -> Option<u64> {
         record_len::<KeyBlockRows<'_>>(fields![
@@ -128,6 +133,7 @@ impl WriteItem for KeyBlock {
     }
 }
 
+#[tactic(auto, unfolding(crate::specs::Tables::key_block))]
 impl ReadItem for KeyBlock {
     fn read(alloc: Global, outer: Outer<'_>, item: ItemRef<'_>) -> Result<Self, ReadError> {
         let fields![format, compression, value, algorithm, length, wrapping] = read_record::<

@@ -32,6 +32,7 @@ impl TryClone for EncryptionKeyInformation {
     }
 }
 
+#[tactic(auto, unfolding(crate::specs::Tables::encryption_key_information))]
 impl Item for EncryptionKeyInformation {
     ghost shape = { encryption_key_information };
 
@@ -44,6 +45,7 @@ impl Item for EncryptionKeyInformation {
     ghost same = { encryption_key_information_same };
 }
 
+#[tactic(auto, unfolding(crate::specs::Tables::encryption_key_information))]
 impl WriteItem for EncryptionKeyInformation {
     fn wire_len(&self, _tag: Tag) -> Option<u64> {
         record_len::<EncryptionKeyInformationRows>(fields![&self.0, &self.1])
@@ -54,6 +56,7 @@ impl WriteItem for EncryptionKeyInformation {
     }
 }
 
+#[tactic(auto, unfolding(crate::specs::Tables::encryption_key_information))]
 impl ReadItem for EncryptionKeyInformation {
     fn read(alloc: Global, outer: Outer<'_>, item: ItemRef<'_>) -> Result<Self, ReadError> {
         let fields![identifier, parameters] = read_record::<EncryptionKeyInformationRows>(
@@ -78,6 +81,7 @@ impl TryClone for MACOrSignatureKeyInformation {
     }
 }
 
+#[tactic(auto, unfolding(crate::specs::Tables::mac_or_signature_key_information))]
 impl Item for MACOrSignatureKeyInformation {
     ghost shape = { mac_or_signature_key_information };
 
@@ -90,6 +94,7 @@ impl Item for MACOrSignatureKeyInformation {
     ghost same = { mac_or_signature_key_information_same };
 }
 
+#[tactic(auto, unfolding(crate::specs::Tables::mac_or_signature_key_information))]
 impl WriteItem for MACOrSignatureKeyInformation {
     fn wire_len(&self, _tag: Tag) -> Option<u64> {
         record_len::<MACOrSignatureKeyInformationRows>(fields![&self.0, &self.1])
@@ -100,6 +105,7 @@ impl WriteItem for MACOrSignatureKeyInformation {
     }
 }
 
+#[tactic(auto, unfolding(crate::specs::Tables::mac_or_signature_key_information))]
 impl ReadItem for MACOrSignatureKeyInformation {
     fn read(alloc: Global, outer: Outer<'_>, item: ItemRef<'_>) -> Result<Self, ReadError> {
         let fields![identifier, parameters] = read_record::<MACOrSignatureKeyInformationRows>(
@@ -147,6 +153,7 @@ impl TryClone for KeyWrappingData {
     }
 }
 
+#[tactic(auto, unfolding(crate::specs::Tables::key_wrapping_data))]
 impl Item for KeyWrappingData {
     ghost shape = { key_wrapping_data };
 
@@ -161,6 +168,7 @@ impl Item for KeyWrappingData {
     ghost same = { key_wrapping_data_same };
 }
 
+#[tactic(auto, unfolding(crate::specs::Tables::key_wrapping_data))]
 impl WriteItem for KeyWrappingData {
     fn wire_len(&self, _tag: Tag) -> Option<u64> {
         record_len::<KeyWrappingDataRows>(fields![
@@ -177,6 +185,7 @@ impl WriteItem for KeyWrappingData {
     }
 }
 
+#[tactic(auto, unfolding(crate::specs::Tables::key_wrapping_data))]
 impl ReadItem for KeyWrappingData {
     fn read(alloc: Global, outer: Outer<'_>, item: ItemRef<'_>) -> Result<Self, ReadError> {
         let fields![method, encryption, signing, signature, nonce, attributes] = read_record::<
@@ -214,6 +223,7 @@ impl TryClone for KeyWrappingSpecification {
     }
 }
 
+#[tactic(auto, unfolding(crate::specs::Tables::key_wrapping_specification))]
 impl Item for KeyWrappingSpecification {
     ghost shape = { key_wrapping_specification };
 
@@ -226,6 +236,7 @@ impl Item for KeyWrappingSpecification {
     ghost same = { key_wrapping_specification_same };
 }
 
+#[tactic(auto, unfolding(crate::specs::Tables::key_wrapping_specification))]
 impl WriteItem for KeyWrappingSpecification {
     fn wire_len(&self, _tag: Tag) -> Option<u64> {
         record_len::<KeyWrappingSpecificationRows>(fields![&self.0, &self.1, &self.2, &self.3])
@@ -240,6 +251,7 @@ impl WriteItem for KeyWrappingSpecification {
     }
 }
 
+#[tactic(auto, unfolding(crate::specs::Tables::key_wrapping_specification))]
 impl ReadItem for KeyWrappingSpecification {
     fn read(alloc: Global, outer: Outer<'_>, item: ItemRef<'_>) -> Result<Self, ReadError> {
         let fields![method, encryption, signing, attributes] = read_record::<

@@ -38,6 +38,7 @@ impl TryClone for Name {
     }
 }
 
+#[tactic(auto, unfolding(crate::specs::Tables::name))]
 impl Item for Name {
     ghost shape = { name };
 
@@ -50,6 +51,7 @@ impl Item for Name {
     ghost same = { name_same };
 }
 
+#[tactic(auto, unfolding(crate::specs::Tables::name))]
 impl WriteItem for Name {
     fn wire_len(&self, _tag: Tag) -> Option<u64> {
         record_len::<NameRows>(fields![&self.0, &self.1])
@@ -60,6 +62,7 @@ impl WriteItem for Name {
     }
 }
 
+#[tactic(auto, unfolding(crate::specs::Tables::name))]
 impl ReadItem for Name {
     fn read(alloc: Global, outer: Outer<'_>, item: ItemRef<'_>) -> Result<Self, ReadError> {
         let fields![value, name_type] = read_record::<NameRows>(alloc, outer, item)?;

@@ -31,6 +31,7 @@ impl TryClone for RevocationReason {
     }
 }
 
+#[tactic(auto, unfolding(crate::specs::Tables::revocation_reason))]
 impl Item for RevocationReason {
     ghost shape = { revocation_reason };
 
@@ -43,6 +44,7 @@ impl Item for RevocationReason {
     ghost same = { revocation_reason_same };
 }
 
+#[tactic(auto, unfolding(crate::specs::Tables::revocation_reason))]
 impl WriteItem for RevocationReason {
     fn wire_len(&self, _tag: Tag) -> Option<u64> {
         record_len::<RevocationReasonRows>(fields![&self.0, &self.1])
@@ -53,6 +55,7 @@ impl WriteItem for RevocationReason {
     }
 }
 
+#[tactic(auto, unfolding(crate::specs::Tables::revocation_reason))]
 impl ReadItem for RevocationReason {
     fn read(alloc: Global, outer: Outer<'_>, item: ItemRef<'_>) -> Result<Self, ReadError> {
         let fields![code, message] = read_record::<RevocationReasonRows>(alloc, outer, item)?;

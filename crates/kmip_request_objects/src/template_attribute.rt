@@ -64,6 +64,7 @@ impl TryClone for TemplateAttribute {
     }
 }
 
+#[tactic(auto, unfolding(crate::specs::Tables::template_attribute))]
 impl Item for TemplateAttribute {
     ghost shape = { template_attribute };
 
@@ -76,6 +77,7 @@ impl Item for TemplateAttribute {
     ghost same = { template_attribute_same };
 }
 
+#[tactic(auto, unfolding(crate::specs::Tables::template_attribute))]
 impl WriteItem for TemplateAttribute {
     fn wire_len(&self, _tag: Tag) -> Option<u64> {
         record_len::<TemplateAttributeRows>(fields![&self.0, &self.1])
@@ -86,6 +88,7 @@ impl WriteItem for TemplateAttribute {
     }
 }
 
+#[tactic(auto, unfolding(crate::specs::Tables::template_attribute))]
 impl ReadItem for TemplateAttribute {
     fn read(alloc: Global, outer: Outer<'_>, item: ItemRef<'_>) -> Result<Self, ReadError> {
         let fields![names, attributes] = read_record::<TemplateAttributeRows>(alloc, outer, item)?;
@@ -131,6 +134,7 @@ impl TryClone for CommonTemplateAttribute {
     }
 }
 
+#[tactic(auto, unfolding(crate::specs::Tables::template_attribute))]
 impl Item for CommonTemplateAttribute {
     ghost shape = { template_attribute };
 
@@ -143,6 +147,7 @@ impl Item for CommonTemplateAttribute {
     ghost same = { common_template_attribute_same };
 }
 
+#[tactic(auto, unfolding(crate::specs::Tables::template_attribute))]
 impl WriteItem for CommonTemplateAttribute {
     fn wire_len(&self, _tag: Tag) -> Option<u64> {
         record_len::<CommonTemplateAttributeRows>(fields![&self.0, &self.1])
@@ -153,6 +158,7 @@ impl WriteItem for CommonTemplateAttribute {
     }
 }
 
+#[tactic(auto, unfolding(crate::specs::Tables::template_attribute))]
 impl ReadItem for CommonTemplateAttribute {
     fn read(alloc: Global, outer: Outer<'_>, item: ItemRef<'_>) -> Result<Self, ReadError> {
         let fields![names, attributes] = read_record::<CommonTemplateAttributeRows>(
@@ -200,6 +206,7 @@ impl TryClone for PrivateKeyTemplateAttribute {
     }
 }
 
+#[tactic(auto, unfolding(crate::specs::Tables::template_attribute))]
 impl Item for PrivateKeyTemplateAttribute {
     ghost shape = { template_attribute };
 
@@ -212,6 +219,7 @@ impl Item for PrivateKeyTemplateAttribute {
     ghost same = { private_key_template_attribute_same };
 }
 
+#[tactic(auto, unfolding(crate::specs::Tables::template_attribute))]
 impl WriteItem for PrivateKeyTemplateAttribute {
     fn wire_len(&self, _tag: Tag) -> Option<u64> {
         record_len::<PrivateKeyTemplateAttributeRows>(fields![&self.0, &self.1])
@@ -222,6 +230,7 @@ impl WriteItem for PrivateKeyTemplateAttribute {
     }
 }
 
+#[tactic(auto, unfolding(crate::specs::Tables::template_attribute))]
 impl ReadItem for PrivateKeyTemplateAttribute {
     fn read(alloc: Global, outer: Outer<'_>, item: ItemRef<'_>) -> Result<Self, ReadError> {
         let fields![names, attributes] = read_record::<PrivateKeyTemplateAttributeRows>(
@@ -269,6 +278,7 @@ impl TryClone for PublicKeyTemplateAttribute {
     }
 }
 
+#[tactic(auto, unfolding(crate::specs::Tables::template_attribute))]
 impl Item for PublicKeyTemplateAttribute {
     ghost shape = { template_attribute };
 
@@ -281,6 +291,7 @@ impl Item for PublicKeyTemplateAttribute {
     ghost same = { public_key_template_attribute_same };
 }
 
+#[tactic(auto, unfolding(crate::specs::Tables::template_attribute))]
 impl WriteItem for PublicKeyTemplateAttribute {
     fn wire_len(&self, _tag: Tag) -> Option<u64> {
         record_len::<PublicKeyTemplateAttributeRows>(fields![&self.0, &self.1])
@@ -291,6 +302,7 @@ impl WriteItem for PublicKeyTemplateAttribute {
     }
 }
 
+#[tactic(auto, unfolding(crate::specs::Tables::template_attribute))]
 impl ReadItem for PublicKeyTemplateAttribute {
     fn read(alloc: Global, outer: Outer<'_>, item: ItemRef<'_>) -> Result<Self, ReadError> {
         let fields![names, attributes] = read_record::<PublicKeyTemplateAttributeRows>(

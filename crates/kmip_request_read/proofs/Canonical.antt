@@ -14,11 +14,11 @@ use Rattle.kmip_shape.specs.Shape.{Shape, NoCase, no_outer, in_table}
 use Rattle.kmip_shape.specs.Trees.{tree_of}
 use Rattle.kmip_shape.specs.Reads.{read_of, root_read}
 use Rattle.kmip_shape.specs.Writes.{bytes_of}
-use Rattle.kmip_shape.specs.Fits.{Fits, fits_in, selected_in, tags_once}
+use Rattle.kmip_shape.specs.Fits.{Fits, fits_in, selected_in}
 use Rattle.kmip_shape.proofs.Parts.{none_some, some_same, tag_plain}
 use Rattle.kmip_shape.proofs.Variants.{found_in_table}
 use Rattle.kmip_shape.proofs.ReadBack.{read_back}
-use Rattle.kmip_shape.proofs.Ranges.{tags_in_range, depth, Keeps, fits_ranges}
+use Rattle.kmip_shape.proofs.Ranges.{depth, Keeps, fits_ranges}
 use Rattle.kmip_enums.specs.Operations.{operation_line, operation_variants, operation_found, operations}
 use Rattle.kmip_enums.specs.declared.credential_type.CredentialType.TheVariants as types
 use Rattle.kmip_types.specs.declared.auth.CredentialType.{CredentialType}
@@ -38,20 +38,10 @@ use Rattle.kmip_request.specs.Same.{request_message_same}
 use Rattle.kmip_request.specs.Message.{operation_of, minor_of, version_of, credential_of, request_bytes}
 use Rattle.kmip_request.specs.Held.{AreTexts, IsHeld}
 use Rattle.kmip_request.proofs.Messages.{bytes_are}
+use Rattle.kmip_request.proofs.Tables.{message_once, message_in_range, message_depth}
 use Rattle.kmip_request_read.specs.Matched.{under_operation, IsMatched}
 use Rattle.kmip_request_read.specs.Message.{message_of, IsPlain, IsCanonical}
 use Rattle.kmip_shape.proofs.Selected.{selected}
-
--- ---- the table of a message
-
-table_once : tags_once request_message ≡ true
-table_once = refl
-
-table_in_range : tags_in_range request_message ≡ true
-table_in_range = refl
-
-table_depth : depth request_message ≤ 64
-table_depth = omega arith
 
 -- ---- the tree of canonical bytes
 
@@ -63,8 +53,8 @@ some_bytes (Some t) b h = (t, refl, h)
 written : (val : Val) (b : List ℕ) → Fits request_message val → bytes_of request_message 0x420078 val ≡ Some b → (t : Tree) × (tree_of request_message 0x420078 val ≡ Some t) × Parses t 1 b
 written val b f h =
     let s = some_bytes (tree_of request_message 0x420078 val) b h in
-    let k : Keeps (Some s.0) (depth request_message) = subst (λ (o : Option Tree). Keeps o (depth request_message)) s.1 (fits_ranges request_message val 0x420078 table_in_range (omega arith) f) in
-    (s.0, s.1, written_parses s.0 1 b k.0 (omega arith) (omega (arith, k.1, table_depth)) s.2)
+    let k : Keeps (Some s.0) (depth request_message) = subst (λ (o : Option Tree). Keeps o (depth request_message)) s.1 (fits_ranges request_message val 0x420078 message_in_range (omega arith) f) in
+    (s.0, s.1, written_parses s.0 1 b k.0 (omega arith) (omega (arith, k.1, message_depth)) s.2)
 
 written_as : (val : Val) (root : Tree) (b : List ℕ) → Fits request_message val → bytes_of request_message 0x420078 val ≡ Some b → Parses root 1 b → tree_of request_message 0x420078 val ≡ Some root
 written_as val root b f h p =
@@ -80,7 +70,7 @@ root_of shape tag t val h = go (tag_of t == tag) h
 -- what is read from the tree that it is written as is selected
 pub canonical_selected : (val : Val) (root : Tree) (b : List ℕ) → Parses root 1 b → IsCanonical request_message 0x420078 root b val → selected_in val NoCase request_message no_outer 0x420078
 canonical_selected val root b p c =
-    selected val NoCase request_message no_outer 0x420078 root table_once (written_as val root b c.0 c.2 p) (root_of request_message 0x420078 root val c.1)
+    selected val NoCase request_message no_outer 0x420078 root message_once (written_as val root b c.0 c.2 p) (root_of request_message 0x420078 root val c.1)
 
 -- ---- what is read is matched
 
@@ -187,7 +177,7 @@ canonical_of p c root b h m e parses =
     let f : Fits request_message val = message_fits p c h in
     let of : bytes_of request_message 0x420078 val ≡ Some b = bytes_are p (option_map item_of c) ∙ (ap (λ d. request_bytes p d) (credentials_back c) ∙ e) in
     let tree : tree_of request_message 0x420078 val ≡ Some root = written_as val root b f of parses in
-    let read : read_of request_message no_outer root ≡ Some val = read_back val NoCase request_message no_outer 0x420078 root table_once f (message_selected p c m) tree in
+    let read : read_of request_message no_outer root ≡ Some val = read_back val NoCase request_message no_outer 0x420078 root message_once f (message_selected p c m) tree in
     (f, read_root request_message 0x420078 root val (tag_plain val NoCase request_message 0x420078 root refl tree) read, of)
 
 -- the tree of a matched request's bytes

@@ -1,3 +1,4 @@
 pub mod Canonical
 pub mod Read
 mod Examples
+mod Framed

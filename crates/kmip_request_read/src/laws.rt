@@ -1,6 +1,7 @@
 //! Laws over the definitions, each the contract of a function that does nothing.
 
-ghost use Rattle.std.specs.Prelude.{◌≡◌, ℕ, List, Option, Some};
+ghost use Rattle.std.specs.Prelude.{◌≡◌, ◌≤◌, ◌+◌, ℕ, List, length, Option, Some};
+ghost use Rattle.kmip_wire.specs.Head.{head_length};
 ghost use Rattle.kmip_wire.specs.Tree.{Tree};
 ghost use Rattle.kmip_wire.specs.Parses.{Parses};
 ghost use Rattle.kmip_types.specs.declared.auth.CredentialType.{CredentialType};
@@ -30,4 +31,10 @@ pub fn request_is_read()
 /// The bytes of a request parse. The premise `IsHeld` holds of every payload and credential that Rust can hold.
 pub fn request_parses()
     ensures { (p : RequestPayload) (c : Option CredentialType) (b : List ℕ) → IsHeld p c → request_bytes p c ≡ Some b → (t : Tree) × Parses t 1 b }
+{}
+
+/// The bytes of a request are one message: a head of 8 bytes, and after it as many bytes as its length field says
+/// (KMIP 1.0, 9.1.1.3).
+pub fn request_is_message()
+    ensures { (p : RequestPayload) (c : Option CredentialType) (b : List ℕ) → request_bytes p c ≡ Some b → (8 ≤ length b) × (length b ≡ 8 + head_length b) }
 {}

@@ -8,7 +8,7 @@
 mod laws;
 mod reading;
 
-pub use laws::{one_request, request_is_read, request_parses, same_message};
+pub use laws::{one_request, request_is_message, request_is_read, request_parses, same_message};
 pub use reading::{RequestReadError, from_slice};
 
 #[cfg(test)]
