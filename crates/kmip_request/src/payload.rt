@@ -24,7 +24,7 @@ use kmip_types::{
     AttributeIndex, AttributeName, CompromiseOccurrenceDate, CryptographicParameters, Data,
     DataLength, KeyCompressionType, KeyFormatType, UniqueIdentifier,
 };
-use kmip_wire::{Buffer, ItemRef, List, OutOfMemory, Tag, TryClone, clone_optional};
+use kmip_wire::{Boxed, Buffer, ItemRef, List, OutOfMemory, Tag, TryClone, clone_optional};
 use std::alloc::Global;
 
 /// What a request asks for: one variant an operation, with the operation's fields in order.
@@ -50,7 +50,7 @@ pub enum RequestPayload {
         Option<UniqueIdentifier>,
         Option<KeyFormatType>,
         Option<KeyCompressionType>,
-        Option<KeyWrappingSpecification>,
+        Option<Boxed<KeyWrappingSpecification>>,
     ),
     /// Asks for the attributes of these names, and for all where there is none: KMIP 1.0, 4.11.
     GetAttributes(Option<UniqueIdentifier>, Option<List<AttributeName>>),
@@ -141,7 +141,10 @@ type GetRows = Row<
     Opt<UniqueIdentifier, 0x420094>,
     Row<
         Opt<KeyFormatType, 0x420042>,
-        Row<Opt<KeyCompressionType, 0x420041>, Row<Opt<KeyWrappingSpecification, 0x420047>, End>>,
+        Row<
+            Opt<KeyCompressionType, 0x420041>,
+            Row<Opt<Boxed<KeyWrappingSpecification>, 0x420047>, End>,
+        >,
     >,
 >;
 

@@ -198,6 +198,30 @@ fn write_empty(
     write_message(&version, authentication, &operation, payload, out)
 }
 
+/// Writes the canonical bytes of the request message round `payload` into `out`, in place of what
+/// `out` held: its version, the credential where there is one, no maximum response size, batch
+/// count 1 and no batch item identifier. The payload and the credential are lent, not copied, and
+/// the room of `out` is used again.
+///
+/// `NoForm` comes exactly where the request is not valid: where an item's length reaches 2^32, or a
+/// value has no wire form. `Malformed` never comes. Memory is asked for once, before the first byte
+/// is written, and only where `out` has too little room. After an error `out` has no bytes.
+pub fn write_request_into(
+    payload: &RequestPayload,
+    authentication: &Option<Authentication>,
+    out: &mut Buffer,
+) -> Result<(), WireError>
+    ensures ok { OnOk result (request_bytes payload.now (option_map credential_of authentication.now)
+        ≡ Some out.new.bytes) }
+    ensures no_form { IsErrOf result WireError.NoForm →
+        request_bytes payload.now (option_map credential_of authentication.now) ≡ None }
+    ensures never { IfErr result (λ e. e ≢ WireError.Malformed) }
+    ensures empty { OnErr result (out.new.bytes ≡ []) }
+{
+    out.clear();
+    write_empty(payload, authentication, out)
+}
+
 /// What `to_vec` gives, for a credential that the caller keeps: it is lent, not copied.
 pub fn write_request(
     alloc: Global,

@@ -14,14 +14,14 @@ use kmip_shape::{
     Item, OfTag, Outer, ReadError, ReadItem, WriteItem, fields, known_record, read_record,
     record_len, write_record,
 };
-use kmip_wire::{Buffer, ItemRef, List, OutOfMemory, Tag, TryClone};
+use kmip_wire::{Boxed, Buffer, ItemRef, List, OutOfMemory, Tag, TryClone};
 use std::alloc::Global;
 
 /// A symmetric key: KMIP 1.0, 2.2.2.
 #[derive(PartialEq, Eq, Drop)]
-pub struct SymmetricKey(pub KeyBlock);
+pub struct SymmetricKey(pub Boxed<KeyBlock>);
 
-type SymmetricKeyRows = Row<One<KeyBlock, 0x420040>, End>;
+type SymmetricKeyRows = Row<One<Boxed<KeyBlock>, 0x420040>, End>;
 
 impl TryClone for SymmetricKey {
     fn try_clone(&self, alloc: Global) -> Result<SymmetricKey, OutOfMemory> {
@@ -60,9 +60,9 @@ impl ReadItem for SymmetricKey {
 
 /// A public key: KMIP 1.0, 2.2.3.
 #[derive(PartialEq, Eq, Drop)]
-pub struct PublicKey(pub KeyBlock);
+pub struct PublicKey(pub Boxed<KeyBlock>);
 
-type PublicKeyRows = Row<One<KeyBlock, 0x420040>, End>;
+type PublicKeyRows = Row<One<Boxed<KeyBlock>, 0x420040>, End>;
 
 impl TryClone for PublicKey {
     fn try_clone(&self, alloc: Global) -> Result<PublicKey, OutOfMemory> {
@@ -101,9 +101,9 @@ impl ReadItem for PublicKey {
 
 /// A private key: KMIP 1.0, 2.2.4.
 #[derive(PartialEq, Eq, Drop)]
-pub struct PrivateKey(pub KeyBlock);
+pub struct PrivateKey(pub Boxed<KeyBlock>);
 
-type PrivateKeyRows = Row<One<KeyBlock, 0x420040>, End>;
+type PrivateKeyRows = Row<One<Boxed<KeyBlock>, 0x420040>, End>;
 
 impl TryClone for PrivateKey {
     fn try_clone(&self, alloc: Global) -> Result<PrivateKey, OutOfMemory> {

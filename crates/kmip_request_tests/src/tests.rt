@@ -5,12 +5,12 @@
 use bitflags::Flags;
 use kmip_enums::{ObjectType, QueryFunction, RevocationReasonCode};
 use kmip_request::{
-    Attribute, CommonTemplateAttribute, EncryptionKeyInformation, IVOrCounterOrNonce, KeyBlock,
-    KeyValue, KeyWrappingData, KeyWrappingSpecification, MACOrSignature,
-    MACOrSignatureKeyInformation, ManagedObject, PrivateKey, PrivateKeyTemplateAttribute,
-    ProtocolVersion, ProtocolVersionMajor, ProtocolVersionMinor, PublicKey,
-    PublicKeyTemplateAttribute, RequestPayload, RevocationReason, SymmetricKey, Template,
-    TemplateAttribute, to_vec,
+    Attribute, Authentication, CommonTemplateAttribute, EncryptionKeyInformation,
+    IVOrCounterOrNonce, KeyBlock, KeyValue, KeyWrappingData, KeyWrappingSpecification,
+    MACOrSignature, MACOrSignatureKeyInformation, ManagedObject, PrivateKey,
+    PrivateKeyTemplateAttribute, ProtocolVersion, ProtocolVersionMajor, ProtocolVersionMinor,
+    PublicKey, PublicKeyTemplateAttribute, RequestPayload, RevocationReason, SymmetricKey,
+    Template, TemplateAttribute, to_vec,
 };
 use kmip_types::auth::{CredentialType, UsernameAndPasswordCredential};
 use kmip_types::{
@@ -20,7 +20,7 @@ use kmip_types::{
     PaddingMethod, RevocationMessage, TransparentRSAPublicKey, UniqueIdentifier, Values,
     WrappingMethod,
 };
-use kmip_wire::{Blob, List, OutOfMemory, Text, TryClone, WireError};
+use kmip_wire::{Blob, Boxed, Buffer, List, OutOfMemory, Text, TryClone, WireError};
 
 /// What was made.
 fn made<T: Drop>(rt: &HostRuntime, result: Result<T, OutOfMemory>) -> T {
@@ -91,10 +91,14 @@ fn private_keys(rt: &HostRuntime) -> List<Attribute> {
     )
 }
 
+fn boxed<T: Drop>(rt: &HostRuntime, value: T) -> Boxed<T> {
+    made(rt, Boxed::new(rt.alloc(), value))
+}
+
 /// A key block of this format that holds no more than this material.
-fn block(format: KeyFormatType, material: KeyMaterial) -> KeyBlock {
+fn block(rt: &HostRuntime, format: KeyFormatType, material: KeyMaterial) -> Boxed<KeyBlock> {
     let value = KeyValue(material, None);
-    KeyBlock(format, None, Some(value), None, None, None)
+    boxed(rt, KeyBlock(format, None, Some(value), None, None, None))
 }
 
 /// A Register of this object with no attributes.
@@ -162,7 +166,7 @@ fn register_a_key(rt: HostRuntime) {
         Some(CryptographicLength(8)),
         Some(wrapping),
     );
-    let key = ManagedObject::SymmetricKey(SymmetricKey(block));
+    let key = ManagedObject::SymmetricKey(SymmetricKey(boxed(&rt, block)));
     is_written(&rt, register(ObjectType::SymmetricKey, key), REGISTER_A_KEY);
 }
 
@@ -190,7 +194,7 @@ fn register_a_transparent_key(rt: HostRuntime) {
         modulus: blob(&rt, &[0, 0, 0, 0, 0, 0xC5, 0xA1, 0xB3]),
         public_exponent: blob(&rt, &[0, 0, 0, 0, 0, 1, 0, 1]),
     });
-    let block = block(KeyFormatType::TransparentRSAPublicKey, material);
+    let block = block(&rt, KeyFormatType::TransparentRSAPublicKey, material);
     let key = ManagedObject::PublicKey(PublicKey(block));
     is_written(
         &rt,
@@ -227,7 +231,7 @@ fn get(rt: HostRuntime) {
         Some(id(&rt, "k1")),
         Some(KeyFormatType::Raw),
         Some(KeyCompressionType::ECPUblicKeyTypeUncompressed),
-        Some(specification),
+        Some(boxed(&rt, specification)),
     );
     is_written(&rt, payload, GET);
 }
@@ -407,7 +411,11 @@ const REGISTER_A_PRIVATE_KEY: &[u8] =
 
 #[test]
 fn register_a_private_key(rt: HostRuntime) {
-    let block = block(KeyFormatType::PKCS8, KeyMaterial::Bytes(blob(&rt, b"\xCC")));
+    let block = block(
+        &rt,
+        KeyFormatType::PKCS8,
+        KeyMaterial::Bytes(blob(&rt, b"\xCC")),
+    );
     let key = ManagedObject::PrivateKey(PrivateKey(block));
     is_written(
         &rt,
@@ -489,7 +497,40 @@ fn without_a_form(rt: HostRuntime) {
 
 #[test]
 fn wrapped_material_has_no_form(rt: HostRuntime) {
-    let block = block(KeyFormatType::Raw, KeyMaterial::Wrapped(blob(&rt, b"\xAA")));
+    let block = block(
+        &rt,
+        KeyFormatType::Raw,
+        KeyMaterial::Wrapped(blob(&rt, b"\xAA")),
+    );
     let key = ManagedObject::PrivateKey(PrivateKey(block));
     has_no_form(&rt, register(ObjectType::PrivateKey, key));
+}
+
+/// What is written into a buffer stands in place of what it held.
+fn is_written_into(
+    rt: &HostRuntime,
+    payload: &RequestPayload,
+    authentication: &Option<Authentication>,
+    out: &mut Buffer,
+    expected: &[u8],
+) {
+    write_request_into(payload, authentication, out).expect(rt, "a form");
+    assert!(rt; out.as_slice() == expected);
+}
+
+#[test]
+fn one_buffer_for_three_requests(rt: HostRuntime) {
+    let user = UsernameAndPasswordCredential::new(text(&rt, "alice"), Some(text(&rt, "secret")));
+    let authentication = Authentication::build(CredentialType::UsernameAndPassword(user));
+    let payload = RequestPayload::Locate(private_keys(&rt));
+    let mut out = Buffer::new(rt.alloc());
+    is_written_into(&rt, &payload, &None, &mut out, LOCATE);
+    is_written_into(
+        &rt,
+        &payload,
+        &Some(authentication),
+        &mut out,
+        WITH_A_CREDENTIAL,
+    );
+    is_written_into(&rt, &payload, &None, &mut out, LOCATE);
 }
