@@ -46,9 +46,3 @@ pub fn request_parses()
 pub fn request_is_message()
     ensures { (p : RequestPayload) (c : Option CredentialType) (b : List ℕ) → request_bytes p c ≡ Some b → (8 ≤ length b) × (length b ≡ 8 + head_length b) }
 {}
-
-/// The bytes of a request are one message: a head of 8 bytes, and after it as many bytes as its length field says
-/// (KMIP 1.0, 9.1.1.3).
-pub fn request_is_message()
-    ensures { (p : RequestPayload) (c : Option CredentialType) (b : List ℕ) → request_bytes p c ≡ Some b → (8 ≤ length b) × (length b ≡ 8 + head_length b) }
-{}
