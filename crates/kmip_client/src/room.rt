@@ -1,4 +1,5 @@
 //! The room of a client's messages, which it keeps from call to call.
+ghost use Rattle.std.specs.Prelude.{◌≡◌, [], MatchOption};
 
 use kmip_wire::{Buffer, wipe};
 use std::alloc::Global;
@@ -20,7 +21,9 @@ pub struct Room {
 
 impl Room {
     /// The room that was kept, or none yet. It takes no memory.
-    pub fn again(kept: Option<Room>, alloc: Global) -> Room {
+    pub fn again(kept: Option<Room>, alloc: Global) -> Room
+        ensures { MatchOption kept (result.taken.items ≡ []) (λ room. result ≡ room) }
+    {
         match kept {
             Some(room) => room,
             None => Room {
@@ -31,7 +34,10 @@ impl Room {
     }
 
     /// What is kept after a call: zeros are written over its messages, and very much room is let go.
-    pub fn kept(self) -> Option<Room> {
+    pub fn kept(self) -> Option<Room>
+        ensures { MatchOption result (Unit {0})
+            (λ room. (room.request.bytes ≡ []) × (room.taken.items ≡ [])) }
+    {
         let Room {
             mut request,
             mut taken,

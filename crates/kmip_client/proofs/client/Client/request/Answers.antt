@@ -1,5 +1,5 @@
 use Rattle.std.proofs.Common.{◌∙◌, ap, refl, IsTrue, Bool}
-use Rattle.kmip_request.specs.Message.{request_bytes, operation_of, credential_of}
+use Rattle.kmip_request.specs.Message.{request_bytes, operation_of}
 use Rattle.kmip_client.specs.Client.{counted}
 use Rattle.kmip_client.specs.Outcome.{seen_by, outcome, left_for, Exchanged}
 use Rattle.kmip_client.proofs.Headlines.{headline, seen_variant}
