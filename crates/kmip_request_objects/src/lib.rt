@@ -26,6 +26,3 @@ pub use template_attribute::{
     CommonTemplateAttribute, PrivateKeyTemplateAttribute, PublicKeyTemplateAttribute,
     TemplateAttribute,
 };
-
-#[cfg(test)]
-mod tests;

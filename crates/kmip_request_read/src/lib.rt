@@ -13,6 +13,3 @@ pub use laws::{
     same_message,
 };
 pub use reading::{RequestReadError, from_slice};
-
-#[cfg(test)]
-mod tests;

@@ -1,5 +1,9 @@
-//! Tests of requests in a crate of their own, over the library: a crate with tests is proved twice.
+//! Tests of requests, written and read, and of what they say of objects. They stand above those crates, so that each crate is proved once.
 #![tactic(auto)]
 
 #[cfg(test)]
-mod tests;
+mod attributes;
+#[cfg(test)]
+mod reading;
+#[cfg(test)]
+mod requests;

@@ -1,10 +1,10 @@
 //! What the constructors make.
 
-use crate::{
+use kmip_enums::{LinkType, NameType, ObjectType};
+use kmip_request::{
     Attribute, CommonTemplateAttribute, Name, PrivateKey, PrivateKeyTemplateAttribute,
     PublicKeyTemplateAttribute, TemplateAttribute,
 };
-use kmip_enums::{LinkType, NameType, ObjectType};
 use kmip_shape::{WriteItem, to_blob};
 use kmip_types::{
     ApplicationData, ApplicationNamespace, CryptographicAlgorithm, CryptographicLength,

@@ -1,8 +1,8 @@
 //! Requests read from bytes: outside examples, and each reason why bytes are not canonical.
 
-use crate::{RequestReadError, from_slice};
 use kmip_enums::ObjectType;
 use kmip_request::{Attribute, RequestPayload};
+use kmip_request_read::{RequestReadError, from_slice};
 use kmip_types::auth::CredentialType;
 use kmip_types::{AttributeName, AttributeValue};
 use kmip_wire::{Blob, List, Text};

@@ -10,7 +10,7 @@ use kmip_request::{
     MACOrSignature, MACOrSignatureKeyInformation, ManagedObject, PrivateKey,
     PrivateKeyTemplateAttribute, ProtocolVersion, ProtocolVersionMajor, ProtocolVersionMinor,
     PublicKey, PublicKeyTemplateAttribute, RequestPayload, RevocationReason, SymmetricKey,
-    Template, TemplateAttribute, to_vec,
+    Template, TemplateAttribute, to_vec, write_request_into,
 };
 use kmip_types::auth::{CredentialType, UsernameAndPasswordCredential};
 use kmip_types::{
@@ -21,67 +21,69 @@ use kmip_types::{
     WrappingMethod,
 };
 use kmip_wire::{Blob, Boxed, Buffer, List, OutOfMemory, Text, TryClone, WireError};
+use std::alloc::AllocGlobal;
+use std::process::Abort;
 
 /// What was made.
-fn made<T: Drop>(rt: &HostRuntime, result: Result<T, OutOfMemory>) -> T {
-    result.expect(rt, "memory")
+fn made<T: Drop>(rt: &(impl Abort + AllocGlobal), memory: Result<T, OutOfMemory>) -> T {
+    memory.expect(rt, "memory")
 }
 
 /// The payload has a copy that equals it, and its request is written as these bytes.
-fn is_written(rt: &HostRuntime, payload: RequestPayload, expected: &[u8]) {
+fn is_written(rt: &(impl Abort + AllocGlobal), payload: RequestPayload, expected: &[u8]) {
     assert!(rt; made(rt, payload.try_clone(rt.alloc())) == payload);
     let written = to_vec(rt.alloc(), payload, None).expect(rt, "a form");
     assert!(rt; written.as_slice() == expected);
 }
 
 /// The request has no form.
-fn has_no_form(rt: &HostRuntime, payload: RequestPayload) {
+fn has_no_form(rt: &(impl Abort + AllocGlobal), payload: RequestPayload) {
     assert!(rt; to_vec(rt.alloc(), payload, None) == Err(WireError::NoForm));
 }
 
-fn text(rt: &HostRuntime, text: &str) -> Text {
+fn text(rt: &(impl Abort + AllocGlobal), text: &str) -> Text {
     made(rt, Text::of(rt.alloc(), text))
 }
 
-fn blob(rt: &HostRuntime, bytes: &[u8]) -> Blob {
+fn blob(rt: &(impl Abort + AllocGlobal), bytes: &[u8]) -> Blob {
     made(rt, Blob::of(rt.alloc(), bytes))
 }
 
-fn id(rt: &HostRuntime, id: &str) -> UniqueIdentifier {
+fn id(rt: &(impl Abort + AllocGlobal), id: &str) -> UniqueIdentifier {
     UniqueIdentifier(text(rt, id))
 }
 
-fn name(rt: &HostRuntime, name: &str) -> AttributeName {
+fn name(rt: &(impl Abort + AllocGlobal), name: &str) -> AttributeName {
     AttributeName(text(rt, name))
 }
 
 /// A list of these items.
-fn list<T: Drop, const N: usize>(rt: &HostRuntime, items: [T; N]) -> List<T> {
+fn list<T: Drop, const N: usize>(rt: &(impl Abort + AllocGlobal), items: [T; N]) -> List<T> {
     List::of_vec(Vec::from_array(rt.alloc(), items).expect(rt, "memory"))
 }
 
 /// An attribute of a type that has a name of its own.
-fn length(rt: &HostRuntime, bits: i32) -> Attribute {
+fn length(rt: &(impl Abort + AllocGlobal), bits: i32) -> Attribute {
     made(rt, Attribute::CryptographicLength(rt.alloc(), bits))
 }
 
-fn algorithm(rt: &HostRuntime, algorithm: CryptographicAlgorithm) -> Attribute {
+fn algorithm(rt: &(impl Abort + AllocGlobal), algorithm: CryptographicAlgorithm) -> Attribute {
     made(rt, Attribute::CryptographicAlgorithm(rt.alloc(), algorithm))
 }
 
-fn usage(rt: &HostRuntime, mask: CryptographicUsageMask) -> Attribute {
+fn usage(rt: &(impl Abort + AllocGlobal), mask: CryptographicUsageMask) -> Attribute {
     made(rt, Attribute::CryptographicUsageMask(rt.alloc(), mask))
 }
 
-fn named(rt: &HostRuntime, name: &str) -> Attribute {
+fn named(rt: &(impl Abort + AllocGlobal), name: &str) -> Attribute {
     made(rt, Attribute::Name(rt.alloc(), text(rt, name)))
 }
 
-fn group(rt: &HostRuntime, group: &str) -> Attribute {
+fn group(rt: &(impl Abort + AllocGlobal), group: &str) -> Attribute {
     made(rt, Attribute::ObjectGroup(rt.alloc(), text(rt, group)))
 }
 
-fn private_keys(rt: &HostRuntime) -> List<Attribute> {
+fn private_keys(rt: &(impl Abort + AllocGlobal)) -> List<Attribute> {
     list(
         rt,
         [made(
@@ -91,12 +93,16 @@ fn private_keys(rt: &HostRuntime) -> List<Attribute> {
     )
 }
 
-fn boxed<T: Drop>(rt: &HostRuntime, value: T) -> Boxed<T> {
+fn boxed<T: Drop>(rt: &(impl Abort + AllocGlobal), value: T) -> Boxed<T> {
     made(rt, Boxed::new(rt.alloc(), value))
 }
 
 /// A key block of this format that holds no more than this material.
-fn block(rt: &HostRuntime, format: KeyFormatType, material: KeyMaterial) -> Boxed<KeyBlock> {
+fn block(
+    rt: &(impl Abort + AllocGlobal),
+    format: KeyFormatType,
+    material: KeyMaterial,
+) -> Boxed<KeyBlock> {
     let value = KeyValue(material, None);
     boxed(rt, KeyBlock(format, None, Some(value), None, None, None))
 }
@@ -482,7 +488,7 @@ fn with_a_credential(rt: HostRuntime) {
 }
 
 /// An attribute of this value has no form.
-fn attribute_has_no_form(rt: &HostRuntime, value: AttributeValue) {
+fn attribute_has_no_form(rt: &(impl Abort + AllocGlobal), value: AttributeValue) {
     let attributes = list(rt, [Attribute(name(rt, "x-a"), None, value)]);
     has_no_form(rt, RequestPayload::Locate(attributes));
 }
@@ -508,7 +514,7 @@ fn wrapped_material_has_no_form(rt: HostRuntime) {
 
 /// What is written into a buffer stands in place of what it held.
 fn is_written_into(
-    rt: &HostRuntime,
+    rt: &(impl Abort + AllocGlobal),
     payload: &RequestPayload,
     authentication: &Option<Authentication>,
     out: &mut Buffer,
