@@ -32,7 +32,7 @@ MAKES = {
 def is_test_file(path):
     """Whether a file holds tests alone."""
     name = os.path.basename(path)
-    return "tests" in name or "/tests/" in path or "/kmip_tests/" in path
+    return "tests" in name or re.search(r"/kmip_(\w+_)?tests/|/tests/", path) is not None
 
 
 def without_comments(text):
