@@ -4,7 +4,7 @@ use kmip_enums::ObjectType;
 use kmip_objects::ManagedObject;
 use kmip_request::{RequestPayload, write_request};
 use kmip_response::{GetResponsePayload, from_slice};
-use kmip_shape::columns::{One, push_item};
+use kmip_shape::columns::One;
 use kmip_shape::record::{End, Row};
 use kmip_shape::{
     BigInteger, Outer, Timestamp, copy_list, copy_optional_list, fields, read_record, read_root,
@@ -120,12 +120,6 @@ fn lists(rt: HostRuntime) -> Result<(), Fail> {
     are_equal(&rt, &copy_list(&types, alloc)?, &types)?;
     let types = Some(types);
     are_equal(&rt, &copy_optional_list(&types, alloc)?, &types)?;
-    // 09 i5
-    let bytes = b"\x42\x00\x09\x02\x00\x00\x00\x04\x00\x00\x00\x05\x00\x00\x00\x00";
-    let item = ItemRef::root(bytes).ok_or("no item")?;
-    let mut numbers: Vec<i32> = Vec::new(alloc);
-    push_item(&mut numbers, alloc, Outer::none(), item)?;
-    assert_eq!(&rt; numbers.as_slice(), [5].as_slice());
     Ok(())
 }
 
