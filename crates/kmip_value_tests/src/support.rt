@@ -34,6 +34,7 @@ impl Under {
 }
 
 /// An item in hex, and what it shows as where it is read.
+#[derive(Clone, Copy)]
 pub struct Case {
     pub under: Under,
     pub hex: &'static str,
