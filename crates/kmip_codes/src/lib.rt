@@ -23,6 +23,3 @@ pub use kmip_shape::Enumeration;
 pub use padding_method::PaddingMethod;
 pub use usage_mask::CryptographicUsageMask;
 pub use wrapping_method::WrappingMethod;
-
-#[cfg(test)]
-mod tests;

@@ -25,6 +25,3 @@ pub use result_reason::ResultReason;
 pub use result_status::ResultStatus;
 pub use revocation_reason_code::RevocationReasonCode;
 pub use state::State;
-
-#[cfg(test)]
-mod tests;

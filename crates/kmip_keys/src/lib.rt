@@ -10,6 +10,3 @@ pub use transparent_keys::{
     TransparentDSAPublicKey, TransparentRSAPrivateKey, TransparentRSAPublicKey,
     TransparentSymmetricKey,
 };
-
-#[cfg(test)]
-mod tests;

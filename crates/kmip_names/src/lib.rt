@@ -20,6 +20,3 @@ pub use texts::{
     ApplicationData, ApplicationNamespace, LinkedObjectIdentifier, NameValue, RevocationMessage,
     UniqueIdentifier,
 };
-
-#[cfg(test)]
-mod tests;

@@ -37,6 +37,3 @@ pub use payloads::identifiers::{
 pub use payloads::query::DiscoverVersionsResponsePayload;
 pub use payloads::server::{QueryResponsePayload, ServerInformation};
 pub use reading::{ResponseError, from_slice};
-
-#[cfg(test)]
-mod tests;

@@ -20,3 +20,4 @@ pub mod Variants
 pub mod Dated
 pub mod Examples
 pub mod Ranges
+pub mod Digits

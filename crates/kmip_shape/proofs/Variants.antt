@@ -8,7 +8,7 @@ use Rattle.std.proofs.lemmas.Slice.Eq.{bytes_eq-Decides}
 use Rattle.kmip_shape.specs.Val.{Number}
 use Rattle.kmip_shape.specs.Shape.{Entry, in_table}
 use Rattle.kmip_shape.specs.Shown.{entry_shown}
-use Rattle.kmip_shape.specs.Enumerations.{variant_at, enumeration_val, has_name, are_distinct, AreFound, AreDistinct}
+use Rattle.kmip_shape.specs.Enumerations.{variant_at, enumeration_val, has_name, are_distinct, AreFound, AreDistinct, some_same}
 
 pub entry_read : {T : Type 0} (line : T → Entry) (xs : List T) (n : ℕ) → (if in_table n (map line xs) then Some (Number (pos n)) else None) ≡ option_map (enumeration_val line) (variant_at line xs n)
 entry_read line [] n = refl
@@ -35,9 +35,6 @@ found_named : {T : Type 0} (line : T → Entry) (xs : List T) (n : ℕ) (x : T) 
 found_named line [] n x d h = cc
 found_named line (y ∷ xs) n x d h =
     grind (arith, nat_tests, found_named line xs n x, name_stands line xs n x, bytes_eq-Decides (line y).name (line x).name)
-
-some_same : {T : Type 0} {x y : T} → Some x ≡ Some y → x ≡ y
-some_same h = cc
 
 pub variants_distinct : {T : Type 0} (line : T → Entry) (xs : List T) → AreFound line xs → are_distinct (map line xs) ≡ true → AreDistinct line
 variants_distinct line xs found d = (

@@ -2,6 +2,7 @@
 use Rattle.std.specs.Prelude.{◌+◌, ◌-◌, ◌^◌, ◌<◌, ◌≤◌, ℤ, pos, negsuc, suc, Bool, true, false, cond, nat_lt, ◌≡◌, refl}
 use Rattle.std.proofs.Common.{ap, sym, ◌∙◌, arith, lt-ltb, le-ltb, ltb-true, ltb-false}
 use Rattle.kmip_shape.specs.Val.{Val, Number}
+use Rattle.kmip_shape.specs.Same.{same_number}
 
 -- The unsigned number of the same 64 bits. A number that is none of the signed ones is put past them all.
 abbrev pub date_number : ℤ → ℤ
@@ -10,9 +11,6 @@ date_number (negsuc n) = cond (nat_lt n (2 ^ 63)) (pos (2 ^ 64 - suc n)) (negsuc
 
 abbrev pub date_val : ℤ → Val
 date_val z = Number (date_number z)
-
-same_val : {x y : ℤ} → Number x ≡ Number y → x ≡ y
-same_val h = cc
 
 abbrev back : ℤ → ℤ
 back (pos n) = cond (nat_lt n (2 ^ 63)) (pos n) (cond (nat_lt n (2 ^ 64)) (negsuc (2 ^ 64 - suc n)) (pos (n - 2 ^ 63)))
@@ -37,4 +35,4 @@ back_number (negsuc n) = go (nat_lt n (2 ^ 63)) refl
     go false e = refl
 
 pub date_same : (x y : ℤ) → date_val x ≡ date_val y → x ≡ y
-date_same x y h = sym (back_number x) ∙ (ap back (same_val h) ∙ back_number y)
+date_same x y h = sym (back_number x) ∙ (ap back (same_number h) ∙ back_number y)

@@ -35,7 +35,7 @@ AreFound {T} line variants = (x : T) → variant_at line variants (line x).numbe
 abbrev pub enumeration_val : {T : Type 0} → (T → Entry) → T → Val
 enumeration_val line x = Number (pos (line x).number)
 
-some_same : {T : Type 0} {x y : T} → Some x ≡ Some y → x ≡ y
+pub some_same : {T : Type 0} {x y : T} → Some x ≡ Some y → x ≡ y
 some_same h = cc
 
 pub same_variant : {T : Type 0} (line : T → Entry) (variants : List T) → AreFound line variants → IsFaithful (enumeration_val line)

@@ -258,7 +258,7 @@ impl<'a, T: ReadItem, const TAG: u32> Column<'a> for ChosenOne<'a, T, TAG> {
 
 /// Reads a further item of a row of many.
 #[tactic(auto, using(crate::proofs::Gathered::gathering))]
-pub fn push_item<T: ReadItem>(
+pub(crate) fn push_item<T: ReadItem>(
     items: &mut Vec<T>,
     alloc: Global,
     outer: Outer<'_>,
@@ -268,6 +268,9 @@ pub fn push_item<T: ReadItem>(
     ensures unread { result ≡ Err ReadError.Unread → (xs : p.List Tree) → gathered (read_of T.shape (outer_of outer.entry)) (map T.val items.old.items) (item_tree child.entry ∷ xs) ≡ None }
 {
     let value = T::read(alloc, outer, child)?;
+    if items.is_empty() {
+        items.reserve_exact(1)?;
+    }
     items.push(value)?;
     Ok(())
 }

@@ -413,12 +413,14 @@ impl<'b, A: WriteRow<'b>, B: WriteRows<'b>> WriteRows<'b> for Row<A, B> {
     ghost fields = { λ lent. and_field (A.field lent.0) (B.fields lent.1) };
 
     #[tactic(auto, using(crate::proofs::Lists::tag_first, crate::proofs::Lists::tags_rest))]
+    #[inline(always)]
     fn len(lent: (A::Lent, B::Lent)) -> Option<u64> {
         let (field, rest) = lent;
         plus_len(A::len(field), B::len(rest))
     }
 
     #[tactic(auto, using(crate::proofs::Appended::appended, crate::proofs::Lists::tag_first, crate::proofs::Lists::tags_rest))]
+    #[inline(always)]
     fn write(lent: (A::Lent, B::Lent), out: &mut Buffer) {
         let (field, rest) = lent;
         A::write(field, out);
@@ -465,12 +467,14 @@ impl<'b, A: WriteRow<'b>, B: WriteRows<'b>> WriteRows<'b> for Choosing<A, B> {
     ghost fields = { λ lent. and_field (A.field lent.0) (B.fields lent.1) };
 
     #[tactic(auto, using(crate::proofs::Lists::tag_first, crate::proofs::Lists::tags_rest))]
+    #[inline(always)]
     fn len(lent: (A::Lent, B::Lent)) -> Option<u64> {
         let (field, rest) = lent;
         plus_len(A::len(field), B::len(rest))
     }
 
     #[tactic(auto, using(crate::proofs::Appended::appended, crate::proofs::Lists::tag_first, crate::proofs::Lists::tags_rest))]
+    #[inline(always)]
     fn write(lent: (A::Lent, B::Lent), out: &mut Buffer) {
         let (field, rest) = lent;
         A::write(field, out);
@@ -503,6 +507,7 @@ pub fn known_record<'b, R: FieldRows<'b>>(lent: R::Lent)
 }
 
 /// The whole length of a record's structure, and `None` exactly where it has no canonical bytes.
+#[inline(always)]
 pub fn record_len<'b, R: WriteRows<'b>>(lent: R::Lent) -> Option<u64>
     requires { are_tags R.row_list ≡ true }
     ensures { result ≡ len_of_structure (fields_len (R.fields lent) R.row_list) }

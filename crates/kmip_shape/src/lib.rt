@@ -7,6 +7,7 @@
 #![tactic(auto)]
 
 pub mod big;
+mod boxed;
 pub mod by_tag;
 pub mod children;
 pub mod columns;
@@ -32,19 +33,12 @@ pub use copies::{copy_list, copy_optional_list};
 pub use enumeration::{Enumeration, distinct};
 pub use fields::{known_record, record_len, show_record, write_record};
 pub use item::{Item, WriteItem};
-pub use kmip_wire::{Blob, Buffer, List, OutOfMemory, Text, TryClone};
+pub use kmip_wire::{Blob, Boxed, Buffer, List, OutOfMemory, Text, TryClone};
 pub use laws::{read_back, read_selected, written};
 pub use read::{Outer, ReadError, ReadItem, ReadRoot, read_root};
 pub use record::read_record;
-pub use rows::{
-    begin_structure, known_bytes, known_items, known_list, known_optional, known_optional_list,
-    list_len, optional_len, optional_list_len, plus_len, structure_len, write_list, write_optional,
-    write_optional_list,
-};
+pub use rows::{begin_structure, plus_len, structure_len};
 pub use show::{ShowItem, show_case, show_in_brackets};
 pub use sink::Sink;
 pub use wrapped::{BigInteger, Timestamp};
 pub use write::{item_len, to_blob, write_item};
-
-#[cfg(test)]
-mod tests;

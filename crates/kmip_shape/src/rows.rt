@@ -11,14 +11,14 @@ use crate::scalars::put_structure;
 use kmip_wire::{Buffer, List, Tag};
 
 /// The length of the items of a list, and `None` exactly where one has no canonical bytes or they reach 2^32 bytes.
-pub fn list_len<T: WriteItem>(items: &List<T>, tag: Tag) -> Option<u64>
+pub(crate) fn list_len<T: WriteItem>(items: &List<T>, tag: Tag) -> Option<u64>
     ensures { result ≡ len_of_list (vals T.val items.now) T.shape }
 {
     items_len(items.as_slice(), tag)
 }
 
 /// Appends the canonical bytes of the items of a list, in order. Each has such bytes, and there is room for all.
-pub fn write_list<T: WriteItem>(items: &List<T>, tag: Tag, out: &mut Buffer)
+pub(crate) fn write_list<T: WriteItem>(items: &List<T>, tag: Tag, out: &mut Buffer)
     requires form { list_form (vals T.val items.now) T.shape }
     requires room { list_size (vals T.val items.now) T.shape ≤ out.old.spare }
     ensures { Appends out.old out.new (list_text (vals T.val items.now) T.shape tag) (list_size (vals T.val items.now) T.shape) }
@@ -27,14 +27,14 @@ pub fn write_list<T: WriteItem>(items: &List<T>, tag: Tag, out: &mut Buffer)
 }
 
 /// The items of a list fit their shape. It does nothing.
-pub fn known_list<T: Item>(items: &List<T>)
+pub(crate) fn known_list<T: Item>(items: &List<T>)
     ensures { vals_fit (vals T.val items.now) NoCase T.shape }
 {
     known_items(items.as_slice());
 }
 
 /// The length of an item that may be absent.
-pub fn optional_len<T: WriteItem>(item: &Option<T>, tag: Tag) -> Option<u64>
+pub(crate) fn optional_len<T: WriteItem>(item: &Option<T>, tag: Tag) -> Option<u64>
     ensures { result ≡ field_len (optional T.val item.now) T.shape }
 {
     match item {
@@ -44,7 +44,7 @@ pub fn optional_len<T: WriteItem>(item: &Option<T>, tag: Tag) -> Option<u64>
 }
 
 /// Appends an item that may be absent.
-pub fn write_optional<T: WriteItem>(item: &Option<T>, tag: Tag, out: &mut Buffer)
+pub(crate) fn write_optional<T: WriteItem>(item: &Option<T>, tag: Tag, out: &mut Buffer)
     requires form { field_form (optional T.val item.now) T.shape }
     requires room { field_size (optional T.val item.now) T.shape ≤ out.old.spare }
     ensures { Appends out.old out.new (field_text (optional T.val item.now) T.shape tag) (field_size (optional T.val item.now) T.shape) }
@@ -55,6 +55,7 @@ pub fn write_optional<T: WriteItem>(item: &Option<T>, tag: Tag, out: &mut Buffer
 }
 
 /// The length of several items together, where it is below 2^32.
+#[inline(always)]
 pub fn plus_len(len: Option<u64>, more: Option<u64>) -> Option<u64>
     ensures { result ≡ plus_len len more }
 {
@@ -64,7 +65,7 @@ pub fn plus_len(len: Option<u64>, more: Option<u64>) -> Option<u64>
 
 /// The length of the items of a list.
 #[tactic(auto, using(crate::proofs::Lens::plus_assoc, crate::proofs::Lens::list_len_zero, crate::proofs::Lens::plus_end))]
-pub fn items_len<T: WriteItem>(items: &[T], tag: Tag) -> Option<u64>
+pub(crate) fn items_len<T: WriteItem>(items: &[T], tag: Tag) -> Option<u64>
     ensures { result ≡ len_of_list (vals T.val items.now) T.shape }
 {
     let mut sum = 0;
@@ -78,7 +79,7 @@ pub fn items_len<T: WriteItem>(items: &[T], tag: Tag) -> Option<u64>
 
 /// Appends the items of a list.
 #[tactic(auto, using(std::proofs::lemmas::List::append_assoc))]
-pub fn write_items<T: WriteItem>(items: &[T], tag: Tag, out: &mut Buffer)
+pub(crate) fn write_items<T: WriteItem>(items: &[T], tag: Tag, out: &mut Buffer)
     requires form { list_form (vals T.val items.now) T.shape }
     requires room { list_size (vals T.val items.now) T.shape ≤ out.old.spare }
     ensures { Appends out.old out.new (list_text (vals T.val items.now) T.shape tag) (list_size (vals T.val items.now) T.shape) }
@@ -121,7 +122,7 @@ pub fn begin_structure<T: Item>(item: &T, len: Option<u64>, tag: Tag, out: &mut 
 }
 
 /// An item that may be absent fits an optional row. It does nothing.
-pub fn known_optional<T: Item>(item: &Option<T>)
+pub(crate) fn known_optional<T: Item>(item: &Option<T>)
     ensures mark { mark_fits Optional (optional T.val item.now) }
     ensures field { field_fits (optional T.val item.now) NoCase T.shape }
 {
@@ -131,7 +132,7 @@ pub fn known_optional<T: Item>(item: &Option<T>)
 }
 
 /// The items of a list fit. It does nothing.
-pub fn known_items<T: Item>(items: &[T])
+pub(crate) fn known_items<T: Item>(items: &[T])
     ensures { vals_fit (vals T.val items.now) NoCase T.shape }
 {
     let mut rest = items;
@@ -142,7 +143,7 @@ pub fn known_items<T: Item>(items: &[T])
 }
 
 /// The length of the items of a list that may be absent.
-pub fn optional_list_len<T: WriteItem>(items: &Option<List<T>>, tag: Tag) -> Option<u64>
+pub(crate) fn optional_list_len<T: WriteItem>(items: &Option<List<T>>, tag: Tag) -> Option<u64>
     ensures { result ≡ field_len (optional_list T.val items.now) T.shape }
 {
     match items {
@@ -152,7 +153,7 @@ pub fn optional_list_len<T: WriteItem>(items: &Option<List<T>>, tag: Tag) -> Opt
 }
 
 /// Appends the items of a list that may be absent.
-pub fn write_optional_list<T: WriteItem>(items: &Option<List<T>>, tag: Tag, out: &mut Buffer)
+pub(crate) fn write_optional_list<T: WriteItem>(items: &Option<List<T>>, tag: Tag, out: &mut Buffer)
     requires form { field_form (optional_list T.val items.now) T.shape }
     requires room { field_size (optional_list T.val items.now) T.shape ≤ out.old.spare }
     ensures { Appends out.old out.new (field_text (optional_list T.val items.now) T.shape tag) (field_size (optional_list T.val items.now) T.shape) }
@@ -163,7 +164,7 @@ pub fn write_optional_list<T: WriteItem>(items: &Option<List<T>>, tag: Tag, out:
 }
 
 /// The items of a list that may be absent fit. It does nothing.
-pub fn known_optional_list<T: Item>(items: &Option<List<T>>)
+pub(crate) fn known_optional_list<T: Item>(items: &Option<List<T>>)
     ensures mark { mark_fits OptionalList (optional_list T.val items.now) }
     ensures field { field_fits (optional_list T.val items.now) NoCase T.shape }
 {
@@ -173,7 +174,7 @@ pub fn known_optional_list<T: Item>(items: &Option<List<T>>)
 }
 
 /// The bytes of a slice are below 256. It does nothing.
-pub fn known_bytes(bytes: &[u8])
+pub(crate) fn known_bytes(bytes: &[u8])
     ensures { AreBytes bytes.now }
 {
     let mut rest = bytes;

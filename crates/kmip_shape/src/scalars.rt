@@ -25,7 +25,7 @@ pub fn put_integer(tag: Tag, value: i32, out: &mut Buffer)
     requires { leaf_size (integer value) ≤ out.old.spare }
     ensures { Appends out.old out.new (leaf_text tag (integer value)) (leaf_size (integer value)) }
 {
-    out.put_item(tag, Kind::Integer, &value.to_be_bytes());
+    out.put_four(tag, Kind::Integer, value.cast_unsigned());
 }
 
 /// Appends a Long Integer.
@@ -33,7 +33,7 @@ pub fn put_long_integer(tag: Tag, value: i64, out: &mut Buffer)
     requires { leaf_size (long_integer value) ≤ out.old.spare }
     ensures { Appends out.old out.new (leaf_text tag (long_integer value)) (leaf_size (long_integer value)) }
 {
-    out.put_item(tag, Kind::LongInteger, &value.to_be_bytes());
+    out.put_eight(tag, Kind::LongInteger, value.cast_unsigned());
 }
 
 /// Appends a Big Integer, whose length is a multiple of 8.
@@ -50,7 +50,7 @@ pub fn put_enumeration(tag: Tag, value: u32, out: &mut Buffer)
     requires { leaf_size (enumeration value) ≤ out.old.spare }
     ensures { Appends out.old out.new (leaf_text tag (enumeration value)) (leaf_size (enumeration value)) }
 {
-    out.put_item(tag, Kind::Enumeration, &value.to_be_bytes());
+    out.put_four(tag, Kind::Enumeration, value);
 }
 
 /// Appends a Boolean.
@@ -58,8 +58,7 @@ pub fn put_boolean(tag: Tag, value: bool, out: &mut Buffer)
     requires { leaf_size (boolean value) ≤ out.old.spare }
     ensures { Appends out.old out.new (leaf_text tag (boolean value)) (leaf_size (boolean value)) }
 {
-    let number: u64 = if value { 1 } else { 0 };
-    out.put_item(tag, Kind::Boolean, &number.to_be_bytes());
+    out.put_eight(tag, Kind::Boolean, value as u64);
 }
 
 /// Appends a Text String.
@@ -85,7 +84,7 @@ pub fn put_date(tag: Tag, value: u64, out: &mut Buffer)
     requires { leaf_size (date_time value) ≤ out.old.spare }
     ensures { Appends out.old out.new (leaf_text tag (date_time value)) (leaf_size (date_time value)) }
 {
-    out.put_item(tag, Kind::DateTime, &value.to_be_bytes());
+    out.put_eight(tag, Kind::DateTime, value);
 }
 
 /// Appends an Interval, in seconds.
@@ -93,7 +92,7 @@ pub fn put_interval(tag: Tag, value: u32, out: &mut Buffer)
     requires { leaf_size (interval value) ≤ out.old.spare }
     ensures { Appends out.old out.new (leaf_text tag (interval value)) (leaf_size (interval value)) }
 {
-    out.put_item(tag, Kind::Interval, &value.to_be_bytes());
+    out.put_four(tag, Kind::Interval, value);
 }
 
 /// The whole length of a Text String, and `None` from 2^32 bytes on.

@@ -23,7 +23,7 @@ pub trait ShowItem: Item {
         ensures all { OnOk result (out.new ≡ out.old ++ shown Self.shape (Self.val self.now)) }
         ensures part { AddsPart out.old out.new (shown Self.shape (Self.val self.now)) }
     {
-        let mut sink = Sink::over(alloc, mem::replace(out, Text::new(alloc)));
+        let mut sink = Sink::over(mem::replace(out, Text::new(alloc)));
         self.show_into(&mut sink);
         let (text, live) = sink.into_text();
         *out = text;
@@ -44,7 +44,12 @@ pub fn show_one<T: ShowItem>(item: &T, name: &str, after: bool, out: &mut Sink) 
 }
 
 /// A field that may be absent.
-pub fn show_optional<T: ShowItem>(item: &Option<T>, name: &str, after: bool, out: &mut Sink) -> bool
+pub(crate) fn show_optional<T: ShowItem>(
+    item: &Option<T>,
+    name: &str,
+    after: bool,
+    out: &mut Sink,
+) -> bool
     ensures after { (a : Bool) → after ≡ a → result ≡ (a || stands (optional T.val item.now)) }
     ensures text { (a : Bool) → after ≡ a → Grows out.old out.new (row_shown (optional T.val item.now) NoCase name.now T.shape a) }
 {
@@ -56,7 +61,7 @@ pub fn show_optional<T: ShowItem>(item: &Option<T>, name: &str, after: bool, out
 
 /// The items of a list, after others or not.
 #[tactic(auto, using(crate::proofs::Growth::growth))]
-pub fn show_items<T: ShowItem>(items: &[T], out: &mut Sink)
+pub(crate) fn show_items<T: ShowItem>(items: &[T], out: &mut Sink)
     ensures { Grows out.old out.new (list_shown (vals T.val items.now) NoCase T.shape false) }
 {
     let mut after = false;
@@ -68,7 +73,12 @@ pub fn show_items<T: ShowItem>(items: &[T], out: &mut Sink)
 }
 
 /// A field of a list.
-pub fn show_list<T: ShowItem>(items: &List<T>, name: &str, after: bool, out: &mut Sink) -> bool
+pub(crate) fn show_list<T: ShowItem>(
+    items: &List<T>,
+    name: &str,
+    after: bool,
+    out: &mut Sink,
+) -> bool
     ensures after { (a : Bool) → after ≡ a → result ≡ (a || stands (many (vals T.val items.now))) }
     ensures text { (a : Bool) → after ≡ a → Grows out.old out.new (row_shown (many (vals T.val items.now)) NoCase name.now T.shape a) }
 {
@@ -81,7 +91,7 @@ pub fn show_list<T: ShowItem>(items: &List<T>, name: &str, after: bool, out: &mu
 }
 
 /// A field of a list that may be absent.
-pub fn show_optional_list<T: ShowItem>(
+pub(crate) fn show_optional_list<T: ShowItem>(
     items: &Option<List<T>>,
     name: &str,
     after: bool,

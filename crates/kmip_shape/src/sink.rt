@@ -1,36 +1,41 @@
 //! What values are shown into.
 
-ghost use Rattle.std.specs.Prelude.{◌≡◌, ◌++◌, ◌<◌, ◌∷◌, [], true, flat_map};
+ghost use Rattle.std.specs.Prelude.{◌≡◌, ◌++◌, ◌*◌, ◌<◌, ◌≤◌, ◌∷◌, [], true, flat_map, length, take, IsAscii};
 ghost use Rattle.std.specs.Fmt.{decimal, signed_decimal};
 ghost use Rattle.std.specs.Char.{encode_utf8};
 ghost use Rattle.kmip_shape.specs.Shown.{Grows, comma, escaped, hex_byte, hex_digit, text_shown, bytes_shown, truth_shown};
 
+use itoa::Buffer as Digits;
 use kmip_wire::Text;
-use std::alloc::Global;
 use std::marker::Model;
+use std::str;
+
+/// How many bytes are shown at once.
+const BLOCK: usize = 32;
 
 /// A digit in upper-case hex.
-fn hex_digit(digit: u8) -> &'static str
+#[inline(always)]
+fn hex_digit(digit: u8) -> u8
     requires { digit < 16 }
-    ensures { result.now ≡ hex_digit digit ∷ [] }
+    ensures digit { result ≡ hex_digit digit }
+    ensures ascii { result < 128 }
 {
-    match digit {
-        0 => "0",
-        1 => "1",
-        2 => "2",
-        3 => "3",
-        4 => "4",
-        5 => "5",
-        6 => "6",
-        7 => "7",
-        8 => "8",
-        9 => "9",
-        10 => "A",
-        11 => "B",
-        12 => "C",
-        13 => "D",
-        14 => "E",
-        _ => "F",
+    if digit < 10 {
+        b'0' + digit
+    } else {
+        b'A' - 10 + digit
+    }
+}
+
+/// Writes the digits of bytes from the start on.
+fn write_digits(bytes: &[u8], out: &mut [u8])
+    requires { 2 * length bytes.now ≤ length out.old }
+    ensures digits { take (2 * length bytes.now) out.new ≡ flat_map hex_byte bytes.now }
+    ensures ascii { IsAscii (flat_map hex_byte bytes.now) }
+{
+    for i in 0..bytes.len() {
+        out[2 * i] = hex_digit(bytes[i] / 16);
+        out[2 * i + 1] = hex_digit(bytes[i] % 16);
     }
 }
 
@@ -39,7 +44,6 @@ fn hex_digit(digit: u8) -> &'static str
 pub struct Sink {
     text: Text,
     live: bool,
-    alloc: Global,
 }
 
 impl Model for Sink {
@@ -52,18 +56,14 @@ impl Model for Sink {
 
 impl Sink {
     /// A text that grows further.
-    pub fn over(alloc: Global, text: Text) -> Sink
+    pub(crate) fn over(text: Text) -> Sink
         ensures { result ≡ record { text = text; live = true } }
     {
-        Sink {
-            text,
-            live: true,
-            alloc,
-        }
+        Sink { text, live: true }
     }
 
     /// The text, and whether memory sufficed.
-    pub fn into_text(self) -> (Text, bool)
+    pub(crate) fn into_text(self) -> (Text, bool)
         ensures text { result.0 ≡ self.text }
         ensures live { result.1 ≡ self.live }
     {
@@ -72,6 +72,7 @@ impl Sink {
 
     /// Appends the text, if memory suffices.
     #[tactic(auto, using(crate::proofs::Growth::growth))]
+    #[inline(always)]
     pub fn put(&mut self, text: &str)
         ensures { Grows self.old self.new text.now }
     {
@@ -80,6 +81,17 @@ impl Sink {
                 Ok(()) => {}
                 Err(_) => self.live = false,
             }
+        }
+    }
+
+    /// Appends the character, if memory suffices.
+    #[tactic(auto, using(crate::proofs::Growth::growth))]
+    #[inline(always)]
+    fn put_char(&mut self, ch: char)
+        ensures { Grows self.old self.new (encode_utf8 ch) }
+    {
+        if self.live {
+            self.live = self.text.push(ch).is_ok();
         }
     }
 
@@ -98,10 +110,7 @@ impl Sink {
     pub fn put_signed(&mut self, number: i64)
         ensures { Grows self.old self.new (signed_decimal number) }
     {
-        match format!(in self.alloc; "{number}") {
-            Ok(text) => self.put(text.as_str()),
-            Err(_) => self.live = false,
-        }
+        self.put(Digits::new().format(number));
     }
 
     /// An unsigned number, in decimal.
@@ -109,10 +118,7 @@ impl Sink {
     pub fn put_unsigned(&mut self, number: u64)
         ensures { Grows self.old self.new (decimal number) }
     {
-        match format!(in self.alloc; "{number}") {
-            Ok(text) => self.put(text.as_str()),
-            Err(_) => self.live = false,
-        }
+        self.put(Digits::new().format(number));
     }
 
     /// A truth value.
@@ -122,12 +128,14 @@ impl Sink {
         self.put(if truth { "true" } else { "false" });
     }
 
-    /// A byte, as two digits.
-    fn put_hex(&mut self, byte: u8)
-        ensures { Grows self.old self.new (hex_byte byte) }
+    /// Room for so many bytes more, if memory suffices.
+    #[tactic(auto, using(crate::proofs::Growth::growth))]
+    fn reserve(&mut self, more: usize)
+        ensures { Grows self.old self.new [] }
     {
-        self.put(hex_digit(byte / 16));
-        self.put(hex_digit(byte % 16));
+        if self.live {
+            self.live = self.text.reserve(more).is_ok();
+        }
     }
 
     /// A byte as `\x` and two digits.
@@ -135,7 +143,7 @@ impl Sink {
         ensures { Grows self.old self.new (92 ∷ 120 ∷ hex_byte byte) }
     {
         self.put("\\x");
-        self.put_hex(byte);
+        self.put_block(&[byte]);
     }
 
     /// A character of a text in double quotes.
@@ -148,7 +156,7 @@ impl Sink {
             '\\' => self.put("\\\\"),
             '\0'..='\x1f' => self.put_control(ch as u8),
             '\x7f' => self.put("\\x7F"),
-            _ => self.put(ch.encode_utf8(&mut [0; 4])),
+            _ => self.put_char(ch),
         }
     }
 
@@ -170,19 +178,37 @@ impl Sink {
         self.put("\"");
     }
 
+    /// The digits of bytes that are shown at once.
+    fn put_block(&mut self, bytes: &[u8])
+        requires { length bytes.now ≤ 32 }
+        ensures { Grows self.old self.new (flat_map hex_byte bytes.now) }
+    {
+        let mut digits = [0; 2 * BLOCK];
+        write_digits(bytes, &mut digits);
+        match str::from_utf8(&digits[..2 * bytes.len()]) {
+            Ok(text) => self.put(text),
+            Err(_) => unreachable!(),
+        }
+    }
+
     /// The digits of bytes.
     fn put_digits(&mut self, bytes: &[u8])
         ensures { Grows self.old self.new (flat_map hex_byte bytes.now) }
     {
-        for byte in bytes {
-            self.put_hex(*byte);
+        let mut rest = bytes;
+        while rest.len() > BLOCK {
+            let (first, tail) = rest.split_at(BLOCK);
+            self.put_block(first);
+            rest = tail;
         }
+        self.put_block(rest);
     }
 
     /// Bytes as `x"` hex `"`.
     pub fn put_bytes(&mut self, bytes: &[u8])
         ensures { Grows self.old self.new (bytes_shown bytes.now) }
     {
+        self.reserve(bytes.len().saturating_mul(2));
         self.put("x\"");
         self.put_digits(bytes);
         self.put("\"");

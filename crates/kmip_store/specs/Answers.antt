@@ -8,7 +8,7 @@ use Rattle.kmip_store.specs.declared.maker.Made.{Made}
 use Rattle.kmip_store.specs.Makers.{MakerState, Answered, IsSilent, Rose, is_answer}
 use Rattle.kmip_store.specs.Steps.{Call, Answer, NotFound, Denied, Failed, Stepped, stay, step, question}
 
--- A call that asks no maker is its step. Want of memory leaves the objects as they were.
+-- A call that asks no maker is its step. Where memory runs out, the objects are as they were.
 abbrev pub Steps :
     {T : Type 0} → (T → Answer) → List Object → Call → List Object → Result T StoreError → Type 0
 Steps answer before call after (Ok x) = step before call None ≡ stay after (answer x)
@@ -38,7 +38,7 @@ pub record IsStep (before : List Object) (call : Call) (after : List Object) (an
   pub asks : suits (question before call) made ≡ true
   pub told : IsTrue asked.tells → Grew asked answered (question before call) made
 
--- A call that asks a maker. Want of memory leaves the objects as they were, and nothing asked.
+-- A call that asks a maker. Where memory runs out, the objects are as they were and nothing was asked.
 abbrev pub Asks :
     {T : Type 0} → (T → Answer) → List Object → Call → List Object → MakerState → MakerState →
     Result T StoreError → Type 0

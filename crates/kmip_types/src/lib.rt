@@ -29,6 +29,3 @@ pub use kmip_names::{
     InitialCounterValue, InvocationFieldLength, LinkedObjectIdentifier, NameValue, RandomIV,
     RevocationMessage, TagLength, UniqueBatchItemID, UniqueIdentifier,
 };
-
-#[cfg(test)]
-mod tests;

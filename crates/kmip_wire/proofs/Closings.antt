@@ -3,9 +3,8 @@ use Rattle.std.proofs.Common.{◌≡◌, ◌≢◌, refl, sym, ◌∙◌, ap, su
 use Rattle.std.specs.Option.{is_some}
 use Rattle.std.proofs.lemmas.List.{length-drop, length-take-le, drop-drop, drop-take, length-set, get_or-set_same, get_or-set_other}
 use Rattle.std.proofs.Math.Seq.{take-length}
-use Rattle.kmip_wire.specs.declared.front.Step.TheVariants.{Malformed, Item, Opens}
 use Rattle.kmip_wire.specs.Reading.{items_of}
-use Rattle.kmip_wire.specs.Open.{are_after, are_open, total, State, Tells}
+use Rattle.kmip_wire.specs.Open.{are_after, are_open, total, State, NoItems, Passes, Opens}
 use Rattle.kmip_wire.proofs.Computed.{take_take}
 use Rattle.kmip_wire.proofs.Steps.{no_levels}
 
@@ -117,16 +116,16 @@ module _ (levels : ℕ) (bytes lefts : List ℕ) (depth left : ℕ) (rest : List
   unfolding lower
   here = omega (arith, s.within)
 
-  whole : length (take left rest) ≡ left
+  pub whole : length (take left rest) ≡ left
   whole = length-take-le left rest (omega (arith, s.sum))
 
   same_here : are_open (suc lower) lefts depth left rest ≡ is_some (items_of levels bytes)
   same_here = ap (λ k. are_open k lefts depth left rest) (sym here) ∙ s.same
 
-  pub found_malformed : Tells Malformed (take left rest) → false ≡ is_some (items_of levels bytes)
+  pub found_malformed : NoItems (take left rest) → false ≡ is_some (items_of levels bytes)
   found_malformed t = sym (ap (λ b. b && are_after (levels - depth + 1) lefts depth (drop left rest)) (t (levels - depth))) ∙ s.same
 
-  pub found_item : (n : ℕ) → Tells (Item n) (take left rest) → State levels bytes lefts depth (left - n) (drop n rest)
+  pub found_item : (n : ℕ) → Passes n (take left rest) → State levels bytes lefts depth (left - n) (drop n rest)
   found_item n t =
       let le : n ≤ left = omega (arith, whole, t.1)
       in record {
@@ -136,7 +135,7 @@ module _ (levels : ℕ) (bytes lefts : List ℕ) (depth left : ℕ) (rest : List
         same = ap (λ k. are_open k lefts depth (left - n) (drop n rest)) here ∙ item_closes (suc lower) lefts depth left rest n le (t.2 lower) ∙ same_here;
       }
 
-  pub found_deepest : (n : ℕ) → Tells (Opens n) (take left rest) → depth + 1 ≡ levels → false ≡ is_some (items_of levels bytes)
+  pub found_deepest : (n : ℕ) → Opens n (take left rest) → depth + 1 ≡ levels → false ≡ is_some (items_of levels bytes)
   unfolding lower
   found_deepest n t e =
       let contents : List ℕ = take n (drop 8 (take left rest))
@@ -148,7 +147,7 @@ module _ (levels : ℕ) (bytes lefts : List ℕ) (depth left : ℕ) (rest : List
       in let none : is_some (items_of (suc lower) (take left rest)) ≡ false = t.2 lower ∙ ap (λ b. b && after) deep
       in sym (ap (λ b. b && are_after (suc lower + 1) lefts depth (drop left rest)) none) ∙ same_here
 
-  pub found_open : (n deep more : ℕ) → Tells (Opens n) (take left rest) → depth + 1 ≢ levels → deep ≡ suc depth → more ≡ left - 8 - n
+  pub found_open : (n deep more : ℕ) → Opens n (take left rest) → depth + 1 ≢ levels → deep ≡ suc depth → more ≡ left - 8 - n
       → State levels bytes (set lefts depth more) deep n (drop 8 rest)
   unfolding lower rows
   found_open n deep more t ne e m =

@@ -4,6 +4,7 @@ pub mod SameItems
 pub mod Views
 pub mod Owned
 pub mod Steps
+pub mod Words
 pub mod Closings
 pub mod Ascii
 pub mod Writing

@@ -1,19 +1,17 @@
 -- What the item at the front says of bytes that are to be items.
-use Rattle.std.proofs.Common.{◌≡◌, ◌≢◌, ℕ, zero, suc, ◌+◌, ◌-◌, ◌%◌, ◌≤◌, ◌<◌, Bool, true, false, ◌&&◌, eqb, List, [], ◌∷◌, length, take, drop, inl, inr, Option, Some, None, refl, sym, ap, ◌∙◌, arith}
+use Rattle.std.proofs.Common.{◌≡◌, ◌≢◌, ℕ, zero, suc, ◌+◌, ◌-◌, ◌%◌, ◌≤◌, ◌<◌, Bool, true, false, ◌&&◌, eqb, List, [], ◌∷◌, length, take, drop, inl, inr, Option, Some, None, refl, sym, ap, subst, ◌∙◌, arith}
 use Rattle.std.specs.Option.{is_some}
-use Rattle.std.specs.Prelude.{if◌then◌else◌}
-use Rattle.std.specs.Cmp.{unsigned_Decides}
-use Rattle.std.proofs.lemmas.Bool.{false≢true, eqb-true}
+use Rattle.std.proofs.lemmas.Bool.{eqb-true}
+use Rattle.std.proofs.lemmas.Bool.Decides.{leb_tells}
 use Rattle.std.proofs.lemmas.Option.{none-some}
 use Rattle.std.proofs.lemmas.List.{length-drop, length-take, drop-drop}
 use Rattle.kmip_wire.specs.declared.kind.Kind.{Kind}
 use Rattle.kmip_wire.specs.declared.kind.Kind.TheVariants.{Structure, Integer, LongInteger, BigInteger, Enumeration, Boolean, TextString, ByteString, DateTime, Interval}
-use Rattle.kmip_wire.specs.declared.front.Step.TheVariants.{Malformed, Item, Opens}
 use Rattle.kmip_wire.specs.Tree.{Tree, Trees, more}
 use Rattle.kmip_wire.specs.Kinds.{kind_of}
 use Rattle.kmip_wire.specs.Head.{head_tag, head_code, head_length, size_at, value_of}
 use Rattle.kmip_wire.specs.Reading.{items_by, item_of, items_of, joined, well_formed, scalar_at, is_whole, node_at}
-use Rattle.kmip_wire.specs.Open.{Tells, opened}
+use Rattle.kmip_wire.specs.Open.{NoItems, Passes, Opens}
 use Rattle.kmip_wire.proofs.Values.{chosen}
 use Rattle.kmip_wire.proofs.Computed.{items_by-fuel, is_some-map, item_step_says, items_stop, front_short, front_deep, is_whole-says, some_of, size_at-take, take_take}
 
@@ -40,7 +38,7 @@ step_says levels b h le =
 pub no_levels : (b : List ℕ) → 0 < length b → is_some (items_of 0 b) ≡ false
 no_levels b lt = items_stop 0 b lt (front_deep 0 b refl)
 
-at_each : (b : List ℕ) → 0 < length b → ((levels : ℕ) → is_some (items_of (suc levels) b) ≡ false) → Tells Malformed b
+at_each : (b : List ℕ) → 0 < length b → ((levels : ℕ) → is_some (items_of (suc levels) b) ≡ false) → NoItems b
 at_each b lt h zero = no_levels b lt
 at_each b lt h (suc levels) = h levels
 
@@ -101,13 +99,13 @@ pub none_left : (b : List ℕ) → eqb (length b) 0 ≡ is_some (items_of 0 b)
 none_left [] = refl
 none_left (x ∷ xs) = not_true (eqb (length (x ∷ xs)) 0) (λ t. omega (arith, eqb-true (length (x ∷ xs)) 0 t)) ∙ sym (no_levels (x ∷ xs) (omega arith))
 
-value_length : (b : List ℕ) → size_at b ≤ length b → length (value_of b) ≡ head_length b
+pub value_length : (b : List ℕ) → size_at b ≤ length b → length (value_of b) ≡ head_length b
 value_length b le = omega (arith, length-take (head_length b) (drop 8 b), length-drop 8 b)
 
 -- ---- what a step tells
 
 module _ (b : List ℕ) (some : 0 < length b) where
-  pub tells_short : length b < size_at b → Tells Malformed b
+  pub tells_short : length b < size_at b → NoItems b
   tells_short lt levels = items_stop levels b some (front_short levels b (λ _. lt))
 
   module _ (le : size_at b ≤ length b) where
@@ -118,7 +116,7 @@ module _ (b : List ℕ) (some : 0 < length b) where
     after : ℕ → Bool
     after levels = is_some (items_of (suc levels) (drop (size_at b) b))
 
-    pub tells_unkind : None ≡ kind_of (head_code b) → Tells Malformed b
+    pub tells_unkind : None ≡ kind_of (head_code b) → NoItems b
     unfolding after
     tells_unkind e = at_each b some (λ levels. step_says levels b head le ∙ ap (λ o. well_formed (is_some (items_of levels (value_of b))) o (value_of b) && after levels) (sym e))
 
@@ -129,12 +127,12 @@ module _ (b : List ℕ) (some : 0 < length b) where
         ∙ ap (λ o. well_formed (is_some (items_of levels (value_of b))) o (value_of b) && after levels) (sym kind)
         ∙ ap (λ t. t && after levels) (wf_scalar k (is_some (items_of levels (value_of b))) (value_of b) n ∙ sym e)
 
-    pub tells_value : (k : Kind) → Some k ≡ kind_of (head_code b) → k ≢ Structure → true ≡ is_some (scalar_at k (value_of b)) → (n : ℕ) → n ≡ size_at b → Tells (Item n) b
+    pub tells_value : (k : Kind) → Some k ≡ kind_of (head_code b) → k ≢ Structure → true ≡ is_some (scalar_at k (value_of b)) → (n : ℕ) → n ≡ size_at b → Passes n b
     unfolding after
     tells_value k kind n e m same =
         (omega (arith, same), omega (arith, same, le), λ levels. scalar_says k true kind n e levels ∙ ap (λ i. is_some (items_of (suc levels) (drop i b))) (sym same))
 
-    pub tells_no_value : (k : Kind) → Some k ≡ kind_of (head_code b) → k ≢ Structure → false ≡ is_some (scalar_at k (value_of b)) → Tells Malformed b
+    pub tells_no_value : (k : Kind) → Some k ≡ kind_of (head_code b) → k ≢ Structure → false ≡ is_some (scalar_at k (value_of b)) → NoItems b
     tells_no_value k kind n e = at_each b some (λ levels. scalar_says k false kind n e levels)
 
     module _ (kind : Some Structure ≡ kind_of (head_code b)) where
@@ -143,7 +141,7 @@ module _ (b : List ℕ) (some : 0 < length b) where
       structure_says levels =
           step_says levels b head le ∙ ap (λ o. well_formed (is_some (items_of levels (value_of b))) o (value_of b) && after levels) (sym kind)
 
-      empty : head_length b ≡ 0 → Tells (Item 8) b
+      pub empty : head_length b ≡ 0 → Passes 8 b
       unfolding after
       empty e =
           let eight : size_at b ≡ 8 = ap (λ n. 8 + n + (8 - n % 8) % 8) e
@@ -156,7 +154,7 @@ module _ (b : List ℕ) (some : 0 < length b) where
                 ∙ ap (λ n. is_some (items_of (suc levels) (drop n b))) eight,
           )
 
-      opens : 0 < head_length b → head_length b % 8 ≡ 0 → Tells (Opens (head_length b)) b
+      opens : 0 < head_length b → head_length b % 8 ≡ 0 → Opens (head_length b) b
       unfolding after
       opens lt even =
           let long : size_at b ≡ 8 + head_length b = omega (arith, even)
@@ -167,27 +165,30 @@ module _ (b : List ℕ) (some : 0 < length b) where
             λ levels. structure_says levels ∙ ap (λ r. is_some (items_of levels (value_of b)) && is_some (items_of (suc levels) r)) far,
           )
 
-      ragged : head_length b % 8 ≢ 0 → Tells Malformed b
+      ragged : head_length b % 8 ≢ 0 → NoItems b
       ragged n =
           at_each b some (λ levels.
           structure_says levels
           ∙ ap (λ t. t && after levels) (not_true (is_some (items_of levels (value_of b))) (λ t. n (ap (λ m. m % 8) (sym (value_length b le)) ∙ items_even levels (length (value_of b)) (value_of b) t))))
 
-      by_length : (zeroed even : Bool) → (zeroed ≡ true → head_length b ≡ 0) → (zeroed ≡ false → 0 < head_length b) → (even ≡ true → head_length b % 8 ≡ 0) → (even ≡ false → head_length b % 8 ≢ 0)
-          → Tells (if zeroed then Item 8 else (if even then Opens (head_length b) else Malformed)) b
-      by_length true even z p e n = empty (z refl)
-      by_length false true z p e n = opens (p refl) (e refl)
-      by_length false false z p e n = ragged (n refl)
+  -- whether or not all the bytes are there
+  by_size : (size_at b ≤ length b → NoItems b) → NoItems b
+  by_size h = elim (leb_tells (size_at b) (length b)) [
+    | inl p ↦ h p.1
+    | inr p ↦ tells_short p.1
+  ]
 
-      pub tells_opened : Tells (opened (head_length b)) b
-      tells_opened =
-          let zeros = unsigned_Decides (head_length b) 0
-          in let evens = unsigned_Decides (head_length b % 8) 0
-          in by_length (eqb (head_length b) 0) (eqb (head_length b % 8) 0) zeros.0 (λ f. positive (head_length b) (λ e. false≢true (sym f ∙ zeros.1 e))) evens.0 (λ f e. false≢true (sym f ∙ evens.1 e))
-        where
-          positive : (n : ℕ) → (n ≡ 0 → ⊥) → 0 < n
-          positive zero h = absurd (h refl)
-          positive (suc n) h = omega arith
+  pub tells_unknown : None ≡ kind_of (head_code b) → NoItems b
+  tells_unknown e = by_size (λ le. tells_unkind le e)
+
+  pub tells_open : (n : ℕ) → n ≡ head_length b → Some Structure ≡ kind_of (head_code b) → n ≢ 0 → n % 8 ≡ 0 → n ≤ length b - 8 → 8 ≤ length b → Opens n b
+  tells_open n e kind some_n even within eight =
+      let P : ℕ → Type 0 = λ k. Opens k b in
+      let here : size_at b ≤ length b = omega (arith, e, even, within, eight) in
+      subst P (sym e) (opens here kind (omega (arith, e, some_n)) (ap (λ k. k % 8) (sym e) ∙ even))
+
+  pub tells_ragged : Some Structure ≡ kind_of (head_code b) → head_length b % 8 ≢ 0 → NoItems b
+  tells_ragged kind n = by_size (λ le. ragged le kind n)
 
 -- the part that the code takes of value and pads
 pub value_cut : (b : List ℕ) (whole n : ℕ) → whole ≡ size_at b → n ≡ head_length b → take n (take (whole - 8) (drop 8 b)) ≡ value_of b

@@ -126,7 +126,7 @@ scalar_at-complete (byte_string b) v h = ap (λ x. Some (byte_string x)) (sym h)
 scalar_at-complete (date_time n) v h = some_if _ _ _ (eq-eqb _ _ h.0) (ap date_time (sym h.1))
 scalar_at-complete (interval n) v h = some_if _ _ _ (eq-eqb _ _ h.0) (ap interval (sym h.1))
 
-if_some : {A : Type 0} (b : Bool) (x : A) → is_some (cond b (Some x) None) ≡ b
+pub if_some : {A : Type 0} (b : Bool) (x : A) → is_some (cond b (Some x) None) ≡ b
 if_some true x = refl
 if_some false x = refl
 

@@ -9,6 +9,7 @@ use Rattle.kmip_wire.specs.Tree.{Tree, Trees, Scalar, trees_of, scalar, structur
 use Rattle.kmip_wire.specs.declared.tree.Node.{Node}
 use Rattle.kmip_wire.specs.declared.tree.Node.TheVariants as nodes
 use Rattle.kmip_wire.specs.Sees.{tree_of}
+use Rattle.std.specs.Int.{w32, w64, to_be_bytes}
 use mir.Val.{bool_byte}
 use Rattle.kmip_wire.specs.Kinds.{code_of, kind_of_scalar}
 use Rattle.kmip_wire.specs.Head.{pads}
@@ -216,6 +217,19 @@ put_room t tag s v n same e h = let P : Tree → Type 0 = λ u. HasRoom (bytes u
 
 pub put_done : (t : Tree) (tag : ℕ) (s : Scalar) (v : List ℕ) (old new : Room) → scalar tag s ≡ t → v ≡ value_bytes s → Appends old new (item_bytes tag (code_of (kind_of_scalar s)) v) (8 + length v + pads (length v)) → Writes (bytes t) old new
 put_done t tag s v old new same e a = let P : Tree → Type 0 = λ u. Writes (bytes u) old new in subst P same (scalar_written tag s v old new e a)
+
+-- a scalar of four bytes, or of eight, is 16 bytes
+pub four_room : (t : Tree) (tag : ℕ) (s : Scalar) (x n : ℕ) → scalar tag s ≡ t → to_be_bytes w32 x ≡ value_bytes s → HasRoom (bytes t) n → 16 ≤ n
+four_room t tag s x n same e h = (put_room t tag s (to_be_bytes w32 x) n same e h).1
+
+pub four_done : (t : Tree) (tag : ℕ) (s : Scalar) (x : ℕ) (old new : Room) → scalar tag s ≡ t → to_be_bytes w32 x ≡ value_bytes s → Appends old new (item_bytes tag (code_of (kind_of_scalar s)) (to_be_bytes w32 x)) 16 → Writes (bytes t) old new
+four_done t tag s x old new same e a = put_done t tag s (to_be_bytes w32 x) old new same e a
+
+pub eight_room : (t : Tree) (tag : ℕ) (s : Scalar) (x n : ℕ) → scalar tag s ≡ t → to_be_bytes w64 x ≡ value_bytes s → HasRoom (bytes t) n → 16 ≤ n
+eight_room t tag s x n same e h = (put_room t tag s (to_be_bytes w64 x) n same e h).1
+
+pub eight_done : (t : Tree) (tag : ℕ) (s : Scalar) (x : ℕ) (old new : Room) → scalar tag s ≡ t → to_be_bytes w64 x ≡ value_bytes s → Appends old new (item_bytes tag (code_of (kind_of_scalar s)) (to_be_bytes w64 x)) 16 → Writes (bytes t) old new
+eight_done t tag s x old new same e a = put_done t tag s (to_be_bytes w64 x) old new same e a
 
 -- the items of a structure: what is written, and what still is to be, for which there is room
 pub record Rest (ts : List Tree) (i : ℕ) (start now : Room) : Type 0 where

@@ -1,9 +1,9 @@
 -- Open structures: what is still to be found before each of them closes.
-use Rattle.std.specs.Prelude.{◌≡◌, ℕ, zero, suc, ◌+◌, ◌-◌, ◌≤◌, ◌<◌, ◌%◌, ◌&&◌, ◌==◌, Bool, true, false, List, length, take, drop, slice_index, if◌then◌else◌}
+use Rattle.std.specs.Prelude.{◌≡◌, ℕ, zero, suc, ◌+◌, ◌-◌, ◌≤◌, ◌<◌, ◌&&◌, Bool, true, false, Some, List, length, take, drop, slice_index}
 use Rattle.std.specs.Option.{is_some}
-use Rattle.kmip_wire.specs.Reading.{items_of}
-use Rattle.kmip_wire.specs.declared.front.Step.{Step}
-use Rattle.kmip_wire.specs.declared.front.Step.TheVariants.{Malformed, Item, Opens}
+use Rattle.kmip_wire.specs.declared.kind.Kind.{Kind}
+use Rattle.kmip_wire.specs.Kinds.{kind_of}
+use Rattle.kmip_wire.specs.Reading.{items_of, scalar_at}
 
 -- once the innermost is closed: `lefts` has at `d` what is then left of the structure `d` deep, whose items have so many levels
 abbrev pub are_after : ℕ → List ℕ → ℕ → List ℕ → Bool
@@ -27,14 +27,20 @@ pub record State (levels : ℕ) (bytes lefts : List ℕ) (depth left : ℕ) (res
   pub sum : left + total lefts depth ≡ length rest
   pub same : are_open (levels - depth) lefts depth left rest ≡ is_some (items_of levels bytes)
 
--- what a structure's head with this length says
-abbrev pub opened : ℕ → Step
-opened n = if n == 0 then Item 8 else (if n % 8 == 0 then Opens n else Malformed)
+-- what the item at the front says of bytes that are to be items: that they are none
+abbrev pub NoItems : List ℕ → Type 0
+NoItems b = (levels : ℕ) → is_some (items_of levels b) ≡ false
 
--- what the item at the front says of bytes that are to be items: that they are none, that it may be passed, or that its contents come first
-abbrev pub Tells : Step → List ℕ → Type 0
-Tells Malformed b = (levels : ℕ) → is_some (items_of levels b) ≡ false
-Tells (Item n) b = (8 ≤ n) × (n ≤ length b) × ((levels : ℕ) → is_some (items_of (suc levels) b) ≡ is_some (items_of (suc levels) (drop n b)))
-Tells (Opens n) b =
+-- that an item of n bytes stands there, after which the rest decides
+abbrev pub Passes : ℕ → List ℕ → Type 0
+Passes n b = (8 ≤ n) × (n ≤ length b) × ((levels : ℕ) → is_some (items_of (suc levels) b) ≡ is_some (items_of (suc levels) (drop n b)))
+
+-- that a structure stands there with contents of n bytes, which come first
+abbrev pub Opens : ℕ → List ℕ → Type 0
+Opens n b =
     (0 < n) × (8 + n ≤ length b)
     × ((levels : ℕ) → is_some (items_of (suc levels) b) ≡ (is_some (items_of levels (take n (drop 8 b))) && is_some (items_of (suc levels) (drop n (drop 8 b)))))
+
+-- any n bytes, at most 8 and some, are a value of the type with this number
+abbrev pub IsWord : ℕ → ℕ → Type 0
+IsWord code n = (0 < n) × (n ≤ 8) × ((k : Kind) × (Some k ≡ kind_of code) × ((v : List ℕ) → length v ≡ n → is_some (scalar_at k v) ≡ true))

@@ -1,12 +1,13 @@
 // The buffer that writers write into, seen as its bytes and its spare room.
 ghost use Rattle.std.specs.Prelude.{◌≡◌, ◌+◌, ◌≤◌, ◌<◌, ◌^◌, [], length, replicate, OnOk, OnErr};
+ghost use Rattle.std.specs.Int.{w32, w64, to_be_bytes};
 ghost use Rattle.kmip_wire.specs.Kinds.{code_of};
 ghost use Rattle.kmip_wire.specs.Head.{pads};
 ghost use Rattle.kmip_wire.specs.Bytes.{head_bytes, item_bytes};
 ghost use Rattle.kmip_wire.specs.Room.{Appends};
 
 use crate::kind::Kind;
-use crate::memory::OutOfMemory;
+use crate::memory::{OutOfMemory, wipe};
 use crate::tag::Tag;
 use crate::text::Blob;
 use std::alloc::Global;
@@ -70,12 +71,52 @@ impl Buffer {
     }
 
     /// Appends the bytes, for which there is room.
+    #[inline(always)]
     pub fn put(&mut self, bytes: &[u8])
         requires { length bytes.now ≤ self.old.spare }
         ensures { Appends self.old self.new bytes.now (length bytes.now) }
     {
-        let _ = self.bytes.extend_from_slice(bytes);
-        self.spare -= bytes.len();
+        match self.bytes.extend_from_slice(bytes) {
+            Ok(()) => self.spare -= bytes.len(),
+            Err(_) => unreachable!(),
+        }
+    }
+
+    /// Its bytes.
+    pub fn as_slice(&self) -> &[u8]
+        ensures { result.now ≡ self.now.bytes }
+    {
+        self.bytes.as_slice()
+    }
+
+    /// Leaves no bytes. Its room stays, and so does in memory what it held, until that is written over.
+    pub fn clear(&mut self)
+        ensures bytes { self.new.bytes ≡ [] }
+        ensures room { length self.old.bytes + self.old.spare ≤ self.new.spare }
+    {
+        self.bytes.clear();
+        self.spare = self.bytes.capacity();
+    }
+
+    /// Leaves no bytes and makes room for `room` of them: the buffer is ready for the next message. It takes memory only
+    /// where its room is smaller. Where memory runs out, it has no bytes and the room that it had.
+    pub fn reset(&mut self, room: usize) -> Result<(), OutOfMemory>
+        ensures bytes { self.new.bytes ≡ [] }
+        ensures room { OnOk result (room ≤ self.new.spare) }
+        ensures kept { length self.old.bytes + self.old.spare ≤ self.new.spare }
+    {
+        self.clear();
+        self.reserve(room)
+    }
+
+    /// Leaves no bytes, after it wrote zeros over those that it held. Its room stays. What stood in memory before an
+    /// earlier `clear`, or before the buffer grew, is not reached.
+    pub fn wipe(&mut self)
+        ensures bytes { self.new.bytes ≡ [] }
+        ensures room { length self.old.bytes + self.old.spare ≤ self.new.spare }
+    {
+        wipe(&mut self.bytes);
+        self.spare = self.bytes.capacity();
     }
 
     /// Its bytes, with no copy made.
@@ -101,6 +142,62 @@ impl Buffer {
             length[1],
             length[2],
             length[3],
+        ]);
+    }
+
+    /// Appends an item of a value of four bytes, in one piece.
+    #[tactic(auto, using(std::proofs::lemmas::List::append_assoc), unfolding(crate::specs::Bytes::item_bytes))]
+    pub fn put_four(&mut self, tag: Tag, kind: Kind, value: u32)
+        requires { 16 ≤ self.old.spare }
+        ensures { Appends self.old self.new (item_bytes tag (code_of kind) (to_be_bytes w32 value)) 16 }
+    {
+        let tag = tag.number().to_be_bytes();
+        let value = value.to_be_bytes();
+        self.put(&[
+            tag[1],
+            tag[2],
+            tag[3],
+            kind.code(),
+            0,
+            0,
+            0,
+            4,
+            value[0],
+            value[1],
+            value[2],
+            value[3],
+            0,
+            0,
+            0,
+            0,
+        ]);
+    }
+
+    /// Appends an item of a value of eight bytes, in one piece.
+    #[tactic(auto, using(std::proofs::lemmas::List::append_assoc), unfolding(crate::specs::Bytes::item_bytes))]
+    pub fn put_eight(&mut self, tag: Tag, kind: Kind, value: u64)
+        requires { 16 ≤ self.old.spare }
+        ensures { Appends self.old self.new (item_bytes tag (code_of kind) (to_be_bytes w64 value)) 16 }
+    {
+        let tag = tag.number().to_be_bytes();
+        let value = value.to_be_bytes();
+        self.put(&[
+            tag[1],
+            tag[2],
+            tag[3],
+            kind.code(),
+            0,
+            0,
+            0,
+            8,
+            value[0],
+            value[1],
+            value[2],
+            value[3],
+            value[4],
+            value[5],
+            value[6],
+            value[7],
         ]);
     }
 

@@ -1,11 +1,11 @@
 // Which items stand in some bytes, by one loop over the structures that stand open.
-ghost use Rattle.std.specs.Prelude.{◌≡◌, ◌≤◌, ◌<◌, ◌^◌, ◌-◌, ◌↔◌, IsTrue, MatchOption, Some, length, take};
+ghost use Rattle.std.specs.Prelude.{◌≡◌, ◌≢◌, ◌≤◌, ◌<◌, ◌^◌, ◌-◌, ◌↔◌, IsTrue, MatchOption, Some, length, take};
 ghost use Rattle.std.specs.Option.{is_some};
 ghost use Rattle.kmip_wire.specs.Tree.{Tree};
-ghost use Rattle.kmip_wire.specs.Head.{head_length, size_at};
+ghost use Rattle.kmip_wire.specs.Head.{head_code, head_length, size_at};
 ghost use Rattle.kmip_wire.specs.Parses.{IsFront, NoFront, IsLevel, Parses};
 ghost use Rattle.kmip_wire.specs.Reading.{well_formed, items_of, front_of};
-ghost use Rattle.kmip_wire.specs.Open.{Tells, opened};
+ghost use Rattle.kmip_wire.specs.Open.{NoItems, Passes, IsWord};
 
 use crate::kind::Kind;
 use crate::value::is_value;
@@ -43,46 +43,49 @@ fn size_at(bytes: &[u8]) -> Option<usize>
     Some(8 + size)
 }
 
-// What stands at the front of a structure's contents: nothing well-formed, an item of so many bytes that is done with, or a structure with contents of so many bytes.
-#[derive(Clone, Copy)]
-enum Step {
-    Malformed,
-    Item(usize),
-    Opens(usize),
+// For each number of a type, the length of its values where any bytes of that length are one.
+static WORD_SIZES: [u64; 11] = [
+    u64::MAX,
+    u64::MAX,
+    4,
+    8,
+    u64::MAX,
+    4,
+    u64::MAX,
+    u64::MAX,
+    u64::MAX,
+    8,
+    4,
+];
+
+// Whether the head is that of a value of one word, whatever its bytes: the next item is then 16 bytes on, which is
+// known before the length is computed.
+fn has_word(bytes: &[u8]) -> bool
+    requires head { 8 ≤ length bytes.now }
+    requires known { head_code bytes.now < 11 }
+    ensures { IsTrue result → IsWord (head_code bytes.now) (head_length bytes.now) }
+{
+    WORD_SIZES[bytes[3] as usize] == head_length(bytes) as u64
 }
 
-fn next(bytes: &[u8]) -> Step
-    requires { 0 < length bytes.now }
-    ensures { Tells result bytes.now }
+// The whole length of the scalar at the front, where there is one.
+fn scalar_size(bytes: &[u8]) -> Option<usize>
+    requires head { 8 ≤ length bytes.now }
+    requires scalar { head_code bytes.now ≢ 1 }
+    ensures { MatchOption result (NoItems bytes.now) (λ n. Passes n bytes.now) }
 {
-    let Some(whole) = size_at(bytes) else {
-        return Step::Malformed;
-    };
-    let Some(kind) = Kind::from_code(bytes[3]) else {
-        return Step::Malformed;
-    };
     let length = head_length(bytes) as usize;
-    match kind {
-        Kind::Structure => opened(length),
-        _ => {
-            if is_value(kind, &bytes[8..whole], length) {
-                Step::Item(whole)
-            } else {
-                Step::Malformed
-            }
-        }
+    let Some(kind) = Kind::from_code(bytes[3]) else {
+        return None;
+    };
+    let whole = whole_length(bytes);
+    if whole > bytes.len() {
+        return None;
     }
-}
-
-fn opened(length: usize) -> Step
-    ensures { result ≡ opened length }
-{
-    if length == 0 {
-        Step::Item(8)
-    } else if length % 8 == 0 {
-        Step::Opens(length)
+    if is_value(kind, &bytes[8..whole], length) {
+        Some(whole)
     } else {
-        Step::Malformed
+        None
     }
 }
 
@@ -109,21 +112,37 @@ fn are_items(bytes: &[u8], levels: u32) -> bool
             depth -= 1;
             left = lefts[depth] as usize;
         } else {
-            match next(&rest[..left]) {
-                Step::Malformed => return false,
-                Step::Item(whole) => {
-                    rest = &rest[whole..];
-                    left -= whole;
+            let front = &rest[..left];
+            if left < 8 || front[3] > 10 {
+                return false;
+            }
+            if has_word(front) {
+                if left < 16 {
+                    return false;
                 }
-                Step::Opens(length) => {
-                    if depth == deepest {
-                        return false;
-                    }
+                rest = &rest[16..];
+                left -= 16;
+            } else if front[3] == 1 {
+                let length = head_length(front) as usize;
+                if length % 8 != 0 || length > left - 8 {
+                    return false;
+                }
+                rest = &rest[8..];
+                if length == 0 {
+                    left -= 8;
+                } else if depth == deepest {
+                    return false;
+                } else {
                     lefts[depth] = (left - 8 - length) as u32;
                     depth += 1;
-                    rest = &rest[8..];
                     left = length;
                 }
+            } else {
+                let Some(whole) = scalar_size(front) else {
+                    return false;
+                };
+                rest = &rest[whole..];
+                left -= whole;
             }
         }
     }
@@ -177,6 +196,10 @@ pub fn front_len(bytes: &[u8]) -> Option<usize>
 }
 
 /// Whether the bytes are one well-formed item and nothing more. It takes no memory.
+///
+/// It passes over the bytes once, and looks at each head, each Boolean and each text, pads included: not at other
+/// values. A text of ASCII is looked at once. Another is read as UTF-8 from its start, after its words of eight bytes
+/// up to the first character past ASCII were looked at.
 pub fn check(bytes: &[u8]) -> bool
     ensures { IsTrue result ↔ ((tree : Tree) × Parses tree 1 bytes.now) }
 {

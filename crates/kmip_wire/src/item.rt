@@ -8,7 +8,8 @@ use crate::tag::Tag;
 use crate::value::{number4, number8};
 use std::str;
 
-/// A view of a well-formed item, which lends its parts. None of its calls takes memory.
+/// A view of a well-formed item, which lends its parts. None of its calls takes memory. Each looks again at the part
+/// of the item's head or value that it returns, and at nothing else.
 #[derive(Clone, Copy)]
 pub struct ItemRef<'a> {
     bytes: &'a [u8],
@@ -70,7 +71,7 @@ impl<'a> ItemRef<'a> {
     {
         match Kind::from_code(self.bytes[3]) {
             Some(kind) => kind,
-            None => Kind::Structure,
+            None => unreachable!(),
         }
     }
 
@@ -132,14 +133,14 @@ impl<'a> ItemRef<'a> {
         }
     }
 
-    /// The text, and `None` exactly where the item is no Text String.
+    /// The text, and `None` exactly where the item is no Text String. The bytes of the text are read as UTF-8 again.
     pub fn text(self) -> Option<&'a str>
         ensures { option_map (λ s. s.now) result ≡ text_in (item_tree self.entry) }
     {
         match self.kind() {
             Kind::TextString => match str::from_utf8(self.value()) {
                 Ok(text) => Some(text),
-                Err(_) => None,
+                Err(_) => unreachable!(),
             },
             _ => None,
         }

@@ -1,6 +1,7 @@
 //! The wire form of KMIP: items of a tag, a type, a length and a value (TTLV).
 #![tactic(auto)]
 
+mod boxed;
 mod buffer;
 mod config;
 mod error;
@@ -19,6 +20,7 @@ mod tree;
 mod value;
 mod write;
 
+pub use boxed::Boxed;
 pub use buffer::Buffer;
 pub use config::{Config, head};
 pub use error::{HeadError, WireError};
@@ -29,7 +31,7 @@ pub use laws::{
     equality, list_equality, one_text, one_tree, parsed_ranges, tree_computed, written_parses,
 };
 pub use list::{List, clone_items};
-pub use memory::{OutOfMemory, TryClone, clone_optional};
+pub use memory::{OutOfMemory, TryClone, clone_optional, wipe};
 pub use read::{read_tree, split_front};
 pub use tag::Tag;
 pub use text::{Blob, Text};

@@ -27,7 +27,7 @@ fn read_scalar(alloc: Global, kind: Kind, value: &[u8]) -> Result<Node, OutOfMem
     ensures { IfOk result (λ node. option_map (scalar 0) (scalar_at kind value.now) ≡ Some (tree_of 0 node)) }
 {
     match kind {
-        Kind::Structure => Ok(Node::Boolean(false)),
+        Kind::Structure => unreachable!(),
         Kind::Integer => Ok(Node::Integer(number4(value).cast_signed())),
         Kind::LongInteger => Ok(Node::LongInteger(number8(value).cast_signed())),
         Kind::BigInteger => Ok(Node::BigInteger(Blob::of(alloc, value)?)),
@@ -35,7 +35,7 @@ fn read_scalar(alloc: Global, kind: Kind, value: &[u8]) -> Result<Node, OutOfMem
         Kind::Boolean => Ok(Node::Boolean(number8(value) == 1)),
         Kind::TextString => match str::from_utf8(value) {
             Ok(text) => Ok(Node::TextString(Text::of(alloc, text)?)),
-            Err(_) => Ok(Node::Boolean(false)),
+            Err(_) => unreachable!(),
         },
         Kind::ByteString => Ok(Node::ByteString(Blob::of(alloc, value)?)),
         Kind::DateTime => Ok(Node::DateTime(number8(value))),

@@ -2,8 +2,8 @@
 ghost use Rattle.std.specs.Prelude.{◌<◌};
 
 use crate::{
-    Blob, Buffer, Kind, List, Node, OutOfMemory, Tag, Text, Tree, Trees, TryClone, WireError,
-    check, clone_optional, read_tree, write_tree,
+    Blob, Boxed, Buffer, Kind, List, Node, OutOfMemory, Tag, Text, Tree, Trees, TryClone,
+    WireError, check, clone_optional, read_tree, wipe, write_tree,
 };
 use std::alloc::Global;
 
@@ -236,13 +236,26 @@ fn stops_at_sixty_four_levels(rt: HostRuntime) -> Result<(), WireError> {
 fn makes_texts(rt: HostRuntime) -> Result<(), OutOfMemory> {
     let alloc = rt.alloc();
     let mut name = Text::of(alloc, "na")?;
-    name.push_str("me")?;
+    name.reserve(2)?;
+    name.push('m')?;
+    name.push_str("e")?;
     let copy = name.try_clone(alloc)?;
     assert!(rt; copy.as_str() == "name");
     let mut bytes = Blob::of(alloc, &[1, 2])?;
     bytes.push_slice(&[3])?;
     let copy = bytes.try_clone(alloc)?;
     assert!(rt; copy.as_slice() == [1, 2, 3].as_slice());
+    Ok(())
+}
+
+#[test]
+fn makes_blocks(rt: HostRuntime) -> Result<(), OutOfMemory> {
+    let alloc = rt.alloc();
+    let boxed = Boxed::new(alloc, Text::of(alloc, "name")?)?;
+    let copy = boxed.try_clone(alloc)?;
+    assert!(rt; copy == boxed);
+    let text = copy.into_inner();
+    assert!(rt; text.as_str() == "name");
     Ok(())
 }
 
@@ -261,13 +274,34 @@ fn makes_lists(rt: HostRuntime) -> Result<(), OutOfMemory> {
     Ok(())
 }
 
+// Whether the buffer holds these bytes.
+fn holds(alloc: Global, out: &Buffer, hex: &str) -> Result<bool, OutOfMemory> {
+    let bytes = from_hex(alloc, hex)?;
+    Ok(out.as_slice() == bytes.as_slice())
+}
+
 #[test]
 fn fills_a_buffer(rt: HostRuntime) -> Result<(), OutOfMemory> {
     let alloc = rt.alloc();
     let mut out = Buffer::new(alloc);
     out.reserve(16)?;
     out.put_item(Tag::of(0x42000D), Kind::ByteString, &[7]);
-    let bytes = out.into_blob();
-    assert!(rt; bytes == from_hex(alloc, "42000D08000000010700000000000000")?);
+    assert!(rt; holds(alloc, &out, "42000D08000000010700000000000000")?);
+    out.reset(16)?;
+    out.put_four(Tag::of(0x42000D), Kind::Integer, 1);
+    assert!(rt; holds(alloc, &out, "42000D02000000040000000100000000")?);
+    out.reset(24)?;
+    out.put_eight(Tag::of(0x420008), Kind::Boolean, 1);
+    assert!(rt; holds(alloc, &out, "42000806000000080000000000000001")?);
+    out.wipe();
+    assert!(rt; holds(alloc, &out, "")? && 24 <= out.spare());
+    Ok(())
+}
+
+#[test]
+fn wipes_a_vector(rt: HostRuntime) -> Result<(), OutOfMemory> {
+    let mut bytes = Vec::from_array(rt.alloc(), [1u8, 2, 3])?;
+    wipe(&mut bytes);
+    assert!(rt; bytes.is_empty());
     Ok(())
 }

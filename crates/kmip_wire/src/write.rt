@@ -79,15 +79,15 @@ fn put_tree(tree: &Tree, out: &mut Buffer)
     let tag = tree.tag;
     match &tree.node {
         Node::Structure(items) => put_structure(tag, items.as_slice(), out),
-        Node::Integer(number) => out.put_item(tag, Kind::Integer, &number.to_be_bytes()),
-        Node::LongInteger(number) => out.put_item(tag, Kind::LongInteger, &number.to_be_bytes()),
+        Node::Integer(number) => out.put_four(tag, Kind::Integer, number.cast_unsigned()),
+        Node::LongInteger(number) => out.put_eight(tag, Kind::LongInteger, number.cast_unsigned()),
         Node::BigInteger(bytes) => out.put_item(tag, Kind::BigInteger, bytes.as_slice()),
-        Node::Enumeration(number) => out.put_item(tag, Kind::Enumeration, &number.to_be_bytes()),
-        Node::Boolean(truth) => out.put_item(tag, Kind::Boolean, &(*truth as u64).to_be_bytes()),
+        Node::Enumeration(number) => out.put_four(tag, Kind::Enumeration, *number),
+        Node::Boolean(truth) => out.put_eight(tag, Kind::Boolean, *truth as u64),
         Node::TextString(text) => out.put_item(tag, Kind::TextString, text.as_str().as_bytes()),
         Node::ByteString(bytes) => out.put_item(tag, Kind::ByteString, bytes.as_slice()),
-        Node::DateTime(seconds) => out.put_item(tag, Kind::DateTime, &seconds.to_be_bytes()),
-        Node::Interval(seconds) => out.put_item(tag, Kind::Interval, &seconds.to_be_bytes()),
+        Node::DateTime(seconds) => out.put_eight(tag, Kind::DateTime, *seconds),
+        Node::Interval(seconds) => out.put_four(tag, Kind::Interval, *seconds),
     }
 }
 
@@ -98,7 +98,7 @@ fn put_structure(tag: Tag, items: &[Tree], out: &mut Buffer)
     ensures { WritesInto (bytes (structure tag (trees_of items.now))) out.old out.new }
 {
     let Some(len) = contents_len(items) else {
-        return;
+        unreachable!()
     };
     out.put_head(tag, Kind::Structure, len as u32);
     for item in items {

@@ -1,11 +1,15 @@
-use Rattle.std.proofs.Common.{◌≡◌, ◌∙◌, ap, refl, sym, subst, arith, ◌+◌, ◌-◌, ◌≤◌, suc, set, length, take}
-use Rattle.std.proofs.lemmas.List.{take_rest, length-take}
+use Rattle.std.proofs.Common.{◌≡◌, ◌∙◌, ap, refl, sym, subst, arith, ◌+◌, ◌-◌, ◌%◌, ◌<◌, ◌≤◌, suc, set, length, take}
+use Rattle.std.proofs.lemmas.List.{take_rest}
 use Rattle.std.proofs.Math.Facts.{Fits-lt-pow}
 use Rattle.std.specs.Option.{is_some}
+use Rattle.kmip_wire.specs.Head.{head_code, head_length, size_at}
+use Rattle.kmip_wire.specs.Kinds.{kind_of}
 use Rattle.kmip_wire.specs.Reading.{items_of}
 use Rattle.kmip_wire.specs.Open.{State}
-use Rattle.kmip_wire.proofs.Steps.{none_left}
-use Rattle.kmip_wire.proofs.Closings.{start, found_malformed, found_item, found_deepest, found_open, found_end, found_all}
+use Rattle.kmip_wire.proofs.Steps.{none_left, tells_short, tells_unknown, tells_ragged, tells_open, empty}
+use Rattle.kmip_wire.proofs.Words.{unknown, size, passes_word}
+use Rattle.kmip_wire.proofs.Closings.{start, whole, found_malformed, found_item, found_deepest, found_open, found_end}
+use Rattle.kmip_wire.proofs.front.are_items.Goals.{then-left-lt8-via-then-left-lt8, then-left-lt8-via-else-left-lt8+then-front-gt10, then-length-ne0-via-then-length-ne0, then-length-ne0-via-else-length-ne0+then-length-left}
 use Rattle.kmip_wire.proofs.front.are_items.Goals as goal
 
 pub returns-then-levels-eq0 : goal.returns-then-levels-eq0
@@ -13,11 +17,6 @@ returns-then-levels-eq0 c = c.is_empty.ensures ∙ none_left c.args.bytes.now �
 
 pub items-init : goal.items-init
 items-init c = (start c.args.levels c.args.bytes.now (omega (arith, c.if-levels-eq0.false)), c.requires.fits)
-
-pub returns-then-depth-eq0 : goal.returns-then-depth-eq0
-returns-then-depth-eq0 c =
-    let s = c.items
-    in found_all c.args.levels c.args.bytes.now s.lefts s.depth s.left s.rest.now c.requires.levels s.invariant.0 c.if-depth-eq0.true c.if-left-eq0.true
 
 pub items-preserved-then-left-eq0 : goal.items-preserved-then-left-eq0
 items-preserved-then-left-eq0 c =
@@ -28,35 +27,96 @@ items-preserved-then-left-eq0 c =
       Fits-lt-pow c.if-depth-eq0.element_fits,
     )
 
-pub returns-in-Malformed : goal.returns-in-Malformed
-returns-in-Malformed c =
+pub returns-then-left-lt8 : goal.returns-then-left-lt8
+returns-then-left-lt8 c =
     let s = c.items
-    in found_malformed c.args.levels c.args.bytes.now s.lefts s.depth s.left s.rest.now c.requires.levels s.invariant.0 c.in-Malformed.ensures
+    in let b = take s.left s.rest.now
+    in let l = whole c.args.levels c.args.bytes.now s.lefts s.depth s.left s.rest.now c.requires.levels s.invariant.0
+    in let some : 0 < length b = omega (arith, l, c.if-left-eq0.false)
+    in found_malformed c.args.levels c.args.bytes.now s.lefts s.depth s.left s.rest.now c.requires.levels s.invariant.0 (elim c.then-left-lt8.branch [
+      | then-left-lt8-via-then-left-lt8 w ↦ tells_short b some (omega (arith, l, w.if-left-lt8.true))
+      | then-left-lt8-via-else-left-lt8+then-front-gt10 w ↦ tells_unknown b some (unknown (head_code b) (kind_of (head_code b)) refl w.if-front-gt10.true)
+    ])
 
-pub items-preserved-in-Item : goal.items-preserved-in-Item
-items-preserved-in-Item c =
+pub returns-then-left-lt16 : goal.returns-then-left-lt16
+returns-then-left-lt16 c =
     let s = c.items
-    in let n = c.in-Item.whole
+    in let b = take s.left s.rest.now
+    in let l = whole c.args.levels c.args.bytes.now s.lefts s.depth s.left s.rest.now c.requires.levels s.invariant.0
+    in let some : 0 < length b = omega (arith, l, c.if-left-eq0.false)
+    in found_malformed c.args.levels c.args.bytes.now s.lefts s.depth s.left s.rest.now c.requires.levels s.invariant.0
+    (tells_short b some (omega (arith, l, c.if-left-lt16.true, size b some (c.has_word.ensures c.if-has_word.true))))
+
+pub items-preserved-then-has_word : goal.items-preserved-then-has_word
+items-preserved-then-has_word c =
+    let s = c.items
+    in let b = take s.left s.rest.now
+    in let l = whole c.args.levels c.args.bytes.now s.lefts s.depth s.left s.rest.now c.requires.levels s.invariant.0
+    in let some : 0 < length b = omega (arith, l, c.if-left-eq0.false)
     in (
-      subst (State c.args.levels c.args.bytes.now s.lefts s.depth (s.left - n)) (sym (take_rest s.rest.now n))
-          (found_item c.args.levels c.args.bytes.now s.lefts s.depth s.left s.rest.now c.requires.levels s.invariant.0 n c.in-Item.ensures),
+      subst (State c.args.levels c.args.bytes.now s.lefts s.depth (s.left - 16)) (sym (take_rest s.rest.now 16))
+          (found_item c.args.levels c.args.bytes.now s.lefts s.depth s.left s.rest.now c.requires.levels s.invariant.0 16 (passes_word b some (c.has_word.ensures c.if-has_word.true) (omega (arith, l, c.if-left-lt16.false)))),
+      omega (arith, s.invariant.1),
+    )
+
+pub returns-then-length-ne0 : goal.returns-then-length-ne0
+returns-then-length-ne0 c =
+    let s = c.items
+    in let b = take s.left s.rest.now
+    in let l = whole c.args.levels c.args.bytes.now s.lefts s.depth s.left s.rest.now c.requires.levels s.invariant.0
+    in let some : 0 < length b = omega (arith, l, c.if-left-eq0.false)
+    in let n = c.head_length-length.ensures
+    in found_malformed c.args.levels c.args.bytes.now s.lefts s.depth s.left s.rest.now c.requires.levels s.invariant.0 (elim c.then-length-ne0.branch [
+      | then-length-ne0-via-then-length-ne0 w ↦ tells_ragged b some (ap kind_of (sym c.if-front-eq1.true)) (λ e. w.if-length-ne0.true (ap (λ k. k % 8) n ∙ e))
+      | then-length-ne0-via-else-length-ne0+then-length-left w ↦ tells_short b some (omega (arith, l, n, w.if-length-left.true, c.if-left-lt8.false))
+    ])
+
+pub items-preserved-then-length-eq0 : goal.items-preserved-then-length-eq0
+items-preserved-then-length-eq0 c =
+    let s = c.items
+    in let b = take s.left s.rest.now
+    in let l = whole c.args.levels c.args.bytes.now s.lefts s.depth s.left s.rest.now c.requires.levels s.invariant.0
+    in let some : 0 < length b = omega (arith, l, c.if-left-eq0.false)
+    in let none : head_length b ≡ 0 = sym c.head_length-length.ensures ∙ c.if-length-eq0.true
+    in let here : size_at b ≤ length b = omega (arith, l, none, c.if-left-lt8.false)
+    in (
+      subst (State c.args.levels c.args.bytes.now s.lefts s.depth (s.left - 8)) (sym (take_rest s.rest.now 8))
+          (found_item c.args.levels c.args.bytes.now s.lefts s.depth s.left s.rest.now c.requires.levels s.invariant.0 8 (empty b some here (ap kind_of (sym c.if-front-eq1.true)) none)),
       omega (arith, s.invariant.1),
     )
 
 pub returns-then-depth-deepest : goal.returns-then-depth-deepest
 returns-then-depth-deepest c =
     let s = c.items
+    in let b = take s.left s.rest.now
+    in let l = whole c.args.levels c.args.bytes.now s.lefts s.depth s.left s.rest.now c.requires.levels s.invariant.0
+    in let some : 0 < length b = omega (arith, l, c.if-left-eq0.false)
+    in let n = c.head_length-length.result
     in let e : s.depth + 1 ≡ c.args.levels = omega (arith, c.if-depth-deepest.true, c.if-levels-eq0.false)
-    in found_deepest c.args.levels c.args.bytes.now s.lefts s.depth s.left s.rest.now c.requires.levels s.invariant.0 c.in-Opens.length c.in-Opens.ensures e
+    in found_deepest c.args.levels c.args.bytes.now s.lefts s.depth s.left s.rest.now c.requires.levels s.invariant.0 n
+    (tells_open b some n c.head_length-length.ensures (ap kind_of (sym c.if-front-eq1.true)) c.if-length-eq0.false c.if-length-ne0.false (omega (arith, l, c.if-length-left.false)) (omega (arith, l, c.if-left-lt8.false))) e
+
+pub items-preserved-else-depth-deepest : goal.items-preserved-else-depth-deepest
+items-preserved-else-depth-deepest c =
+    let s = c.items
+    in let b = take s.left s.rest.now
+    in let l = whole c.args.levels c.args.bytes.now s.lefts s.depth s.left s.rest.now c.requires.levels s.invariant.0
+    in let some : 0 < length b = omega (arith, l, c.if-left-eq0.false)
+    in let n = c.head_length-length.result
+    in let more = s.left - 8 - n
+    in let opening = tells_open b some n c.head_length-length.ensures (ap kind_of (sym c.if-front-eq1.true)) c.if-length-eq0.false c.if-length-ne0.false (omega (arith, l, c.if-length-left.false)) (omega (arith, l, c.if-left-lt8.false))
+    in (
+      subst (State c.args.levels c.args.bytes.now (set s.lefts s.depth more) (s.depth + 1) n) (sym (take_rest s.rest.now 8))
+          (found_open c.args.levels c.args.bytes.now s.lefts s.depth s.left s.rest.now c.requires.levels s.invariant.0 n (s.depth + 1) more opening (λ e. c.if-depth-deepest.false (omega (arith, e))) (omega arith) refl),
+      c.head_length-length.type_inv,
+    )
 
 pub items-preserved : goal.items-preserved
 items-preserved c =
     let s = c.items
-    in let n = c.in-Opens.length
-    in let more = s.left - 8 - n
-    in let within : 8 + n ≤ length (take s.left s.rest.now) = c.in-Opens.ensures.1
+    in let n = c.in-Some.whole
     in (
-      subst (State c.args.levels c.args.bytes.now (set s.lefts s.depth more) (s.depth + 1) n) (sym (take_rest s.rest.now 8))
-          (found_open c.args.levels c.args.bytes.now s.lefts s.depth s.left s.rest.now c.requires.levels s.invariant.0 n (s.depth + 1) more c.in-Opens.ensures (λ e. c.if-depth-deepest.false (omega (arith, e))) (omega arith) refl),
-      omega (arith, within, length-take s.left s.rest.now, s.invariant.1),
+      subst (State c.args.levels c.args.bytes.now s.lefts s.depth (s.left - n)) (sym (take_rest s.rest.now n))
+          (found_item c.args.levels c.args.bytes.now s.lefts s.depth s.left s.rest.now c.requires.levels s.invariant.0 n c.in-Some.ensures),
+      omega (arith, s.invariant.1),
     )

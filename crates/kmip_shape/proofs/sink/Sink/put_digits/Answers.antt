@@ -1,14 +1,14 @@
-use Rattle.std.proofs.Common.{drop, ◌+◌}
-use Rattle.std.proofs.lemmas.List.{drop_more, drop_all}
+use Rattle.std.proofs.Common.{◌≡◌, ◌++◌, sym}
+use Rattle.std.proofs.lemmas.List.{take-append-drop}
 use Rattle.kmip_shape.specs.Shown.{hex_byte}
-use Rattle.kmip_shape.proofs.Growth.{part_step, part_done}
+use Rattle.kmip_shape.proofs.Growth.{bytes_step}
 use Rattle.kmip_shape.proofs.sink.Sink.put_digits.Goals as goal
 
-pub loop-byte-preserved : goal.loop-byte-preserved
-loop-byte-preserved c = λ new h.
-    c.loop-byte.invariant new (part_step hex_byte (drop c.loop-byte.byte-index c.args.bytes.now) _ (drop (c.loop-byte.byte-index + 1) c.args.bytes.now)
-    (drop_more c.args.bytes.now c.loop-byte.byte-index 0 c.loop-byte-test.true) c.put_hex.ensures h)
+pub loop-rest-preserved : goal.loop-rest-preserved
+loop-rest-preserved c = λ new h.
+    let parts : c.loop-rest.rest.now ≡ c.split_at.result.0.now ++ c.split_at.result.1.now =
+    rw (c.split_at.ensures.front, c.split_at.ensures.back) (sym (take-append-drop 32 c.loop-rest.rest.now)) in
+    c.loop-rest.invariant new (bytes_step hex_byte c.loop-rest.rest.now c.split_at.result.0.now c.split_at.result.1.now parts c.put_block.ensures h)
 
 pub returns : goal.returns
-returns c =
-    c.loop-byte.invariant c.loop-byte.self (part_done hex_byte (drop c.loop-byte.byte-index c.args.bytes.now) (drop_all c.loop-byte.byte-index c.args.bytes.now c.loop-byte-test.false))
+returns c = c.loop-rest.invariant c.put_block-2.new.self c.put_block-2.ensures

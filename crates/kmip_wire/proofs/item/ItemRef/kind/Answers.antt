@@ -6,10 +6,10 @@ use Rattle.kmip_wire.proofs.item.ItemRef.kind.Goals as goal
 pub bounds-self-3 : goal.bounds-self-3
 bounds-self-3 c = omega (arith, (long_enough c.args.self.bytes.now c.args.self.is_item).0)
 
-pub returns-in-Some : goal.returns-in-Some
+pub returns : goal.returns
 unfolding item_tree
-returns-in-Some c = kind_is c.args.self.bytes.now c.in-Some.kind c.args.self.is_item c.in-Some.ensures
+returns c = kind_is c.args.self.bytes.now c.in-Some.kind c.args.self.is_item c.in-Some.ensures
 
-pub returns-in-None : goal.returns-in-None
+pub unreachable-requires : goal.unreachable-requires
 unfolding item_tree
-returns-in-None c = absurd (has_kind c.args.self.bytes.now c.args.self.is_item c.in-None.ensures)
+unreachable-requires c = has_kind c.args.self.bytes.now c.args.self.is_item c.in-None.ensures

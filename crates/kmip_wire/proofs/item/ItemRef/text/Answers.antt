@@ -9,8 +9,8 @@ unfolding item_tree
 returns-in-Ok c =
     ap (λ (b : List ℕ). Some b) (c.in-Ok.ensures.cases.0 ∙ c.value.ensures) ∙ sym (text_is c.args.self.bytes.now c.args.self.is_item (sym c.in-TextString.is ∙ c.kind.ensures)).1
 
-pub returns-in-Err : goal.returns-in-Err
+pub unreachable-requires : goal.unreachable-requires
 unfolding item_tree
-returns-in-Err c =
+unreachable-requires c =
     let t = (text_is c.args.self.bytes.now c.args.self.is_item (sym c.in-TextString.is ∙ c.kind.ensures)).0 in
-    absurd (c.in-Err.ensures.cases.0 (subst (λ (b : List ℕ). IsUtf8 b) (sym c.value.ensures) t))
+    c.in-Err.ensures.cases.0 (subst (λ (b : List ℕ). IsUtf8 b) (sym c.value.ensures) t)

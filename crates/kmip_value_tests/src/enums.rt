@@ -1,4 +1,5 @@
-use crate::{
+use crate::support::has_names;
+use kmip_enums::{
     CertificateType, CredentialType, Enumeration, LinkType, NameType, ObjectType, Operation,
     QueryFunction, ResultReason, ResultStatus, RevocationReasonCode, State,
 };
@@ -6,28 +7,7 @@ use kmip_shape::ShowItem;
 use kmip_shape::children::{read_list, read_one, read_opt};
 use kmip_shape::read::{Outer, ReadError, ReadItem};
 use kmip_wire::{ItemRef, Tag, Text};
-use std::alloc::Global;
-use std::fmt::Display;
-use std::ops::Range;
-use std::process::Abort;
 use std::test::Fail;
-
-/// The variants of the numbers print the names, and the number after them has no variant.
-fn has_names<T: Enumeration + Display>(
-    rt: &impl Abort,
-    alloc: Global,
-    numbers: Range<u32>,
-    names: &[&str],
-) -> Result<(), Fail> {
-    assert_eq!(rt; numbers.len(), names.len());
-    assert!(rt; T::from_number(numbers.end).is_none());
-    for (number, name) in numbers.zip(names) {
-        let variant = T::from_number(number).ok_or("no variant")?;
-        assert_eq!(rt; variant.number(), number);
-        assert_eq!(rt; format!(in alloc; "{variant}")?.as_str(), *name);
-    }
-    Ok(())
-}
 
 #[test]
 fn names(rt: HostRuntime) -> Result<(), Fail> {
@@ -194,32 +174,34 @@ fn numbers(rt: HostRuntime) {
 }
 
 // The items below are 5C i1 and 5C e2A, and the structures 7C{5C e1,5C e18} and 7C{5C e1}.
-const INTEGER: &[u8] = b"\x42\x00\x5C\x02\x00\x00\x00\x04\x00\x00\x00\x01\x00\x00\x00\x00";
+const INTEGER: &str = "42005C02000000040000000100000000";
 
-const NO_OPERATION: &[u8] = b"\x42\x00\x5C\x05\x00\x00\x00\x04\x00\x00\x00\x2A\x00\x00\x00\x00";
+const NO_OPERATION: &str = "42005C05000000040000002A00000000";
 
-const TWO: &[u8] =
-    b"\x42\x00\x7C\x01\x00\x00\x00\x20\x42\x00\x5C\x05\x00\x00\x00\x04\x00\x00\x00\x01\x00\x00\x00\x00\x42\x00\x5C\x05\x00\x00\x00\x04\x00\x00\x00\x18\x00\x00\x00\x00";
+const TWO: &str =
+    "42007C010000002042005C0500000004000000010000000042005C05000000040000001800000000";
 
-const ONE: &[u8] =
-    b"\x42\x00\x7C\x01\x00\x00\x00\x10\x42\x00\x5C\x05\x00\x00\x00\x04\x00\x00\x00\x01\x00\x00\x00\x00";
+const ONE: &str = "42007C010000001042005C05000000040000000100000000";
 
 #[test]
 fn readers(rt: HostRuntime) -> Result<(), Fail> {
     let alloc = rt.alloc();
     let outer = Outer::none();
-    for bytes in [INTEGER, NO_OPERATION] {
-        let item = ItemRef::root(bytes).ok_or("no item")?;
+    for hex in [INTEGER, NO_OPERATION] {
+        let bytes = hex::decode(alloc, hex)?;
+        let item = ItemRef::root(bytes.as_slice()).ok_or("no item")?;
         assert!(rt; Operation::read(alloc, outer, item) == Err(ReadError::Unread));
     }
     let operation = Tag::of(0x42005C);
-    let two = ItemRef::root(TWO).ok_or("no item")?;
+    let bytes = hex::decode(alloc, TWO)?;
+    let two = ItemRef::root(bytes.as_slice()).ok_or("no item")?;
     assert!(rt; read_one::<Operation>(alloc, outer, two, operation) == Err(ReadError::Unread));
     assert!(rt; read_opt::<Operation>(alloc, outer, two, operation) == Err(ReadError::Unread));
     let both = read_list::<Operation>(alloc, outer, two, operation)?;
     assert!(rt; both.as_slice() == [Operation::Create, Operation::Query].as_slice());
 
-    let one = ItemRef::root(ONE).ok_or("no item")?;
+    let bytes = hex::decode(alloc, ONE)?;
+    let one = ItemRef::root(bytes.as_slice()).ok_or("no item")?;
     assert!(rt; read_one::<Operation>(alloc, outer, one, operation)? == Operation::Create);
     assert!(rt; read_opt::<Operation>(alloc, outer, one, operation)? == Some(Operation::Create));
     let mut shown = Text::new(alloc);

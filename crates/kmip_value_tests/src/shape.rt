@@ -1,5 +1,11 @@
-use crate::{Outer, ReadError, ShowItem, Timestamp, read_list, read_one, read_opt, to_blob};
+use crate::support::Under::Nothing;
+use crate::support::{Case, are_read};
+use kmip_shape::{
+    Boxed, Item, Outer, ReadError, ReadItem, ShowItem, Timestamp, read_list, read_one, read_opt,
+    to_blob,
+};
 use kmip_wire::{Blob, ItemRef, Tag, Text};
+use std::test::Fail;
 
 // 7C{5C i1,5C i24}
 const TWO: [u8; 40] = [
@@ -72,4 +78,23 @@ fn shown_and_written(rt: HostRuntime) {
     );
     let written = to_blob(alloc, &1i32, Tag::of(0x42005C)).expect(&rt, "a form");
     assert!(rt; written.as_slice() == &ITEM[..]);
+}
+
+// 5C "a"
+const LETTER: &str = "42005C07000000016100000000000000";
+
+#[test]
+fn an_item_in_a_block(rt: HostRuntime) -> Result<(), Fail> {
+    let case = Case {
+        under: Nothing,
+        hex: LETTER,
+        shown: Some("\"a\""),
+    };
+    are_read::<Boxed<Text>>(&rt, rt.alloc(), &[case])?;
+    let bytes = hex::decode(rt.alloc(), LETTER)?;
+    let item = ItemRef::root(bytes.as_slice()).ok_or("no item")?;
+    let text = Boxed::<Text>::read(rt.alloc(), Outer::none(), item)?;
+    text.known();
+    assert!(rt; text.into_inner().as_str() == "a");
+    Ok(())
 }

@@ -1,31 +1,11 @@
-use crate::{
+use crate::support::has_names;
+use bitflags::Flags;
+use kmip_codes::{
     BlockCipherMode, CryptographicAlgorithm, CryptographicUsageMask, DigitalSignatureAlgorithm,
-    Enumeration, HashingAlgorithm, KeyCompressionType, KeyFormatType, KeyRoleType, PaddingMethod,
+    HashingAlgorithm, KeyCompressionType, KeyFormatType, KeyRoleType, PaddingMethod,
     WrappingMethod,
 };
-use bitflags::Flags;
-use std::alloc::Global;
-use std::fmt::Display;
-use std::ops::Range;
-use std::process::Abort;
 use std::test::Fail;
-
-/// The variants of the numbers print the names, and the number after them has no variant.
-fn has_names<T: Enumeration + Display>(
-    rt: &impl Abort,
-    alloc: Global,
-    numbers: Range<u32>,
-    names: &[&str],
-) -> Result<(), Fail> {
-    assert_eq!(rt; numbers.len(), names.len());
-    assert!(rt; T::from_number(numbers.end).is_none());
-    for (number, name) in numbers.zip(names) {
-        let variant = T::from_number(number).ok_or("no variant")?;
-        assert_eq!(rt; variant.number(), number);
-        assert_eq!(rt; format!(in alloc; "{variant}")?.as_str(), *name);
-    }
-    Ok(())
-}
 
 #[test]
 fn names(rt: HostRuntime) -> Result<(), Fail> {

@@ -1,0 +1,94 @@
+//! Makes an RSA key pair on a key server, activates the private key and signs with it.
+//!
+//! Standard input and output are the connection, as `socat` or `openssl s_client` lend it; what came of it is told on
+//! standard error. The status is 0 where there is a signature, and else 1.
+#![tactic(auto)]
+
+use kmip_client::{Client, ClientBuilder, Error};
+use kmip_enums::Operation;
+use kmip_link::{Link, StreamLink};
+use kmip_wire::{Blob, Config, Text};
+use std::alloc::Global;
+use std::process::ExitCode;
+
+/// A new key pair, and what its private key signed.
+#[derive(Drop)]
+struct Signed {
+    private_key: Text,
+    public_key: Text,
+    signature: Blob,
+}
+
+/// Signs the message with a key that is made for it. There is none where the server does not sign.
+fn sign_with_new_key<T: Link>(
+    alloc: Global,
+    client: &mut Client<T>,
+    message: &[u8],
+) -> Result<Option<Signed>, Error> {
+    let server = client.query(alloc)?;
+    let signs = match &server.operations {
+        Some(operations) => operations.as_slice().contains(&Operation::Sign),
+        None => false,
+    };
+    if !signs {
+        return Ok(None);
+    }
+    let private_name = Text::of(alloc, "issuing")?;
+    let public_name = Text::of(alloc, "issuing-public")?;
+    let pair = client.create_rsa_key_pair(alloc, 2048, private_name, public_name)?;
+    let (private_key, public_key) = pair;
+    client.activate_key(alloc, private_key.as_str())?;
+    let signed = client.sign(alloc, private_key.as_str(), message)?;
+    Ok(Some(Signed {
+        private_key,
+        public_key,
+        signature: signed.signature_data,
+    }))
+}
+
+/// What to do about an error.
+fn advice(error: &Error) -> &'static str {
+    match error {
+        Error::RequestWriteError(_) | Error::ResponseReadError(_) => {
+            "the connection is lost: open another, and ask what was done"
+        }
+        Error::DeserializeError(_) => "the server sent no KMIP: close the connection",
+        Error::ItemNotFound(_) => "the server has no such object",
+        Error::ServerError(_) => "the server refused the request: its reason is in the text",
+        Error::InternalError(_) => "the response is no answer to the request",
+        Error::SerializeError(_) => "the request is too long to be sent",
+        Error::OutOfMemory => "memory ran out: the call may have been made in part",
+        Error::ConfigurationError(_) | Error::Unknown(_) => "no call returns these",
+    }
+}
+
+/// Makes the calls over a link, and writes what came of them as one line.
+fn run<T: Link + Drop>(alloc: Global, link: T) -> Result<String, Error> {
+    let config = Config::new().with_max_bytes(65_536);
+    let mut client = ClientBuilder::new(link).with_reader_config(config).build();
+    match sign_with_new_key(alloc, &mut client, b"hello") {
+        Ok(Some(signed)) => {
+            let key = signed.private_key.as_str();
+            let public = signed.public_key.as_str();
+            let length = signed.signature.as_slice().len();
+            Ok(format!(in alloc; "key {key}, public key {public}: a signature of {length} bytes")?)
+        }
+        Ok(None) => Ok(format!(in alloc; "the server does not sign")?),
+        Err(error) => Err(error),
+    }
+}
+
+fn main(rt: HostRuntime) -> ExitCode {
+    let link = StreamLink::new(rt.stdin(), rt.stdout());
+    match run(rt.alloc(), link) {
+        Ok(line) => {
+            let _ = eprintln!(rt; "{line}");
+            ExitCode::from(0)
+        }
+        Err(error) => {
+            let what = advice(&error);
+            let _ = eprintln!(rt; "{error}: {what}");
+            ExitCode::from(1)
+        }
+    }
+}

@@ -1,0 +1,149 @@
+use crate::support::Under::{Nothing, Number};
+use crate::support::{Case, are_read};
+use kmip_keys::{KeyMaterial, TransparentRSAPublicKey};
+use kmip_shape::item_len;
+use kmip_wire::{Blob, Tag, TryClone};
+use std::test::Fail;
+
+const BYTES: [Case; 9] = [
+    // 43 xAA
+    Case {
+        under: Number(1),
+        hex: "4200430800000001AA00000000000000",
+        shown: Some("Bytes(x\"AA\")"),
+    },
+    // 43 xAA
+    Case {
+        under: Number(5),
+        hex: "4200430800000001AA00000000000000",
+        shown: Some("Bytes(x\"AA\")"),
+    },
+    // 43 xAA
+    Case {
+        under: Number(6),
+        hex: "4200430800000001AA00000000000000",
+        shown: Some("Bytes(x\"AA\")"),
+    },
+    // 43 xAA
+    Case {
+        under: Number(7),
+        hex: "4200430800000001AA00000000000000",
+        shown: None,
+    },
+    // 43 xAA
+    Case {
+        under: Number(14),
+        hex: "4200430800000001AA00000000000000",
+        shown: None,
+    },
+    // 43 xAA
+    Case {
+        under: Nothing,
+        hex: "4200430800000001AA00000000000000",
+        shown: None,
+    },
+    // 43{3F xAABB}
+    Case {
+        under: Number(7),
+        hex: "420043010000001042003F0800000002AABB000000000000",
+        shown: Some("TransparentSymmetricKey{key=x\"AABB\"}"),
+    },
+    // 43{3F xAABB}
+    Case {
+        under: Number(8),
+        hex: "420043010000001042003F0800000002AABB000000000000",
+        shown: None,
+    },
+    // 43{3F xAABB}
+    Case {
+        under: Number(1),
+        hex: "420043010000001042003F0800000002AABB000000000000",
+        shown: None,
+    },
+];
+
+#[test]
+fn bytes_by_their_format(rt: HostRuntime) -> Result<(), Fail> {
+    are_read::<KeyMaterial>(&rt, rt.alloc(), &BYTES)
+}
+
+const TRANSPARENT: [Case; 7] = [
+    // 43{5E b0000000000000017,71 b000000000000000B,37 b0000000000000004,9F b0000000000000005}
+    Case {
+        under: Number(8),
+        hex: "420043010000004042005E040000000800000000000000174200710400000008000000000000000B4200370400000008000000000000000442009F04000000080000000000000005",
+        shown: Some(
+            "TransparentDSAPrivateKey{p=x\"0000000000000017\",q=x\"000000000000000B\",g=x\"0000000000000004\",x=x\"0000000000000005\"}",
+        ),
+    },
+    // 43{5E b0000000000000017,71 b000000000000000B,37 b0000000000000004,A0 b000000000000000C}
+    Case {
+        under: Number(9),
+        hex: "420043010000004042005E040000000800000000000000174200710400000008000000000000000B420037040000000800000000000000044200A00400000008000000000000000C",
+        shown: Some(
+            "TransparentDSAPublicKey{p=x\"0000000000000017\",q=x\"000000000000000B\",g=x\"0000000000000004\",y=x\"000000000000000C\"}",
+        ),
+    },
+    // 43{52 b0000000000C5A1B3,63 b0000000000000007,27 b0000000000000009}
+    Case {
+        under: Number(10),
+        hex: "420043010000003042005204000000080000000000C5A1B34200630400000008000000000000000742002704000000080000000000000009",
+        shown: Some(
+            "TransparentRSAPrivateKey{modulus=x\"0000000000C5A1B3\",private_exponent=x\"0000000000000007\",crt_coefficient=x\"0000000000000009\"}",
+        ),
+    },
+    // 43{52 b0000000000C5A1B3,6C b0000000000010001}
+    Case {
+        under: Number(11),
+        hex: "420043010000002042005204000000080000000000C5A1B342006C04000000080000000000010001",
+        shown: Some(
+            "TransparentRSAPublicKey{modulus=x\"0000000000C5A1B3\",public_exponent=x\"0000000000010001\"}",
+        ),
+    },
+    // 43{5E b0000000000000017,37 b0000000000000004,9F b0000000000000005}
+    Case {
+        under: Number(12),
+        hex: "420043010000003042005E040000000800000000000000174200370400000008000000000000000442009F04000000080000000000000005",
+        shown: Some(
+            "TransparentDHPrivateKey{p=x\"0000000000000017\",g=x\"0000000000000004\",x=x\"0000000000000005\"}",
+        ),
+    },
+    // 43{5E b0000000000000017,71 b000000000000000B,37 b0000000000000004,3E b0000000000000002,A0 b000000000000000C}
+    Case {
+        under: Number(13),
+        hex: "420043010000005042005E040000000800000000000000174200710400000008000000000000000B4200370400000008000000000000000442003E040000000800000000000000024200A00400000008000000000000000C",
+        shown: Some(
+            "TransparentDHPublicKey{p=x\"0000000000000017\",q=x\"000000000000000B\",g=x\"0000000000000004\",j=x\"0000000000000002\",y=x\"000000000000000C\"}",
+        ),
+    },
+    // 43{52 x0000000000C5A1B3,6C b0000000000010001}
+    Case {
+        under: Number(11),
+        hex: "420043010000002042005208000000080000000000C5A1B342006C04000000080000000000010001",
+        shown: None,
+    },
+];
+
+#[test]
+fn transparent_keys(rt: HostRuntime) -> Result<(), Fail> {
+    are_read::<KeyMaterial>(&rt, rt.alloc(), &TRANSPARENT)
+}
+
+#[test]
+fn without_a_form(rt: HostRuntime) -> Result<(), Fail> {
+    let alloc = rt.alloc();
+    let tag = Tag::of(0x420043);
+    let structure = KeyMaterial::Structure(Blob::of(alloc, b"\xAA")?);
+    assert!(&rt; item_len(&structure, tag).is_none());
+    let wrapped = KeyMaterial::Wrapped(Blob::of(alloc, b"\xAA")?);
+    assert!(&rt; item_len(&wrapped, tag).is_none());
+    assert!(&rt; wrapped.try_clone(alloc)? == wrapped);
+    assert!(&rt; structure != wrapped);
+    // a Big Integer of seven bytes
+    let key = TransparentRSAPublicKey {
+        modulus: Blob::of(alloc, b"\x00\x00\x00\x00\xC5\xA1\xB3")?,
+        public_exponent: Blob::of(alloc, b"\x00\x00\x00\x00\x00\x01\x00\x01")?,
+    };
+    assert!(&rt; item_len(&key, tag).is_none());
+    Ok(())
+}
