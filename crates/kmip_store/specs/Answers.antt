@@ -5,7 +5,8 @@ use Rattle.kmip_store.specs.declared.error.StoreError.{StoreError}
 use Rattle.kmip_store.specs.declared.error.StoreError.TheVariants.{ItemNotFound, PermissionDenied, CryptographicFailure, OutOfMemory}
 use Rattle.kmip_store.specs.declared.maker.Asked.{Asked}
 use Rattle.kmip_store.specs.declared.maker.Made.{Made}
-use Rattle.kmip_store.specs.Makers.{MakerState, Answered, IsSilent, Rose, is_answer}
+use Rattle.kmip_store.specs.declared.maker.MakerError.TheVariants as maker
+use Rattle.kmip_store.specs.Makers.{MakerState, Answered, IsSilent, Rose, Makes, is_answer}
 use Rattle.kmip_store.specs.Steps.{Call, Answer, NotFound, Denied, Failed, Stepped, stay, step, question}
 
 -- A call that asks no maker is its step. Where memory runs out, the objects are as they were.
@@ -16,6 +17,16 @@ Steps answer before call after (Err ItemNotFound) = step before call None ≡ st
 Steps answer before call after (Err PermissionDenied) = step before call None ≡ stay after Denied
 Steps answer before call after (Err CryptographicFailure) = ⊥
 Steps answer before call after (Err OutOfMemory) = after ≡ before
+
+-- The store's result of one call of a maker with this question.
+abbrev pub Gets :
+    {T : Type 0} → (T → Made) → Asked → MakerState → MakerState → Result T StoreError → Type 0
+Gets made question before after (Ok x) = Makes made question before after (Ok x)
+Gets made question before after (Err CryptographicFailure) =
+    Makes made question before after (Err maker.Fault)
+Gets made question before after (Err OutOfMemory) =
+    Makes made question before after (Err maker.OutOfMemory)
+Gets made question before after (Err _) = ⊥
 
 -- The lists of a maker grew by the question of a call and one answer to it, where there is one.
 abbrev pub Grew : MakerState → MakerState → Option Asked → Option Made → Type 0
@@ -38,7 +49,7 @@ pub record IsStep (before : List Object) (call : Call) (after : List Object) (an
   pub asks : suits (question before call) made ≡ true
   pub told : IsTrue asked.tells → Grew asked answered (question before call) made
 
--- A call that asks a maker. Where memory runs out, the objects are as they were and nothing was asked.
+-- A call that asks a maker. Where memory runs out, the objects are as before and nothing was asked.
 abbrev pub Asks :
     {T : Type 0} → (T → Answer) → List Object → Call → List Object → MakerState → MakerState →
     Result T StoreError → Type 0

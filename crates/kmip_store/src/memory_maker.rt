@@ -34,11 +34,11 @@ impl Model for MemoryMaker {
     ghost Value = { PlannedMemory };
 
     ghost view = { λ m. record {
-        answers = m.answers.items;
-        failing = m.failing.items;
-        asked = m.asked.items;
-        given = m.given.items;
-        faults = m.faults;
+      answers = m.answers.items;
+      failing = m.failing.items;
+      asked = m.asked.items;
+      given = m.given.items;
+      faults = m.faults;
     } };
 }
 
@@ -51,11 +51,11 @@ impl MemoryMaker {
         failing: &[u64],
     ) -> Result<MemoryMaker, OutOfMemory>
         ensures { IfOk result (λ it. it ≡ record {
-            answers = answers;
-            failing = failing.now;
-            asked = [];
-            given = [];
-            faults = 0;
+          answers = answers;
+          failing = failing.now;
+          asked = [];
+          given = [];
+          faults = 0;
         }) }
     {
         let mut numbers = Vec::new(alloc);

@@ -1,13 +1,15 @@
 //! The objects of a store, and what one call does to them.
 
-ghost use Rattle.std.specs.Prelude.{◌≡◌, ◌≢◌, ◌+◌, ◌^◌, ◌<◌, ◌≤◌, ◌++◌, ◌∷◌, [], length};
+ghost use Rattle.std.specs.Prelude.{ℕ, ◌≡◌, ◌≢◌, ◌+◌, ◌^◌, ◌<◌, ◌≤◌, ◌++◌, ◌∷◌, [], length};
 ghost use Rattle.std.specs.Prelude.{vec_len, vec_capacity, bytes_eq, decimal, slice_get};
 ghost use Rattle.std.specs.Prelude.{Some, None, IfOk, OnErr, IfErr};
 ghost use Rattle.kmip_store.specs.Objects.{found, identifier as identifier_of};
 ghost use Rattle.kmip_store.specs.Steps.{CreateRsaKeyPair, RngRetrieve, Sign, ActivateKey};
 ghost use Rattle.kmip_store.specs.Steps.{RevokeKey, DestroyKey, RenameKey, GetKey};
 ghost use Rattle.kmip_store.specs.Steps.{Done, Created, Random, Signed, Got};
-ghost use Rattle.kmip_store.specs.Answers.{Steps, Asks};
+ghost use Rattle.kmip_store.specs.Answers.{Steps, Asks, Gets};
+ghost use Rattle.kmip_store.specs.declared.maker.Asked.TheVariants as questions;
+ghost use Rattle.kmip_store.specs.declared.maker.Made.TheVariants.{Bytes};
 
 use crate::error::StoreError;
 use crate::maker::{Maker, MakerError};
@@ -128,7 +130,36 @@ pub fn retrieve<M: Maker>(
     }
 }
 
-/// The maker's signature by the key of the object.
+/// The object that has the identifier.
+fn named<'a>(objects: &'a [Object], id: &str) -> Result<&'a Object, StoreError>
+    ensures here { IfOk result (λ object.
+        (place : ℕ) × (found objects.now id.now ≡ Some (place, object.now))) }
+    ensures cause { IfErr result (λ e. e ≡ StoreError.ItemNotFound) }
+    ensures nowhere { OnErr result (found objects.now id.now ≡ None) }
+{
+    let place = place_of(objects, id)?;
+    Ok(&objects[place])
+}
+
+/// The maker's signature of the bytes by the key of an object.
+fn signature<M: Maker>(
+    alloc: Global,
+    maker: &mut M,
+    object: &Object,
+    bytes: &[u8],
+) -> Result<Blob, StoreError>
+    ensures { Gets (λ signature. Bytes signature) (questions.Sign object.now.key bytes.now)
+        (M.state maker.old) (M.state maker.new) result }
+{
+    match maker.sign(alloc, &object.key, bytes) {
+        Ok(signature) => Ok(signature),
+        Err(MakerError::Fault) => Err(StoreError::CryptographicFailure),
+        Err(MakerError::OutOfMemory) => Err(StoreError::OutOfMemory),
+    }
+}
+
+/// The maker's signature of the bytes by the key of the object that has the identifier.
+#[tactic(auto, using(crate::proofs::Questions::signs))]
 pub fn sign<M: Maker>(
     alloc: Global,
     objects: &[Object],
@@ -139,16 +170,11 @@ pub fn sign<M: Maker>(
     ensures { Asks Signed objects.now (Sign id.now bytes.now) objects.now
         (M.state maker.old) (M.state maker.new) result }
 {
-    let place = place_of(objects, id)?;
-    let object = &objects[place];
+    let object = named(objects, id)?;
     if !object.can_sign() {
         return Err(StoreError::PermissionDenied);
     }
-    match maker.sign(alloc, &object.key, bytes) {
-        Ok(signature) => Ok(signature),
-        Err(MakerError::Fault) => Err(StoreError::CryptographicFailure),
-        Err(MakerError::OutOfMemory) => Err(StoreError::OutOfMemory),
-    }
+    signature(alloc, maker, object, bytes)
 }
 
 /// An object that is PreActive becomes Active.
@@ -217,8 +243,7 @@ pub fn get<'a>(objects: &'a [Object], id: &str) -> Result<&'a Object, StoreError
     ensures step { Steps (λ object. Got object.now) objects.now (GetKey id.now) objects.now result }
     ensures memory { IfErr result (λ e. e ≢ StoreError.OutOfMemory) }
 {
-    let place = place_of(objects, id)?;
-    let got = &objects[place];
+    let got = named(objects, id)?;
     if got.is_destroyed() {
         return Err(StoreError::PermissionDenied);
     }

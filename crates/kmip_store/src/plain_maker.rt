@@ -57,8 +57,8 @@ impl PlainMaker {
     /// Keeps a question and its answer.
     fn keep(&mut self, asked: Asked, made: Made) -> Result<(), MakerError>
         ensures ok { OnOk result (self.new ≡ record {
-            asked = self.old.asked ++ asked ∷ [];
-            given = self.old.given ++ made ∷ [];
+          asked = self.old.asked ++ asked ∷ [];
+          given = self.old.given ++ made ∷ [];
         }) }
         ensures err { OnErr result (self.new ≡ self.old) }
         ensures memory { IfErr result (λ e. e ≡ MakerError.OutOfMemory) }

@@ -34,7 +34,12 @@ fn a_life(rt: HostRuntime) -> Result<(), Fail> {
     assert!(rt; is_denied(store.sign(&mut maker, "1", b"m")));
     assert!(rt; store.activate_key("1").is_ok());
     assert!(rt; is_denied(store.activate_key("1")));
-    assert!(rt; is(store.sign(&mut maker, "1", b"m"), b"\x00\x00\x00\x00\x00\x00\x00\x02"));
+    assert!(rt;
+        is(
+            store.sign(&mut maker, "1", b"m"),
+            b"\x00\x00\x00\x00\x00\x00\x00\x02"
+        )
+    );
     assert!(rt; store.activate_key("2").is_ok());
     assert!(rt; is_denied(store.sign(&mut maker, "2", b"m")));
     assert!(rt; is_denied(store.destroy_key("1")));
@@ -54,7 +59,11 @@ fn a_life(rt: HostRuntime) -> Result<(), Fail> {
 fn held(rt: HostRuntime) -> Result<(), Fail> {
     let mut store = Store::new(rt.alloc());
     let mut maker = PlainMaker::new(rt.alloc());
-    assert!(rt; store.create_rsa_key_pair(&mut maker, 2048, "priv", "pub").is_ok());
+    assert!(rt;
+        store
+            .create_rsa_key_pair(&mut maker, 2048, "priv", "pub")
+            .is_ok()
+    );
     assert!(rt; store.rename_key("2", "other").is_ok());
     assert!(rt; is(store.rng_retrieve(&mut maker, 3), b"\x02\x02\x02"));
     assert!(rt; is(store.rng_retrieve(&mut maker, -1), b""));
@@ -65,7 +74,10 @@ fn held(rt: HostRuntime) -> Result<(), Fail> {
     assert!(rt; matches!(public.state, State::PreActive));
     assert_eq!(rt; public.name.as_str(), "other");
     assert_eq!(rt; public.length, 2048);
-    assert_eq!(rt; public.key.as_slice(), b"\x00\x00\x00\x00\x00\x00\x00\x01\x02".as_slice());
+    assert_eq!(rt;
+        public.key.as_slice(),
+        b"\x00\x00\x00\x00\x00\x00\x00\x01\x02".as_slice()
+    );
     assert!(rt; store.destroy_key("2").is_ok());
     let Some(destroyed) = store.find("2") else {
         return Err(Fail::from("not found"));
@@ -84,8 +96,21 @@ fn held(rt: HostRuntime) -> Result<(), Fail> {
 fn unknown(rt: HostRuntime) -> Result<(), Fail> {
     let mut store = Store::new(rt.alloc());
     let mut maker = PlainMaker::new(rt.alloc());
-    assert!(rt; store.create_rsa_key_pair(&mut maker, 2048, "priv", "pub").is_ok());
-    for id in ["", "0", "3", "01", "+1", "1 ", "one", "99999999999999999999"] {
+    assert!(rt;
+        store
+            .create_rsa_key_pair(&mut maker, 2048, "priv", "pub")
+            .is_ok()
+    );
+    for id in [
+        "",
+        "0",
+        "3",
+        "01",
+        "+1",
+        "1 ",
+        "one",
+        "99999999999999999999",
+    ] {
         assert!(rt; store.find(id).is_none());
         assert!(rt; is_unknown(store.sign(&mut maker, id, b"m")));
         assert!(rt; is_unknown(store.activate_key(id)));
@@ -121,7 +146,11 @@ fn planned(rt: HostRuntime) -> Result<(), Fail> {
     assert!(rt; matches!(maker.random(alloc, 2), Err(MakerError::Fault)));
     let mut store = Store::new(alloc);
     assert!(rt; is(store.rng_retrieve(&mut maker, 2), b"ab"));
-    assert!(rt; store.create_rsa_key_pair(&mut maker, 2048, "priv", "pub").is_ok());
+    assert!(rt;
+        store
+            .create_rsa_key_pair(&mut maker, 2048, "priv", "pub")
+            .is_ok()
+    );
     assert!(rt; store.activate_key("1").is_ok());
     assert!(rt; is(store.sign(&mut maker, "1", b"m"), b"s"));
     Ok(())

@@ -27,5 +27,5 @@ pub returns-in-Err-Fault : goal.returns-in-Err-Fault
 returns-in-Err-Fault g c =
     let made : List ℕ × List ℕ → Made = λ pair. answers.Pair pair.0 pair.1 in
     let fault = refusal made (questions.KeyPair c.args.key_length) (g.M.Maker.state c.args.maker.now) (g.M.Maker.state c.key_pair.new.self) c.in-Err-Fault.field-0 c.in-Err-Fault.field-0-is
-          (subst (λ (n : ℤ). Makes made (questions.KeyPair n) (g.M.Maker.state c.args.maker.now) (g.M.Maker.state c.key_pair.new.self) (Err c.in-Err-Fault.field-0)) (to_z-of_z c.ranges.key_length) c.in-Err-Fault.ensures.call) in
+    (subst (λ (n : ℤ). Makes made (questions.KeyPair n) (g.M.Maker.state c.args.maker.now) (g.M.Maker.state c.key_pair.new.self) (Err c.in-Err-Fault.field-0)) (to_z-of_z c.ranges.key_length) c.in-Err-Fault.ensures.call) in
     (record { made = Some answers.Refused; step_is = search rules; asks = refl; told = fault.0 }, fault.1)

@@ -21,5 +21,5 @@ pub returns-in-Err-Fault : goal.returns-in-Err-Fault
 returns-in-Err-Fault g c =
     let made : List ℕ → Made = λ bytes. answers.Bytes bytes in
     let fault = refusal made (questions.Random c.args.num_bytes) (g.M.Maker.state c.args.maker.now) (g.M.Maker.state c.random.new.self) c.in-Err-Fault.field-0 c.in-Err-Fault.field-0-is
-          (subst (λ (n : ℤ). Makes made (questions.Random n) (g.M.Maker.state c.args.maker.now) (g.M.Maker.state c.random.new.self) (Err c.in-Err-Fault.field-0)) (to_z-of_z c.ranges.num_bytes) c.in-Err-Fault.ensures.call) in
+    (subst (λ (n : ℤ). Makes made (questions.Random n) (g.M.Maker.state c.args.maker.now) (g.M.Maker.state c.random.new.self) (Err c.in-Err-Fault.field-0)) (to_z-of_z c.ranges.num_bytes) c.in-Err-Fault.ensures.call) in
     (record { made = Some answers.Refused; step_is = refl; asks = refl; told = fault.0 }, fault.1)
