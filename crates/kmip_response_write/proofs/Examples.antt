@@ -1,7 +1,6 @@
 -- Which responses are settled, on worked examples: each line computes.
 use Rattle.std.proofs.Common.{◌≡◌, ℕ, false, true, nat_eq, List, [], ◌∷◌, Option, Some, None, refl, eq-eqb}
 use Rattle.std.specs.Prelude.{codes, pos}
-use Rattle.kmip_shape.specs.Val.{Text, Case}
 use Rattle.kmip_shape.proofs.Parts.{none_some, some_same}
 use Rattle.kmip_enums.specs.declared.operation.Operation.{Operation}
 use Rattle.kmip_enums.specs.declared.operation.Operation.TheVariants as operations

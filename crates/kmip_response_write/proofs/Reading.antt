@@ -1,9 +1,9 @@
 -- What a settled message's bytes are read as.
-use Rattle.std.proofs.Common.{◌≡◌, ℕ, ◌+◌, ◌%◌, ◌≤◌, ◌<◌, ◌==◌, length, take, drop, length-take, length-drop, Bool, true, false, cond, List, [], ◌∷◌, Option, Some, None, refl, sym, ◌∙◌, ap, subst, eq-eqb, arith}
+use Rattle.std.proofs.Common.{◌≡◌, ℕ, ◌+◌, ◌%◌, ◌≤◌, ◌==◌, length, take, drop, length-take, length-drop, Bool, true, false, cond, List, Option, Some, None, refl, sym, ◌∙◌, ap, subst, eq-eqb, arith}
 use Rattle.std.specs.Prelude.{IsSome, Result, Ok, Err, IfOk}
 use Rattle.kmip_wire.specs.declared.error.WireError.{WireError}
 use Rattle.kmip_wire.specs.Found.{Writes}
-use Rattle.std.specs.Option.{option_map, option_and_then}
+use Rattle.std.specs.Option.{option_and_then}
 use Rattle.kmip_wire.specs.Tree.{Tree, Trees, scalar, structure, none, more}
 use Rattle.kmip_wire.specs.Parts.{tag_of}
 use Rattle.kmip_wire.specs.Head.{size_at, head_length, value_of}
@@ -17,8 +17,7 @@ use Rattle.kmip_shape.specs.Shape.{Shape, NoCase, no_outer}
 use Rattle.kmip_shape.specs.Trees.{structure_of}
 use Rattle.std.proofs.lemmas.List.{take_all}
 use Rattle.kmip_shape.specs.Reads.{read_of, root_read}
-use Rattle.kmip_shape.specs.Writes.{bytes_of}
-use Rattle.kmip_shape.specs.Fits.{selected_in, tags_once}
+use Rattle.kmip_shape.specs.Fits.{tags_once}
 use Rattle.kmip_shape.proofs.Parts.{none_some, some_same, tag_plain}
 use Rattle.kmip_shape.proofs.ReadBack.{read_back}
 use Rattle.kmip_shape.proofs.Selected.{selected}

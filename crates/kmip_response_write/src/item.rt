@@ -1,5 +1,5 @@
-//! How the types of responses are written: the contracts of `kmip_shape::WriteItem`, under a trait of
-//! this crate, since those types and that trait are of crates below.
+//! How the types of responses are written: the contracts of `kmip_shape::WriteItem`, under a trait
+//! of this crate, since those types and that trait are of crates below.
 
 ghost use Rattle.std.specs.Prelude.{◌≡◌, ◌≤◌};
 ghost use Rattle.kmip_wire.specs.Room.{Appends};
@@ -17,7 +17,7 @@ pub trait WriteResponse: Item {
     fn wire_len(&self, tag: Tag) -> Option<u64>
         ensures { result ≡ wire_len_of Self.shape (Self.val self.now) };
 
-    /// Appends its canonical bytes.
+    /// Appends its canonical bytes, for which there is room.
     fn write_into(&self, tag: Tag, out: &mut Buffer)
         requires form { HasForm Self.shape (Self.val self.now) }
         requires room { size_of Self.shape (Self.val self.now) ≤ out.old.spare }

@@ -1,7 +1,10 @@
 //! Responses, each written as its one canonical message: what a server sends.
 //!
-//! What is written is the canonical bytes of the message's tree, and settled messages, whose choices
-//! are those that a reader makes, are read back as what was written.
+//! What is written is the canonical bytes of the message's tree. Settled messages, whose choices are
+//! those that a reader makes, are read back as what was written.
+//!
+//!     let bytes = to_vec(alloc, &message)?;
+//!     let again = from_slice::<ResponseMessage>(alloc, bytes.as_slice())?;
 #![tactic(auto)]
 
 mod item;

@@ -53,7 +53,8 @@ fn written(alloc: Global, message: &ResponseMessage) -> Result<Blob, WireError>
     to_blob(alloc, message, Tag::of(0x42007B))
 }
 
-/// The canonical bytes of a response (KMIP 1.0, 7.1), each record's items in the order of its table.
+/// The canonical bytes of a response (KMIP 1.0, 7.1), each record's items in the order of its
+/// table.
 ///
 /// `NoForm` comes exactly where there are none: where an item's length reaches 2^32, a child of a
 /// custom structure writes a structure, or key material is `Structure`, or `Wrapped` beside

@@ -1,5 +1,5 @@
 -- Calls that ask a maker, as steps.
-use Rattle.std.proofs.Common.{◌≡◌, ℕ, ◌+◌, ℤ, true, cond, List, [], ◌∷◌, ◌++◌, length, Option, Some, None, refl, sym, ◌∙◌, ap, subst}
+use Rattle.std.proofs.Common.{◌≡◌, ℕ, ◌+◌, ℤ, true, List, [], ◌∷◌, ◌++◌, length, Option, Some, refl, sym, subst}
 use Rattle.std.specs.Prelude.{IsTrue, Result, Ok, Err}
 use Rattle.kmip_enums.specs.declared.object_type.ObjectType.TheVariants.{PublicKey, PrivateKey}
 use Rattle.kmip_store.specs.declared.object.Object.{Object}

@@ -1,5 +1,5 @@
 -- What a call of the store answers and leaves, said by its step.
-use Rattle.std.specs.Prelude.{◌≡◌, ℕ, List, [], ◌∷◌, ◌++◌, Option, Some, None, Bool, true, false, Result, Ok, Err, IsTrue}
+use Rattle.std.specs.Prelude.{◌≡◌, List, Option, Some, None, Bool, true, false, Result, Ok, Err, IsTrue}
 use Rattle.kmip_store.specs.declared.object.Object.{Object}
 use Rattle.kmip_store.specs.declared.error.StoreError.{StoreError}
 use Rattle.kmip_store.specs.declared.error.StoreError.TheVariants.{ItemNotFound, PermissionDenied, CryptographicFailure, OutOfMemory}
@@ -7,7 +7,7 @@ use Rattle.kmip_store.specs.declared.maker.Asked.{Asked}
 use Rattle.kmip_store.specs.declared.maker.Made.{Made}
 use Rattle.kmip_store.specs.declared.maker.MakerError.TheVariants as maker
 use Rattle.kmip_store.specs.Makers.{MakerState, Answered, IsSilent, Rose, Makes, is_answer}
-use Rattle.kmip_store.specs.Steps.{Call, Answer, NotFound, Denied, Failed, Stepped, stay, step, question}
+use Rattle.kmip_store.specs.Steps.{Call, Answer, NotFound, Denied, Failed, stay, step, question}
 
 -- A call that asks no maker is its step. Where memory runs out, the objects are as they were.
 abbrev pub Steps :

@@ -1,5 +1,5 @@
 -- What the plain maker makes: its n-th answer, from the number n.
-use Rattle.std.specs.Prelude.{ℕ, true, ◌%◌, min, ℤ, pos, negsuc, List, [], ◌∷◌, ◌++◌, length, replicate}
+use Rattle.std.specs.Prelude.{ℕ, true, ◌%◌, min, ℤ, pos, negsuc, List, [], ◌∷◌, ◌++◌, replicate}
 use Rattle.std.specs.Int.{w64, to_be_bytes}
 use Rattle.kmip_store.specs.Makers.{MakerState}
 use Rattle.kmip_store.specs.declared.maker.Asked.{Asked}

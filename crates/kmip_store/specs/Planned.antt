@@ -1,5 +1,5 @@
 -- A maker whose answers, and whose refusals, are planned.
-use Rattle.std.specs.Prelude.{◌≡◌, ℕ, ◌+◌, ◌-◌, ◌^◌, min, Bool, true, false, ◌==◌, cond, List, [], ◌∷◌, ◌++◌, length, drop, slice_get, Option, Some, None, Result, Ok, Err}
+use Rattle.std.specs.Prelude.{◌≡◌, ℕ, ◌+◌, ◌-◌, ◌^◌, min, true, ◌==◌, cond, List, [], ◌∷◌, ◌++◌, length, drop, slice_get, Option, Some, None, Result, Ok, Err}
 use Rattle.std.specs.List.{list_any}
 use Rattle.kmip_store.specs.Makers.{MakerState, is_of_kind}
 use Rattle.kmip_store.specs.declared.maker.Asked.{Asked}

@@ -1,6 +1,6 @@
 -- What a key server does: the objects after a call, and its answer (KMIP 1.0, 3.17 and 4; KMIP 1.2,
 -- 4.31 and 4.35).
-use Rattle.std.specs.Prelude.{ℕ, ◌+◌, ℤ, Bool, true, false, cond, ◌&&◌, ◌||◌, not, List, [], ◌∷◌, ◌++◌, length, slice_set, Option, Some, None}
+use Rattle.std.specs.Prelude.{ℕ, ◌+◌, ℤ, Bool, cond, ◌&&◌, ◌||◌, not, List, [], ◌∷◌, ◌++◌, length, slice_set, Option, Some, None}
 use Rattle.kmip_enums.specs.declared.operation.Operation.{Operation}
 use Rattle.kmip_enums.specs.declared.operation.Operation.TheVariants as operations
 use Rattle.kmip_enums.specs.declared.object_type.ObjectType.{ObjectType}

@@ -1,7 +1,6 @@
-use Rattle.std.proofs.Common.{◌≡◌, ℕ, ℤ, refl, subst, List, Some}
+use Rattle.std.proofs.Common.{ℕ, ℤ, refl, subst, List, Some}
 use Rattle.std.specs.Prelude.{Err, IsTrue}
 use Rattle.std.proofs.Math.Facts.{to_z-of_z}
-use Rattle.kmip_store.specs.declared.maker.MakerError.{MakerError}
 use Rattle.kmip_store.specs.declared.maker.Asked.TheVariants as questions
 use Rattle.kmip_store.specs.declared.maker.Made.TheVariants as answers
 use Rattle.kmip_store.specs.declared.maker.Made.{Made}
