@@ -1,0 +1,145 @@
+-- What a key server does: the objects after a call, and its answer (KMIP 1.0, 3.17 and 4; KMIP 1.2,
+-- 4.31 and 4.35).
+use Rattle.std.specs.Prelude.{ℕ, ◌+◌, ℤ, Bool, cond, ◌&&◌, ◌||◌, not, List, [], ◌∷◌, ◌++◌, length, slice_set, Option, Some, None}
+use Rattle.kmip_enums.specs.declared.operation.Operation.{Operation}
+use Rattle.kmip_enums.specs.declared.operation.Operation.TheVariants as operations
+use Rattle.kmip_enums.specs.declared.object_type.ObjectType.{ObjectType}
+use Rattle.kmip_enums.specs.declared.object_type.ObjectType.TheVariants.{PublicKey, PrivateKey}
+use Rattle.kmip_enums.specs.declared.state.State.TheVariants.{PreActive, Active, Deactivated, Destroyed}
+use Rattle.kmip_store.specs.declared.object.Object.{Object}
+use Rattle.kmip_store.specs.declared.maker.Asked.{Asked}
+use Rattle.kmip_store.specs.declared.maker.Asked.TheVariants as questions
+use Rattle.kmip_store.specs.declared.maker.Made.{Made}
+use Rattle.kmip_store.specs.declared.maker.Made.TheVariants as answers
+use Rattle.kmip_store.specs.Objects.{identifier, found, is_pre_active, is_active, is_destroyed, is_public}
+
+-- a call, with what it names; the first text of a call on an object is its identifier
+pub data Call : Type 0 where
+  Query : Call
+  -- the length in bits, and the names of the private and the public key
+  CreateRsaKeyPair : ℤ → List ℕ → List ℕ → Call
+  RngRetrieve : ℤ → Call
+  -- and the bytes to sign
+  Sign : List ℕ → List ℕ → Call
+  ActivateKey : List ℕ → Call
+  RevokeKey : List ℕ → Call
+  DestroyKey : List ℕ → Call
+  -- and the new name
+  RenameKey : List ℕ → List ℕ → Call
+  GetKey : List ℕ → Call
+
+pub data Answer : Type 0 where
+  -- no object has the identifier
+  NotFound : Answer
+  -- its state, or its type, does not allow the call
+  Denied : Answer
+  -- the maker refused
+  Failed : Answer
+  Done : Answer
+  Supports : List Operation → List ObjectType → Answer
+  -- the identifiers of the private and the public key
+  Created : List ℕ → List ℕ → Answer
+  Random : List ℕ → Answer
+  Signed : List ℕ → Answer
+  Got : Object → Answer
+
+-- what a call leaves, and what it answers
+pub record Stepped : Type 0 where
+  pub objects : List Object
+  pub answer : Answer
+
+abbrev pub stay : List Object → Answer → Stepped
+stay objects answer = record { objects = objects; answer = answer }
+
+-- the one object at the place becomes another; all else stays
+abbrev pub become : List Object → ℕ → Object → Stepped
+become objects place object = record { objects = slice_set objects place object; answer = Done }
+
+abbrev pub allowed : Bool → List Object → Stepped → Stepped
+allowed allows objects step = cond allows step (stay objects Denied)
+
+-- a call on the object that it names
+abbrev pub on_found : Option (ℕ × Object) → List Object → (ℕ → Object → Stepped) → Stepped
+on_found None objects step = stay objects NotFound
+on_found (Some at) objects step = step at.0 at.1
+
+abbrev pub activate : List Object → ℕ → Object → Stepped
+activate objects place object =
+    allowed (is_pre_active object.state) objects
+    (become objects place (record object { state = Active }))
+
+abbrev pub revoke : List Object → ℕ → Object → Stepped
+revoke objects place object =
+    allowed (is_active object.state) objects
+    (become objects place (record object { state = Deactivated }))
+
+-- a destroyed object keeps its place, and has no key bytes
+abbrev pub destroy : List Object → ℕ → Object → Stepped
+destroy objects place object =
+    allowed (not (is_active object.state || is_destroyed object.state)) objects
+    (become objects place (record object { state = Destroyed; key = [] }))
+
+abbrev pub rename : List ℕ → List Object → ℕ → Object → Stepped
+rename name objects place object =
+    allowed (not (is_destroyed object.state)) objects
+    (become objects place (record object { name = name }))
+
+abbrev pub get : List Object → ℕ → Object → Stepped
+get objects place object =
+    allowed (not (is_destroyed object.state)) objects (stay objects (Got object))
+
+abbrev pub can_sign : Object → Bool
+can_sign object = not (is_public object.object_type) && is_active object.state
+
+abbrev pub key_of : ObjectType → List ℕ → ℤ → List ℕ → Object
+key_of object_type name length key = record {
+  object_type = object_type;
+  state = PreActive;
+  name = name;
+  length = length;
+  key = key;
+}
+
+-- a pair stands after the objects, the private key first
+abbrev pub create : List Object → ℤ → List ℕ → List ℕ → Option Made → Stepped
+create objects bits private public (Some (answers.Pair private_key public_key)) = record {
+  objects = objects
+      ++ key_of PrivateKey private bits private_key ∷ key_of PublicKey public bits public_key ∷ [];
+  answer = Created (identifier (length objects)) (identifier (length objects + 1));
+}
+create objects bits private public _ = stay objects Failed
+
+abbrev pub made_bytes : (List ℕ → Answer) → Option Made → Answer
+made_bytes answer (Some (answers.Bytes bytes)) = answer bytes
+made_bytes answer _ = Failed
+
+abbrev pub supported : List Operation
+supported =
+    operations.CreateKeyPair ∷ operations.Get ∷ operations.ModifyAttribute ∷ operations.Activate
+    ∷ operations.Revoke ∷ operations.Destroy ∷ operations.Query ∷ operations.Sign
+    ∷ operations.RNGRetrieve ∷ []
+
+-- what a call leaves and answers; `made` is the maker's answer, for a call that asks it
+abbrev pub step : List Object → Call → Option Made → Stepped
+step objects Query made = stay objects (Supports supported (PublicKey ∷ PrivateKey ∷ []))
+step objects (CreateRsaKeyPair bits private public) made = create objects bits private public made
+step objects (RngRetrieve n) made = stay objects (made_bytes Random made)
+step objects (Sign id bytes) made = on_found (found objects id) objects
+    (λ place object. allowed (can_sign object) objects (stay objects (made_bytes Signed made)))
+step objects (ActivateKey id) made = on_found (found objects id) objects (activate objects)
+step objects (RevokeKey id) made = on_found (found objects id) objects (revoke objects)
+step objects (DestroyKey id) made = on_found (found objects id) objects (destroy objects)
+step objects (RenameKey id name) made = on_found (found objects id) objects (rename name objects)
+step objects (GetKey id) made = on_found (found objects id) objects (get objects)
+
+abbrev pub sign_question : List ℕ → Option (ℕ × Object) → Option Asked
+sign_question bytes None = None
+sign_question bytes (Some at) =
+    cond (can_sign at.1) (Some (questions.Sign at.1.key bytes)) None
+
+-- what a call asks the maker, where it asks it
+abbrev pub question : List Object → Call → Option Asked
+question objects (CreateRsaKeyPair bits private public) = Some (questions.KeyPair bits)
+question objects (RngRetrieve n) = Some (questions.Random n)
+question objects (Sign id bytes) = sign_question bytes (found objects id)
+question objects _ = None
