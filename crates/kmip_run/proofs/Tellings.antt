@@ -17,6 +17,7 @@ use Rattle.kmip_client.specs.Client.{loses_connection}
 use Rattle.kmip_client.specs.Outcome.{outcome}
 use Rattle.kmip_client.specs.Session.{Turn, turn_of, then_on, session}
 use Rattle.kmip_client.specs.Skeletons.{taken_by, Parse, AllParse, skeletons_of, texts_of}
+use Rattle.kmip_shape.proofs.Parts.{some_same}
 use Rattle.kmip_run.specs.Sent.{AreHeld}
 use Rattle.kmip_run.specs.Told.{AllAnswered, skeleton_in, skeletons_in}
 
@@ -98,8 +99,16 @@ shown parses ranges computed ranged (payload ∷ payloads) credential limit rest
     (shown_next computed ranged turn [] own (bytes_take n rest bytes) none_shown)
     (shown_next computed ranged turn later own (bytes_take n rest bytes) (shown parses ranges computed ranged payloads credential limit (drop n rest) held.1 (bytes_drop n rest bytes)))
 
+first_sent : List (Option Skeleton × Option Skeleton) → Option Skeleton
+first_sent [] = None
+first_sent (one ∷ others) = one.0
+
+first_taken : List (Option Skeleton × Option Skeleton) → Option Skeleton
+first_taken [] = None
+first_taken (one ∷ others) = one.1
+
 head_same : (x y : Skeleton × Skeleton) (xs ys : List (Skeleton × Skeleton)) → map both (x ∷ xs) ≡ map both (y ∷ ys) → (x.0 ≡ y.0) × (x.1 ≡ y.1) × (map both xs ≡ map both ys)
-head_same x y xs ys h = (cc, cc, cc)
+head_same x y xs ys h = (some_same x.0 y.0 (ap first_sent h), some_same x.1 y.1 (ap first_taken h), cc)
 
 both_injective : (xs ys : List (Skeleton × Skeleton)) → map both xs ≡ map both ys → xs ≡ ys
 both_injective [] [] h = refl

@@ -8,7 +8,7 @@ use Rattle.kmip_client.specs.Calls.{IsCall}
 use Rattle.kmip_client.specs.Outcome.{Answer, seen_by}
 use Rattle.kmip_client.specs.Session.{Told, exchange_told, at_loss, Stops, told_by, Calls, ends_lost}
 use Rattle.kmip_client.proofs.Transfers.{keeps_self, keeps_on}
-use Rattle.kmip_client.proofs.Sessions.{SoFar, StopsOn, CausedOn, Step, turn, stop, end, call_whole, step_of, telling, pushed, nothing_yet, grows_none, grows_on, same_before, exchanged_grows, empty_of, stops_on, stops_end, CallsOn, calls_on, calls_end, calls_texts, calls_requests, all_one, have_room, room_one, cut_off, on_err, ends_one}
+use Rattle.kmip_client.proofs.Sessions.{SoFar, StopsOn, Step, turn, stop, end, call_whole, step_of, telling, pushed, nothing_yet, grows_none, grows_on, same_before, exchanged_grows, empty_of, stops_on, stops_end, CallsOn, calls_on, calls_end, calls_texts, calls_requests, all_one, have_room, room_one, cut_off, on_err, ends_one}
 use Rattle.kmip_client.proofs.session.exchanges.Goals as goal
 
 pub loop-payload-init : goal.loop-payload-init
@@ -245,7 +245,7 @@ returns-then-lacks_memory-clause-cut g c =
     call_whole (g.P.Answered.val (operation_of payload)) all c.request-answer.result c.request-answer.ensures.call (c.answers_any.ensures.whole (operation_of payload)) in
     let before : List Told = map (exchange_told all) c.loop-payload.exchanges in
     let so_far : CallsOn g.T.Link.state c.args.payloads.items start before old (payload ∷ rest) = rw steps.0 at i.calls in
-    on_err _ (cut_off _ _ _ before old new payload rest seen call so_far i.all)
+    cut_off _ _ _ before old new payload rest seen call so_far i.all
 
 pub returns-in_err-told-clause-cut : goal.returns-in_err-told-clause-cut
 returns-in_err-told-clause-cut g c =
