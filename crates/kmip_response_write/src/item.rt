@@ -26,14 +26,7 @@ pub trait WriteResponse: Item {
 }
 
 /// The length of the items of a list.
-#[tactic(
-    auto,
-    using(
-        kmip_shape::proofs::Lens::plus_assoc,
-        kmip_shape::proofs::Lens::list_len_zero,
-        kmip_shape::proofs::Lens::plus_end
-    )
-)]
+#[tactic(auto, using(kmip_shape::proofs::Lens::plus_assoc, kmip_shape::proofs::Lens::list_len_zero, kmip_shape::proofs::Lens::plus_end))]
 fn items_len<T: WriteResponse>(items: &[T], tag: Tag) -> Option<u64>
     ensures { result ≡ len_of_list (vals T.val items.now) T.shape }
 {
