@@ -8,7 +8,7 @@ use kmip_response::{
     UniqueIdentifierResponsePayload, from_slice,
 };
 use kmip_types::{KeyFormatType, KeyMaterial, UniqueIdentifier};
-use kmip_wire::{Blob, List, Text, WireError};
+use kmip_wire::{Blob, Boxed, List, Text, WireError};
 use std::alloc::Global;
 use std::process::Abort;
 use std::test::Fail;
@@ -199,11 +199,12 @@ fn formless(rt: HostRuntime) -> Result<(), Fail> {
         cryptographic_length: None,
         key_wrapping_data: None,
     };
-    let payload = ResponsePayload::Get(GetResponsePayload {
+    let payload = GetResponsePayload {
         object_type: ObjectType::SymmetricKey,
         unique_identifier: UniqueIdentifier(Text::of(alloc, "s1")?),
         cryptographic_object: ManagedObject::SymmetricKey(SymmetricKey { key_block }),
-    });
+    };
+    let payload = ResponsePayload::Get(Boxed::new(alloc, payload)?);
     let message = message_of(alloc, Operation::Get, payload)?;
     assert!(rt; matches!(to_vec(alloc, &message), Err(WireError::NoForm)));
     Ok(())
