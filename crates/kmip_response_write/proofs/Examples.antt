@@ -57,10 +57,10 @@ payload_of_its_operation = (
 )
 
 payload_of_another_operation : IsSettled (answer operations.Revoke activated) → ⊥
-payload_of_another_operation h = other_case 19 18 refl ((((h.1).2.2.1).0).2.2.2.2.2.1).0
+payload_of_another_operation h = other_case 19 18 refl ((h.1).2.1.0.2.2.2.2.2.1).0
 
 payload_without_an_operation : IsSettled (message_of (item_of None (Some activated) ∷ [])) → ⊥
-payload_without_an_operation h = none_some ⊥ ((((h.1).2.2.1).0).2.2.2.2.2.1).0
+payload_without_an_operation h = none_some ⊥ ((h.1).2.1.0.2.2.2.2.2.1).0
 
 no_payload : IsSettled (message_of (item_of None None ∷ []))
 no_payload = (
@@ -69,7 +69,7 @@ no_payload = (
 )
 
 no_batch_item : IsSettled (message_of []) → ⊥
-no_batch_item h = (h.1).2.2.0
+no_batch_item h = (h.1).2.0
 
 -- ---- attributes
 
@@ -86,7 +86,7 @@ group_under_its_name = (
 )
 
 text_under_a_name_of_the_table : IsSettled (adds (codes "Object Group") (TextString (codes "g"))) → ⊥
-text_under_a_name_of_the_table h = other_case 6 16 refl ((((((h.1).2.2.1).0).2.2.2.2.2.1).1).2.2.1).2.2.2.2.1.0
+text_under_a_name_of_the_table h = other_case 6 16 refl (((h.1).2.1.0.2.2.2.2.2.1).1.2.1.2.2.1).0
 
 -- ---- objects and key material
 
@@ -94,14 +94,16 @@ abbrev got : ObjectType → KeyFormatType → KeyMaterial → Option (List Attri
 got object_type format material attributes = answer operations.Get (Get (record {
   object_type = object_type;
   unique_identifier = record { 0 = codes "k1" };
-  cryptographic_object = SymmetricKey (record { key_block = record {
-    key_format_type = format;
-    key_compression_type = None;
-    key_value = record { key_material = material; attributes = attributes };
-    cryptographic_algorithm = None;
-    cryptographic_length = None;
-    key_wrapping_data = None;
-  } });
+  cryptographic_object = SymmetricKey (record {
+    key_block = record {
+      key_format_type = format;
+      key_compression_type = None;
+      key_value = record { key_material = material; attributes = attributes };
+      cryptographic_algorithm = None;
+      cryptographic_length = None;
+      key_wrapping_data = None;
+    };
+  });
 }))
 
 bytes_in_the_raw_format : IsSettled (got objects.SymmetricKey formats.Raw (materials.Bytes []) None)
@@ -117,10 +119,10 @@ wrapped_in_the_raw_format = (
 )
 
 object_of_another_type : IsSettled (got objects.PublicKey formats.Raw (materials.Bytes []) None) → ⊥
-object_of_another_type h = other_case 3 2 refl ((((((h.1).2.2.1).0).2.2.2.2.2.1).1).2.2.2.2.1).0
+object_of_another_type h = other_case 3 2 refl (((h.1).2.1.0.2.2.2.2.2.1).1.2.2.1).0
 
 bytes_in_a_transparent_format : IsSettled (got objects.SymmetricKey formats.TransparentSymmetricKey (materials.Bytes []) None) → ⊥
-bytes_in_a_transparent_format h = ?
+bytes_in_a_transparent_format h = other_case 2 1 refl (((h.1).2.1.0.2.2.2.2.2.1).1.2.2.1.1.1.2.2.1.1).0
 
 wrapped_beside_attributes : IsSettled (got objects.SymmetricKey formats.Raw (materials.Wrapped []) (Some [])) → ⊥
 wrapped_beside_attributes h = absurd (cc)
@@ -134,4 +136,4 @@ abbrev versions : ResponsePayload
 versions = DiscoverVersions (record { supported_versions = Some [] })
 
 empty_list : IsSettled (answer operations.DiscoverVersions versions) → ⊥
-empty_list h = (((((h.1).2.2.1).0).2.2.2.2.2.1).1).0
+empty_list h = ((h.1).2.1.0.2.2.2.2.2.1).1.0

@@ -9,7 +9,7 @@ ghost use Rattle.kmip_shape.specs.Writes.{field_form, field_size, field_text, fi
 ghost use Rattle.kmip_shape.specs.Writes.{optional, optional_list};
 
 use kmip_shape::{Item, plus_len};
-use kmip_wire::{Buffer, List, Tag};
+use kmip_wire::{Boxed, Buffer, List, Tag};
 
 /// A type of responses that is written.
 pub trait WriteResponse: Item {
@@ -25,15 +25,18 @@ pub trait WriteResponse: Item {
             (text_of Self.shape tag (Self.val self.now)) (size_of Self.shape (Self.val self.now)) };
 }
 
+impl<T: WriteResponse> WriteResponse for Boxed<T> {
+    fn wire_len(&self, tag: Tag) -> Option<u64> {
+        self.get().wire_len(tag)
+    }
+
+    fn write_into(&self, tag: Tag, out: &mut Buffer) {
+        self.get().write_into(tag, out);
+    }
+}
+
 /// The length of the items of a list.
-#[tactic(
-    auto,
-    using(
-        kmip_shape::proofs::Lens::plus_assoc,
-        kmip_shape::proofs::Lens::list_len_zero,
-        kmip_shape::proofs::Lens::plus_end
-    )
-)]
+#[tactic(auto, using(kmip_shape::proofs::Lens::plus_assoc, kmip_shape::proofs::Lens::list_len_zero, kmip_shape::proofs::Lens::plus_end))]
 fn items_len<T: WriteResponse>(items: &[T], tag: Tag) -> Option<u64>
     ensures { result ≡ len_of_list (vals T.val items.now) T.shape }
 {

@@ -4,11 +4,11 @@ use crate::to_vec;
 use kmip_enums::{ObjectType, Operation, ResultStatus};
 use kmip_response::{
     BatchItem, GetResponsePayload, KeyBlock, KeyValue, ManagedObject, ProtocolVersion,
-    ResponseHeader, ResponseMessage, ResponsePayload, SymmetricKey, UniqueIdentifierResponsePayload,
-    from_slice,
+    ResponseHeader, ResponseMessage, ResponsePayload, SymmetricKey,
+    UniqueIdentifierResponsePayload, from_slice,
 };
 use kmip_types::{KeyFormatType, KeyMaterial, UniqueIdentifier};
-use kmip_wire::{Blob, List, Text, WireError};
+use kmip_wire::{Blob, Boxed, List, Text, WireError};
 use std::alloc::Global;
 use std::process::Abort;
 use std::test::Fail;
@@ -103,12 +103,7 @@ const RENAMED_WRITTEN: &[u8] =
     b"\x42\x00\x7B\x01\x00\x00\x00\xD0\x42\x00\x7A\x01\x00\x00\x00\x48\x42\x00\x69\x01\x00\x00\x00\x20\x42\x00\x6A\x02\x00\x00\x00\x04\x00\x00\x00\x01\x00\x00\x00\x00\x42\x00\x6B\x02\x00\x00\x00\x04\x00\x00\x00\x00\x00\x00\x00\x00\x42\x00\x92\x09\x00\x00\x00\x08\x00\x00\x00\x00\x00\x00\x00\x01\x42\x00\x0D\x02\x00\x00\x00\x04\x00\x00\x00\x01\x00\x00\x00\x00\x42\x00\x0F\x01\x00\x00\x00\x78\x42\x00\x5C\x05\x00\x00\x00\x04\x00\x00\x00\x0E\x00\x00\x00\x00\x42\x00\x7F\x05\x00\x00\x00\x04\x00\x00\x00\x00\x00\x00\x00\x00\x42\x00\x7C\x01\x00\x00\x00\x50\x42\x00\x94\x07\x00\x00\x00\x02\x6B\x31\x00\x00\x00\x00\x00\x00\x42\x00\x08\x01\x00\x00\x00\x38\x42\x00\x0A\x07\x00\x00\x00\x04\x4E\x61\x6D\x65\x00\x00\x00\x00\x42\x00\x0B\x01\x00\x00\x00\x20\x42\x00\x55\x07\x00\x00\x00\x06\x6D\x79\x20\x6B\x65\x79\x00\x00\x42\x00\x54\x05\x00\x00\x00\x04\x00\x00\x00\x01\x00\x00\x00\x00";
 
 /// What is read of the bytes is written as these bytes.
-fn is_written(
-    rt: &impl Abort,
-    alloc: Global,
-    read: &[u8],
-    written: &[u8],
-) -> Result<(), Fail> {
+fn is_written(rt: &impl Abort, alloc: Global, read: &[u8], written: &[u8]) -> Result<(), Fail> {
     let Ok(message) = from_slice::<ResponseMessage>(alloc, read) else {
         return Err(Fail::from("not read"));
     };
@@ -204,11 +199,12 @@ fn formless(rt: HostRuntime) -> Result<(), Fail> {
         cryptographic_length: None,
         key_wrapping_data: None,
     };
-    let payload = ResponsePayload::Get(GetResponsePayload {
+    let payload = GetResponsePayload {
         object_type: ObjectType::SymmetricKey,
         unique_identifier: UniqueIdentifier(Text::of(alloc, "s1")?),
         cryptographic_object: ManagedObject::SymmetricKey(SymmetricKey { key_block }),
-    });
+    };
+    let payload = ResponsePayload::Get(Boxed::new(alloc, payload)?);
     let message = message_of(alloc, Operation::Get, payload)?;
     assert!(rt; matches!(to_vec(alloc, &message), Err(WireError::NoForm)));
     Ok(())
