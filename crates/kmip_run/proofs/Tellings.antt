@@ -107,8 +107,12 @@ first_taken : List (Option Skeleton × Option Skeleton) → Option Skeleton
 first_taken [] = None
 first_taken (one ∷ others) = one.1
 
+after_first : List (Option Skeleton × Option Skeleton) → List (Option Skeleton × Option Skeleton)
+after_first [] = []
+after_first (one ∷ others) = others
+
 head_same : (x y : Skeleton × Skeleton) (xs ys : List (Skeleton × Skeleton)) → map both (x ∷ xs) ≡ map both (y ∷ ys) → (x.0 ≡ y.0) × (x.1 ≡ y.1) × (map both xs ≡ map both ys)
-head_same x y xs ys h = (some_same x.0 y.0 (ap first_sent h), some_same x.1 y.1 (ap first_taken h), cc)
+head_same x y xs ys h = (some_same x.0 y.0 (ap first_sent h), some_same x.1 y.1 (ap first_taken h), ap after_first h)
 
 both_injective : (xs ys : List (Skeleton × Skeleton)) → map both xs ≡ map both ys → xs ≡ ys
 both_injective [] [] h = refl

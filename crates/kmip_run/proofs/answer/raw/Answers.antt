@@ -8,6 +8,7 @@ returns-in-Ok c =
     (record {
       exchange = c.do_request-answer.ensures.exchange;
       caused = c.do_request-answer.ensures.caused;
+      reading = c.do_request-answer.ensures.reading;
       headline = c.do_request-answer.ensures.headline;
       keeps = c.do_request-answer.ensures.keeps;
       credential = c.do_request-answer.ensures.settings.0;
