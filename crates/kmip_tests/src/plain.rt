@@ -93,21 +93,33 @@ fn copies(rt: HostRuntime) -> Result<(), Fail> {
     trees_are_copied(&rt, alloc, tree)
 }
 
-#[test]
-fn an_object(rt: HostRuntime) -> Result<(), Fail> {
-    let alloc = rt.alloc();
-    // 7C{57 e4,94 "k",64{40{42 e1,45{43 xAA}}}}
-    let bytes =
-        b"\x42\x00\x7C\x01\x00\x00\x00\x58\x42\x00\x57\x05\x00\x00\x00\x04\x00\x00\x00\x04\x00\x00\x00\x00\x42\x00\x94\x07\x00\x00\x00\x01\x6B\x00\x00\x00\x00\x00\x00\x00\x42\x00\x64\x01\x00\x00\x00\x30\x42\x00\x40\x01\x00\x00\x00\x28\x42\x00\x42\x05\x00\x00\x00\x04\x00\x00\x00\x01\x00\x00\x00\x00\x42\x00\x45\x01\x00\x00\x00\x10\x42\x00\x43\x08\x00\x00\x00\x01\xAA\x00\x00\x00\x00\x00\x00\x00";
-    let payload = from_slice::<GetResponsePayload>(alloc, bytes)?;
-    let object = payload.cryptographic_object;
+/// The object of a Get payload.
+fn object_of(alloc: Global, bytes: &[u8]) -> Result<ManagedObject, Fail> {
+    match from_slice::<GetResponsePayload>(alloc, bytes) {
+        Ok(payload) => Ok(payload.cryptographic_object),
+        Err(_error) => Err(Fail::from("no payload")),
+    }
+}
+
+// 7C{57 e4,94 "k",64{40{42 e1,45{43 xAA}}}}
+const OBJECT: &[u8] =
+    b"\x42\x00\x7C\x01\x00\x00\x00\x58\x42\x00\x57\x05\x00\x00\x00\x04\x00\x00\x00\x04\x00\x00\x00\x00\x42\x00\x94\x07\x00\x00\x00\x01\x6B\x00\x00\x00\x00\x00\x00\x00\x42\x00\x64\x01\x00\x00\x00\x30\x42\x00\x40\x01\x00\x00\x00\x28\x42\x00\x42\x05\x00\x00\x00\x04\x00\x00\x00\x01\x00\x00\x00\x00\x42\x00\x45\x01\x00\x00\x00\x10\x42\x00\x43\x08\x00\x00\x00\x01\xAA\x00\x00\x00\x00\x00\x00\x00";
+
+/// The object is shown as it should be, and has a copy that equals it.
+fn is_an_object(rt: &impl Abort, alloc: Global, object: &ManagedObject) -> Result<(), Fail> {
     is_shown::<ManagedObject>(
-        &rt,
+        rt,
         alloc,
-        &object,
+        object,
         "PrivateKey{key_block={key_format_type=Raw,key_value={key_material=Bytes(x\"AA\")}}}",
     )?;
-    is_copied::<ManagedObject>(&rt, alloc, &object)
+    is_copied::<ManagedObject>(rt, alloc, object)
+}
+
+#[test]
+fn an_object(rt: HostRuntime) -> Result<(), Fail> {
+    let object = object_of(rt.alloc(), OBJECT)?;
+    is_an_object(&rt, rt.alloc(), &object)
 }
 
 #[test]
