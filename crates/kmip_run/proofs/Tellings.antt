@@ -99,15 +99,15 @@ shown parses ranges computed ranged (payload ∷ payloads) credential limit rest
     (shown_next computed ranged turn [] own (bytes_take n rest bytes) none_shown)
     (shown_next computed ranged turn later own (bytes_take n rest bytes) (shown parses ranges computed ranged payloads credential limit (drop n rest) held.1 (bytes_drop n rest bytes)))
 
-first_sent : List (Option Skeleton × Option Skeleton) → Option Skeleton
+abbrev first_sent : List (Option Skeleton × Option Skeleton) → Option Skeleton
 first_sent [] = None
 first_sent (one ∷ others) = one.0
 
-first_taken : List (Option Skeleton × Option Skeleton) → Option Skeleton
+abbrev first_taken : List (Option Skeleton × Option Skeleton) → Option Skeleton
 first_taken [] = None
 first_taken (one ∷ others) = one.1
 
-after_first : List (Option Skeleton × Option Skeleton) → List (Option Skeleton × Option Skeleton)
+abbrev after_first : List (Option Skeleton × Option Skeleton) → List (Option Skeleton × Option Skeleton)
 after_first [] = []
 after_first (one ∷ others) = others
 

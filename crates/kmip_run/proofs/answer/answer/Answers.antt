@@ -1,4 +1,5 @@
-use Rattle.std.proofs.Common.{refl, codes}
+use Rattle.std.proofs.Common.{refl, codes, rules, w32, SFits}
+use Rattle.std.proofs.lemmas.Int.{to_z-of_z}
 use Rattle.kmip_shape.specs.Shown.{shown}
 use Rattle.kmip_response.specs.Tables.{query_payload, sign_payload, attribute_edit_payload}
 use Rattle.kmip_response.specs.Values.{query_payload_val, sign_payload_val, attribute_edit_payload_val}
@@ -13,6 +14,11 @@ pub returns-in-Query : goal.returns-in-Query
 returns-in-Query c =
     rw c.in-Query.is
     (helper_shown Query query_request payloads.Query (λ payload. payload) (λ payload. shown query_payload (query_payload_val payload)) c.query.result c.show.result c.args.line.now c.show.new.line (λ credential. refl) (λ payload. refl) c.query.ensures c.show.ensures)
+
+pub returns-in-CreateRsa : goal.returns-in-CreateRsa
+returns-in-CreateRsa c =
+    let fits : SFits w32 c.in-CreateRsa.key_length = search rules in
+    rw c.in-CreateRsa.is (rw (to_z-of_z w32 c.in-CreateRsa.key_length fits) at c.create_rsa.ensures)
 
 pub returns-in-Sign : goal.returns-in-Sign
 returns-in-Sign c =
