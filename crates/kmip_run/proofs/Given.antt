@@ -3,7 +3,7 @@ use Rattle.std.proofs.Common.{◌<◌, ◌==◌, bytes_eq, codes, ◌≡◌, ◌
 use Rattle.std.specs.List.{starts_with}
 use Rattle.std.proofs.lemmas.Slice.Eq.{starts_is, bytes_eq-Decides}
 use Rattle.std.proofs.lemmas.Bool.Decides.{Decides-eqb}
-use Rattle.kmip_run.specs.Values.{number_of}
+use Rattle.kmip_words.specs.Values.{number_of}
 use Rattle.kmip_run.specs.Commands.{Given, given, given_after, diag_of, replay_with, replay_of, explain_of, make_of, command_of}
 use Rattle.kmip_run.specs.declared.command.Command.TheVariants.{Replay}
 

@@ -3,8 +3,8 @@ ghost use Rattle.std.specs.Prelude.{◌≡◌, ◌∷◌, [], map, option_map, I
 ghost use Rattle.kmip_run.specs.Commands.{given, given_after, diag_of, replay_of, explain_of, make_of, command_of};
 ghost use Rattle.kmip_run.specs.declared.command.Command.TheVariants.{Replay};
 
-use crate::values::number_of;
 use kmip_wire::{OutOfMemory, Text};
+use kmip_words::number_of;
 use std::alloc::Global;
 
 /// The most exchanges that `make` makes.

@@ -1,14 +1,13 @@
 //! A call over its recorded response, and what is written of it.
 ghost use Rattle.std.specs.Prelude.{◌≡◌, ◌++◌, ◌≤◌, drop, length, codes, option_map, IfOk, OnOk};
 ghost use Rattle.hex.specs.Hex.{encode_upper};
-ghost use Rattle.kmip_run.specs.Exchange.{settings_of, or_empty, told_lines, step};
+ghost use Rattle.kmip_words.specs.Exchange.{settings_of, or_empty, told_lines, step};
 ghost use Rattle.kmip_run.specs.Transcript.{RunsCall};
 
-use crate::answer::answer;
-use crate::call::Recorded;
 use kmip_client::Client;
 use kmip_link::MemoryLink;
 use kmip_wire::{OutOfMemory, Text};
+use kmip_words::{Recorded, answer};
 use std::alloc::Global;
 
 /// Feeds a recorded response to the client's link.

@@ -1,16 +1,15 @@
 //! Exchanges that are made from a number, and what they come to.
 ghost use Rattle.std.specs.Prelude.{◌≡◌, ◌+◌, ◌<◌, ◌++◌, ◌^◌, drop, length, IfOk, OnOk};
-ghost use Rattle.kmip_run.specs.Exchange.{settings_of, step};
+ghost use Rattle.kmip_words.specs.Exchange.{settings_of, step};
 ghost use Rattle.kmip_run.specs.Making.{next_of, one_ok, one_error, made, made_text, MakesCall, Makes};
 ghost use Rattle.kmip_run.specs.Transcript.{counted_transcript, Replays};
 
-use crate::answer::answer;
-use crate::call::Recorded;
 use crate::exchange::{feed, sent_len};
 use crate::respond::exchange_of;
 use kmip_client::Client;
 use kmip_link::MemoryLink;
 use kmip_wire::{OutOfMemory, Text};
+use kmip_words::{Recorded, answer};
 use std::alloc::Global;
 
 /// How many answers were payloads and errors, and how many bytes were taken: a sum of lengths of lists in memory,

@@ -1,7 +1,8 @@
 //! A client with the settings of the words.
 ghost use Rattle.std.specs.Prelude.{◌≡◌, None, false};
 ghost use Rattle.kmip_client.specs.Client.{credential_for};
-ghost use Rattle.kmip_run.specs.Exchange.{settings_of, settings_for};
+ghost use Rattle.kmip_words.specs.Exchange.{settings_of};
+ghost use Rattle.kmip_run.specs.Setup.{settings_for};
 
 use crate::command::Options;
 use kmip_client::{Client, ClientBuilder};

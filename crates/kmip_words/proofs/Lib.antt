@@ -1,0 +1,6 @@
+pub mod Calls
+pub mod Diagnostics
+pub mod Exchanges
+pub mod Moves
+pub mod Numbers
+pub mod Texts
