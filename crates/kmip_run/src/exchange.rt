@@ -7,7 +7,7 @@ ghost use Rattle.kmip_run.specs.Transcript.{RunsCall};
 use kmip_client::Client;
 use kmip_link::MemoryLink;
 use kmip_wire::{OutOfMemory, Text};
-use kmip_words::{Recorded, answer};
+use kmip_words::{Recorded, Style, answer};
 use std::alloc::Global;
 
 /// Feeds a recorded response to the client's link.
@@ -103,9 +103,9 @@ pub fn exchange(
     feed(client, recorded.response.as_slice())?;
     let before = sent_len(client);
     let mut line = Text::new(alloc);
-    let failed = answer(alloc, client, recorded.call, &mut line)?;
+    let ending = answer(alloc, client, Style::Bare, recorded.call, &mut line)?;
     show_sent_from(alloc, client, before, output)?;
     show_diagnostics(client, diag, output)?;
     output.push_str(line.as_str())?;
-    Ok(failed)
+    Ok(ending.is_failure())
 }

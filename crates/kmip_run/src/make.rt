@@ -9,7 +9,7 @@ use crate::respond::exchange_of;
 use kmip_client::Client;
 use kmip_link::MemoryLink;
 use kmip_wire::{OutOfMemory, Text};
-use kmip_words::{Recorded, answer};
+use kmip_words::{Recorded, Style, answer};
 use std::alloc::Global;
 
 /// How many answers were payloads and errors, and how many bytes were taken: a sum of lengths of lists in memory,
@@ -53,8 +53,8 @@ fn make_call(
     feed(client, recorded.response.as_slice())?;
     let before = left_len(client);
     line.clear();
-    let failed = answer(alloc, client, recorded.call, line)?;
-    Ok((failed, before - left_len(client)))
+    let ending = answer(alloc, client, Style::Bare, recorded.call, line)?;
+    Ok((ending.is_failure(), before - left_len(client)))
 }
 
 /// One exchange more.

@@ -1,4 +1,4 @@
--- What a line of the script asks for.
+-- What words ask for: those of a line of a script, and those that are typed.
 use Rattle.std.specs.Prelude.{ℕ, ℤ, List, [], ◌∷◌, Option, Some, None, if◌then◌else◌, codes, bytes_eq}
 use Rattle.std.specs.Option.{option_map}
 use Rattle.std.specs.Str.{is_utf8}
@@ -6,7 +6,7 @@ use Rattle.kmip_request_read.specs.Reading.{request_read}
 use Rattle.kmip_words.specs.Words.{words_of}
 use Rattle.kmip_words.specs.Values.{int_of, bytes_of, text_of}
 use Rattle.kmip_words.specs.declared.call.Call.{Call}
-use Rattle.kmip_words.specs.declared.call.Call.TheVariants.{Query, CreateRsa, Rng, Sign, Activate, Revoke, Destroy, Rename, Get, Raw}
+use Rattle.kmip_words.specs.declared.call.Call.TheVariants.{Query, CreateRsa, Rng, Sign, Activate, Revoke, Destroy, Rename, Get, Raw, Locate, Attributes, CreateAes, Discover}
 use Rattle.kmip_words.specs.declared.call.Recorded.{Recorded}
 
 -- the call of one word: `query`
@@ -84,3 +84,41 @@ call_from None = None
 -- the call of a line, where the line is of the grammar
 unfoldable pub call_of : List ℕ → Option Recorded
 call_of line = if is_utf8 line then call_from (words_of line) else None
+
+-- The calls that are typed, with no response: those above, and four more.
+
+abbrev pub typed_of_one : List ℕ → Option Call
+typed_of_one name = if bytes_eq name (codes "discover") then Some Discover else call_of_one name
+
+abbrev pub locate_of : Option (List ℕ) → Option Call
+locate_of (Some name) = Some (Locate name)
+locate_of None = None
+
+abbrev pub attributes_of : Option (List ℕ) → Option Call
+attributes_of (Some id) = Some (Attributes id)
+attributes_of None = None
+
+-- `locate TEXT` and `attributes TEXT`
+abbrev pub typed_of_two : List ℕ → List ℕ → Option Call
+typed_of_two name word =
+    if bytes_eq name (codes "locate") then locate_of (text_of word)
+    else if bytes_eq name (codes "attributes") then attributes_of (text_of word)
+    else call_of_two name word
+
+abbrev pub create_aes_of : Option ℤ → Option (List ℕ) → Option Call
+create_aes_of (Some key_length) (Some name) = Some (CreateAes key_length name)
+create_aes_of key_length name = None
+
+-- `create-aes INT TEXT`
+abbrev pub typed_of_three : List ℕ → List ℕ → List ℕ → Option Call
+typed_of_three name first second =
+    if bytes_eq name (codes "create-aes") then create_aes_of (int_of first) (text_of second)
+    else call_of_three name first second
+
+-- the call of words that are typed
+abbrev pub typed_call : List (List ℕ) → Option Call
+typed_call (name ∷ []) = typed_of_one name
+typed_call (name ∷ first ∷ []) = typed_of_two name first
+typed_call (name ∷ first ∷ second ∷ []) = typed_of_three name first second
+typed_call (name ∷ first ∷ second ∷ third ∷ []) = call_of_four name first second third
+typed_call words = None

@@ -2,5 +2,7 @@ pub mod Words
 pub mod Values
 pub mod Calls
 pub mod Raw
+pub mod Requests
 pub mod Streams
+pub mod Styled
 pub mod Exchange

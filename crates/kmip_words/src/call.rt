@@ -1,7 +1,7 @@
-//! What a line of the script asks for.
+//! What words ask for: those of a line of a script, and those that are typed.
 ghost use Rattle.std.specs.Prelude.{◌≡◌, map, option_map, IfOk};
 ghost use Rattle.kmip_words.specs.Values.{int_of, bytes_of, text_of};
-ghost use Rattle.kmip_words.specs.Calls.{rng_of, raw_of, key_call, call_of_one, call_of_two, sign_of, rename_of, call_of_three, create_rsa_of, call_of_four, with_response, call_of_words, call_of};
+ghost use Rattle.kmip_words.specs.Calls.{typed_of_one, locate_of, attributes_of, typed_of_two, create_aes_of, typed_of_three, typed_call, rng_of, raw_of, key_call, call_of_one, call_of_two, sign_of, rename_of, call_of_three, create_rsa_of, call_of_four, with_response, call_of_words, call_of};
 
 use crate::raw::RawRequest;
 use crate::values::{bytes_of, int_of, text_of};
@@ -55,6 +55,21 @@ pub enum Call {
     Raw {
         request: RawRequest,
     },
+    /// `locate TEXT`: which objects have this name. No line of a script has it, nor the three below.
+    Locate {
+        name: Text,
+    },
+    /// `attributes TEXT`: all attributes of the object with this identifier.
+    Attributes {
+        id: Text,
+    },
+    /// `create-aes INT TEXT`: an AES key of so many bits to encrypt and decrypt with, under this name.
+    CreateAes {
+        key_length: i32,
+        name: Text,
+    },
+    /// `discover`: which versions of KMIP the server speaks.
+    Discover,
 }
 
 /// A call, and the response that was recorded for it.
@@ -257,5 +272,96 @@ pub fn call_of(alloc: Global, line: &[u8]) -> Result<Option<Recorded>, OutOfMemo
     match words_of(alloc, line)? {
         Some(words) => call_of_words(alloc, &words),
         None => Ok(None),
+    }
+}
+
+/// `query` and `discover`.
+fn typed_of_one(name: &str) -> Option<Call>
+    ensures { result ≡ typed_of_one name.now }
+{
+    match name {
+        "discover" => Some(Call::Discover),
+        _ => call_of_one(name),
+    }
+}
+
+/// `locate TEXT`.
+fn locate_of(alloc: Global, name: &str) -> Result<Option<Call>, OutOfMemory>
+    ensures { IfOk result (λ call. call ≡ locate_of (text_of name.now)) }
+{
+    match text_of(alloc, name)? {
+        Some(name) => Ok(Some(Call::Locate { name })),
+        None => Ok(None),
+    }
+}
+
+/// `attributes TEXT`.
+fn attributes_of(alloc: Global, id: &str) -> Result<Option<Call>, OutOfMemory>
+    ensures { IfOk result (λ call. call ≡ attributes_of (text_of id.now)) }
+{
+    match text_of(alloc, id)? {
+        Some(id) => Ok(Some(Call::Attributes { id })),
+        None => Ok(None),
+    }
+}
+
+/// The typed calls of two words.
+fn typed_of_two(alloc: Global, name: &str, word: &str) -> Result<Option<Call>, OutOfMemory>
+    ensures { IfOk result (λ call. call ≡ typed_of_two name.now word.now) }
+{
+    match name {
+        "locate" => locate_of(alloc, word),
+        "attributes" => attributes_of(alloc, word),
+        _ => call_of_two(alloc, name, word),
+    }
+}
+
+/// `create-aes INT TEXT`.
+fn create_aes_of(alloc: Global, key_length: &str, name: &str) -> Result<Option<Call>, OutOfMemory>
+    ensures { IfOk result (λ call. call ≡ create_aes_of (int_of key_length.now) (text_of name.now)) }
+{
+    let Some(key_length) = int_of(key_length) else {
+        return Ok(None);
+    };
+    match text_of(alloc, name)? {
+        Some(name) => Ok(Some(Call::CreateAes { key_length, name })),
+        None => Ok(None),
+    }
+}
+
+/// The typed calls of three words.
+fn typed_of_three(
+    alloc: Global,
+    name: &str,
+    first: &str,
+    second: &str,
+) -> Result<Option<Call>, OutOfMemory>
+    ensures { IfOk result (λ call. call ≡ typed_of_three name.now first.now second.now) }
+{
+    match name {
+        "create-aes" => create_aes_of(alloc, first, second),
+        _ => call_of_three(alloc, name, first, second),
+    }
+}
+
+/// The call of words that are typed, with no response: those of a line of a script, `locate TEXT`, `attributes TEXT`,
+/// `create-aes INT TEXT` and `discover`. None where they are not of this grammar.
+pub fn typed_call(alloc: Global, words: &[Text]) -> Result<Option<Call>, OutOfMemory>
+    ensures { IfOk result (λ call. call ≡ typed_call words.now) }
+{
+    match words {
+        [name] => Ok(typed_of_one(name.as_str())),
+        [name, first] => typed_of_two(alloc, name.as_str(), first.as_str()),
+        [name, first, second] => {
+            typed_of_three(alloc, name.as_str(), first.as_str(), second.as_str())
+        }
+        [name, first, second, third] => call_of_four(
+            alloc,
+            name.as_str(),
+            first.as_str(),
+            second.as_str(),
+            third.as_str(),
+        ),
+        _ => Ok(None),
     }
 }
