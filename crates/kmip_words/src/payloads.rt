@@ -25,7 +25,9 @@ pub fn located(answer: Result<ResponsePayload, Error>) -> Result<LocateResponseP
 }
 
 /// That of Get Attributes.
-pub fn attributes(answer: Result<ResponsePayload, Error>) -> Result<GetAttributesResponsePayload, Error>
+pub fn attributes(
+    answer: Result<ResponsePayload, Error>,
+) -> Result<GetAttributesResponsePayload, Error>
     requires { IfOk answer (λ payload. IsOfOperation TheOperation.GetAttributes (response_payload_val payload)) }
     ensures { seen_by (λ payload. response_payload_val (payloads.GetAttributes payload)) result ≡ seen answer }
 {
@@ -49,7 +51,9 @@ pub fn created(answer: Result<ResponsePayload, Error>) -> Result<CreateResponseP
 }
 
 /// That of Discover Versions.
-pub fn discovered(answer: Result<ResponsePayload, Error>) -> Result<DiscoverVersionsResponsePayload, Error>
+pub fn discovered(
+    answer: Result<ResponsePayload, Error>,
+) -> Result<DiscoverVersionsResponsePayload, Error>
     requires { IfOk answer (λ payload. IsOfOperation TheOperation.DiscoverVersions (response_payload_val payload)) }
     ensures { seen_by (λ payload. response_payload_val (payloads.DiscoverVersions payload)) result ≡ seen answer }
 {
