@@ -11,7 +11,7 @@ sink_keeps_on ab bc = record { tells = bc.tells ∙ ab.tells; faults = omega ari
 pub source_keeps_on : {a b c : SourceState} → SourceKeeps a b → SourceKeeps b c → SourceKeeps a c
 source_keeps_on ab bc = record { tells = bc.tells ∙ ab.tells; faults = omega arith }
 
-pub rest_is : (n : ℕ) (xs : List ℕ) → take (length xs - n) (drop n xs) ≡ drop n xs
+pub rest_is : {A : Type 0} (n : ℕ) (xs : List A) → take (length xs - n) (drop n xs) ≡ drop n xs
 rest_is n xs = rw (← length-drop n xs) (take-length (drop n xs))
 
 -- the text so far and what is written next

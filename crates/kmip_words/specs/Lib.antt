@@ -3,6 +3,7 @@ pub mod Values
 pub mod Calls
 pub mod Raw
 pub mod Requests
+pub mod Options
 pub mod Streams
 pub mod Styled
 pub mod Exchange

@@ -1,7 +1,7 @@
 use Rattle.std.proofs.Common.{refl}
-use Rattle.kmip_run.proofs.Given.{given_first, given_other}
-use Rattle.kmip_run.proofs.Lines.{rest_is}
-use Rattle.kmip_run.proofs.command.given.Goals as goal
+use Rattle.kmip_words.proofs.Given.{given_first, given_other}
+use Rattle.kmip_words.proofs.Moves.{rest_is}
+use Rattle.kmip_words.proofs.options.given.Goals as goal
 
 pub returns-in-Some-clause-value : goal.returns-in-Some-clause-value
 returns-in-Some-clause-value c =
