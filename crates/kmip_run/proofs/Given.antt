@@ -3,7 +3,7 @@ use Rattle.std.proofs.Common.{◌<◌, bytes_eq, codes, ◌≡◌, ◌≤◌, �
 use Rattle.std.proofs.lemmas.Slice.Eq.{bytes_eq-Decides}
 use Rattle.kmip_words.specs.Values.{number_of}
 use Rattle.kmip_words.specs.Options.{given, given_after}
-use Rattle.kmip_words.proofs.Given.{first_and_rest}
+use Rattle.kmip_words.proofs.NamedValues.{first_and_rest}
 use Rattle.kmip_run.specs.Commands.{diag_of, replay_with, replay_of, explain_of, make_of, command_of}
 use Rattle.kmip_run.specs.declared.command.Command.TheVariants.{Replay}
 

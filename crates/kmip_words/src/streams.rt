@@ -1,7 +1,7 @@
 //! A whole script from a source, and a whole text to a sink.
 ghost use Rattle.std.specs.Prelude.{◌≡◌, ◌+◌, ◌-◌, ◌<◌, ◌≤◌, ◌++◌, ℕ, [], length, take, drop, min, IfOk, IfErr, OnErr, OnOk, IsErrOf, IsTrue, vec_len};
 ghost use Rattle.kmip_link.specs.State.{SourceKeeps, SinkKeeps, Rose, source_left};
-ghost use Rattle.kmip_words.specs.Streams.{Gives, WrotePart};
+ghost use Rattle.kmip_words.specs.Streams.{Gives, GivesPart, WrotePart};
 
 use kmip_link::{LinkError, Sink, Source};
 use std::alloc::Global;
@@ -34,6 +34,9 @@ fn read_piece<S: Source>(
     requires within { room ≤ length piece.old }
     ensures keeps { SourceKeeps (S.state source.old) (S.state source.new) }
     ensures bound { IfOk result (λ n. n ≤ room) }
+    ensures grown { IfOk result (λ n. vec_len script.new ≡ vec_len script.old + n) }
+    ensures kept { take (length script.old.items) script.new.items ≡ script.old.items }
+    ensures part { IsTrue (S.state source.old).tells → GivesPart (S.state source.old) (S.state source.new) room }
     ensures ok { IfOk result (λ n. IsTrue (S.state source.old).tells →
         Gives (S.state source.old) (S.state source.new) n
         × (script.new.items ≡ script.old.items ++ take n (source_left (S.state source.old)))
@@ -45,7 +48,7 @@ fn read_piece<S: Source>(
     Ok(got)
 }
 
-/// Reads to the end, but at most `count` bytes, to the end of `script`.
+/// Reads to the end, but at most `count` bytes, to the end of `script`. Where it fails, no more than `count` was read.
 pub fn read_up_to<S: Source>(
     alloc: Global,
     source: &mut S,
@@ -53,6 +56,9 @@ pub fn read_up_to<S: Source>(
     script: &mut Vec<u8>,
 ) -> Result<(), LinkError>
     ensures keeps { SourceKeeps (S.state source.old) (S.state source.new) }
+    ensures grown { OnOk result (vec_len script.new ≤ vec_len script.old + count) }
+    ensures kept { take (length script.old.items) script.new.items ≡ script.old.items }
+    ensures part { IsTrue (S.state source.old).tells → GivesPart (S.state source.old) (S.state source.new) count }
     ensures ok { OnOk result (IsTrue (S.state source.old).tells →
         Gives (S.state source.old) (S.state source.new) (min count (length (source_left (S.state source.old))))
         × (script.new.items ≡ script.old.items ++ take count (source_left (S.state source.old)))) }

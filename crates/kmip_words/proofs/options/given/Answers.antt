@@ -1,5 +1,5 @@
 use Rattle.std.proofs.Common.{refl}
-use Rattle.kmip_words.proofs.Given.{given_first, given_other}
+use Rattle.kmip_words.proofs.NamedValues.{given_first, given_other}
 use Rattle.kmip_words.proofs.Moves.{rest_is}
 use Rattle.kmip_words.proofs.options.given.Goals as goal
 
