@@ -185,9 +185,13 @@ impl ReadItem for Template {
 /// An object that is handed to the server, under its own tag: KMIP 1.0, 2.2.
 #[derive(PartialEq, Eq, Drop)]
 pub enum ManagedObject {
+    /// A symmetric key: KMIP 1.0, 2.2.2.
     SymmetricKey(SymmetricKey),
+    /// A public key: KMIP 1.0, 2.2.3.
     PublicKey(PublicKey),
+    /// A private key: KMIP 1.0, 2.2.4.
     PrivateKey(PrivateKey),
+    /// A template: KMIP 1.0, 2.2.6.
     Template(Template),
 }
 

@@ -19,6 +19,7 @@ use std::alloc::Global;
 /// What Sign answers: KMIP 1.2, 4.31.
 #[derive(PartialEq, Eq, Drop)]
 pub struct SignResponsePayload {
+    /// The identifier of the object.
     pub unique_identifier: UniqueIdentifier,
     /// The bytes of the signature.
     pub signature_data: Blob,
