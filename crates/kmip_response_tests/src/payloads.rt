@@ -12,6 +12,7 @@ use std::process::Abort;
 use std::test::Fail;
 
 /// A structure in hex, and what it shows as where it is read.
+#[derive(Drop)]
 struct Case {
     hex: &'static str,
     shown: Option<&'static str>,
