@@ -6,8 +6,9 @@ ghost use Rattle.kmip_run.specs.Transcript.{RunsCall};
 
 use kmip_client::Client;
 use kmip_link::MemoryLink;
+use kmip_shape::Style;
 use kmip_wire::{OutOfMemory, Text};
-use kmip_words::{Recorded, Style, answer};
+use kmip_words::{Recorded, answer};
 use std::alloc::Global;
 
 /// Feeds a recorded response to the client's link.

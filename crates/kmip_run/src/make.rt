@@ -8,8 +8,9 @@ use crate::exchange::{feed, sent_len};
 use crate::respond::exchange_of;
 use kmip_client::Client;
 use kmip_link::MemoryLink;
+use kmip_shape::Style;
 use kmip_wire::{OutOfMemory, Text};
-use kmip_words::{Recorded, Style, answer};
+use kmip_words::{Recorded, answer};
 use std::alloc::Global;
 
 /// How many answers were payloads and errors, and how many bytes were taken: a sum of lengths of lists in memory,

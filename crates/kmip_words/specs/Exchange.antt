@@ -3,9 +3,9 @@ use Rattle.std.specs.Prelude.{◌≡◌, ◌≢◌, ℕ, ◌+◌, List, [], ◌+
 use Rattle.kmip_link.specs.Plan.{MemoryState}
 use Rattle.kmip_shape.specs.Val.{Val, Text, Record, Case, AndField, NoField, One}
 use Rattle.kmip_shape.specs.Shape.{Shape}
-use Rattle.kmip_words.specs.Styled.{styled, text_styled}
-use Rattle.kmip_words.specs.declared.style.Style.{Style}
-use Rattle.kmip_words.specs.declared.style.Style.TheVariants.{Bare, Json}
+use Rattle.kmip_shape.specs.Shown.{styled, text_styled}
+use Rattle.kmip_shape.specs.declared.style.Style.{Style}
+use Rattle.kmip_shape.specs.declared.style.Style.TheVariants.{Bare, Json}
 use Rattle.kmip_diag.specs.Diagnostic.{diagnostic}
 use Rattle.kmip_enums.specs.declared.operation.Operation.{Operation}
 use Rattle.kmip_types.specs.declared.auth.CredentialType.{CredentialType}

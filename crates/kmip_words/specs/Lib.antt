@@ -5,5 +5,4 @@ pub mod Raw
 pub mod Requests
 pub mod Options
 pub mod Streams
-pub mod Styled
 pub mod Exchange

@@ -16,12 +16,12 @@ use crate::payloads::{attributes, created, discovered, located};
 use crate::raw::RawRequest;
 use crate::requests::{attributes_request, create_aes_request, discover_request, locate_request};
 use crate::show::{show, show_done, show_pair};
-use crate::style::Style;
 use kmip_client::{Client, Error};
 use kmip_link::MemoryLink;
 use kmip_request::RequestPayload;
 use kmip_request_read::same_message;
 use kmip_response::ResponsePayload;
+use kmip_shape::Style;
 use kmip_wire::{OutOfMemory, Text};
 use std::alloc::Global;
 

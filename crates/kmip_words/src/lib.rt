@@ -17,7 +17,6 @@ mod requests;
 mod setup;
 mod show;
 mod streams;
-mod style;
 mod values;
 mod words;
 
@@ -30,5 +29,4 @@ pub use raw::RawRequest;
 pub use setup::{client_of, limited};
 pub use show::show_error;
 pub use streams::{read_up_to, write_out};
-pub use style::Style;
 pub use values::number_of;

@@ -1,15 +1,15 @@
 //! Calls with no link: the bytes that a call sends, and what the bytes that come back answer.
-ghost use Rattle.std.specs.Prelude.{◌≡◌, ◌++◌, [], IfOk, OnOk, false};
+ghost use Rattle.std.specs.Prelude.{◌≡◌, ◌++◌, [], IfOk, OnOk, false, option_map};
 ghost use Rattle.kmip_client.specs.Client.{credential_for};
-ghost use Rattle.kmip_words.specs.Exchange.{Settings as TheSettings, settings_of, or_empty, asked, ending_of, json_line, call_outcome};
+ghost use Rattle.kmip_words.specs.Exchange.{Settings as TheSettings, settings_of, asked, ending_of, json_line, call_outcome};
 
 use crate::answers::answer;
 use crate::call::Call;
 use crate::ending::Ending;
 use crate::setup::client_of;
-use crate::style::Style;
 use kmip_client::Client;
 use kmip_link::MemoryLink;
+use kmip_shape::Style;
 use kmip_wire::{OutOfMemory, Text, clone_optional};
 use std::alloc::Global;
 use std::marker::Model;
@@ -76,16 +76,30 @@ fn link_over(alloc: Global, response: &[u8]) -> Result<MemoryLink, OutOfMemory>
     }
 }
 
-/// The bytes that a call sends: its one canonical message, and nothing where it has no wire form.
-pub fn request_of(alloc: Global, settings: &Settings, call: Call) -> Result<Vec<u8>, OutOfMemory>
-    ensures { IfOk result (λ request. request.items ≡ or_empty (asked call settings.now.credential).message) }
+/// What was sent to a client's link, as bytes of their own.
+fn sent_by(alloc: Global, client: &mut Client<MemoryLink>) -> Result<Vec<u8>, OutOfMemory>
+    ensures { IfOk result (λ sent. sent.items ≡ client.old.link.sent) }
 {
-    let mut client = settings.client(alloc, MemoryLink::new(alloc))?;
+    let mut sent = Vec::new(alloc);
+    sent.extend_from_slice(client.inner().sent())?;
+    Ok(sent)
+}
+
+/// The bytes that a call sends: its one canonical message, and none where it has no wire form.
+pub fn request_of(
+    alloc: Global,
+    settings: &Settings,
+    call: Call,
+) -> Result<Option<Vec<u8>>, OutOfMemory>
+    ensures { IfOk result (λ request. option_map (λ r. r.items) request ≡ (asked call settings.now.credential).message) }
+{
+    let mut client = settings.client(alloc, link_over(alloc, &[])?)?;
     let mut line = Text::new(alloc);
-    let _ending = answer(alloc, &mut client, Style::Json, call, &mut line)?;
-    let mut request = Vec::new(alloc);
-    request.extend_from_slice(client.inner().sent())?;
-    Ok(request)
+    match answer(alloc, &mut client, Style::Json, call, &mut line)? {
+        // a request that was sent found the link at its end
+        Ending::Lost => Ok(Some(sent_by(alloc, &mut client)?)),
+        Ending::Answered | Ending::Refused => Ok(None),
+    }
 }
 
 /// Adds what these bytes answer to a call as a line of JSON, and says how the call ended: `{"answer":..}` with the

@@ -1,14 +1,13 @@
 //! The line of an answer, in a style.
 ghost use Rattle.std.specs.Prelude.{◌≡◌, ◌≢◌, ◌++◌, codes, cond, IfOk, OnOk};
-ghost use Rattle.kmip_words.specs.Styled.{styled, text_styled};
-ghost use Rattle.kmip_words.specs.declared.style.Style.TheVariants.{Bare, Json};
+ghost use Rattle.kmip_shape.specs.Shown.{styled, text_styled};
+ghost use Rattle.kmip_shape.specs.declared.style.Style.TheVariants.{Bare, Json};
 ghost use Rattle.kmip_words.specs.Exchange.{pair_styled, done_styled, error_name, error_line, value_line, loses_link, Shows};
 ghost use Rattle.kmip_words.specs.declared.ending.Ending.TheVariants as endings;
 
 use crate::ending::Ending;
-use crate::style::Style;
 use kmip_client::Error;
-use kmip_shape::ShowItem;
+use kmip_shape::{ShowItem, Style};
 use kmip_wire::{OutOfMemory, Text};
 use std::alloc::Global;
 
@@ -41,10 +40,7 @@ fn push_styled<P: ShowItem>(
 {
     match style {
         Style::Bare => value.show(alloc, line),
-        Style::Json => {
-            line.push_str("JSON")?;
-            value.show(alloc, line)
-        }
+        Style::Json => value.show_json(alloc, line),
     }
 }
 
