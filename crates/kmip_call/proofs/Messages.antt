@@ -145,17 +145,17 @@ contents_part {a = a} {b = b} {c = c} front limit n head is some part =
 
 -- The same where the reading of the contents may have stopped.
 
-pub one_message_or : {T E : Type 0} (result : Result T E) (front whole : List ℕ) (limit : Option ℕ) (n : ℕ) → length front ≤ 8 → contents_of front limit ≡ Some n →
-    take (length front) whole ≡ front → OnOk result (length whole ≤ length front + n) → OnOk result (IsOneAtMost limit whole)
-one_message_or (Ok done) front whole limit n few some begins small = one_message front whole limit n few some begins small
-one_message_or (Err error) front whole limit n few some begins small = tt
+pub one_message_or : {T E : Type 0} (result : Result T E) (front whole : List ℕ) (limit : Option ℕ) (n size all : ℕ) → length front ≤ 8 → contents_of front limit ≡ Some n →
+    take (length front) whole ≡ front → size ≡ length front → all ≡ length whole → OnOk result (all ≤ size + n) → OnOk result (IsOneAtMost limit whole)
+one_message_or (Ok done) front whole limit n size all few some begins size_is all_is small = one_message front whole limit n few some begins (omega (arith, size_is, all_is, small))
+one_message_or (Err error) front whole limit n size all few some begins size_is all_is small = tt
 
-pub message_taken_or : {T E : Type 0} {a b c : SourceState} (tells told : Type 0) (result : Result T E) (front whole : List ℕ) (limit : Option ℕ) (n : ℕ) → contents_of front limit ≡ Some n → (tells → told) →
+pub message_taken_or : {T E : Type 0} (a b c : SourceState) (tells told : Type 0) (result : Result T E) (front whole : List ℕ) (limit : Option ℕ) (n : ℕ) → contents_of front limit ≡ Some n → (tells → told) →
     (tells → Gives a b (min 8 (length (source_left a))) × (front ≡ take 8 (source_left a))) →
     OnOk result (told → Gives b c (min n (length (source_left b))) × (whole ≡ front ++ take n (source_left b))) →
     OnOk result (tells → Gives a c (taken_at (source_left a) limit) × (whole ≡ take (taken_at (source_left a) limit) (source_left a)))
-message_taken_or tells told (Ok done) front whole limit n some on head contents = λ t.
+message_taken_or a b c tells told (Ok done) front whole limit n some on head contents = λ t.
     let first = head t in
     let rest = contents (on t) in
     message_taken front whole limit n first.0 first.1 some rest.0 rest.1
-message_taken_or tells told (Err error) front whole limit n some on head contents = tt
+message_taken_or a b c tells told (Err error) front whole limit n some on head contents = tt

@@ -1,4 +1,4 @@
-use Rattle.std.proofs.Common.{◌≡◌, ◌≤◌, ◌×◌, length, min, take, arith, ◌∙◌, ap, sym, IsTrue, None, Some}
+use Rattle.std.proofs.Common.{◌≡◌, ◌≤◌, length, min, take, arith, ◌∙◌, ap, sym, IsTrue, None, Some, vec_len}
 use Rattle.kmip_link.specs.State.{source_left}
 use Rattle.kmip_words.specs.Streams.{Gives}
 use Rattle.kmip_call.specs.Wire.{contents_of}
@@ -12,12 +12,12 @@ pub returns-in-Some-clause-one : goal.returns-in-Some-clause-one
 returns-in-Some-clause-one g c =
     let told : contents_of c.read_up_to.new.script.items c.args.limit ≡ Some c.in-Some.count = ap (λ b. contents_of b c.args.limit) (sym c.deref.ensures.value) ∙ sym c.in-Some.ensures in
     let few : length c.read_up_to.new.script.items ≤ 8 = omega (arith, c.in_ok-read_up_to.ensures.grown, ap length c.requires) in
-    one_message_or c.read_up_to-in-Some.result c.read_up_to.new.script.items c.read_up_to-in-Some.new.script.items c.args.limit c.in-Some.count few told c.read_up_to-in-Some.ensures.kept c.read_up_to-in-Some.ensures.grown
+    one_message_or c.read_up_to-in-Some.result c.read_up_to.new.script.items c.read_up_to-in-Some.new.script.items c.args.limit c.in-Some.count (vec_len c.read_up_to.new.script) (vec_len c.read_up_to-in-Some.new.script) few told c.read_up_to-in-Some.ensures.kept (omega arith) (omega arith) c.read_up_to-in-Some.ensures.grown
 
 pub returns-in-Some-clause-taken : goal.returns-in-Some-clause-taken
 returns-in-Some-clause-taken g c =
     let told : contents_of c.read_up_to.new.script.items c.args.limit ≡ Some c.in-Some.count = ap (λ b. contents_of b c.args.limit) (sym c.deref.ensures.value) ∙ sym c.in-Some.ensures in
-    message_taken_or (IsTrue (g.S.Source.state c.args.source.now).tells) (IsTrue (g.S.Source.state c.read_up_to.new.source).tells) c.read_up_to-in-Some.result c.read_up_to.new.script.items c.read_up_to-in-Some.new.script.items c.args.limit c.in-Some.count told
+    message_taken_or (g.S.Source.state c.args.source.now) (g.S.Source.state c.read_up_to.new.source) (g.S.Source.state c.read_up_to-in-Some.new.source) (IsTrue (g.S.Source.state c.args.source.now).tells) (IsTrue (g.S.Source.state c.read_up_to.new.source).tells) c.read_up_to-in-Some.result c.read_up_to.new.script.items c.read_up_to-in-Some.new.script.items c.args.limit c.in-Some.count told
     (λ tells. rw c.read_up_to.ensures.keeps.tells tells)
     (λ tells. let it = c.in_ok-read_up_to.ensures.ok tells in (it.0, rw c.requires at it.1))
     c.read_up_to-in-Some.ensures.ok
