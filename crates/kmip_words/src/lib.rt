@@ -24,7 +24,7 @@ pub use answers::answer;
 pub use call::{Call, Recorded, call_of, typed_call};
 pub use ending::Ending;
 pub use offline::{Settings, answer_of, request_of};
-pub use options::{given, given_after};
+pub use options::{copied, given, given_after};
 pub use raw::RawRequest;
 pub use setup::{client_of, limited};
 pub use show::show_error;

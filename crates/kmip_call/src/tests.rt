@@ -1,0 +1,1 @@
+//! The program over sinks and sources in memory.
