@@ -30,3 +30,4 @@ pub use setup::{client_of, limited};
 pub use show::show_error;
 pub use streams::{read_up_to, write_out};
 pub use values::number_of;
+pub use words::words_of;
