@@ -41,6 +41,6 @@ one_word word other =
     else other
 
 -- the command of the words after the program's name
-unfoldable pub command_of : Option (List ℕ) → List (List ℕ) → Option Command
+abbrev pub command_of : Option (List ℕ) → List (List ℕ) → Option Command
 command_of environment (word ∷ []) = one_word word (option_map Make (order_of environment (word ∷ [])))
 command_of environment words = option_map Make (order_of environment words)

@@ -1,7 +1,7 @@
 //! What the words of the command line ask for.
 ghost use Rattle.std.specs.Prelude.{◌≡◌, ◌∷◌, [], option_map, IfOk, Some, None, false};
 ghost use Rattle.kmip_client.specs.Client.{credential_for};
-ghost use Rattle.kmip_call.specs.Commands.{first_of, order_with, order_of, command_of};
+ghost use Rattle.kmip_call.specs.Commands.{first_of, order_with, order_of, one_word, command_of};
 ghost use Rattle.kmip_call.specs.declared.command.Command.TheVariants.{Make};
 
 use kmip_wire::{List, OutOfMemory, Text, clone_items};
@@ -96,6 +96,22 @@ fn made(order: Option<Order>) -> Option<Command>
     }
 }
 
+/// The command of words that are one alone, and else that of a call.
+fn one_word(
+    alloc: Global,
+    environment: Option<&str>,
+    word: &str,
+    words: &[Text],
+) -> Result<Option<Command>, OutOfMemory>
+    ensures { IfOk result (λ command. command ≡ one_word word.now (option_map Make (order_of (option_map (λ text. text.now) environment.entry) words.now))) }
+{
+    match word {
+        "--help" => Ok(Some(Command::Help)),
+        "--version" => Ok(Some(Command::Version)),
+        _ => Ok(made(order_of(alloc, environment, words)?)),
+    }
+}
+
 /// The command of the words after the program's name, or none where they are not of the grammar.
 pub fn command_of(
     alloc: Global,
@@ -104,12 +120,8 @@ pub fn command_of(
 ) -> Result<Option<Command>, OutOfMemory>
     ensures { IfOk result (λ command. command ≡ command_of (option_map (λ text. text.now) environment.entry) words.now) }
 {
-    if let [word] = words {
-        match word.as_str() {
-            "--help" => return Ok(Some(Command::Help)),
-            "--version" => return Ok(Some(Command::Version)),
-            _ => {}
-        }
+    match words {
+        [word] => one_word(alloc, environment, word.as_str(), words),
+        _ => Ok(made(order_of(alloc, environment, words)?)),
     }
-    Ok(made(order_of(alloc, environment, words)?))
 }
