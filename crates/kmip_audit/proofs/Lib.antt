@@ -1,5 +1,5 @@
 pub mod Framing
-pub mod Entries
+pub mod Pairing
 pub mod Agreeing
 pub mod Telling
 pub mod Variants

@@ -15,8 +15,8 @@ use Rattle.kmip_audit.specs.Skeletons.{AllParse, skeletons_of, frame_skeletons, 
 use Rattle.kmip_audit.specs.declared.outcomes.Outcome.{Outcome}
 use Rattle.kmip_audit.specs.declared.reports.Entry.{Entry}
 use Rattle.kmip_audit.specs.declared.reports.Report.{Report}
-use Rattle.kmip_audit.proofs.Framing.{Falls, falls, frames_none, frames_some}
-use Rattle.kmip_audit.proofs.Entries.{same_report}
+use Rattle.kmip_audit.proofs.Framing.{Falls, falls, front_short, frames_none, frames_some}
+use Rattle.kmip_audit.proofs.Pairing.{same_report}
 
 -- ---- the laws that this stands on
 
@@ -36,17 +36,17 @@ bytes_drop : (n : ℕ) (b : List ℕ) → AreBytes b → AreBytes (drop n b)
 bytes_drop n b h i = omega (arith, get_or-drop n b i 0, h (n + i))
 
 frame_bytes : (n : ℕ) (b : List ℕ) → length b ≤ n → AreBytes b → AllBytes (frames b).all
-frame_bytes n b h are = go n h (front_frame b) refl
+frame_bytes zero b h are = rw (frames_none b (front_short b (omega arith))) tt
+frame_bytes (suc k) b h are = go (λ c p q. frame_bytes k c p q) (front_frame b) refl
   where
-    go : (n : ℕ) → length b ≤ n → (f : Option (List ℕ)) → front_frame b ≡ f → AllBytes (frames b).all
-    go n h None e = rw (frames_none b e) tt
-    go zero h (Some m) e = let f = falls b m e in absurd (omega (arith, f.some, f.within))
-    go (suc k) h (Some m) e =
+    go : ((c : List ℕ) → length c ≤ k → AreBytes c → AllBytes (frames c).all) → (f : Option (List ℕ)) → front_frame b ≡ f → AllBytes (frames b).all
+    go hypothesis None e = rw (frames_none b e) tt
+    go hypothesis (Some m) e =
         let f = falls b m e in
         let some : 8 ≤ length m = f.some in
         let l : length (drop (length m) b) + length m ≡ length b = omega (arith, length-drop (length m) b, f.within) in
         let one : AreBytes m = subst AreBytes (sym f.front) (bytes_take (length m) b are) in
-        rw (frames_some b m e) (one, frame_bytes k (drop (length m) b) (omega arith) (bytes_drop (length m) b are))
+        rw (frames_some b m e) (one, hypothesis (drop (length m) b) (omega arith) (bytes_drop (length m) b are))
 
 -- ---- diagnostics and skeletons of frames, side by side
 

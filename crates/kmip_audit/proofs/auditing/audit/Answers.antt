@@ -1,5 +1,5 @@
 use Rattle.std.proofs.Common.{sym, ◌∙◌}
-use Rattle.kmip_audit.proofs.Entries.{entry_smaller, entry_on, report_done}
+use Rattle.kmip_audit.proofs.Pairing.{entry_smaller, entry_on, report_done}
 use Rattle.kmip_audit.proofs.auditing.audit.Goals as goal
 
 pub frames-smaller : goal.frames-smaller

@@ -1,5 +1,5 @@
 use Rattle.std.proofs.Common.{◌+◌, length}
-use Rattle.kmip_audit.proofs.Entries.{SoFar}
+use Rattle.kmip_audit.proofs.Pairing.{SoFar}
 use Rattle.kmip_audit.proofs.auditing.audit.Given as goal
 
 abbrev pub invariant-frames : goal.invariant-frames

@@ -65,7 +65,7 @@ none_both None (Some n) h = absurd (let k : false ≡ true = h in cc)
 none_both (Some m) None h = absurd (let k : false ≡ true = h in cc)
 none_both (Some m) (Some n) h = absurd (let k : false ≡ true = h in cc)
 
-same_report : (a a' : List Entry) (b b' c c' : End) → a ≡ a' → b ≡ b' → c ≡ c' →
+pub same_report : (a a' : List Entry) (b b' c c' : End) → a ≡ a' → b ≡ b' → c ≡ c' →
     let x : Report = record { entries = a; sent_end = b; received_end = c } in let y : Report = record { entries = a'; sent_end = b'; received_end = c' } in x ≡ y
 same_report a a' b b' c c' p q r = rw (p, q, r) refl
 
