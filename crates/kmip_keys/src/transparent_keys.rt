@@ -230,7 +230,10 @@ type TransparentRSAPrivateKeyRows = Row<
                 BigOpt<P>,
                 Row<
                     BigOpt<Q>,
-                    Row<BigOpt<PRIME_EXPONENT_P>, Row<BigOpt<PRIME_EXPONENT_Q>, Row<BigOpt<CRT_COEFFICIENT>, End>>>,
+                    Row<
+                        BigOpt<PRIME_EXPONENT_P>,
+                        Row<BigOpt<PRIME_EXPONENT_Q>, Row<BigOpt<CRT_COEFFICIENT>, End>>,
+                    >,
                 >,
             >,
         >,

@@ -99,7 +99,10 @@ type KeyBlockRows<'a> = Choosing<
             ChosenOne<'a, KeyValue, KEY_VALUE>,
             Row<
                 Opt<CryptographicAlgorithm, CRYPTOGRAPHIC_ALGORITHM>,
-                Row<Opt<i32, CRYPTOGRAPHIC_LENGTH>, Row<Opt<KeyWrappingData, KEY_WRAPPING_DATA>, End>>,
+                Row<
+                    Opt<i32, CRYPTOGRAPHIC_LENGTH>,
+                    Row<Opt<KeyWrappingData, KEY_WRAPPING_DATA>, End>,
+                >,
             >,
         >,
     >,

@@ -29,7 +29,10 @@ pub struct Certificate {
     pub certificate_value: Blob,
 }
 
-type CertificateRows = Row<One<CertificateType, CERTIFICATE_TYPE>, Row<One<Blob, CERTIFICATE_VALUE>, End>>;
+type CertificateRows = Row<
+    One<CertificateType, CERTIFICATE_TYPE>,
+    Row<One<Blob, CERTIFICATE_VALUE>, End>,
+>;
 
 impl TryClone for Certificate {
     fn try_clone(&self, alloc: Global) -> Result<Certificate, OutOfMemory> {

@@ -50,7 +50,10 @@ impl Item for MessageExtension {
     ghost same = { message_extension_same };
 }
 
-type MessageExtensionRows = Row<One<Text, VENDOR_IDENTIFICATION>, Row<One<bool, CRITICALITY_INDICATOR>, End>>;
+type MessageExtensionRows = Row<
+    One<Text, VENDOR_IDENTIFICATION>,
+    Row<One<bool, CRITICALITY_INDICATOR>, End>,
+>;
 
 impl ReadItem for MessageExtension {
     fn read(alloc: Global, outer: Outer<'_>, item: ItemRef<'_>) -> Result<Self, ReadError> {

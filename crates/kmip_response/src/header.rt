@@ -25,7 +25,10 @@ pub struct ProtocolVersion {
     pub minor: i32,
 }
 
-type ProtocolVersionRows = Row<One<i32, PROTOCOL_VERSION_MAJOR>, Row<One<i32, PROTOCOL_VERSION_MINOR>, End>>;
+type ProtocolVersionRows = Row<
+    One<i32, PROTOCOL_VERSION_MAJOR>,
+    Row<One<i32, PROTOCOL_VERSION_MINOR>, End>,
+>;
 
 impl Item for ProtocolVersion {
     ghost shape = { protocol_version };

@@ -15,7 +15,7 @@ use kmip_shape::columns::One;
 use kmip_shape::record::{End, Row};
 use kmip_shape::{Item, fields, known_record};
 use kmip_tags::tags::{
-    APPLICATION_DATA, APPLICATION_NAMESPACE, LINKED_OBJECT_IDENTIFIER, LINK_TYPE, NAME_TYPE,
+    APPLICATION_DATA, APPLICATION_NAMESPACE, LINK_TYPE, LINKED_OBJECT_IDENTIFIER, NAME_TYPE,
     NAME_VALUE,
 };
 use kmip_wire::{Blob, OutOfMemory, Text};
@@ -166,7 +166,10 @@ impl Values {
 pub type NameRows = Row<One<NameValue, NAME_VALUE>, Row<One<NameType, NAME_TYPE>, End>>;
 
 /// The rows of a Link: KMIP 1.0, 3.29.
-pub type LinkRows = Row<One<LinkType, LINK_TYPE>, Row<One<LinkedObjectIdentifier, LINKED_OBJECT_IDENTIFIER>, End>>;
+pub type LinkRows = Row<
+    One<LinkType, LINK_TYPE>,
+    Row<One<LinkedObjectIdentifier, LINKED_OBJECT_IDENTIFIER>, End>,
+>;
 
 /// The rows of Application Specific Information: KMIP 1.0, 3.30.
 pub type InformationRows = Row<

@@ -24,7 +24,10 @@ pub struct SignResponsePayload {
     pub signature_data: Blob,
 }
 
-type SignResponsePayloadRows = Row<One<UniqueIdentifier, UNIQUE_IDENTIFIER>, Row<One<Blob, SIGNATURE_DATA>, End>>;
+type SignResponsePayloadRows = Row<
+    One<UniqueIdentifier, UNIQUE_IDENTIFIER>,
+    Row<One<Blob, SIGNATURE_DATA>, End>,
+>;
 
 impl TryClone for SignResponsePayload {
     fn try_clone(&self, alloc: Global) -> Result<SignResponsePayload, OutOfMemory> {
