@@ -133,9 +133,10 @@ reports_tell tell computed s r s' r' ps pr ps' pr' alike =
     let asked = frames_tell tell computed (frames s).all (frames s').all (frame_bytes (length s) s (omega arith) ps.bytes) (frame_bytes (length s') s' (omega arith) ps'.bytes) ps.parse ps'.parse in
     let told = frames_tell tell computed (frames r).all (frames r').all (frame_bytes (length r) r (omega arith) pr.bytes) (frame_bytes (length r') r' (omega arith) pr'.bytes) pr.parse pr'.parse in (
       λ h.
-          let e : entries_of (frames s).all (frames r).all ≡ entries_of (frames s').all (frames r').all = ap (λ (x : Report). x.entries) h in
-          (asked.0 (sym (requests_in (frames s).all (frames r).all) ∙ ap (λ (l : List Entry). somes (map (λ (e : Entry). e.request) l)) e ∙ requests_in (frames s').all (frames r').all),
-          told.0 (sym (responses_in (frames s).all (frames r).all) ∙ ap (λ (l : List Entry). somes (map (λ (e : Entry). e.response) l)) e ∙ responses_in (frames s').all (frames r').all)),
+          let e : entries_of (frames s).all (frames r).all ≡ entries_of (frames s').all (frames r').all = ap (λ (x : Report). x.entries) h in (
+            asked.0 (sym (requests_in (frames s).all (frames r).all) ∙ ap (λ (l : List Entry). somes (map (λ (e : Entry). e.request) l)) e ∙ requests_in (frames s').all (frames r').all),
+            told.0 (sym (responses_in (frames s).all (frames r).all) ∙ ap (λ (l : List Entry). somes (map (λ (e : Entry). e.response) l)) e ∙ responses_in (frames s').all (frames r').all),
+          ),
       λ h.
           let e : entries_of (frames s).all (frames r).all ≡ entries_of (frames s').all (frames r').all =
           are_built (frames s).all (frames r).all

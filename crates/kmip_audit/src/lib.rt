@@ -12,6 +12,8 @@ mod laws;
 mod outcomes;
 mod reports;
 mod responses;
+#[cfg(test)]
+mod tests;
 
 pub use auditing::audit;
 pub use laws::{answered_exactly_where_ok, reports_tell_skeletons};

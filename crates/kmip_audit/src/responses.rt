@@ -38,7 +38,7 @@ fn payload_outcome(operation: Operation, payload: &Option<ResponsePayload>) -> O
 }
 
 /// What a batch item tells, by its status, its operation and its payload.
-#[tactic(auto, using(crate::proofs::Variants::{reason_back, operation_back}))]
+#[tactic(auto, using(crate::proofs::Variants::reason_back, crate::proofs::Variants::operation_back))]
 fn item_outcome(operation: Operation, item: &BatchItem) -> Outcome
     ensures { result ≡ item_outcome operation (batch_item_val item.now) }
 {
