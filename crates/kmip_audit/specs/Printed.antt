@@ -1,5 +1,5 @@
--- The text of an outcome and of an end.
-use Rattle.std.specs.Prelude.{ℕ, List, [], ◌++◌, Option, Some, None, codes}
+-- A report as text.
+use Rattle.std.specs.Prelude.{ℕ, ◌+◌, List, [], ◌∷◌, ◌++◌, Option, Some, None, codes}
 use Rattle.std.specs.Fmt.{decimal}
 use Rattle.kmip_enums.specs.Operations.{operation_line}
 use Rattle.kmip_enums.specs.ResultReasons.{result_reason_line}
@@ -7,6 +7,8 @@ use Rattle.kmip_enums.specs.declared.operation.Operation.{Operation}
 use Rattle.kmip_enums.specs.declared.result_reason.ResultReason.{ResultReason}
 use Rattle.kmip_audit.specs.declared.outcomes.Outcome.{Outcome}
 use Rattle.kmip_audit.specs.declared.outcomes.Outcome.TheVariants.{NoRequest, UnreadRequest, NoResponse, Malformed, Unread, NotOne, Failed, Pending, Undone, OtherOperation, NoPayload, Answered}
+use Rattle.kmip_audit.specs.declared.reports.Entry.{Entry}
+use Rattle.kmip_audit.specs.declared.reports.Report.{Report}
 use Rattle.kmip_audit.specs.declared.reports.End.{End}
 use Rattle.kmip_audit.specs.declared.reports.End.TheVariants.{Whole, Torn}
 
@@ -46,3 +48,25 @@ outcome_text outcome = outcome_words outcome ++ outcome_name outcome
 abbrev pub end_text : End → List ℕ
 end_text Whole = codes "whole"
 end_text (Torn at) = codes "torn at " ++ decimal at
+
+-- a diagnostic, and `-` where there is none
+abbrev pub shown_text : Option (List ℕ) → List ℕ
+shown_text None = codes "-"
+shown_text (Some text) = text
+
+-- the three lines of an entry
+abbrev pub entry_text : ℕ → Entry → List ℕ
+entry_text number entry =
+    codes "#" ++ (decimal number ++ (codes " " ++ (outcome_text entry.outcome
+    ++ (codes "\n>~ " ++ (shown_text entry.request ++ (codes "\n<~ " ++ (shown_text entry.response ++ codes "\n")))))))
+
+-- those of the entries from this number on
+abbrev pub entries_text : ℕ → List Entry → List ℕ
+entries_text number [] = []
+entries_text number (entry ∷ entries) = entry_text number entry ++ entries_text (number + 1) entries
+
+-- and then the ends of both streams
+abbrev pub report_text : Report → List ℕ
+report_text report =
+    entries_text 1 report.entries
+    ++ (codes "sent " ++ (end_text report.sent_end ++ (codes "\nreceived " ++ (end_text report.received_end ++ codes "\n"))))

@@ -9,6 +9,7 @@ mod auditing;
 mod entries;
 mod frames;
 mod laws;
+mod lines;
 mod outcomes;
 mod reports;
 mod responses;
