@@ -1,6 +1,7 @@
 //! Attributes of objects.
 
 ghost use Rattle.std.specs.Prelude.{◌≡◌};
+ghost use Rattle.kmip_tags.specs.Tags as tags;
 ghost use Rattle.kmip_objects.specs.Tables.{attribute, name};
 ghost use Rattle.kmip_objects.specs.Values.{attribute_val};
 ghost use Rattle.kmip_objects.specs.Same.{attribute_same};
@@ -19,6 +20,7 @@ use std::alloc::Global;
 /// An attribute of an object: KMIP 1.0, 2.1.1.
 #[derive(PartialEq, Eq, Drop)]
 pub struct Attribute {
+    /// Its name, by which the type of its value is chosen.
     pub name: AttributeName,
     /// Which of the attributes of this name it is, from 0.
     pub index: Option<AttributeIndex>,
@@ -64,7 +66,7 @@ impl ReadItem for Attribute {
 }
 
 impl ReadRoot for Attribute {
-    ghost root_tag = { ATTRIBUTE };
+    ghost root_tag = { tags.ATTRIBUTE };
 
     fn root_tag() -> Tag {
         Tag::of(ATTRIBUTE)

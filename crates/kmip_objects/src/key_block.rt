@@ -1,6 +1,7 @@
 //! Keys with their format, algorithm and length.
 
 ghost use Rattle.std.specs.Prelude.{◌≡◌};
+ghost use Rattle.kmip_tags.specs.Tags as tags;
 ghost use Rattle.kmip_objects.specs.Tables.{key_wrapping_data, key_value, key_block};
 ghost use Rattle.kmip_objects.specs.Values.{key_value_val, key_block_val};
 ghost use Rattle.kmip_objects.specs.Same.{key_value_same, key_block_same};
@@ -26,6 +27,7 @@ use std::alloc::Global;
 pub struct KeyValue {
     /// `Wrapped` where the key value is one Byte String, else of the key block's format.
     pub key_material: KeyMaterial,
+    /// Attributes that are wrapped together with the key material.
     pub attributes: Option<List<Attribute>>,
 }
 
@@ -81,13 +83,17 @@ impl ShowItem for KeyValue {
 /// A key with its format, algorithm and length: KMIP 1.0, 2.1.3.
 #[derive(PartialEq, Eq, Drop)]
 pub struct KeyBlock {
+    /// The format of the key material: KMIP 1.0, 9.1.3.2.3.
     pub key_format_type: KeyFormatType,
+    /// How an elliptic curve's point is compressed: KMIP 1.0, 9.1.3.2.2.
     pub key_compression_type: Option<KeyCompressionType>,
     /// In the form of `key_format_type`.
     pub key_value: KeyValue,
+    /// The algorithm that the key is for: KMIP 1.0, 3.4.
     pub cryptographic_algorithm: Option<CryptographicAlgorithm>,
     /// The length of the key in bits.
     pub cryptographic_length: Option<i32>,
+    /// How the key value is wrapped, if it is: KMIP 1.0, 2.1.5.
     pub key_wrapping_data: Option<KeyWrappingData>,
 }
 
@@ -162,7 +168,7 @@ impl ReadItem for KeyBlock {
 }
 
 impl ReadRoot for KeyBlock {
-    ghost root_tag = { KEY_BLOCK };
+    ghost root_tag = { tags.KEY_BLOCK };
 
     fn root_tag() -> Tag {
         Tag::of(KEY_BLOCK)

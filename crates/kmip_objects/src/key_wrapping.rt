@@ -1,6 +1,7 @@
 //! How keys were wrapped.
 
 ghost use Rattle.std.specs.Prelude.{◌≡◌};
+ghost use Rattle.kmip_tags.specs.Tags as tags;
 ghost use Rattle.kmip_objects.specs.Tables.{encryption_key_information, mac_or_signature_key_information, key_wrapping_data};
 ghost use Rattle.kmip_objects.specs.Values.{encryption_key_information_val, mac_or_signature_key_information_val, key_wrapping_data_val};
 ghost use Rattle.kmip_objects.specs.Same.{encryption_key_information_same, mac_or_signature_key_information_same, key_wrapping_data_same};
@@ -22,7 +23,9 @@ use std::alloc::Global;
 /// The key that wraps by encryption, and how: KMIP 1.0, 2.1.5.
 #[derive(PartialEq, Eq, Drop)]
 pub struct EncryptionKeyInformation {
+    /// The identifier of the key that encrypts.
     pub unique_identifier: UniqueIdentifier,
+    /// How it encrypts.
     pub cryptographic_parameters: Option<CryptographicParameters>,
 }
 
@@ -68,7 +71,7 @@ impl ReadItem for EncryptionKeyInformation {
 }
 
 impl ReadRoot for EncryptionKeyInformation {
-    ghost root_tag = { ENCRYPTION_KEY_INFORMATION };
+    ghost root_tag = { tags.ENCRYPTION_KEY_INFORMATION };
 
     fn root_tag() -> Tag {
         Tag::of(ENCRYPTION_KEY_INFORMATION)
@@ -88,7 +91,9 @@ impl ShowItem for EncryptionKeyInformation {
 /// The key that wraps by a MAC or a signature, and how: KMIP 1.0, 2.1.5.
 #[derive(PartialEq, Eq, Drop)]
 pub struct MACOrSignatureKeyInformation {
+    /// The identifier of the key that signs.
     pub unique_identifier: UniqueIdentifier,
+    /// How it signs.
     pub cryptographic_parameters: Option<CryptographicParameters>,
 }
 
@@ -134,7 +139,7 @@ impl ReadItem for MACOrSignatureKeyInformation {
 }
 
 impl ReadRoot for MACOrSignatureKeyInformation {
-    ghost root_tag = { MAC_SIGNATURE_KEY_INFORMATION };
+    ghost root_tag = { tags.MAC_SIGNATURE_KEY_INFORMATION };
 
     fn root_tag() -> Tag {
         Tag::of(MAC_SIGNATURE_KEY_INFORMATION)
@@ -154,10 +159,15 @@ impl ShowItem for MACOrSignatureKeyInformation {
 /// How a key was wrapped: KMIP 1.0, 2.1.5.
 #[derive(PartialEq, Eq, Drop)]
 pub struct KeyWrappingData {
+    /// Whether the key is encrypted, signed or both: KMIP 1.0, 9.1.3.2.4.
     pub wrapping_method: WrappingMethod,
+    /// The key that encrypts, where the method encrypts.
     pub encryption_key_information: Option<EncryptionKeyInformation>,
+    /// The key that signs, where the method signs.
     pub mac_or_signature_key_information: Option<MACOrSignatureKeyInformation>,
+    /// The MAC or signature of the key value.
     pub mac_or_signature: Option<Blob>,
+    /// The IV, counter or nonce, where the cipher mode has one.
     pub iv_or_counter_or_nonce: Option<Blob>,
 }
 
@@ -225,7 +235,7 @@ impl ReadItem for KeyWrappingData {
 }
 
 impl ReadRoot for KeyWrappingData {
-    ghost root_tag = { KEY_WRAPPING_DATA };
+    ghost root_tag = { tags.KEY_WRAPPING_DATA };
 
     fn root_tag() -> Tag {
         Tag::of(KEY_WRAPPING_DATA)

@@ -1,6 +1,7 @@
 //! Managed objects, each under its own tag.
 
 ghost use Rattle.std.specs.Prelude.{◌≡◌};
+ghost use Rattle.kmip_tags.specs.Tags as tags;
 ghost use Rattle.kmip_shape.specs.Shape.{Choice, OfNumber};
 ghost use Rattle.kmip_objects.specs.Tables.{key_block, certificate, symmetric_key, public_key, private_key, managed_objects};
 ghost use Rattle.kmip_objects.specs.Values.{certificate_val, symmetric_key_val, public_key_val, private_key_val, managed_object_val};
@@ -24,6 +25,7 @@ use std::alloc::Global;
 /// A certificate: KMIP 1.0, 2.2.1.
 #[derive(PartialEq, Eq, Drop)]
 pub struct Certificate {
+    /// X.509 or PGP: KMIP 1.0, 9.1.3.2.6.
     pub certificate_type: CertificateType,
     /// The bytes of the certificate.
     pub certificate_value: Blob,
@@ -68,7 +70,7 @@ impl ReadItem for Certificate {
 }
 
 impl ReadRoot for Certificate {
-    ghost root_tag = { CERTIFICATE };
+    ghost root_tag = { tags.CERTIFICATE };
 
     fn root_tag() -> Tag {
         Tag::of(CERTIFICATE)
@@ -88,6 +90,7 @@ impl ShowItem for Certificate {
 /// A symmetric key: KMIP 1.0, 2.2.2.
 #[derive(PartialEq, Eq, Drop)]
 pub struct SymmetricKey {
+    /// The key and what belongs to it: KMIP 1.0, 2.1.3.
     pub key_block: KeyBlock,
 }
 
@@ -121,7 +124,7 @@ impl ReadItem for SymmetricKey {
 }
 
 impl ReadRoot for SymmetricKey {
-    ghost root_tag = { SYMMETRIC_KEY };
+    ghost root_tag = { tags.SYMMETRIC_KEY };
 
     fn root_tag() -> Tag {
         Tag::of(SYMMETRIC_KEY)
@@ -137,6 +140,7 @@ impl ShowItem for SymmetricKey {
 /// A public key: KMIP 1.0, 2.2.3.
 #[derive(PartialEq, Eq, Drop)]
 pub struct PublicKey {
+    /// The key and what belongs to it: KMIP 1.0, 2.1.3.
     pub key_block: KeyBlock,
 }
 
@@ -170,7 +174,7 @@ impl ReadItem for PublicKey {
 }
 
 impl ReadRoot for PublicKey {
-    ghost root_tag = { PUBLIC_KEY };
+    ghost root_tag = { tags.PUBLIC_KEY };
 
     fn root_tag() -> Tag {
         Tag::of(PUBLIC_KEY)
@@ -186,6 +190,7 @@ impl ShowItem for PublicKey {
 /// A private key: KMIP 1.0, 2.2.4.
 #[derive(PartialEq, Eq, Drop)]
 pub struct PrivateKey {
+    /// The key and what belongs to it: KMIP 1.0, 2.1.3.
     pub key_block: KeyBlock,
 }
 
@@ -219,7 +224,7 @@ impl ReadItem for PrivateKey {
 }
 
 impl ReadRoot for PrivateKey {
-    ghost root_tag = { PRIVATE_KEY };
+    ghost root_tag = { tags.PRIVATE_KEY };
 
     fn root_tag() -> Tag {
         Tag::of(PRIVATE_KEY)
@@ -235,9 +240,13 @@ impl ShowItem for PrivateKey {
 /// An object of the type that stands beside it: KMIP 1.0, 2.2.
 #[derive(PartialEq, Eq, Drop)]
 pub enum ManagedObject {
+    /// A certificate: KMIP 1.0, 2.2.1.
     Certificate(Certificate),
+    /// A symmetric key: KMIP 1.0, 2.2.2.
     SymmetricKey(SymmetricKey),
+    /// A public key: KMIP 1.0, 2.2.3.
     PublicKey(PublicKey),
+    /// A private key: KMIP 1.0, 2.2.4.
     PrivateKey(PrivateKey),
 }
 

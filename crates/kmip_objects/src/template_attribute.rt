@@ -1,6 +1,7 @@
 //! Attributes of new objects.
 
 ghost use Rattle.std.specs.Prelude.{◌≡◌};
+ghost use Rattle.kmip_tags.specs.Tags as tags;
 ghost use Rattle.kmip_objects.specs.Tables.{name, template_attribute};
 ghost use Rattle.kmip_objects.specs.Values.{template_attribute_val};
 ghost use Rattle.kmip_objects.specs.Same.{template_attribute_same};
@@ -20,7 +21,9 @@ use std::alloc::Global;
 /// Attributes of a new object, and names of templates that hold more: KMIP 1.0, 2.1.8.
 #[derive(PartialEq, Eq, Drop)]
 pub struct TemplateAttribute {
+    /// The names of templates that stand for their attributes.
     pub name: Option<List<Name>>,
+    /// Further attributes.
     pub attributes: Option<List<Attribute>>,
 }
 
@@ -55,7 +58,7 @@ impl ReadItem for TemplateAttribute {
 }
 
 impl ReadRoot for TemplateAttribute {
-    ghost root_tag = { TEMPLATE_ATTRIBUTE };
+    ghost root_tag = { tags.TEMPLATE_ATTRIBUTE };
 
     fn root_tag() -> Tag {
         Tag::of(TEMPLATE_ATTRIBUTE)

@@ -1,6 +1,7 @@
 //! Managed objects, each under its own tag.
 
 ghost use Rattle.std.specs.Prelude.{◌≡◌, ◌∷◌, [], refl};
+ghost use Rattle.kmip_tags.specs.Tags as numbers;
 ghost use Rattle.kmip_shape.specs.Shape.{Choice, OfTag};
 ghost use Rattle.kmip_request_objects.specs.Tables.{name, symmetric_key, public_key, private_key, template, managed_objects};
 ghost use Rattle.kmip_request_objects.specs.Values.{symmetric_key_val, public_key_val, private_key_val, template_val, managed_object_val};
@@ -185,9 +186,13 @@ impl ReadItem for Template {
 /// An object that is handed to the server, under its own tag: KMIP 1.0, 2.2.
 #[derive(PartialEq, Eq, Drop)]
 pub enum ManagedObject {
+    /// A symmetric key: KMIP 1.0, 2.2.2.
     SymmetricKey(SymmetricKey),
+    /// A public key: KMIP 1.0, 2.2.3.
     PublicKey(PublicKey),
+    /// A private key: KMIP 1.0, 2.2.4.
     PrivateKey(PrivateKey),
+    /// A template: KMIP 1.0, 2.2.6.
     Template(Template),
 }
 
@@ -262,7 +267,7 @@ impl ReadItem for ManagedObject {
 }
 
 impl OfTag for ManagedObject {
-    ghost tags = { SYMMETRIC_KEY ∷ PUBLIC_KEY ∷ PRIVATE_KEY ∷ TEMPLATE ∷ [] };
+    ghost tags = { numbers.SYMMETRIC_KEY ∷ numbers.PUBLIC_KEY ∷ numbers.PRIVATE_KEY ∷ numbers.TEMPLATE ∷ [] };
 
     fn has_case(tag: Tag) -> bool {
         matches!(

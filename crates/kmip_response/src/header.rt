@@ -1,6 +1,7 @@
 //! The head of a response.
 
 ghost use Rattle.std.specs.Prelude.{◌≡◌};
+ghost use Rattle.kmip_tags.specs.Tags as tags;
 ghost use Rattle.kmip_response.specs.Tables.{protocol_version, response_header};
 ghost use Rattle.kmip_response.specs.Values.{protocol_version_val, response_header_val};
 ghost use Rattle.kmip_response.specs.Same.{protocol_version_same, response_header_same};
@@ -21,7 +22,9 @@ use std::alloc::Global;
 /// The version of KMIP that a server speaks: KMIP 1.0, 6.1.
 #[derive(Clone, Copy, PartialEq, Eq, Drop)]
 pub struct ProtocolVersion {
+    /// The number before the point.
     pub major: i32,
+    /// The number after the point.
     pub minor: i32,
 }
 
@@ -60,7 +63,7 @@ impl ShowItem for ProtocolVersion {
 }
 
 impl ReadRoot for ProtocolVersion {
-    ghost root_tag = { PROTOCOL_VERSION };
+    ghost root_tag = { tags.PROTOCOL_VERSION };
 
     fn root_tag() -> Tag {
         Tag::of(PROTOCOL_VERSION)
@@ -70,6 +73,7 @@ impl ReadRoot for ProtocolVersion {
 /// The head of a response: KMIP 1.0, 7.2.
 #[derive(Clone, Copy, PartialEq, Eq, Drop)]
 pub struct ResponseHeader {
+    /// The version that the response is written in: KMIP 1.0, 6.1.
     pub protocol_version: ProtocolVersion,
     /// When the response was made, in seconds since 1970.
     pub timestamp: i64,
@@ -113,7 +117,7 @@ impl ReadItem for ResponseHeader {
 }
 
 impl ReadRoot for ResponseHeader {
-    ghost root_tag = { RESPONSE_HEADER };
+    ghost root_tag = { tags.RESPONSE_HEADER };
 
     fn root_tag() -> Tag {
         Tag::of(RESPONSE_HEADER)

@@ -1,6 +1,7 @@
 //! The whole message.
 
 ghost use Rattle.std.specs.Prelude.{◌≡◌};
+ghost use Rattle.kmip_tags.specs.Tags as tags;
 ghost use Rattle.kmip_response.specs.Tables.{response_message};
 ghost use Rattle.kmip_response.specs.Values.{response_message_val};
 ghost use Rattle.kmip_response.specs.Same.{response_message_same};
@@ -17,6 +18,7 @@ use std::alloc::Global;
 /// A response: KMIP 1.0, 7.1.
 #[derive(PartialEq, Eq, Drop)]
 pub struct ResponseMessage {
+    /// Version, time stamp and number of batch items: KMIP 1.0, 7.2.
     pub header: ResponseHeader,
     /// At least one.
     pub batch_items: List<BatchItem>,
@@ -59,7 +61,7 @@ impl ReadItem for ResponseMessage {
 }
 
 impl ReadRoot for ResponseMessage {
-    ghost root_tag = { RESPONSE_MESSAGE };
+    ghost root_tag = { tags.RESPONSE_MESSAGE };
 
     fn root_tag() -> Tag {
         Tag::of(RESPONSE_MESSAGE)

@@ -49,14 +49,19 @@ pub enum AttributeValue {
     ContactInformation(Text),
     /// A custom structure. It has a wire form where none of its members writes a structure.
     Structure(Values),
+    /// A value of type Integer.
     Integer(i32),
+    /// A value of type Long Integer.
     LongInteger(i64),
     /// The bytes of the number, the highest first. It has a wire form where they are a multiple of 8.
     BigInteger(Blob),
     /// The number of an enumeration.
     Enumeration(u32),
+    /// A value of type Boolean.
     Boolean(bool),
+    /// A value of type Text String.
     TextString(Text),
+    /// A value of type Byte String.
     ByteString(Blob),
     /// The eight bytes of the signed seconds since 1970, as an unsigned number.
     DateTime(u64),
@@ -113,7 +118,8 @@ impl Values {
 
     /// Adds an item at the end. Where memory runs out, the list stays as it was and the item is dropped.
     pub fn push(&mut self, item: AttributeValue) -> Result<(), OutOfMemory>
-        ensures { self.new ≡ (if is_ok result then self.old ++ attribute_value_val item ∷ [] else self.old) }
+        ensures { self.new ≡
+            (if is_ok result then self.old ++ attribute_value_val item ∷ [] else self.old) }
     {
         match self.items.push(item) {
             Ok(()) => Ok(()),

@@ -1,6 +1,7 @@
 //! Payloads that tell of attributes.
 
 ghost use Rattle.std.specs.Prelude.{◌≡◌};
+ghost use Rattle.kmip_tags.specs.Tags as tags;
 ghost use Rattle.kmip_response.specs.Tables.{get_attributes_payload, get_attribute_list_payload, attribute_edit_payload};
 ghost use Rattle.kmip_response.specs.Values.{get_attributes_payload_val, get_attribute_list_payload_val, attribute_edit_payload_val};
 ghost use Rattle.kmip_response.specs.Same.{get_attributes_payload_same, get_attribute_list_payload_same, attribute_edit_payload_same};
@@ -20,7 +21,9 @@ use std::alloc::Global;
 /// What Get Attributes answers: KMIP 1.0, 4.11.
 #[derive(PartialEq, Eq, Drop)]
 pub struct GetAttributesResponsePayload {
+    /// The identifier of the object.
     pub unique_identifier: UniqueIdentifier,
+    /// The attributes asked for that the object has.
     pub attributes: Option<List<Attribute>>,
 }
 
@@ -66,7 +69,7 @@ impl ReadItem for GetAttributesResponsePayload {
 }
 
 impl ReadRoot for GetAttributesResponsePayload {
-    ghost root_tag = { RESPONSE_PAYLOAD };
+    ghost root_tag = { tags.RESPONSE_PAYLOAD };
 
     fn root_tag() -> Tag {
         Tag::of(RESPONSE_PAYLOAD)
@@ -86,6 +89,7 @@ impl ShowItem for GetAttributesResponsePayload {
 /// What Get Attribute List answers: KMIP 1.0, 4.12.
 #[derive(PartialEq, Eq, Drop)]
 pub struct GetAttributeListResponsePayload {
+    /// The identifier of the object.
     pub unique_identifier: UniqueIdentifier,
     /// At least one.
     pub attributes: List<AttributeName>,
@@ -133,7 +137,7 @@ impl ReadItem for GetAttributeListResponsePayload {
 }
 
 impl ReadRoot for GetAttributeListResponsePayload {
-    ghost root_tag = { RESPONSE_PAYLOAD };
+    ghost root_tag = { tags.RESPONSE_PAYLOAD };
 
     fn root_tag() -> Tag {
         Tag::of(RESPONSE_PAYLOAD)
@@ -153,6 +157,7 @@ impl ShowItem for GetAttributeListResponsePayload {
 /// What Add Attribute, Modify Attribute and Delete Attribute answer: KMIP 1.0, 4.13 to 4.15.
 #[derive(PartialEq, Eq, Drop)]
 pub struct AttributeEditResponsePayload {
+    /// The identifier of the object.
     pub unique_identifier: UniqueIdentifier,
     /// The attribute that was added, changed or taken away.
     pub attribute: Attribute,
@@ -200,7 +205,7 @@ impl ReadItem for AttributeEditResponsePayload {
 }
 
 impl ReadRoot for AttributeEditResponsePayload {
-    ghost root_tag = { RESPONSE_PAYLOAD };
+    ghost root_tag = { tags.RESPONSE_PAYLOAD };
 
     fn root_tag() -> Tag {
         Tag::of(RESPONSE_PAYLOAD)

@@ -1,6 +1,7 @@
 //! The payload that holds an object.
 
 ghost use Rattle.std.specs.Prelude.{◌≡◌};
+ghost use Rattle.kmip_tags.specs.Tags as tags;
 ghost use Rattle.kmip_response.specs.Tables.{get_payload};
 ghost use Rattle.kmip_response.specs.Values.{get_payload_val};
 ghost use Rattle.kmip_response.specs.Same.{get_payload_same};
@@ -21,7 +22,9 @@ use std::alloc::Global;
 /// What Get answers: KMIP 1.0, 4.10.
 #[derive(PartialEq, Eq, Drop)]
 pub struct GetResponsePayload {
+    /// The type of the object.
     pub object_type: ObjectType,
+    /// The identifier of the object.
     pub unique_identifier: UniqueIdentifier,
     /// The object, of the type `object_type`.
     pub cryptographic_object: ManagedObject,
@@ -72,7 +75,7 @@ impl ReadItem for GetResponsePayload {
 }
 
 impl ReadRoot for GetResponsePayload {
-    ghost root_tag = { RESPONSE_PAYLOAD };
+    ghost root_tag = { tags.RESPONSE_PAYLOAD };
 
     fn root_tag() -> Tag {
         Tag::of(RESPONSE_PAYLOAD)

@@ -1,6 +1,7 @@
 //! Payloads that tell of new objects, and of objects by their identifiers.
 
 ghost use Rattle.std.specs.Prelude.{◌≡◌};
+ghost use Rattle.kmip_tags.specs.Tags as tags;
 ghost use Rattle.kmip_response.specs.Tables.{create_payload, create_key_pair_payload, register_payload, locate_payload, unique_identifier_payload};
 ghost use Rattle.kmip_response.specs.Values.{create_payload_val, create_key_pair_payload_val, register_payload_val, locate_payload_val, unique_identifier_payload_val};
 ghost use Rattle.kmip_response.specs.Same.{create_payload_same, create_key_pair_payload_same, register_payload_same, locate_payload_same, unique_identifier_payload_same};
@@ -24,7 +25,9 @@ use std::alloc::Global;
 /// What Create answers: KMIP 1.0, 4.1.
 #[derive(PartialEq, Eq, Drop)]
 pub struct CreateResponsePayload {
+    /// The type of the object.
     pub object_type: ObjectType,
+    /// The identifier of the object.
     pub unique_identifier: UniqueIdentifier,
     /// Attributes that the server set.
     pub object_attributes: Option<List<Attribute>>,
@@ -75,7 +78,7 @@ impl ReadItem for CreateResponsePayload {
 }
 
 impl ReadRoot for CreateResponsePayload {
-    ghost root_tag = { RESPONSE_PAYLOAD };
+    ghost root_tag = { tags.RESPONSE_PAYLOAD };
 
     fn root_tag() -> Tag {
         Tag::of(RESPONSE_PAYLOAD)
@@ -99,7 +102,9 @@ impl ShowItem for CreateResponsePayload {
 /// What Create Key Pair answers: KMIP 1.0, 4.2.
 #[derive(PartialEq, Eq, Drop)]
 pub struct CreateKeyPairResponsePayload {
+    /// The identifier of the private key.
     pub private_key_unique_identifier: UniqueIdentifier,
+    /// The identifier of the public key.
     pub public_key_unique_identifier: UniqueIdentifier,
 }
 
@@ -145,7 +150,7 @@ impl ReadItem for CreateKeyPairResponsePayload {
 }
 
 impl ReadRoot for CreateKeyPairResponsePayload {
-    ghost root_tag = { RESPONSE_PAYLOAD };
+    ghost root_tag = { tags.RESPONSE_PAYLOAD };
 
     fn root_tag() -> Tag {
         Tag::of(RESPONSE_PAYLOAD)
@@ -171,6 +176,7 @@ impl ShowItem for CreateKeyPairResponsePayload {
 /// What Register answers: KMIP 1.0, 4.3.
 #[derive(PartialEq, Eq, Drop)]
 pub struct RegisterResponsePayload {
+    /// The identifier of the object.
     pub unique_identifier: UniqueIdentifier,
     /// Attributes that the server set.
     pub template_attributes: Option<List<TemplateAttribute>>,
@@ -218,7 +224,7 @@ impl ReadItem for RegisterResponsePayload {
 }
 
 impl ReadRoot for RegisterResponsePayload {
-    ghost root_tag = { RESPONSE_PAYLOAD };
+    ghost root_tag = { tags.RESPONSE_PAYLOAD };
 
     fn root_tag() -> Tag {
         Tag::of(RESPONSE_PAYLOAD)
@@ -238,6 +244,7 @@ impl ShowItem for RegisterResponsePayload {
 /// What Locate answers: the objects that have all the attributes: KMIP 1.0, 4.8.
 #[derive(PartialEq, Eq, Drop)]
 pub struct LocateResponsePayload {
+    /// The identifiers of all objects found, none where there is none.
     pub unique_identifiers: List<UniqueIdentifier>,
 }
 
@@ -273,7 +280,7 @@ impl ReadItem for LocateResponsePayload {
 }
 
 impl ReadRoot for LocateResponsePayload {
-    ghost root_tag = { RESPONSE_PAYLOAD };
+    ghost root_tag = { tags.RESPONSE_PAYLOAD };
 
     fn root_tag() -> Tag {
         Tag::of(RESPONSE_PAYLOAD)
@@ -293,6 +300,7 @@ impl ShowItem for LocateResponsePayload {
 /// The identifier of the object that Activate, Revoke or Destroy was made on: KMIP 1.0, 4.18 to 4.20.
 #[derive(PartialEq, Eq, Drop)]
 pub struct UniqueIdentifierResponsePayload {
+    /// The identifier of the object.
     pub unique_identifier: UniqueIdentifier,
 }
 
@@ -328,7 +336,7 @@ impl ReadItem for UniqueIdentifierResponsePayload {
 }
 
 impl ReadRoot for UniqueIdentifierResponsePayload {
-    ghost root_tag = { RESPONSE_PAYLOAD };
+    ghost root_tag = { tags.RESPONSE_PAYLOAD };
 
     fn root_tag() -> Tag {
         Tag::of(RESPONSE_PAYLOAD)

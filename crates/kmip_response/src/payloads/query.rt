@@ -1,6 +1,7 @@
 //! Payloads that tell of the server.
 
 ghost use Rattle.std.specs.Prelude.{◌≡◌};
+ghost use Rattle.kmip_tags.specs.Tags as tags;
 ghost use Rattle.kmip_response.specs.Tables.{query_payload, discover_versions_payload};
 ghost use Rattle.kmip_response.specs.Values.{query_payload_val, discover_versions_payload_val};
 ghost use Rattle.kmip_response.specs.Same.{query_payload_same, discover_versions_payload_same};
@@ -67,7 +68,7 @@ impl ReadItem for QueryResponsePayload {
 }
 
 impl ReadRoot for QueryResponsePayload {
-    ghost root_tag = { RESPONSE_PAYLOAD };
+    ghost root_tag = { tags.RESPONSE_PAYLOAD };
 
     fn root_tag() -> Tag {
         Tag::of(RESPONSE_PAYLOAD)
@@ -91,6 +92,7 @@ impl ShowItem for QueryResponsePayload {
 /// What Discover Versions answers: KMIP 1.1, 4.26.
 #[derive(PartialEq, Eq, Drop)]
 pub struct DiscoverVersionsResponsePayload {
+    /// The versions that both sides know, the one that the server likes best first.
     pub supported_versions: Option<List<ProtocolVersion>>,
 }
 
@@ -126,7 +128,7 @@ impl ReadItem for DiscoverVersionsResponsePayload {
 }
 
 impl ReadRoot for DiscoverVersionsResponsePayload {
-    ghost root_tag = { RESPONSE_PAYLOAD };
+    ghost root_tag = { tags.RESPONSE_PAYLOAD };
 
     fn root_tag() -> Tag {
         Tag::of(RESPONSE_PAYLOAD)
