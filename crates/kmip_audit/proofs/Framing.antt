@@ -80,7 +80,7 @@ pub record Falls (b m : List ℕ) : Type 0 where
   pub within : length m ≤ length b
   pub front : m ≡ take (length m) b
 
-headed_falls : {limit : Option ℕ} {b m : List ℕ} → Headed limit b m → Falls b m
+pub headed_falls : {limit : Option ℕ} {b m : List ℕ} → Headed limit b m → Falls b m
 headed_falls {b = b} {m = m} h =
     let l : length m ≡ h.contents + 8 = ap length h.is ∙ length-take-le (h.contents + 8) b h.whole in
     record { some = omega arith; within = omega (arith, h.whole); front = h.is ∙ ap (λ k. take k b) (sym l) }
@@ -110,7 +110,7 @@ first_same : (n : ℕ) (b m : List ℕ) → n ≤ length m → m ≡ take (lengt
 first_same n b m h front =
     sym (take-append-le n m (drop (length m) b) h) ∙ ap (λ l. take n (l ++ drop (length m) b)) front ∙ ap (take n) (take-append-drop (length m) b)
 
-take_all : (m : List ℕ) (n : ℕ) → length m ≡ n → take n m ≡ m
+pub take_all : (m : List ℕ) (n : ℕ) → length m ≡ n → take n m ≡ m
 take_all [] zero h = refl
 take_all [] (suc n) h = refl
 take_all (x ∷ xs) zero h = absurd (omega arith)

@@ -3,3 +3,4 @@ pub mod Pairing
 pub mod Agreeing
 pub mod Telling
 pub mod Variants
+pub mod Served

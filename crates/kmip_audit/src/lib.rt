@@ -17,6 +17,6 @@ mod responses;
 mod tests;
 
 pub use auditing::audit;
-pub use laws::{answered_exactly_where_ok, reports_tell_skeletons};
+pub use laws::{answered_exactly_where_ok, reports_tell_skeletons, sessions_are_reported};
 pub use outcomes::Outcome;
 pub use reports::{End, Entry, Report};
