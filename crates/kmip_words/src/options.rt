@@ -1,0 +1,34 @@
+//! Words of a command line that give a value to a name.
+ghost use Rattle.std.specs.Prelude.{◌≡◌, option_map};
+ghost use Rattle.kmip_words.specs.Options.{given, given_after};
+
+use kmip_wire::Text;
+
+/// The value that the first word gives to a name, as in `name=value`, and the words that are left after it.
+pub fn given<'a>(name: &str, words: &'a [Text]) -> (Option<&'a str>, &'a [Text])
+    ensures value { option_map (λ value. value.now) result.0 ≡ (given name.now words.now).value }
+    ensures rest { result.1.now ≡ (given name.now words.now).rest }
+{
+    match words {
+        [first, rest @ ..] => match first.as_str().strip_prefix(name) {
+            Some(value) => (Some(value), rest),
+            None => (None, words),
+        },
+        [] => (None, words),
+    }
+}
+
+/// The same, but only after another value.
+pub fn given_after<'a>(
+    before: Option<&str>,
+    name: &str,
+    words: &'a [Text],
+) -> (Option<&'a str>, &'a [Text])
+    ensures value { option_map (λ value. value.now) result.0 ≡ (given_after (option_map (λ value. value.now) before.entry) name.now words.now).value }
+    ensures rest { result.1.now ≡ (given_after (option_map (λ value. value.now) before.entry) name.now words.now).rest }
+{
+    match before {
+        Some(_) => given(name, words),
+        None => (None, words),
+    }
+}
