@@ -4,12 +4,12 @@ use Rattle.std.proofs.lemmas.Slice.Eq.{bytes_eq-Decides}
 use Rattle.kmip_words.specs.Values.{number_of}
 use Rattle.kmip_words.specs.Options.{given, given_after}
 use Rattle.kmip_words.proofs.NamedValues.{first_and_rest}
-use Rattle.kmip_run.specs.Commands.{diag_of, replay_with, replay_of, explain_of, make_of, command_of}
+use Rattle.kmip_run.specs.Commands.{diag_of, replay_with, replay_of, explain_of, make_of, audit_of, command_of}
 use Rattle.kmip_run.specs.declared.command.Command.TheVariants.{Replay}
 
 -- the command of words that are there
 command_of_first : (words : List (List ℕ)) (name : List ℕ) → 1 ≤ length words → name ≡ get_or words 0 name →
-    command_of words ≡ cond (bytes_eq name (codes "replay")) (replay_of (drop 1 words)) (cond (bytes_eq name (codes "explain")) (explain_of (drop 1 words)) (cond (bytes_eq name (codes "make")) (make_of (drop 1 words)) None))
+    command_of words ≡ cond (bytes_eq name (codes "replay")) (replay_of (drop 1 words)) (cond (bytes_eq name (codes "explain")) (explain_of (drop 1 words)) (cond (bytes_eq name (codes "make")) (make_of (drop 1 words)) (cond (bytes_eq name (codes "audit")) (audit_of (drop 1 words)) None)))
 unfolding command_of
 command_of_first words name some at = ap command_of (first_and_rest words name some ∙ ap (λ (w : List ℕ). w ∷ drop 1 words) (sym at))
 
@@ -33,9 +33,13 @@ pub command_of_make : (words : List (List ℕ)) (name : List ℕ) → 1 ≤ leng
 command_of_make words name some at not_replay not_explain is =
     command_of_first words name some at ∙ not_named name (codes "replay") _ _ not_replay ∙ not_named name (codes "explain") _ _ not_explain ∙ named name (codes "make") _ _ is
 
-pub command_of_other : (words : List (List ℕ)) (name : List ℕ) → 1 ≤ length words → name ≡ get_or words 0 name → (name ≡ codes "replay" → ⊥) → (name ≡ codes "explain" → ⊥) → (name ≡ codes "make" → ⊥) → command_of words ≡ None
-command_of_other words name some at not_replay not_explain not_make =
-    command_of_first words name some at ∙ not_named name (codes "replay") _ _ not_replay ∙ not_named name (codes "explain") _ _ not_explain ∙ not_named name (codes "make") _ _ not_make
+pub command_of_audit : (words : List (List ℕ)) (name : List ℕ) → 1 ≤ length words → name ≡ get_or words 0 name → (name ≡ codes "replay" → ⊥) → (name ≡ codes "explain" → ⊥) → (name ≡ codes "make" → ⊥) → name ≡ codes "audit" → command_of words ≡ audit_of (drop 1 words)
+command_of_audit words name some at not_replay not_explain not_make is =
+    command_of_first words name some at ∙ not_named name (codes "replay") _ _ not_replay ∙ not_named name (codes "explain") _ _ not_explain ∙ not_named name (codes "make") _ _ not_make ∙ named name (codes "audit") _ _ is
+
+pub command_of_other : (words : List (List ℕ)) (name : List ℕ) → 1 ≤ length words → name ≡ get_or words 0 name → (name ≡ codes "replay" → ⊥) → (name ≡ codes "explain" → ⊥) → (name ≡ codes "make" → ⊥) → (name ≡ codes "audit" → ⊥) → command_of words ≡ None
+command_of_other words name some at not_replay not_explain not_make not_audit =
+    command_of_first words name some at ∙ not_named name (codes "replay") _ _ not_replay ∙ not_named name (codes "explain") _ _ not_explain ∙ not_named name (codes "make") _ _ not_make ∙ not_named name (codes "audit") _ _ not_audit
 
 pub command_of_none : (words : List (List ℕ)) → length words < 1 → command_of words ≡ None
 unfolding command_of

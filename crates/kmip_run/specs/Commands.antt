@@ -3,7 +3,7 @@ use Rattle.std.specs.Prelude.{ℕ, nat_lt, List, [], ◌∷◌, Bool, true, fals
 use Rattle.kmip_words.specs.Values.{number_of}
 use Rattle.kmip_words.specs.Options.{Given, given, given_after}
 use Rattle.kmip_run.specs.declared.command.Command.{Command}
-use Rattle.kmip_run.specs.declared.command.Command.TheVariants.{Replay, Explain, Make}
+use Rattle.kmip_run.specs.declared.command.Command.TheVariants.{Replay, Explain, Make, Audit}
 
 -- whether the last word is `diag`, where no other is left
 abbrev pub diag_of : List (List ℕ) → Option Bool
@@ -42,6 +42,11 @@ abbrev pub make_of : List (List ℕ) → Option Command
 make_of (count ∷ []) = make_number (number_of count)
 make_of words = None
 
+-- `audit` takes no more words
+abbrev pub audit_of : List (List ℕ) → Option Command
+audit_of [] = Some Audit
+audit_of words = None
+
 -- the command of the words after the program's name
 unfoldable pub command_of : List (List ℕ) → Option Command
 command_of [] = None
@@ -49,4 +54,5 @@ command_of (name ∷ words) =
     if bytes_eq name (codes "replay") then replay_of words
     else if bytes_eq name (codes "explain") then explain_of words
     else if bytes_eq name (codes "make") then make_of words
+    else if bytes_eq name (codes "audit") then audit_of words
     else None

@@ -1,6 +1,6 @@
 //! What the words of the command line ask for.
 ghost use Rattle.std.specs.Prelude.{◌≡◌, ◌∷◌, [], map, option_map, IfOk, Some};
-ghost use Rattle.kmip_run.specs.Commands.{diag_of, replay_of, explain_of, make_of, command_of};
+ghost use Rattle.kmip_run.specs.Commands.{diag_of, replay_of, explain_of, make_of, audit_of, command_of};
 ghost use Rattle.kmip_run.specs.declared.command.Command.TheVariants.{Replay};
 
 use kmip_wire::{OutOfMemory, Text};
@@ -32,6 +32,8 @@ pub enum Command {
     Explain,
     /// `make N`: makes so many exchanges from a number, and counts. It reads no script.
     Make(u32),
+    /// `audit`: reports on two captured streams, each one line of the script.
+    Audit,
 }
 
 /// Whether the last word is `diag`, where no other is left.
@@ -115,6 +117,16 @@ fn make_of(words: &[Text]) -> Option<Command>
     }
 }
 
+/// `audit`, or none where more words follow.
+fn audit_of(words: &[Text]) -> Option<Command>
+    ensures { result ≡ audit_of words.now }
+{
+    match words {
+        [] => Some(Command::Audit),
+        _ => None,
+    }
+}
+
 /// The command of the words after the program's name, or none where they are not of the grammar.
 pub fn command_of(alloc: Global, words: &[Text]) -> Result<Option<Command>, OutOfMemory>
     ensures { IfOk result (λ command. command ≡ command_of words.now) }
@@ -126,6 +138,7 @@ pub fn command_of(alloc: Global, words: &[Text]) -> Result<Option<Command>, OutO
         "replay" => replay_of(alloc, options),
         "explain" => Ok(explain_of(options)),
         "make" => Ok(make_of(options)),
+        "audit" => Ok(audit_of(options)),
         _ => Ok(None),
     }
 }

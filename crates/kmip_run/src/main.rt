@@ -6,6 +6,7 @@
 //! were made and what they come to, and ends with a status from 0 to 6, as `program::run` says.
 #![tactic(auto)]
 
+mod auditing;
 mod command;
 mod exchange;
 mod explain;

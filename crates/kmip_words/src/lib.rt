@@ -29,5 +29,5 @@ pub use raw::RawRequest;
 pub use setup::{client_of, limited};
 pub use show::show_error;
 pub use streams::{read_up_to, write_out};
-pub use values::number_of;
+pub use values::{bytes_of, number_of};
 pub use words::words_of;
