@@ -12,6 +12,10 @@ use kmip_shape::{
     BigOne, BigOpt, Item, Outer, ReadError, ReadItem, ShowItem, Sink, WriteItem, fields,
     known_record, read_record, record_len, show_record, write_record,
 };
+use kmip_tags::tags::{
+    CRT_COEFFICIENT, G, J, KEY, MODULUS, P, PRIME_EXPONENT_P, PRIME_EXPONENT_Q, PRIVATE_EXPONENT,
+    PUBLIC_EXPONENT, Q, X, Y,
+};
 use kmip_wire::{Blob, Buffer, ItemRef, OutOfMemory, Tag, TryClone, clone_optional};
 use std::alloc::Global;
 
@@ -22,7 +26,7 @@ pub struct TransparentSymmetricKey {
     pub key: Blob,
 }
 
-type TransparentSymmetricKeyRows = Row<One<Blob, 0x42003F>, End>;
+type TransparentSymmetricKeyRows = Row<One<Blob, KEY>, End>;
 
 impl TryClone for TransparentSymmetricKey {
     fn try_clone(&self, alloc: Global) -> Result<TransparentSymmetricKey, OutOfMemory> {
@@ -77,8 +81,8 @@ pub struct TransparentDSAPrivateKey {
 }
 
 type TransparentDSAPrivateKeyRows = Row<
-    BigOne<0x42005E>,
-    Row<BigOne<0x420071>, Row<BigOne<0x420037>, Row<BigOne<0x42009F>, End>>>,
+    BigOne<P>,
+    Row<BigOne<Q>, Row<BigOne<G>, Row<BigOne<X>, End>>>,
 >;
 
 impl TryClone for TransparentDSAPrivateKey {
@@ -145,8 +149,8 @@ pub struct TransparentDSAPublicKey {
 }
 
 type TransparentDSAPublicKeyRows = Row<
-    BigOne<0x42005E>,
-    Row<BigOne<0x420071>, Row<BigOne<0x420037>, Row<BigOne<0x4200A0>, End>>>,
+    BigOne<P>,
+    Row<BigOne<Q>, Row<BigOne<G>, Row<BigOne<Y>, End>>>,
 >;
 
 impl TryClone for TransparentDSAPublicKey {
@@ -217,16 +221,16 @@ pub struct TransparentRSAPrivateKey {
 }
 
 type TransparentRSAPrivateKeyRows = Row<
-    BigOne<0x420052>,
+    BigOne<MODULUS>,
     Row<
-        BigOpt<0x420063>,
+        BigOpt<PRIVATE_EXPONENT>,
         Row<
-            BigOpt<0x42006C>,
+            BigOpt<PUBLIC_EXPONENT>,
             Row<
-                BigOpt<0x42005E>,
+                BigOpt<P>,
                 Row<
-                    BigOpt<0x420071>,
-                    Row<BigOpt<0x420060>, Row<BigOpt<0x420061>, Row<BigOpt<0x420027>, End>>>,
+                    BigOpt<Q>,
+                    Row<BigOpt<PRIME_EXPONENT_P>, Row<BigOpt<PRIME_EXPONENT_Q>, Row<BigOpt<CRT_COEFFICIENT>, End>>>,
                 >,
             >,
         >,
@@ -361,7 +365,7 @@ pub struct TransparentRSAPublicKey {
     pub public_exponent: Blob,
 }
 
-type TransparentRSAPublicKeyRows = Row<BigOne<0x420052>, Row<BigOne<0x42006C>, End>>;
+type TransparentRSAPublicKeyRows = Row<BigOne<MODULUS>, Row<BigOne<PUBLIC_EXPONENT>, End>>;
 
 impl TryClone for TransparentRSAPublicKey {
     fn try_clone(&self, alloc: Global) -> Result<TransparentRSAPublicKey, OutOfMemory> {
@@ -431,8 +435,8 @@ pub struct TransparentDHPrivateKey {
 }
 
 type TransparentDHPrivateKeyRows = Row<
-    BigOne<0x42005E>,
-    Row<BigOpt<0x420071>, Row<BigOne<0x420037>, Row<BigOpt<0x42003E>, Row<BigOne<0x42009F>, End>>>>,
+    BigOne<P>,
+    Row<BigOpt<Q>, Row<BigOne<G>, Row<BigOpt<J>, Row<BigOne<X>, End>>>>,
 >;
 
 impl TryClone for TransparentDHPrivateKey {
@@ -507,8 +511,8 @@ pub struct TransparentDHPublicKey {
 }
 
 type TransparentDHPublicKeyRows = Row<
-    BigOne<0x42005E>,
-    Row<BigOpt<0x420071>, Row<BigOne<0x420037>, Row<BigOpt<0x42003E>, Row<BigOne<0x4200A0>, End>>>>,
+    BigOne<P>,
+    Row<BigOpt<Q>, Row<BigOne<G>, Row<BigOpt<J>, Row<BigOne<Y>, End>>>>,
 >;
 
 impl TryClone for TransparentDHPublicKey {

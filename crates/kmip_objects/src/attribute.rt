@@ -11,6 +11,7 @@ use kmip_shape::{
     Item, Outer, ReadError, ReadItem, ReadRoot, ShowItem, Sink, fields, known_record, read_record,
     show_record,
 };
+use kmip_tags::tags::{ATTRIBUTE, ATTRIBUTE_INDEX, ATTRIBUTE_NAME, ATTRIBUTE_VALUE};
 use kmip_types::{AttributeIndex, AttributeName, AttributeValue};
 use kmip_wire::{ItemRef, OutOfMemory, Tag, TryClone};
 use std::alloc::Global;
@@ -26,8 +27,8 @@ pub struct Attribute {
 }
 
 type AttributeRows<'a> = Choosing<
-    One<AttributeName, 0x42000A>,
-    Row<Opt<AttributeIndex, 0x420009>, Row<ChosenOne<'a, AttributeValue, 0x42000B>, End>>,
+    One<AttributeName, ATTRIBUTE_NAME>,
+    Row<Opt<AttributeIndex, ATTRIBUTE_INDEX>, Row<ChosenOne<'a, AttributeValue, ATTRIBUTE_VALUE>, End>>,
 >;
 
 impl TryClone for Attribute {
@@ -60,10 +61,10 @@ impl ReadItem for Attribute {
 }
 
 impl ReadRoot for Attribute {
-    ghost root_tag = { 0x420008 };
+    ghost root_tag = { ATTRIBUTE };
 
     fn root_tag() -> Tag {
-        Tag::of(0x420008)
+        Tag::of(ATTRIBUTE)
     }
 }
 

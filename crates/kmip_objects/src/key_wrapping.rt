@@ -11,6 +11,10 @@ use kmip_shape::{
     Item, Outer, ReadError, ReadItem, ReadRoot, ShowItem, Sink, fields, known_record, read_record,
     show_record,
 };
+use kmip_tags::tags::{
+    CRYPTOGRAPHIC_PARAMETERS, ENCRYPTION_KEY_INFORMATION, IV_COUNTER_NONCE, KEY_WRAPPING_DATA,
+    MAC_SIGNATURE, MAC_SIGNATURE_KEY_INFORMATION, UNIQUE_IDENTIFIER, WRAPPING_METHOD,
+};
 use kmip_types::{CryptographicParameters, UniqueIdentifier, WrappingMethod};
 use kmip_wire::{Blob, ItemRef, OutOfMemory, Tag, TryClone, clone_optional};
 use std::alloc::Global;
@@ -23,8 +27,8 @@ pub struct EncryptionKeyInformation {
 }
 
 type EncryptionKeyInformationRows = Row<
-    One<UniqueIdentifier, 0x420094>,
-    Row<Opt<CryptographicParameters, 0x42002B>, End>,
+    One<UniqueIdentifier, UNIQUE_IDENTIFIER>,
+    Row<Opt<CryptographicParameters, CRYPTOGRAPHIC_PARAMETERS>, End>,
 >;
 
 impl TryClone for EncryptionKeyInformation {
@@ -64,10 +68,10 @@ impl ReadItem for EncryptionKeyInformation {
 }
 
 impl ReadRoot for EncryptionKeyInformation {
-    ghost root_tag = { 0x420036 };
+    ghost root_tag = { ENCRYPTION_KEY_INFORMATION };
 
     fn root_tag() -> Tag {
-        Tag::of(0x420036)
+        Tag::of(ENCRYPTION_KEY_INFORMATION)
     }
 }
 
@@ -89,8 +93,8 @@ pub struct MACOrSignatureKeyInformation {
 }
 
 type MACOrSignatureKeyInformationRows = Row<
-    One<UniqueIdentifier, 0x420094>,
-    Row<Opt<CryptographicParameters, 0x42002B>, End>,
+    One<UniqueIdentifier, UNIQUE_IDENTIFIER>,
+    Row<Opt<CryptographicParameters, CRYPTOGRAPHIC_PARAMETERS>, End>,
 >;
 
 impl TryClone for MACOrSignatureKeyInformation {
@@ -130,10 +134,10 @@ impl ReadItem for MACOrSignatureKeyInformation {
 }
 
 impl ReadRoot for MACOrSignatureKeyInformation {
-    ghost root_tag = { 0x42004E };
+    ghost root_tag = { MAC_SIGNATURE_KEY_INFORMATION };
 
     fn root_tag() -> Tag {
-        Tag::of(0x42004E)
+        Tag::of(MAC_SIGNATURE_KEY_INFORMATION)
     }
 }
 
@@ -158,12 +162,12 @@ pub struct KeyWrappingData {
 }
 
 type KeyWrappingDataRows = Row<
-    One<WrappingMethod, 0x42009E>,
+    One<WrappingMethod, WRAPPING_METHOD>,
     Row<
-        Opt<EncryptionKeyInformation, 0x420036>,
+        Opt<EncryptionKeyInformation, ENCRYPTION_KEY_INFORMATION>,
         Row<
-            Opt<MACOrSignatureKeyInformation, 0x42004E>,
-            Row<Opt<Blob, 0x42004D>, Row<Opt<Blob, 0x42003D>, End>>,
+            Opt<MACOrSignatureKeyInformation, MAC_SIGNATURE_KEY_INFORMATION>,
+            Row<Opt<Blob, MAC_SIGNATURE>, Row<Opt<Blob, IV_COUNTER_NONCE>, End>>,
         >,
     >,
 >;
@@ -221,10 +225,10 @@ impl ReadItem for KeyWrappingData {
 }
 
 impl ReadRoot for KeyWrappingData {
-    ghost root_tag = { 0x420046 };
+    ghost root_tag = { KEY_WRAPPING_DATA };
 
     fn root_tag() -> Tag {
-        Tag::of(0x420046)
+        Tag::of(KEY_WRAPPING_DATA)
     }
 }
 

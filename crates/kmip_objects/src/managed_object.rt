@@ -14,6 +14,10 @@ use kmip_shape::{
     Item, Outer, ReadError, ReadItem, ReadRoot, ShowItem, Sink, fields, known_record, read_record,
     show_case, show_record,
 };
+use kmip_tags::tags::{
+    CERTIFICATE, CERTIFICATE_TYPE, CERTIFICATE_VALUE, KEY_BLOCK, PRIVATE_KEY, PUBLIC_KEY,
+    SYMMETRIC_KEY,
+};
 use kmip_wire::{Blob, ItemRef, OutOfMemory, Tag, TryClone};
 use std::alloc::Global;
 
@@ -25,7 +29,7 @@ pub struct Certificate {
     pub certificate_value: Blob,
 }
 
-type CertificateRows = Row<One<CertificateType, 0x42001D>, Row<One<Blob, 0x42001E>, End>>;
+type CertificateRows = Row<One<CertificateType, CERTIFICATE_TYPE>, Row<One<Blob, CERTIFICATE_VALUE>, End>>;
 
 impl TryClone for Certificate {
     fn try_clone(&self, alloc: Global) -> Result<Certificate, OutOfMemory> {
@@ -61,10 +65,10 @@ impl ReadItem for Certificate {
 }
 
 impl ReadRoot for Certificate {
-    ghost root_tag = { 0x420013 };
+    ghost root_tag = { CERTIFICATE };
 
     fn root_tag() -> Tag {
-        Tag::of(0x420013)
+        Tag::of(CERTIFICATE)
     }
 }
 
@@ -84,7 +88,7 @@ pub struct SymmetricKey {
     pub key_block: KeyBlock,
 }
 
-type SymmetricKeyRows = Row<One<KeyBlock, 0x420040>, End>;
+type SymmetricKeyRows = Row<One<KeyBlock, KEY_BLOCK>, End>;
 
 impl TryClone for SymmetricKey {
     fn try_clone(&self, alloc: Global) -> Result<SymmetricKey, OutOfMemory> {
@@ -114,10 +118,10 @@ impl ReadItem for SymmetricKey {
 }
 
 impl ReadRoot for SymmetricKey {
-    ghost root_tag = { 0x42008F };
+    ghost root_tag = { SYMMETRIC_KEY };
 
     fn root_tag() -> Tag {
-        Tag::of(0x42008F)
+        Tag::of(SYMMETRIC_KEY)
     }
 }
 
@@ -133,7 +137,7 @@ pub struct PublicKey {
     pub key_block: KeyBlock,
 }
 
-type PublicKeyRows = Row<One<KeyBlock, 0x420040>, End>;
+type PublicKeyRows = Row<One<KeyBlock, KEY_BLOCK>, End>;
 
 impl TryClone for PublicKey {
     fn try_clone(&self, alloc: Global) -> Result<PublicKey, OutOfMemory> {
@@ -163,10 +167,10 @@ impl ReadItem for PublicKey {
 }
 
 impl ReadRoot for PublicKey {
-    ghost root_tag = { 0x42006D };
+    ghost root_tag = { PUBLIC_KEY };
 
     fn root_tag() -> Tag {
-        Tag::of(0x42006D)
+        Tag::of(PUBLIC_KEY)
     }
 }
 
@@ -182,7 +186,7 @@ pub struct PrivateKey {
     pub key_block: KeyBlock,
 }
 
-type PrivateKeyRows = Row<One<KeyBlock, 0x420040>, End>;
+type PrivateKeyRows = Row<One<KeyBlock, KEY_BLOCK>, End>;
 
 impl TryClone for PrivateKey {
     fn try_clone(&self, alloc: Global) -> Result<PrivateKey, OutOfMemory> {
@@ -212,10 +216,10 @@ impl ReadItem for PrivateKey {
 }
 
 impl ReadRoot for PrivateKey {
-    ghost root_tag = { 0x420064 };
+    ghost root_tag = { PRIVATE_KEY };
 
     fn root_tag() -> Tag {
-        Tag::of(0x420064)
+        Tag::of(PRIVATE_KEY)
     }
 }
 

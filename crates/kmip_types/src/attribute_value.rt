@@ -14,6 +14,10 @@ use kmip_names::{ApplicationData, ApplicationNamespace, LinkedObjectIdentifier, 
 use kmip_shape::columns::One;
 use kmip_shape::record::{End, Row};
 use kmip_shape::{Item, fields, known_record};
+use kmip_tags::tags::{
+    APPLICATION_DATA, APPLICATION_NAMESPACE, LINKED_OBJECT_IDENTIFIER, LINK_TYPE, NAME_TYPE,
+    NAME_VALUE,
+};
 use kmip_wire::{Blob, OutOfMemory, Text};
 use std::alloc::Global;
 use std::marker::Model;
@@ -159,15 +163,15 @@ impl Values {
 }
 
 /// The rows of a Name: KMIP 1.0, 3.2.
-pub type NameRows = Row<One<NameValue, 0x420055>, Row<One<NameType, 0x420054>, End>>;
+pub type NameRows = Row<One<NameValue, NAME_VALUE>, Row<One<NameType, NAME_TYPE>, End>>;
 
 /// The rows of a Link: KMIP 1.0, 3.29.
-pub type LinkRows = Row<One<LinkType, 0x42004B>, Row<One<LinkedObjectIdentifier, 0x42004C>, End>>;
+pub type LinkRows = Row<One<LinkType, LINK_TYPE>, Row<One<LinkedObjectIdentifier, LINKED_OBJECT_IDENTIFIER>, End>>;
 
 /// The rows of Application Specific Information: KMIP 1.0, 3.30.
 pub type InformationRows = Row<
-    One<ApplicationNamespace, 0x420003>,
-    Row<One<ApplicationData, 0x420002>, End>,
+    One<ApplicationNamespace, APPLICATION_NAMESPACE>,
+    Row<One<ApplicationData, APPLICATION_DATA>, End>,
 >;
 
 impl Item for AttributeValue {

@@ -12,6 +12,7 @@ use kmip_shape::{
     Item, Outer, ReadError, ReadItem, ReadRoot, ShowItem, Sink, fields, known_record, read_record,
     show_record,
 };
+use kmip_tags::tags::{ATTRIBUTE, ATTRIBUTE_NAME, RESPONSE_PAYLOAD, UNIQUE_IDENTIFIER};
 use kmip_types::{AttributeName, UniqueIdentifier};
 use kmip_wire::{ItemRef, List, OutOfMemory, Tag, TryClone, clone_optional};
 use std::alloc::Global;
@@ -24,8 +25,8 @@ pub struct GetAttributesResponsePayload {
 }
 
 type GetAttributesResponsePayloadRows = Row<
-    One<UniqueIdentifier, 0x420094>,
-    Row<OptMany<Attribute, 0x420008>, End>,
+    One<UniqueIdentifier, UNIQUE_IDENTIFIER>,
+    Row<OptMany<Attribute, ATTRIBUTE>, End>,
 >;
 
 impl TryClone for GetAttributesResponsePayload {
@@ -65,10 +66,10 @@ impl ReadItem for GetAttributesResponsePayload {
 }
 
 impl ReadRoot for GetAttributesResponsePayload {
-    ghost root_tag = { 0x42007C };
+    ghost root_tag = { RESPONSE_PAYLOAD };
 
     fn root_tag() -> Tag {
-        Tag::of(0x42007C)
+        Tag::of(RESPONSE_PAYLOAD)
     }
 }
 
@@ -91,8 +92,8 @@ pub struct GetAttributeListResponsePayload {
 }
 
 type GetAttributeListResponsePayloadRows = Row<
-    One<UniqueIdentifier, 0x420094>,
-    Row<NonEmpty<AttributeName, 0x42000A>, End>,
+    One<UniqueIdentifier, UNIQUE_IDENTIFIER>,
+    Row<NonEmpty<AttributeName, ATTRIBUTE_NAME>, End>,
 >;
 
 impl TryClone for GetAttributeListResponsePayload {
@@ -132,10 +133,10 @@ impl ReadItem for GetAttributeListResponsePayload {
 }
 
 impl ReadRoot for GetAttributeListResponsePayload {
-    ghost root_tag = { 0x42007C };
+    ghost root_tag = { RESPONSE_PAYLOAD };
 
     fn root_tag() -> Tag {
-        Tag::of(0x42007C)
+        Tag::of(RESPONSE_PAYLOAD)
     }
 }
 
@@ -158,8 +159,8 @@ pub struct AttributeEditResponsePayload {
 }
 
 type AttributeEditResponsePayloadRows = Row<
-    One<UniqueIdentifier, 0x420094>,
-    Row<One<Attribute, 0x420008>, End>,
+    One<UniqueIdentifier, UNIQUE_IDENTIFIER>,
+    Row<One<Attribute, ATTRIBUTE>, End>,
 >;
 
 impl TryClone for AttributeEditResponsePayload {
@@ -199,10 +200,10 @@ impl ReadItem for AttributeEditResponsePayload {
 }
 
 impl ReadRoot for AttributeEditResponsePayload {
-    ghost root_tag = { 0x42007C };
+    ghost root_tag = { RESPONSE_PAYLOAD };
 
     fn root_tag() -> Tag {
-        Tag::of(0x42007C)
+        Tag::of(RESPONSE_PAYLOAD)
     }
 }
 

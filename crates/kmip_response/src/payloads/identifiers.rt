@@ -13,6 +13,10 @@ use kmip_shape::{
     Item, Outer, ReadError, ReadItem, ReadRoot, ShowItem, Sink, fields, known_record, read_record,
     show_record,
 };
+use kmip_tags::tags::{
+    ATTRIBUTE, OBJECT_TYPE, PRIVATE_KEY_UNIQUE_IDENTIFIER, PUBLIC_KEY_UNIQUE_IDENTIFIER,
+    RESPONSE_PAYLOAD, TEMPLATE_ATTRIBUTE, UNIQUE_IDENTIFIER,
+};
 use kmip_types::UniqueIdentifier;
 use kmip_wire::{ItemRef, List, OutOfMemory, Tag, TryClone, clone_optional};
 use std::alloc::Global;
@@ -27,8 +31,8 @@ pub struct CreateResponsePayload {
 }
 
 type CreateResponsePayloadRows = Row<
-    One<ObjectType, 0x420057>,
-    Row<One<UniqueIdentifier, 0x420094>, Row<OptMany<Attribute, 0x420008>, End>>,
+    One<ObjectType, OBJECT_TYPE>,
+    Row<One<UniqueIdentifier, UNIQUE_IDENTIFIER>, Row<OptMany<Attribute, ATTRIBUTE>, End>>,
 >;
 
 impl TryClone for CreateResponsePayload {
@@ -71,10 +75,10 @@ impl ReadItem for CreateResponsePayload {
 }
 
 impl ReadRoot for CreateResponsePayload {
-    ghost root_tag = { 0x42007C };
+    ghost root_tag = { RESPONSE_PAYLOAD };
 
     fn root_tag() -> Tag {
-        Tag::of(0x42007C)
+        Tag::of(RESPONSE_PAYLOAD)
     }
 }
 
@@ -100,8 +104,8 @@ pub struct CreateKeyPairResponsePayload {
 }
 
 type CreateKeyPairResponsePayloadRows = Row<
-    One<UniqueIdentifier, 0x420066>,
-    Row<One<UniqueIdentifier, 0x42006F>, End>,
+    One<UniqueIdentifier, PRIVATE_KEY_UNIQUE_IDENTIFIER>,
+    Row<One<UniqueIdentifier, PUBLIC_KEY_UNIQUE_IDENTIFIER>, End>,
 >;
 
 impl TryClone for CreateKeyPairResponsePayload {
@@ -141,10 +145,10 @@ impl ReadItem for CreateKeyPairResponsePayload {
 }
 
 impl ReadRoot for CreateKeyPairResponsePayload {
-    ghost root_tag = { 0x42007C };
+    ghost root_tag = { RESPONSE_PAYLOAD };
 
     fn root_tag() -> Tag {
-        Tag::of(0x42007C)
+        Tag::of(RESPONSE_PAYLOAD)
     }
 }
 
@@ -173,8 +177,8 @@ pub struct RegisterResponsePayload {
 }
 
 type RegisterResponsePayloadRows = Row<
-    One<UniqueIdentifier, 0x420094>,
-    Row<OptMany<TemplateAttribute, 0x420091>, End>,
+    One<UniqueIdentifier, UNIQUE_IDENTIFIER>,
+    Row<OptMany<TemplateAttribute, TEMPLATE_ATTRIBUTE>, End>,
 >;
 
 impl TryClone for RegisterResponsePayload {
@@ -214,10 +218,10 @@ impl ReadItem for RegisterResponsePayload {
 }
 
 impl ReadRoot for RegisterResponsePayload {
-    ghost root_tag = { 0x42007C };
+    ghost root_tag = { RESPONSE_PAYLOAD };
 
     fn root_tag() -> Tag {
-        Tag::of(0x42007C)
+        Tag::of(RESPONSE_PAYLOAD)
     }
 }
 
@@ -237,7 +241,7 @@ pub struct LocateResponsePayload {
     pub unique_identifiers: List<UniqueIdentifier>,
 }
 
-type LocateResponsePayloadRows = Row<Many<UniqueIdentifier, 0x420094>, End>;
+type LocateResponsePayloadRows = Row<Many<UniqueIdentifier, UNIQUE_IDENTIFIER>, End>;
 
 impl TryClone for LocateResponsePayload {
     fn try_clone(&self, alloc: Global) -> Result<LocateResponsePayload, OutOfMemory> {
@@ -269,10 +273,10 @@ impl ReadItem for LocateResponsePayload {
 }
 
 impl ReadRoot for LocateResponsePayload {
-    ghost root_tag = { 0x42007C };
+    ghost root_tag = { RESPONSE_PAYLOAD };
 
     fn root_tag() -> Tag {
-        Tag::of(0x42007C)
+        Tag::of(RESPONSE_PAYLOAD)
     }
 }
 
@@ -292,7 +296,7 @@ pub struct UniqueIdentifierResponsePayload {
     pub unique_identifier: UniqueIdentifier,
 }
 
-type UniqueIdentifierResponsePayloadRows = Row<One<UniqueIdentifier, 0x420094>, End>;
+type UniqueIdentifierResponsePayloadRows = Row<One<UniqueIdentifier, UNIQUE_IDENTIFIER>, End>;
 
 impl TryClone for UniqueIdentifierResponsePayload {
     fn try_clone(&self, alloc: Global) -> Result<UniqueIdentifierResponsePayload, OutOfMemory> {
@@ -324,10 +328,10 @@ impl ReadItem for UniqueIdentifierResponsePayload {
 }
 
 impl ReadRoot for UniqueIdentifierResponsePayload {
-    ghost root_tag = { 0x42007C };
+    ghost root_tag = { RESPONSE_PAYLOAD };
 
     fn root_tag() -> Tag {
-        Tag::of(0x42007C)
+        Tag::of(RESPONSE_PAYLOAD)
     }
 }
 
