@@ -74,9 +74,13 @@ impl ShowItem for TransparentSymmetricKey {
 /// A private key of DSA: KMIP 1.0, 2.1.7.2.
 #[derive(PartialEq, Eq, Drop)]
 pub struct TransparentDSAPrivateKey {
+    /// The prime modulus P.
     pub p: Blob,
+    /// The prime divisor Q of P - 1.
     pub q: Blob,
+    /// The generator G.
     pub g: Blob,
+    /// The private exponent X.
     pub x: Blob,
 }
 
@@ -142,9 +146,13 @@ impl ShowItem for TransparentDSAPrivateKey {
 /// A public key of DSA: KMIP 1.0, 2.1.7.3.
 #[derive(PartialEq, Eq, Drop)]
 pub struct TransparentDSAPublicKey {
+    /// The prime modulus P.
     pub p: Blob,
+    /// The prime divisor Q of P - 1.
     pub q: Blob,
+    /// The generator G.
     pub g: Blob,
+    /// The public value Y, G to the power X modulo P.
     pub y: Blob,
 }
 
@@ -210,13 +218,21 @@ impl ShowItem for TransparentDSAPublicKey {
 /// A private key of RSA: KMIP 1.0, 2.1.7.4.
 #[derive(PartialEq, Eq, Drop)]
 pub struct TransparentRSAPrivateKey {
+    /// The modulus.
     pub modulus: Blob,
+    /// The private exponent.
     pub private_exponent: Option<Blob>,
+    /// The public exponent.
     pub public_exponent: Option<Blob>,
+    /// The first prime factor of the modulus.
     pub p: Option<Blob>,
+    /// The second prime factor of the modulus.
     pub q: Option<Blob>,
+    /// The private exponent modulo P - 1.
     pub prime_exponent_p: Option<Blob>,
+    /// The private exponent modulo Q - 1.
     pub prime_exponent_q: Option<Blob>,
+    /// The inverse of Q modulo P.
     pub crt_coefficient: Option<Blob>,
 }
 
@@ -230,7 +246,10 @@ type TransparentRSAPrivateKeyRows = Row<
                 BigOpt<P>,
                 Row<
                     BigOpt<Q>,
-                    Row<BigOpt<PRIME_EXPONENT_P>, Row<BigOpt<PRIME_EXPONENT_Q>, Row<BigOpt<CRT_COEFFICIENT>, End>>>,
+                    Row<
+                        BigOpt<PRIME_EXPONENT_P>,
+                        Row<BigOpt<PRIME_EXPONENT_Q>, Row<BigOpt<CRT_COEFFICIENT>, End>>,
+                    >,
                 >,
             >,
         >,
@@ -361,7 +380,9 @@ impl ShowItem for TransparentRSAPrivateKey {
 /// A public key of RSA: KMIP 1.0, 2.1.7.5.
 #[derive(PartialEq, Eq, Drop)]
 pub struct TransparentRSAPublicKey {
+    /// The modulus.
     pub modulus: Blob,
+    /// The public exponent.
     pub public_exponent: Blob,
 }
 
@@ -427,10 +448,15 @@ impl ShowItem for TransparentRSAPublicKey {
 /// A private key of Diffie and Hellman: KMIP 1.0, 2.1.7.6.
 #[derive(PartialEq, Eq, Drop)]
 pub struct TransparentDHPrivateKey {
+    /// The prime modulus P.
     pub p: Blob,
+    /// The prime divisor Q of P - 1.
     pub q: Option<Blob>,
+    /// The generator G.
     pub g: Blob,
+    /// The cofactor J, (P - 1) / Q.
     pub j: Option<Blob>,
+    /// The private exponent X.
     pub x: Blob,
 }
 
@@ -503,10 +529,15 @@ impl ShowItem for TransparentDHPrivateKey {
 /// A public key of Diffie and Hellman: KMIP 1.0, 2.1.7.7.
 #[derive(PartialEq, Eq, Drop)]
 pub struct TransparentDHPublicKey {
+    /// The prime modulus P.
     pub p: Blob,
+    /// The prime divisor Q of P - 1.
     pub q: Option<Blob>,
+    /// The generator G.
     pub g: Blob,
+    /// The cofactor J, (P - 1) / Q.
     pub j: Option<Blob>,
+    /// The public value Y, G to the power X modulo P.
     pub y: Blob,
 }
 

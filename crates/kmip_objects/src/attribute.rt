@@ -19,6 +19,7 @@ use std::alloc::Global;
 /// An attribute of an object: KMIP 1.0, 2.1.1.
 #[derive(PartialEq, Eq, Drop)]
 pub struct Attribute {
+    /// Its name, by which the type of its value is chosen.
     pub name: AttributeName,
     /// Which of the attributes of this name it is, from 0.
     pub index: Option<AttributeIndex>,
@@ -28,7 +29,10 @@ pub struct Attribute {
 
 type AttributeRows<'a> = Choosing<
     One<AttributeName, ATTRIBUTE_NAME>,
-    Row<Opt<AttributeIndex, ATTRIBUTE_INDEX>, Row<ChosenOne<'a, AttributeValue, ATTRIBUTE_VALUE>, End>>,
+    Row<
+        Opt<AttributeIndex, ATTRIBUTE_INDEX>,
+        Row<ChosenOne<'a, AttributeValue, ATTRIBUTE_VALUE>, End>,
+    >,
 >;
 
 impl TryClone for Attribute {

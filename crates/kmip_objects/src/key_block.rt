@@ -26,6 +26,7 @@ use std::alloc::Global;
 pub struct KeyValue {
     /// `Wrapped` where the key value is one Byte String, else of the key block's format.
     pub key_material: KeyMaterial,
+    /// Attributes that are wrapped together with the key material.
     pub attributes: Option<List<Attribute>>,
 }
 
@@ -81,13 +82,17 @@ impl ShowItem for KeyValue {
 /// A key with its format, algorithm and length: KMIP 1.0, 2.1.3.
 #[derive(PartialEq, Eq, Drop)]
 pub struct KeyBlock {
+    /// The format of the key material: KMIP 1.0, 9.1.3.2.3.
     pub key_format_type: KeyFormatType,
+    /// How an elliptic curve's point is compressed: KMIP 1.0, 9.1.3.2.2.
     pub key_compression_type: Option<KeyCompressionType>,
     /// In the form of `key_format_type`.
     pub key_value: KeyValue,
+    /// The algorithm that the key is for: KMIP 1.0, 3.4.
     pub cryptographic_algorithm: Option<CryptographicAlgorithm>,
     /// The length of the key in bits.
     pub cryptographic_length: Option<i32>,
+    /// How the key value is wrapped, if it is: KMIP 1.0, 2.1.5.
     pub key_wrapping_data: Option<KeyWrappingData>,
 }
 
@@ -99,7 +104,10 @@ type KeyBlockRows<'a> = Choosing<
             ChosenOne<'a, KeyValue, KEY_VALUE>,
             Row<
                 Opt<CryptographicAlgorithm, CRYPTOGRAPHIC_ALGORITHM>,
-                Row<Opt<i32, CRYPTOGRAPHIC_LENGTH>, Row<Opt<KeyWrappingData, KEY_WRAPPING_DATA>, End>>,
+                Row<
+                    Opt<i32, CRYPTOGRAPHIC_LENGTH>,
+                    Row<Opt<KeyWrappingData, KEY_WRAPPING_DATA>, End>,
+                >,
             >,
         >,
     >,

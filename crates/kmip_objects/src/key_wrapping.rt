@@ -22,7 +22,9 @@ use std::alloc::Global;
 /// The key that wraps by encryption, and how: KMIP 1.0, 2.1.5.
 #[derive(PartialEq, Eq, Drop)]
 pub struct EncryptionKeyInformation {
+    /// The identifier of the key that encrypts.
     pub unique_identifier: UniqueIdentifier,
+    /// How it encrypts.
     pub cryptographic_parameters: Option<CryptographicParameters>,
 }
 
@@ -88,7 +90,9 @@ impl ShowItem for EncryptionKeyInformation {
 /// The key that wraps by a MAC or a signature, and how: KMIP 1.0, 2.1.5.
 #[derive(PartialEq, Eq, Drop)]
 pub struct MACOrSignatureKeyInformation {
+    /// The identifier of the key that signs.
     pub unique_identifier: UniqueIdentifier,
+    /// How it signs.
     pub cryptographic_parameters: Option<CryptographicParameters>,
 }
 
@@ -154,10 +158,15 @@ impl ShowItem for MACOrSignatureKeyInformation {
 /// How a key was wrapped: KMIP 1.0, 2.1.5.
 #[derive(PartialEq, Eq, Drop)]
 pub struct KeyWrappingData {
+    /// Whether the key is encrypted, signed or both: KMIP 1.0, 9.1.3.2.4.
     pub wrapping_method: WrappingMethod,
+    /// The key that encrypts, where the method encrypts.
     pub encryption_key_information: Option<EncryptionKeyInformation>,
+    /// The key that signs, where the method signs.
     pub mac_or_signature_key_information: Option<MACOrSignatureKeyInformation>,
+    /// The MAC or signature of the key value.
     pub mac_or_signature: Option<Blob>,
+    /// The IV, counter or nonce, where the cipher mode has one.
     pub iv_or_counter_or_nonce: Option<Blob>,
 }
 

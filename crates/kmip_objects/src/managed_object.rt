@@ -24,12 +24,16 @@ use std::alloc::Global;
 /// A certificate: KMIP 1.0, 2.2.1.
 #[derive(PartialEq, Eq, Drop)]
 pub struct Certificate {
+    /// X.509 or PGP: KMIP 1.0, 9.1.3.2.6.
     pub certificate_type: CertificateType,
     /// The bytes of the certificate.
     pub certificate_value: Blob,
 }
 
-type CertificateRows = Row<One<CertificateType, CERTIFICATE_TYPE>, Row<One<Blob, CERTIFICATE_VALUE>, End>>;
+type CertificateRows = Row<
+    One<CertificateType, CERTIFICATE_TYPE>,
+    Row<One<Blob, CERTIFICATE_VALUE>, End>,
+>;
 
 impl TryClone for Certificate {
     fn try_clone(&self, alloc: Global) -> Result<Certificate, OutOfMemory> {
@@ -85,6 +89,7 @@ impl ShowItem for Certificate {
 /// A symmetric key: KMIP 1.0, 2.2.2.
 #[derive(PartialEq, Eq, Drop)]
 pub struct SymmetricKey {
+    /// The key and what belongs to it: KMIP 1.0, 2.1.3.
     pub key_block: KeyBlock,
 }
 
@@ -134,6 +139,7 @@ impl ShowItem for SymmetricKey {
 /// A public key: KMIP 1.0, 2.2.3.
 #[derive(PartialEq, Eq, Drop)]
 pub struct PublicKey {
+    /// The key and what belongs to it: KMIP 1.0, 2.1.3.
     pub key_block: KeyBlock,
 }
 
@@ -183,6 +189,7 @@ impl ShowItem for PublicKey {
 /// A private key: KMIP 1.0, 2.2.4.
 #[derive(PartialEq, Eq, Drop)]
 pub struct PrivateKey {
+    /// The key and what belongs to it: KMIP 1.0, 2.1.3.
     pub key_block: KeyBlock,
 }
 
@@ -232,9 +239,13 @@ impl ShowItem for PrivateKey {
 /// An object of the type that stands beside it: KMIP 1.0, 2.2.
 #[derive(PartialEq, Eq, Drop)]
 pub enum ManagedObject {
+    /// A certificate: KMIP 1.0, 2.2.1.
     Certificate(Certificate),
+    /// A symmetric key: KMIP 1.0, 2.2.2.
     SymmetricKey(SymmetricKey),
+    /// A public key: KMIP 1.0, 2.2.3.
     PublicKey(PublicKey),
+    /// A private key: KMIP 1.0, 2.2.4.
     PrivateKey(PrivateKey),
 }
 

@@ -20,6 +20,7 @@ use std::alloc::Global;
 /// The name of an object: KMIP 1.0, 3.2.
 #[derive(PartialEq, Eq, Drop)]
 pub struct Name {
+    /// The name itself.
     pub name: NameValue,
     /// How the name is to be read.
     pub name_type: NameType,

@@ -20,7 +20,9 @@ use std::alloc::Global;
 /// Attributes of a new object, and names of templates that hold more: KMIP 1.0, 2.1.8.
 #[derive(PartialEq, Eq, Drop)]
 pub struct TemplateAttribute {
+    /// The names of templates that stand for their attributes.
     pub name: Option<List<Name>>,
+    /// Further attributes.
     pub attributes: Option<List<Attribute>>,
 }
 

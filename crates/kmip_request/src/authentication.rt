@@ -99,6 +99,7 @@ impl ReadItem for Password {
 /// What a credential of each type holds: KMIP 1.0, 2.1.2.
 #[derive(PartialEq, Eq, Drop)]
 pub enum CredentialValue {
+    /// A username, and a password where there is one.
     UsernameAndPassword(Username, Option<Password>),
 }
 

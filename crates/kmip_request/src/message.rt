@@ -83,7 +83,10 @@ impl ReadItem for BatchItem {
 #[derive(PartialEq, Eq, Drop)]
 pub struct RequestMessage(pub RequestHeader, pub List<BatchItem>);
 
-type RequestMessageRows = Row<One<RequestHeader, REQUEST_HEADER>, Row<Many<BatchItem, BATCH_ITEM>, End>>;
+type RequestMessageRows = Row<
+    One<RequestHeader, REQUEST_HEADER>,
+    Row<Many<BatchItem, BATCH_ITEM>, End>,
+>;
 
 impl TryClone for RequestMessage {
     fn try_clone(&self, alloc: Global) -> Result<RequestMessage, OutOfMemory> {

@@ -127,7 +127,10 @@ impl RequestPayload {
     }
 }
 
-type CreateRows = Row<One<ObjectType, OBJECT_TYPE>, Row<One<TemplateAttribute, TEMPLATE_ATTRIBUTE>, End>>;
+type CreateRows = Row<
+    One<ObjectType, OBJECT_TYPE>,
+    Row<One<TemplateAttribute, TEMPLATE_ATTRIBUTE>, End>,
+>;
 
 type CreateKeyPairRows = Row<
     Opt<CommonTemplateAttribute, COMMON_TEMPLATE_ATTRIBUTE>,
@@ -171,7 +174,10 @@ type DeleteAttributeRows = Row<
 
 type RevokeRows = Row<
     Opt<UniqueIdentifier, UNIQUE_IDENTIFIER>,
-    Row<One<RevocationReason, REVOCATION_REASON>, Row<Opt<CompromiseOccurrenceDate, COMPROMISE_OCCURRENCE_DATE>, End>>,
+    Row<
+        One<RevocationReason, REVOCATION_REASON>,
+        Row<Opt<CompromiseOccurrenceDate, COMPROMISE_OCCURRENCE_DATE>, End>,
+    >,
 >;
 
 type QueryRows = Row<Many<QueryFunction, QUERY_FUNCTION>, End>;

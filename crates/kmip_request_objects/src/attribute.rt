@@ -26,7 +26,10 @@ pub struct Attribute(
 
 type AttributeRows<'a> = Choosing<
     One<AttributeName, ATTRIBUTE_NAME>,
-    Row<Opt<AttributeIndex, ATTRIBUTE_INDEX>, Row<ChosenOne<'a, AttributeValue, ATTRIBUTE_VALUE>, End>>,
+    Row<
+        Opt<AttributeIndex, ATTRIBUTE_INDEX>,
+        Row<ChosenOne<'a, AttributeValue, ATTRIBUTE_VALUE>, End>,
+    >,
 >;
 
 impl TryClone for Attribute {

@@ -14,8 +14,8 @@ use kmip_shape::{
     write_record,
 };
 use kmip_tags::tags::{
-    ATTRIBUTE, CRYPTOGRAPHIC_ALGORITHM, CRYPTOGRAPHIC_LENGTH, KEY_COMPRESSION_TYPE, KEY_FORMAT_TYPE,
-    KEY_MATERIAL, KEY_VALUE, KEY_WRAPPING_DATA,
+    ATTRIBUTE, CRYPTOGRAPHIC_ALGORITHM, CRYPTOGRAPHIC_LENGTH, KEY_COMPRESSION_TYPE,
+    KEY_FORMAT_TYPE, KEY_MATERIAL, KEY_VALUE, KEY_WRAPPING_DATA,
 };
 use kmip_types::{
     CryptographicAlgorithm, CryptographicLength, KeyCompressionType, KeyFormatType, KeyMaterial,
@@ -86,7 +86,10 @@ type KeyBlockRows<'a> = Choosing<
             ChosenOpt<'a, KeyValue, KEY_VALUE>,
             Row<
                 Opt<CryptographicAlgorithm, CRYPTOGRAPHIC_ALGORITHM>,
-                Row<Opt<CryptographicLength, CRYPTOGRAPHIC_LENGTH>, Row<Opt<KeyWrappingData, KEY_WRAPPING_DATA>, End>>,
+                Row<
+                    Opt<CryptographicLength, CRYPTOGRAPHIC_LENGTH>,
+                    Row<Opt<KeyWrappingData, KEY_WRAPPING_DATA>, End>,
+                >,
             >,
         >,
     >,

@@ -138,7 +138,10 @@ type KeyWrappingDataRows = Row<
             Opt<MACOrSignatureKeyInformation, MAC_SIGNATURE_KEY_INFORMATION>,
             Row<
                 Opt<MACOrSignature, MAC_SIGNATURE>,
-                Row<Opt<IVOrCounterOrNonce, IV_COUNTER_NONCE>, Row<OptMany<Attribute, ATTRIBUTE>, End>>,
+                Row<
+                    Opt<IVOrCounterOrNonce, IV_COUNTER_NONCE>,
+                    Row<OptMany<Attribute, ATTRIBUTE>, End>,
+                >,
             >,
         >,
     >,
@@ -212,7 +215,10 @@ type KeyWrappingSpecificationRows = Row<
     One<WrappingMethod, WRAPPING_METHOD>,
     Row<
         Opt<EncryptionKeyInformation, ENCRYPTION_KEY_INFORMATION>,
-        Row<Opt<MACOrSignatureKeyInformation, MAC_SIGNATURE_KEY_INFORMATION>, Row<OptMany<Attribute, ATTRIBUTE>, End>>,
+        Row<
+            Opt<MACOrSignatureKeyInformation, MAC_SIGNATURE_KEY_INFORMATION>,
+            Row<OptMany<Attribute, ATTRIBUTE>, End>,
+        >,
     >,
 >;
 

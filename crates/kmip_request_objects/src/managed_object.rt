@@ -185,9 +185,13 @@ impl ReadItem for Template {
 /// An object that is handed to the server, under its own tag: KMIP 1.0, 2.2.
 #[derive(PartialEq, Eq, Drop)]
 pub enum ManagedObject {
+    /// A symmetric key: KMIP 1.0, 2.2.2.
     SymmetricKey(SymmetricKey),
+    /// A public key: KMIP 1.0, 2.2.3.
     PublicKey(PublicKey),
+    /// A private key: KMIP 1.0, 2.2.4.
     PrivateKey(PrivateKey),
+    /// A template: KMIP 1.0, 2.2.6.
     Template(Template),
 }
 
@@ -250,7 +254,9 @@ impl WriteItem for ManagedObject {
 impl ReadItem for ManagedObject {
     fn read(alloc: Global, outer: Outer<'_>, item: ItemRef<'_>) -> Result<Self, ReadError> {
         match item.tag().number() {
-            SYMMETRIC_KEY => Ok(ManagedObject::SymmetricKey(SymmetricKey::read(alloc, outer, item)?)),
+            SYMMETRIC_KEY => Ok(ManagedObject::SymmetricKey(SymmetricKey::read(
+                alloc, outer, item,
+            )?)),
             PUBLIC_KEY => Ok(ManagedObject::PublicKey(PublicKey::read(alloc, outer, item)?)),
             PRIVATE_KEY => Ok(ManagedObject::PrivateKey(PrivateKey::read(alloc, outer, item)?)),
             TEMPLATE => Ok(ManagedObject::Template(Template::read(alloc, outer, item)?)),
@@ -263,7 +269,10 @@ impl OfTag for ManagedObject {
     ghost tags = { SYMMETRIC_KEY ∷ PUBLIC_KEY ∷ PRIVATE_KEY ∷ TEMPLATE ∷ [] };
 
     fn has_case(tag: Tag) -> bool {
-        matches!(tag.number(), SYMMETRIC_KEY | PUBLIC_KEY | PRIVATE_KEY | TEMPLATE)
+        matches!(
+            tag.number(),
+            SYMMETRIC_KEY | PUBLIC_KEY | PRIVATE_KEY | TEMPLATE
+        )
     }
 
     ghost own = { λ o. refl };

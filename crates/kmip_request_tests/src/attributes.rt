@@ -230,7 +230,13 @@ fn named_private_key_template_attribute(rt: HostRuntime) -> Result<(), Fail> {
     // 65{53{55 "t",54 e1}}
     let expected =
         b"\x42\x00\x65\x01\x00\x00\x00\x28\x42\x00\x53\x01\x00\x00\x00\x20\x42\x00\x55\x07\x00\x00\x00\x01\x74\x00\x00\x00\x00\x00\x00\x00\x42\x00\x54\x05\x00\x00\x00\x04\x00\x00\x00\x01\x00\x00\x00\x00";
-    is_template(&rt, alloc, &template, PRIVATE_KEY_TEMPLATE_ATTRIBUTE, expected)
+    is_template(
+        &rt,
+        alloc,
+        &template,
+        PRIVATE_KEY_TEMPLATE_ATTRIBUTE,
+        expected,
+    )
 }
 
 #[test]
@@ -244,7 +250,13 @@ fn named_public_key_template_attribute(rt: HostRuntime) -> Result<(), Fail> {
     // 6E{53{55 "t",54 e1}}
     let expected =
         b"\x42\x00\x6E\x01\x00\x00\x00\x28\x42\x00\x53\x01\x00\x00\x00\x20\x42\x00\x55\x07\x00\x00\x00\x01\x74\x00\x00\x00\x00\x00\x00\x00\x42\x00\x54\x05\x00\x00\x00\x04\x00\x00\x00\x01\x00\x00\x00\x00";
-    is_template(&rt, alloc, &template, PUBLIC_KEY_TEMPLATE_ATTRIBUTE, expected)
+    is_template(
+        &rt,
+        alloc,
+        &template,
+        PUBLIC_KEY_TEMPLATE_ATTRIBUTE,
+        expected,
+    )
 }
 
 #[test]

@@ -22,13 +22,19 @@ use std::alloc::Global;
 /// What one operation came to: KMIP 1.0, 7.2.
 #[derive(PartialEq, Eq, Drop)]
 pub struct BatchItem {
+    /// The operation that it is the result of; absent where the server could not read it: KMIP 1.0, 6.2.
     pub operation: Option<Operation>,
+    /// The identifier of the request's batch item, where that had one: KMIP 1.0, 6.4.
     pub unique_batch_item_id: Option<UniqueBatchItemID>,
+    /// Whether the operation succeeded: KMIP 1.0, 6.9.
     pub result_status: ResultStatus,
+    /// Why it failed: KMIP 1.0, 6.10.
     pub result_reason: Option<ResultReason>,
+    /// The server's own words: KMIP 1.0, 6.11.
     pub result_message: Option<Text>,
     /// Chosen by `operation`; a payload without one, or under another, is not read.
     pub payload: Option<ResponsePayload>,
+    /// A vendor's extension: KMIP 1.0, 6.16.
     pub message_extension: Option<MessageExtension>,
 }
 

@@ -19,9 +19,11 @@ pub struct VendorExtension;
 /// An extension of a message: KMIP 1.0, 6.16.
 #[derive(PartialEq, Eq, Drop)]
 pub struct MessageExtension {
+    /// Whose extension it is.
     pub vendor_identification: Text,
     /// Whether a receiver that does not know the extension must refuse the message.
     pub criticality_indicator: bool,
+    /// The vendor's own items.
     pub vendor_extension: VendorExtension,
 }
 
@@ -50,7 +52,10 @@ impl Item for MessageExtension {
     ghost same = { message_extension_same };
 }
 
-type MessageExtensionRows = Row<One<Text, VENDOR_IDENTIFICATION>, Row<One<bool, CRITICALITY_INDICATOR>, End>>;
+type MessageExtensionRows = Row<
+    One<Text, VENDOR_IDENTIFICATION>,
+    Row<One<bool, CRITICALITY_INDICATOR>, End>,
+>;
 
 impl ReadItem for MessageExtension {
     fn read(alloc: Global, outer: Outer<'_>, item: ItemRef<'_>) -> Result<Self, ReadError> {

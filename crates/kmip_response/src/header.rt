@@ -21,11 +21,16 @@ use std::alloc::Global;
 /// The version of KMIP that a server speaks: KMIP 1.0, 6.1.
 #[derive(Clone, Copy, PartialEq, Eq, Drop)]
 pub struct ProtocolVersion {
+    /// The number before the point.
     pub major: i32,
+    /// The number after the point.
     pub minor: i32,
 }
 
-type ProtocolVersionRows = Row<One<i32, PROTOCOL_VERSION_MAJOR>, Row<One<i32, PROTOCOL_VERSION_MINOR>, End>>;
+type ProtocolVersionRows = Row<
+    One<i32, PROTOCOL_VERSION_MAJOR>,
+    Row<One<i32, PROTOCOL_VERSION_MINOR>, End>,
+>;
 
 impl Item for ProtocolVersion {
     ghost shape = { protocol_version };
@@ -67,6 +72,7 @@ impl ReadRoot for ProtocolVersion {
 /// The head of a response: KMIP 1.0, 7.2.
 #[derive(Clone, Copy, PartialEq, Eq, Drop)]
 pub struct ResponseHeader {
+    /// The version that the response is written in: KMIP 1.0, 6.1.
     pub protocol_version: ProtocolVersion,
     /// When the response was made, in seconds since 1970.
     pub timestamp: i64,

@@ -17,6 +17,7 @@ use std::alloc::Global;
 /// A response: KMIP 1.0, 7.1.
 #[derive(PartialEq, Eq, Drop)]
 pub struct ResponseMessage {
+    /// Version, time stamp and number of batch items: KMIP 1.0, 7.2.
     pub header: ResponseHeader,
     /// At least one.
     pub batch_items: List<BatchItem>,

@@ -92,7 +92,10 @@ fn done(alloc: Global, operation: Operation, payload: Trees) -> Result<Trees, Ou
 {
     let mut fields = Trees::new(alloc);
     fields.push(operation_item(operation))?;
-    fields.push(item(RESULT_STATUS, Node::Enumeration(ResultStatus::Success.number())))?;
+    fields.push(item(
+        RESULT_STATUS,
+        Node::Enumeration(ResultStatus::Success.number()),
+    ))?;
     fields.push(item(RESPONSE_PAYLOAD, Node::Structure(payload)))?;
     Ok(fields)
 }

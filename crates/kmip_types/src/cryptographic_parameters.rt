@@ -212,7 +212,10 @@ type CryptographicParametersRows = Row<
                                             Opt<InvocationFieldLength, INVOCATION_FIELD_LENGTH>,
                                             Row<
                                                 Opt<CounterLength, COUNTER_LENGTH>,
-                                                Row<Opt<InitialCounterValue, INITIAL_COUNTER_VALUE>, End>,
+                                                Row<
+                                                    Opt<InitialCounterValue, INITIAL_COUNTER_VALUE>,
+                                                    End,
+                                                >,
                                             >,
                                         >,
                                     >,

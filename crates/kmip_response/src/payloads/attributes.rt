@@ -20,7 +20,9 @@ use std::alloc::Global;
 /// What Get Attributes answers: KMIP 1.0, 4.11.
 #[derive(PartialEq, Eq, Drop)]
 pub struct GetAttributesResponsePayload {
+    /// The identifier of the object.
     pub unique_identifier: UniqueIdentifier,
+    /// The attributes asked for that the object has.
     pub attributes: Option<List<Attribute>>,
 }
 
@@ -86,6 +88,7 @@ impl ShowItem for GetAttributesResponsePayload {
 /// What Get Attribute List answers: KMIP 1.0, 4.12.
 #[derive(PartialEq, Eq, Drop)]
 pub struct GetAttributeListResponsePayload {
+    /// The identifier of the object.
     pub unique_identifier: UniqueIdentifier,
     /// At least one.
     pub attributes: List<AttributeName>,
@@ -153,6 +156,7 @@ impl ShowItem for GetAttributeListResponsePayload {
 /// What Add Attribute, Modify Attribute and Delete Attribute answer: KMIP 1.0, 4.13 to 4.15.
 #[derive(PartialEq, Eq, Drop)]
 pub struct AttributeEditResponsePayload {
+    /// The identifier of the object.
     pub unique_identifier: UniqueIdentifier,
     /// The attribute that was added, changed or taken away.
     pub attribute: Attribute,

@@ -19,12 +19,16 @@ use std::alloc::Global;
 /// What Sign answers: KMIP 1.2, 4.31.
 #[derive(PartialEq, Eq, Drop)]
 pub struct SignResponsePayload {
+    /// The identifier of the object.
     pub unique_identifier: UniqueIdentifier,
     /// The bytes of the signature.
     pub signature_data: Blob,
 }
 
-type SignResponsePayloadRows = Row<One<UniqueIdentifier, UNIQUE_IDENTIFIER>, Row<One<Blob, SIGNATURE_DATA>, End>>;
+type SignResponsePayloadRows = Row<
+    One<UniqueIdentifier, UNIQUE_IDENTIFIER>,
+    Row<One<Blob, SIGNATURE_DATA>, End>,
+>;
 
 impl TryClone for SignResponsePayload {
     fn try_clone(&self, alloc: Global) -> Result<SignResponsePayload, OutOfMemory> {

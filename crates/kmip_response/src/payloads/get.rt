@@ -21,7 +21,9 @@ use std::alloc::Global;
 /// What Get answers: KMIP 1.0, 4.10.
 #[derive(PartialEq, Eq, Drop)]
 pub struct GetResponsePayload {
+    /// The type of the object.
     pub object_type: ObjectType,
+    /// The identifier of the object.
     pub unique_identifier: UniqueIdentifier,
     /// The object, of the type `object_type`.
     pub cryptographic_object: ManagedObject,

@@ -24,7 +24,9 @@ use std::alloc::Global;
 /// What Create answers: KMIP 1.0, 4.1.
 #[derive(PartialEq, Eq, Drop)]
 pub struct CreateResponsePayload {
+    /// The type of the object.
     pub object_type: ObjectType,
+    /// The identifier of the object.
     pub unique_identifier: UniqueIdentifier,
     /// Attributes that the server set.
     pub object_attributes: Option<List<Attribute>>,
@@ -99,7 +101,9 @@ impl ShowItem for CreateResponsePayload {
 /// What Create Key Pair answers: KMIP 1.0, 4.2.
 #[derive(PartialEq, Eq, Drop)]
 pub struct CreateKeyPairResponsePayload {
+    /// The identifier of the private key.
     pub private_key_unique_identifier: UniqueIdentifier,
+    /// The identifier of the public key.
     pub public_key_unique_identifier: UniqueIdentifier,
 }
 
@@ -171,6 +175,7 @@ impl ShowItem for CreateKeyPairResponsePayload {
 /// What Register answers: KMIP 1.0, 4.3.
 #[derive(PartialEq, Eq, Drop)]
 pub struct RegisterResponsePayload {
+    /// The identifier of the object.
     pub unique_identifier: UniqueIdentifier,
     /// Attributes that the server set.
     pub template_attributes: Option<List<TemplateAttribute>>,
@@ -238,6 +243,7 @@ impl ShowItem for RegisterResponsePayload {
 /// What Locate answers: the objects that have all the attributes: KMIP 1.0, 4.8.
 #[derive(PartialEq, Eq, Drop)]
 pub struct LocateResponsePayload {
+    /// The identifiers of all objects found, none where there is none.
     pub unique_identifiers: List<UniqueIdentifier>,
 }
 
@@ -293,6 +299,7 @@ impl ShowItem for LocateResponsePayload {
 /// The identifier of the object that Activate, Revoke or Destroy was made on: KMIP 1.0, 4.18 to 4.20.
 #[derive(PartialEq, Eq, Drop)]
 pub struct UniqueIdentifierResponsePayload {
+    /// The identifier of the object.
     pub unique_identifier: UniqueIdentifier,
 }
 
