@@ -1,5 +1,5 @@
 -- Calls that change an object, each told before it is done.
-use Rattle.std.proofs.Common.{◌≡◌, ◌×◌, ℕ, ℤ, List, refl, ◌∙◌, ap, sym, subst, Option, Some, None, Bool, true, false, cond, not, ◌||◌}
+use Rattle.std.proofs.Common.{◌≡◌, ℕ, ℤ, List, refl, ◌∙◌, ap, sym, subst, Option, Some, None, Bool, true, false, cond, not, ◌||◌}
 use Rattle.std.specs.Prelude.{Result, Ok, Err}
 use Rattle.std.specs.Option.{option_map}
 use Rattle.kmip_shape.proofs.Parts.{some_same}

@@ -1,5 +1,5 @@
 -- A pair, whose two messages are made before the maker is asked.
-use Rattle.std.proofs.Common.{◌≡◌, ◌×◌, ◌+◌, ℕ, ℤ, List, length, refl, ◌∙◌, ap, sym, subst, Option, Some, None}
+use Rattle.std.proofs.Common.{◌≡◌, ◌+◌, ℕ, ℤ, List, length, refl, ◌∙◌, ap, sym, subst, Option, Some, None}
 use Rattle.std.specs.Prelude.{Result, Ok, Err}
 use Rattle.kmip_wire.specs.declared.error.WireError.{WireError}
 use Rattle.kmip_response_write.specs.Settled.{IsHeld, response_bytes}
