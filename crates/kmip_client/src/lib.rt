@@ -26,7 +26,6 @@ mod exchange;
 mod helpers;
 mod laws;
 mod message;
-mod requests;
 mod room;
 mod session;
 mod transfer;

@@ -3,7 +3,7 @@ ghost use Rattle.std.specs.Prelude.{◌≡◌, ◌∷◌, [], ℕ, List, None, S
 ghost use Rattle.std.specs.Int.{cast_signed, w32};
 ghost use Rattle.kmip_enums.specs.declared.query_function.QueryFunction.TheVariants.{QueryOperations, QueryObjects, QueryServerInformation};
 ghost use Rattle.kmip_types.specs.UsageMask.{usage_bits};
-ghost use Rattle.kmip_client.specs.Requests as requests;
+ghost use Rattle.kmip_helpers.specs.Requests as requests;
 
 use kmip_enums::{QueryFunction, RevocationReasonCode};
 use kmip_request::{
