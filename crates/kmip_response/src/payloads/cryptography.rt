@@ -1,6 +1,7 @@
 //! Payloads of cryptographic operations.
 
 ghost use Rattle.std.specs.Prelude.{◌≡◌};
+ghost use Rattle.kmip_tags.specs.Tags as tags;
 ghost use Rattle.kmip_response.specs.Tables.{sign_payload, rng_retrieve_payload};
 ghost use Rattle.kmip_response.specs.Values.{sign_payload_val, rng_retrieve_payload_val};
 ghost use Rattle.kmip_response.specs.Same.{sign_payload_same, rng_retrieve_payload_same};
@@ -11,6 +12,7 @@ use kmip_shape::{
     Item, Outer, ReadError, ReadItem, ReadRoot, ShowItem, Sink, fields, known_record, read_record,
     show_record,
 };
+use kmip_tags::tags::{DATA, RESPONSE_PAYLOAD, SIGNATURE_DATA, UNIQUE_IDENTIFIER};
 use kmip_types::UniqueIdentifier;
 use kmip_wire::{Blob, ItemRef, OutOfMemory, Tag, TryClone};
 use std::alloc::Global;
@@ -18,12 +20,16 @@ use std::alloc::Global;
 /// What Sign answers: KMIP 1.2, 4.31.
 #[derive(PartialEq, Eq, Drop)]
 pub struct SignResponsePayload {
+    /// The identifier of the object.
     pub unique_identifier: UniqueIdentifier,
     /// The bytes of the signature.
     pub signature_data: Blob,
 }
 
-type SignResponsePayloadRows = Row<One<UniqueIdentifier, 0x420094>, Row<One<Blob, 0x4200C3>, End>>;
+type SignResponsePayloadRows = Row<
+    One<UniqueIdentifier, UNIQUE_IDENTIFIER>,
+    Row<One<Blob, SIGNATURE_DATA>, End>,
+>;
 
 impl TryClone for SignResponsePayload {
     fn try_clone(&self, alloc: Global) -> Result<SignResponsePayload, OutOfMemory> {
@@ -62,10 +68,10 @@ impl ReadItem for SignResponsePayload {
 }
 
 impl ReadRoot for SignResponsePayload {
-    ghost root_tag = { 0x42007C };
+    ghost root_tag = { tags.RESPONSE_PAYLOAD };
 
     fn root_tag() -> Tag {
-        Tag::of(0x42007C)
+        Tag::of(RESPONSE_PAYLOAD)
     }
 }
 
@@ -86,7 +92,7 @@ pub struct RNGRetrieveResponsePayload {
     pub random_bytes: Blob,
 }
 
-type RNGRetrieveResponsePayloadRows = Row<One<Blob, 0x4200C2>, End>;
+type RNGRetrieveResponsePayloadRows = Row<One<Blob, DATA>, End>;
 
 impl TryClone for RNGRetrieveResponsePayload {
     fn try_clone(&self, alloc: Global) -> Result<RNGRetrieveResponsePayload, OutOfMemory> {
@@ -118,10 +124,10 @@ impl ReadItem for RNGRetrieveResponsePayload {
 }
 
 impl ReadRoot for RNGRetrieveResponsePayload {
-    ghost root_tag = { 0x42007C };
+    ghost root_tag = { tags.RESPONSE_PAYLOAD };
 
     fn root_tag() -> Tag {
-        Tag::of(0x42007C)
+        Tag::of(RESPONSE_PAYLOAD)
     }
 }
 
