@@ -16,6 +16,7 @@ use kmip_shape::{
     Item, Outer, ReadError, ReadItem, WriteItem, fields, known_record, read_record, record_len,
     write_record,
 };
+use kmip_tags::tags::{ATTRIBUTE, NAME};
 use kmip_types::NameValue;
 use kmip_wire::{Buffer, ItemRef, List, OutOfMemory, Tag, Text, TryClone, clone_optional};
 use std::alloc::Global;
@@ -47,13 +48,14 @@ impl TemplateAttribute {
         name: Text,
         attributes: List<Attribute>,
     ) -> Result<Self, OutOfMemory>
-        ensures { IfOk result (λ made. made ≡ record { 0 = Some (uninterpreted name ∷ []); 1 = Some attributes }) }
+        ensures { IfOk result (λ made. made ≡
+            record { 0 = Some (uninterpreted name ∷ []); 1 = Some attributes }) }
     {
         Ok(TemplateAttribute(Some(one_name(alloc, name)?), Some(attributes)))
     }
 }
 
-type TemplateAttributeRows = Row<OptMany<Name, 0x420053>, Row<OptMany<Attribute, 0x420008>, End>>;
+type TemplateAttributeRows = Row<OptMany<Name, NAME>, Row<OptMany<Attribute, ATTRIBUTE>, End>>;
 
 impl TryClone for TemplateAttribute {
     fn try_clone(&self, alloc: Global) -> Result<TemplateAttribute, OutOfMemory> {
@@ -114,15 +116,16 @@ impl CommonTemplateAttribute {
         name: Text,
         attributes: List<Attribute>,
     ) -> Result<Self, OutOfMemory>
-        ensures { IfOk result (λ made. made ≡ record { 0 = Some (uninterpreted name ∷ []); 1 = Some attributes }) }
+        ensures { IfOk result (λ made. made ≡
+            record { 0 = Some (uninterpreted name ∷ []); 1 = Some attributes }) }
     {
         Ok(CommonTemplateAttribute(Some(one_name(alloc, name)?), Some(attributes)))
     }
 }
 
 type CommonTemplateAttributeRows = Row<
-    OptMany<Name, 0x420053>,
-    Row<OptMany<Attribute, 0x420008>, End>,
+    OptMany<Name, NAME>,
+    Row<OptMany<Attribute, ATTRIBUTE>, End>,
 >;
 
 impl TryClone for CommonTemplateAttribute {
@@ -186,15 +189,16 @@ impl PrivateKeyTemplateAttribute {
         name: Text,
         attributes: List<Attribute>,
     ) -> Result<Self, OutOfMemory>
-        ensures { IfOk result (λ made. made ≡ record { 0 = Some (uninterpreted name ∷ []); 1 = Some attributes }) }
+        ensures { IfOk result (λ made. made ≡
+            record { 0 = Some (uninterpreted name ∷ []); 1 = Some attributes }) }
     {
         Ok(PrivateKeyTemplateAttribute(Some(one_name(alloc, name)?), Some(attributes)))
     }
 }
 
 type PrivateKeyTemplateAttributeRows = Row<
-    OptMany<Name, 0x420053>,
-    Row<OptMany<Attribute, 0x420008>, End>,
+    OptMany<Name, NAME>,
+    Row<OptMany<Attribute, ATTRIBUTE>, End>,
 >;
 
 impl TryClone for PrivateKeyTemplateAttribute {
@@ -258,15 +262,16 @@ impl PublicKeyTemplateAttribute {
         name: Text,
         attributes: List<Attribute>,
     ) -> Result<Self, OutOfMemory>
-        ensures { IfOk result (λ made. made ≡ record { 0 = Some (uninterpreted name ∷ []); 1 = Some attributes }) }
+        ensures { IfOk result (λ made. made ≡
+            record { 0 = Some (uninterpreted name ∷ []); 1 = Some attributes }) }
     {
         Ok(PublicKeyTemplateAttribute(Some(one_name(alloc, name)?), Some(attributes)))
     }
 }
 
 type PublicKeyTemplateAttributeRows = Row<
-    OptMany<Name, 0x420053>,
-    Row<OptMany<Attribute, 0x420008>, End>,
+    OptMany<Name, NAME>,
+    Row<OptMany<Attribute, ATTRIBUTE>, End>,
 >;
 
 impl TryClone for PublicKeyTemplateAttribute {

@@ -2,8 +2,8 @@
 //! traits by which types of items are written, read and shown.
 //!
 //! A type implements `Item`, and then what it needs of `WriteItem`, `ReadItem` and `ShowItem`. The
-//! rows of a record are one type, as `Row<One<AttributeName, 0x42000A>, Row<Opt<AttributeIndex,
-//! 0x420009>, End>>`, by which it is read (`read_record`), written (`record_len`, `write_record`)
+//! rows of a record are one type, as `Row<One<AttributeName, ATTRIBUTE_NAME>, Row<Opt<AttributeIndex,
+//! ATTRIBUTE_INDEX>, End>>`, by which it is read (`read_record`), written (`record_len`, `write_record`)
 //! and shown (`show_record`).
 #![tactic(auto)]
 
