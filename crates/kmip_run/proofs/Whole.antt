@@ -7,10 +7,11 @@ use Rattle.std.proofs.lemmas.List.Elements.{All-head, All-tail}
 use Rattle.kmip_link.specs.Plan.{MemoryState}
 use Rattle.kmip_link.specs.State.{SinkState}
 use Rattle.kmip_run.specs.Script.{lines_of}
-use Rattle.kmip_run.specs.Calls.{call_of}
+use Rattle.kmip_words.specs.Calls.{call_of}
 use Rattle.kmip_run.specs.Commands.{command_of}
-use Rattle.kmip_run.specs.Exchange.{Settings, settings_for, Step, step}
-use Rattle.kmip_run.specs.Streams.{WrotePart}
+use Rattle.kmip_words.specs.Exchange.{Settings, Step, step}
+use Rattle.kmip_run.specs.Setup.{settings_for}
+use Rattle.kmip_words.specs.Streams.{WrotePart}
 use Rattle.kmip_run.specs.Transcript.{Transcript, only_text, status_after, replayed, expanded, explained, lines_transcript, most_script, reads_script, script_transcript, command_transcript, transcript, IsLineOf, IsOfGrammar, Replays}
 use Rattle.kmip_run.specs.declared.command.Command.{Command}
 use Rattle.kmip_run.specs.declared.command.Command.TheVariants.{Replay, Explain, Make}

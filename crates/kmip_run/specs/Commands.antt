@@ -1,25 +1,9 @@
 -- What the words of the command line ask for.
-use Rattle.std.specs.Prelude.{ℕ, nat_eq, nat_lt, List, [], ◌∷◌, length, drop, Bool, true, false, Option, Some, None, if◌then◌else◌, codes, bytes_eq}
-use Rattle.std.specs.List.{starts_with}
-use Rattle.kmip_run.specs.Values.{number_of}
+use Rattle.std.specs.Prelude.{ℕ, nat_lt, List, [], ◌∷◌, Bool, true, false, Option, Some, None, if◌then◌else◌, codes, bytes_eq}
+use Rattle.kmip_words.specs.Values.{number_of}
+use Rattle.kmip_words.specs.Options.{Given, given, given_after}
 use Rattle.kmip_run.specs.declared.command.Command.{Command}
 use Rattle.kmip_run.specs.declared.command.Command.TheVariants.{Replay, Explain, Make}
-
--- the value that a first word gives to a name, and the words that are left after it
-pub record Given : Type 0 where
-  pub value : Option (List ℕ)
-  pub rest : List (List ℕ)
-
-abbrev pub given : List ℕ → List (List ℕ) → Given
-given name [] = record { value = None; rest = [] }
-given name (word ∷ words) =
-    if starts_with nat_eq word name then record { value = Some (drop (length name) word); rest = words }
-    else record { value = None; rest = word ∷ words }
-
--- a value is given only after another
-abbrev pub given_after : Option (List ℕ) → List ℕ → List (List ℕ) → Given
-given_after (Some before) name words = given name words
-given_after None name words = record { value = None; rest = words }
 
 -- whether the last word is `diag`, where no other is left
 abbrev pub diag_of : List (List ℕ) → Option Bool

@@ -1,11 +1,6 @@
 pub mod Script
-pub mod Words
-pub mod Values
-pub mod Calls
 pub mod Commands
-pub mod Raw
-pub mod Streams
-pub mod Exchange
+pub mod Setup
 pub mod Making
 pub mod Transcript
 pub mod Sent

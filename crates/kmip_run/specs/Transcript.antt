@@ -7,9 +7,10 @@ use Rattle.hex.specs.Hex.{encode_upper}
 use Rattle.kmip_diag.specs.Expansion.{expansion}
 use Rattle.kmip_link.specs.Plan.{MemoryState}
 use Rattle.kmip_run.specs.Script.{lines_of}
-use Rattle.kmip_run.specs.Calls.{call_of}
+use Rattle.kmip_words.specs.Calls.{call_of}
 use Rattle.kmip_run.specs.Commands.{command_of}
-use Rattle.kmip_run.specs.Exchange.{Settings, settings_for, Step, step}
+use Rattle.kmip_words.specs.Exchange.{Settings, Step, step}
+use Rattle.kmip_run.specs.Setup.{settings_for}
 use Rattle.kmip_run.specs.Making.{Counts, made, made_settings, made_text}
 use Rattle.kmip_run.specs.declared.command.Command.{Command}
 use Rattle.kmip_run.specs.declared.command.Command.TheVariants.{Replay, Explain, Make}

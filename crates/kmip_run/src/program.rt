@@ -3,8 +3,8 @@ ghost use Rattle.std.specs.Prelude.{◌≡◌, ◌≢◌, ◌+◌, ◌<◌, ◌�
 ghost use Rattle.kmip_link.specs.State.{SourceKeeps, SinkKeeps, Rose, source_left};
 ghost use Rattle.kmip_run.specs.Script.{lines_of};
 ghost use Rattle.kmip_run.specs.Commands.{command_of};
-ghost use Rattle.kmip_run.specs.Exchange.{settings_for};
-ghost use Rattle.kmip_run.specs.Streams.{WrotePart};
+ghost use Rattle.kmip_run.specs.Setup.{settings_for};
+ghost use Rattle.kmip_words.specs.Streams.{WrotePart};
 ghost use Rattle.kmip_run.specs.Making.{made, made_settings};
 ghost use Rattle.kmip_run.specs.Transcript.{most_script, reads_script, read_by, makes_calls, replayed, counted_transcript, lines_transcript, script_transcript, transcript, IsOfGrammar, Replays};
 
@@ -13,10 +13,10 @@ use crate::explain::explain;
 use crate::make::make;
 use crate::replay::replay;
 use crate::setup::client_of;
-use crate::streams::{read_up_to, write_out};
 use kmip_client::Client;
 use kmip_link::{LinkError, MemoryLink, Sink, Source};
 use kmip_wire::{List, OutOfMemory, Text};
+use kmip_words::{read_up_to, write_out};
 use std::alloc::Global;
 use std::mem;
 

@@ -24,6 +24,7 @@ mod rows;
 pub mod scalars;
 pub mod show;
 mod sink;
+mod style;
 mod wrapped;
 mod write;
 
@@ -41,5 +42,6 @@ pub use record::read_record;
 pub use rows::{begin_structure, known_items, plus_len, structure_len, write_list};
 pub use show::{ShowItem, show_case, show_in_brackets};
 pub use sink::Sink;
+pub use style::Style;
 pub use wrapped::{BigInteger, Timestamp};
 pub use write::{item_len, to_blob, write_item};
