@@ -10,7 +10,7 @@
 # message, bytes that are no message, a server that goes silent, a response over the limit, a wrong password, arguments
 # that are not of the grammar. The last line is `N passed, M failed`, and the status is 0 where none failed.
 #
-#   --measure N    each client also makes N queries and N signatures over its one connection, beside PyKMIP's own client
+#   --measure N    each client also makes 10 N queries and N signatures over its one connection, beside PyKMIP's own client
 #   --keep         leaves the folder of the run where it is, and says where
 #
 # KMIP_CALL and LIBKMIP_C, where they are set, are the paths of a kmip_call and a libkmip_c.a that were built before.
@@ -182,6 +182,20 @@ words() { # CLIENT
     call_is 'an identifier like a word of its own' 1 "$1" localhost "$port" "${alice[@]}" get '-'
 }
 
+others() { # CLIENT: calls that stand in no script
+    local name="live $1"
+    call_is 'an AES key' 0 "$1" localhost "$port" "${alice[@]}" create-aes 256 "$name"
+    local key
+    key=$(grep -o '"unique_identifier": *"[0-9]*"' "$run/said" | grep -o '[0-9]*')
+    call_is 'the objects with its name' 0 "$1" localhost "$port" "${alice[@]}" locate "$name"
+    says "$1: its identifier is among them" "\"$key\""
+    call_is 'its attributes' 0 "$1" localhost "$port" "${alice[@]}" attributes "$key"
+    says "$1: its name is among them" "$name"
+    call_is 'the versions of the server' 0 "$1" localhost "$port" "${alice[@]}" discover
+    says "$1: 1.2 is among them" '"major": *1, *"minor": *2'
+    call_is 'a destroyed AES key' 0 "$1" localhost "$port" "${alice[@]}" destroy "$key"
+}
+
 strangers() { # CLIENT
     local other=$certs/other
     call_is 'a client of another authority' 3 "$1" localhost "$port" "$other/client.pem" "$other/client.key" "$certs/ca.pem" query
@@ -234,6 +248,7 @@ for who in shell c python rust; do
     life "$who"
     rotate "$who"
     words "$who"
+    others "$who"
     strangers "$who"
     failures "$who"
     passwords "$who"

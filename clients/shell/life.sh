@@ -4,7 +4,7 @@
 #   life.sh HOST PORT CERTIFICATE KEY AUTHORITY FOLDER [COUNT]
 #
 # It leaves the public key (PKCS#1, DER) and the signature of `hello` in FOLDER, as public.der and signature. With a COUNT
-# it also makes so many queries and signatures, each by a process, and says how long each took.
+# it also makes ten times so many queries and so many signatures, each by a process, and says how long each took.
 set -u
 if (($# < 6)); then
     echo "usage: $0 HOST PORT CERTIFICATE KEY AUTHORITY FOLDER [COUNT]" >&2
@@ -33,13 +33,13 @@ bytes() { # the bytes of hex digits
     read -r digits
     printf "$(sed 's/../\\x&/g' <<<"$digits")"
 }
-timed() { # WHAT CALL WORD..
-    local what=$1 started i
-    shift
+timed() { # WHAT COUNT CALL WORD..
+    local what=$1 count=$2 started i
+    shift 2
     started=$EPOCHREALTIME
     for ((i = 0; i < count; i++)); do need "$@"; done
-    awk -v what="$what" -v seconds="$(bc <<<"$EPOCHREALTIME - $started" 2>/dev/null || awk "BEGIN{print $EPOCHREALTIME - $started}")" -v n="$count" \
-        'BEGIN { printf "shell, a process a call: %s %.2f ms, %.0f a second\n", what, 1000 * seconds / n, n / seconds }'
+    awk -v what="$what" -v from="$started" -v to="$EPOCHREALTIME" -v n="$count" \
+        'BEGIN { printf "shell, a process a call: %s %.2f ms, %.0f a second\n", what, 1000 * (to - from) / n, n / (to - from) }'
 }
 
 kmip_open "$1:$2" "$3" "$4" "$5" || exit 3
@@ -53,8 +53,8 @@ jq -er '.answer.cryptographic_object.PublicKey.key_block.key_value.key_material.
 kmip_field signature_data sign "$private" 68656C6C6F >"$folder/signature.hex" || fail sign
 bytes <"$folder/signature.hex" >"$folder/signature"
 if ((count > 0)); then
-    timed query query
-    timed sign sign "$private" 68656C6C6F
+    timed query $((10 * count)) query
+    timed sign "$count" sign "$private" 68656C6C6F
 fi
 [[ $(kmip_field unique_identifier rename "$private" 'life, renamed') == "$private" ]] || fail rename
 need revoke "$private"

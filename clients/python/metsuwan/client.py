@@ -5,7 +5,7 @@ import json
 import socket
 import ssl
 import threading
-from typing import Any, NamedTuple, Optional, Tuple
+from typing import Any, List, NamedTuple, Optional, Tuple
 
 from .errors import (DeserializeError, GrammarError, RequestWriteError, ResponseReadError, SerializeError,
                      error_of)
@@ -139,6 +139,22 @@ class Client:
         answer, response = self._ask('get', identifier)
         return Key(answer['unique_identifier'], self._number(response, OBJECT_TYPE) or 0,
                    self._number(response, KEY_FORMAT_TYPE), self._library.value(response, KEY_MATERIAL), answer)
+
+    def locate(self, name: str) -> List[str]:
+        """The identifiers of the objects with this name."""
+        return self.call('locate', name).get('unique_identifiers', [])
+
+    def attributes(self, identifier: str) -> Any:
+        """All attributes of an object, each with its name and its value."""
+        return self.call('attributes', identifier)['attributes']
+
+    def create_aes(self, bits: int, name: str) -> str:
+        """Makes an AES key to encrypt and decrypt with, under this name."""
+        return self.call('create-aes', bits, name)['unique_identifier']
+
+    def discover(self) -> Any:
+        """The versions of KMIP that the server speaks."""
+        return self.call('discover').get('supported_versions', [])
 
     def revoke(self, identifier: str) -> None:
         """Takes a key out of use."""
