@@ -31,7 +31,8 @@ pub fn status_of(ending: Ending) -> i32
 pub fn told(alloc: Global, call: &[u8], response: &[u8]) -> Result<Option<AnswerLine>, OutOfMemory>
     ensures grammar { IfOk result (λ told. call_of call.now ≡ None → told ≡ None) }
     ensures told { (c : TheCall) → call_of call.now ≡ Some c → IfOk result (λ told. MatchOption told ⊥
-        (λ t. (t.ending ≡ ending_of (answer_to c response.now)) × (t.line ≡ json_line c (answer_to c response.now)))) }
+        (λ t. (t.ending ≡ ending_of (answer_to c response.now)) ×
+        (t.line ≡ json_line c (answer_to c response.now)))) }
 {
     let Some(call) = call_of(alloc, call)? else {
         return Ok(None);

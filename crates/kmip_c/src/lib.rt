@@ -51,7 +51,8 @@ pub extern "C" fn kmip_request(
     password: &[u8],
     into: &mut [u8],
 ) -> i64
-    ensures request { result ≢ memory → IsRequested (settings_of has_credential user.now password.now) (call_of call.now) into.old result into.new }
+    ensures request { result ≢ memory →
+        IsRequested (settings_of has_credential user.now password.now) (call_of call.now) into.old result into.new }
     ensures memory { result ≡ memory → into.new ≡ into.old }
 {
     let settings = match settings_of(alloc, has_credential, user, password) {
@@ -116,7 +117,8 @@ pub extern "C" fn kmip_answer(
     into: &mut [u8],
     length: &mut i64,
 ) -> i32
-    ensures answer { result ≢ pos 5 → IsAnswered (call_of call.now) response.now result into.old length.new into.new }
+    ensures answer { result ≢ pos 5 →
+        IsAnswered (call_of call.now) response.now result into.old length.new into.new }
     ensures memory { result ≡ pos 5 → (length.new ≡ pos 0) × (into.new ≡ into.old) }
 {
     match told(alloc, call, response) {
@@ -142,8 +144,10 @@ pub extern "C" fn kmip_answer(
 /// -3: there is no such item, or the response is not one well-formed message.
 #[unsafe(no_mangle)]
 pub extern "C" fn kmip_value(response: &[u8], tag: u32, index: usize, into: &mut [u8]) -> i64
-    ensures found { (tree : Tree) → Parses tree 1 response.now → IsTold (value_at tag index tree response.now) not_a_message into.old result into.new }
-    ensures none { ((tree : Tree) → Parses tree 1 response.now → ⊥) → (result ≡ not_a_message) × (into.new ≡ into.old) }
+    ensures found { (tree : Tree) → Parses tree 1 response.now →
+        IsTold (value_at tag index tree response.now) not_a_message into.old result into.new }
+    ensures none { ((tree : Tree) → Parses tree 1 response.now → ⊥) → (result ≡ not_a_message) ×
+        (into.new ≡ into.old) }
 {
     match found(response, tag, index) {
         Some(value) => copy_out(value, into),
