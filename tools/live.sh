@@ -112,7 +112,7 @@ alice=("$certs/client.pem" "$certs/client.key" "$certs/ca.pem")
 call_is() { # NAME STATUS CLIENT HOST PORT CERTIFICATE KEY AUTHORITY WORD..
     local name=$1 wanted=$2 status
     shift 2
-    timeout 60 env ${settings[@]+"${settings[@]}"} bash -c "$(declare -f client); top=$top run=$run; client \"\$@\"" - "$1" call "${@:2}" >"$run/said" 2>&1
+    timeout 18 env ${settings[@]+"${settings[@]}"} bash -c "$(declare -f client); top=$top run=$run; client \"\$@\"" - "$1" call "${@:2}" >"$run/said" 2>&1
     status=$?
     echo "status $status in place of $wanted" >>"$run/said"
     ((status == wanted)) && ! grep -q 'Traceback\|panicked' "$run/said"
@@ -208,13 +208,18 @@ strangers() { # CLIENT
 
 failures() { # CLIENT
     local mode
-    for mode in half head rubbish silent; do
+    for mode in half head rubbish ended silent; do
         open_gate "$mode"
         case $mode in
         half) call_is 'a server that is killed within a message' 3 "$1" localhost "$gate" "${alice[@]}" query ;;
         head) call_is 'a server that is killed within a head' 3 "$1" localhost "$gate" "${alice[@]}" query ;;
         rubbish) call_is 'bytes that are no message' 3 "$1" localhost "$gate" "${alice[@]}" query ;;
-        silent) call_is 'a server that goes silent' 3 "$1" localhost "$gate" "${alice[@]}" query ;;
+        ended) call_is 'a server that ends the connection' 3 "$1" localhost "$gate" "${alice[@]}" query ;;
+        silent)
+            settings=(KMIP_TIMEOUT=2)
+            call_is 'a server that goes silent, after 2 seconds' 3 "$1" localhost "$gate" "${alice[@]}" query
+            settings=()
+            ;;
         esac
         close_gate
     done

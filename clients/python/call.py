@@ -3,8 +3,8 @@
 
     LIBKMIP=./libkmip.so call.py HOST PORT CERTIFICATE KEY AUTHORITY CALL TEXT..
 
-The environment's KMIP_USER and KMIP_PASSWORD are a credential, KMIP_LIMIT the most bytes of a response. Status: 0 answered,
-1 refused, 2 not of the grammar, 3 the connection is lost or there is none.
+The environment's KMIP_USER and KMIP_PASSWORD are a credential, KMIP_LIMIT the most bytes of a response, KMIP_TIMEOUT the
+most seconds that one read or write may wait. Status: 0 answered, 1 refused, 2 not of the grammar, 3 the connection is lost or there is none.
 """
 import json
 import os
@@ -21,7 +21,8 @@ def main() -> int:
     limit = int(os.environ.get('KMIP_LIMIT', 1 << 20))
     try:
         with Client(host, int(port), cert=cert, key=key, ca=ca, user=os.environ.get('KMIP_USER'),
-                    password=os.environ.get('KMIP_PASSWORD'), limit=limit) as kmip:
+                    password=os.environ.get('KMIP_PASSWORD'), limit=limit,
+                    timeout=float(os.environ.get('KMIP_TIMEOUT', 30))) as kmip:
             print(json.dumps(kmip.call(*sys.argv[6:])))
     except Refused as error:
         print('%s: %s' % (error.kind, error), file=sys.stderr)

@@ -3,8 +3,8 @@
 #
 #   call.sh HOST PORT CERTIFICATE KEY AUTHORITY CALL TEXT..
 #
-# The environment's KMIP_USER and KMIP_PASSWORD are a credential, KMIP_LIMIT the most bytes of a response. Status: that of
-# kmip_call, and 3 where there is no connection.
+# The environment's KMIP_USER and KMIP_PASSWORD are a credential, KMIP_LIMIT the most bytes of a response,
+# KMIP_TIMEOUT the most seconds that the call may take. Status: that of kmip_call, and 3 where there is no connection.
 if (($# < 6)); then
     echo "usage: $0 HOST PORT CERTIFICATE KEY AUTHORITY CALL TEXT.." >&2
     exit 2

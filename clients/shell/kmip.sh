@@ -88,7 +88,7 @@ kmip() { # CALL WORD..
     for word in "${@:2}"; do words+=("$(kmip_word "$word")"); done
     "${program[@]}" "${words[@]}" 2>&1 <&"$KMIP_IN" >&"$KMIP_OUT"
     status=$?
-    if ((status == 124 && ${KMIP_TIMEOUT:-0})); then return 3; fi
+    if [[ $status == 124 && -n ${KMIP_TIMEOUT-} ]]; then return 3; fi
     return $status
 }
 

@@ -10,7 +10,8 @@ MODE is one of
     half      passes a request on, and the first half of its response, and then kills itself
     head      passes on 5 bytes of a response, and kills itself
     rubbish   answers with bytes that are no message
-    silent    answers nothing, and ends the connection after 2 seconds
+    ended     answers nothing, and ends the connection
+    silent    answers nothing, and keeps the connection open for 20 seconds
 It writes `ready` when it listens.
 """
 import os
@@ -64,8 +65,10 @@ def serve(wire):
         if mode == 'rubbish':
             wire.sendall(b'HTTP/1.1 400 Bad Request\r\n\r\n')
             return
+        if mode == 'ended':
+            return
         if mode == 'silent':
-            time.sleep(2)
+            time.sleep(20)
             return
         if mode == 'password' and (PASSWORD not in request or USER not in request):
             # The operation of the request's batch item is the answer's too.

@@ -15,6 +15,8 @@ pub struct Server<'a> {
     pub certificate: &'a str,
     pub key: &'a str,
     pub authority: &'a str,
+    /// The most time that one read or write may wait.
+    pub timeout: Duration,
 }
 
 impl Server<'_> {
@@ -24,7 +26,8 @@ impl Server<'_> {
             return None;
         };
         let port = port.parse().ok()?;
-        Some((Server { host, port, certificate, key, authority }, rest))
+        let timeout = Duration::from_secs(30);
+        Some((Server { host, port, certificate, key, authority, timeout }, rest))
     }
 
     /// A TLS connection to it: its certificate is of this authority and names this host.
@@ -36,8 +39,8 @@ impl Server<'_> {
         settings.set_private_key_file(self.key, SslFiletype::PEM)?;
         let stream = TcpStream::connect((self.host, self.port))?;
         stream.set_nodelay(true)?;
-        stream.set_read_timeout(Some(Duration::from_secs(30)))?;
-        stream.set_write_timeout(Some(Duration::from_secs(30)))?;
+        stream.set_read_timeout(Some(self.timeout))?;
+        stream.set_write_timeout(Some(self.timeout))?;
         Ok(settings.build().connect(self.host, stream)?)
     }
 
