@@ -1,5 +1,5 @@
 -- A variant, back from its number, and several batch items.
-use Rattle.std.proofs.Common.{◌≡◌, ◌≤◌, ℕ, List, [], ◌∷◌, length, refl, arith, Bool, true, false, Option, Some, None}
+use Rattle.std.proofs.Common.{◌≡◌, ◌≤◌, List, [], ◌∷◌, length, refl, arith, Bool, true, false, Option, Some, None}
 use Rattle.kmip_shape.specs.Val.{Val}
 use Rattle.kmip_shape.specs.Writes.{optional, vals}
 use Rattle.kmip_shape.specs.Enumerations.{enumeration_val}
