@@ -552,6 +552,10 @@ fn help_and_version_are_words_alone(rt: HostRuntime) -> Result<(), Fail> {
     Ok(())
 }
 
+/// The lines of the random bytes in JSON and bare, and of an error.
+const LINES: &str =
+    "{\"answer\":{\"random_bytes\":\"DEADBEEF\"}}\n= {random_bytes=x\"DEADBEEF\"}\n- Server error: no\n";
+
 /// The calls of the library, each made once.
 #[test]
 fn the_library_is_called(rt: HostRuntime) -> Result<(), Fail> {
@@ -586,10 +590,7 @@ fn the_library_is_called(rt: HostRuntime) -> Result<(), Fail> {
             Ending::Refused
         )
     );
-    assert_eq!(rt; line.as_str(), "{"answer":{"random_bytes":"DEADBEEF"}}
-= {random_bytes=x"DEADBEEF"}
-- Server error: no
-");
+    assert_eq!(rt; line.as_str(), LINES);
     let mut sink = MemorySink::new(alloc, &[])?;
     write_out(&mut sink, b"a".as_slice())?;
     assert_eq!(rt; sink.written(), b"a".as_slice());
