@@ -124,11 +124,14 @@ head_part {a = a} {b = b} limit part =
     let P : ℕ → Type 0 = λ k. part.0 ≤ k in
     let front : List ℕ = take 8 rest in
     let size : length front ≡ min 8 (length rest) = length-take 8 rest in
-    let within : part.0 ≤ min 8 (length rest) = grind (arith, part.1, part.2.within) in
-    (part.0, elim (contents_of front limit) as (λ o. contents_of front limit ≡ o → part.0 ≤ taken_at rest limit) [
-      | None ↦ λ e. subst P (sym (none_told rest front limit refl e ∙ size)) within
-      | Some n ↦ λ e. (let it = some_told rest front limit n refl e in subst P (sym it.2) (grind (arith, part.1, part.2.within)))
-    ] refl, part.2)
+    let within : part.0 ≤ min 8 (length rest) = grind (arith, part.1, part.2.within) in (
+      part.0,
+      elim (contents_of front limit) as (λ o. contents_of front limit ≡ o → part.0 ≤ taken_at rest limit) [
+        | None ↦ λ e. subst P (sym (none_told rest front limit refl e ∙ size)) within
+        | Some n ↦ λ e. (let it = some_told rest front limit n refl e in subst P (sym it.2) (grind (arith, part.1, part.2.within)))
+      ] refl,
+      part.2,
+    )
 
 -- the reading of the contents stopped
 pub contents_part : {a b c : SourceState} (front : List ℕ) (limit : Option ℕ) (n : ℕ) → Gives a b (min 8 (length (source_left a))) → front ≡ take 8 (source_left a) →

@@ -4,7 +4,7 @@ ghost use Rattle.kmip_run.specs.Commands.{diag_of, replay_of, explain_of, make_o
 ghost use Rattle.kmip_run.specs.declared.command.Command.TheVariants.{Replay};
 
 use kmip_wire::{OutOfMemory, Text};
-use kmip_words::{given, given_after, number_of};
+use kmip_words::{copied, given, given_after, number_of};
 use std::alloc::Global;
 
 /// The most exchanges that `make` makes.
@@ -47,16 +47,6 @@ fn diag_of(words: &[Text]) -> Option<bool>
             _ => None,
         },
         _ => None,
-    }
-}
-
-/// A copy of a text that may be absent.
-fn copied(alloc: Global, text: Option<&str>) -> Result<Option<Text>, OutOfMemory>
-    ensures { IfOk result (λ copy. copy ≡ option_map (λ text. text.now) text.entry) }
-{
-    match text {
-        Some(text) => Ok(Some(Text::of(alloc, text)?)),
-        None => Ok(None),
     }
 }
 

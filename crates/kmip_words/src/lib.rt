@@ -24,9 +24,14 @@ pub use answers::answer;
 pub use call::{Call, Recorded, call_of, typed_call};
 pub use ending::Ending;
 pub use offline::{Settings, answer_of, request_of};
-pub use options::{given, given_after};
+pub use options::{copied, given, given_after};
 pub use raw::RawRequest;
 pub use setup::{client_of, limited};
 pub use show::show_error;
 pub use streams::{read_up_to, write_out};
+<<<<<<< HEAD
 pub use values::{bytes_of, number_of};
+=======
+pub use values::number_of;
+pub use words::words_of;
+>>>>>>> 0d7a7934383e9dcd96de8ef7c3c31f4a14a26d43

@@ -1,8 +1,9 @@
 //! Words of a command line that give a value to a name.
-ghost use Rattle.std.specs.Prelude.{◌≡◌, option_map};
+ghost use Rattle.std.specs.Prelude.{◌≡◌, option_map, IfOk};
 ghost use Rattle.kmip_words.specs.Options.{given, given_after};
 
-use kmip_wire::Text;
+use kmip_wire::{OutOfMemory, Text};
+use std::alloc::Global;
 
 /// The value that the first word gives to a name, as in `name=value`, and the words that are left after it.
 pub fn given<'a>(name: &str, words: &'a [Text]) -> (Option<&'a str>, &'a [Text])
@@ -30,5 +31,15 @@ pub fn given_after<'a>(
     match before {
         Some(_) => given(name, words),
         None => (None, words),
+    }
+}
+
+/// A copy of a text that may be absent.
+pub fn copied(alloc: Global, text: Option<&str>) -> Result<Option<Text>, OutOfMemory>
+    ensures { IfOk result (λ copy. copy ≡ option_map (λ text. text.now) text.entry) }
+{
+    match text {
+        Some(text) => Ok(Some(Text::of(alloc, text)?)),
+        None => Ok(None),
     }
 }
