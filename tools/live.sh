@@ -128,12 +128,13 @@ says() { # NAME TEXT: the last call said it
 # A gate of this mode in front of the server; its port is in $gate.
 open_gate() { # MODE
     gate=$(free_port)
+    rm -f "$run/gate" # that it is not the one before that is ready
     /usr/bin/python3 "$here/gate.py" "$1" "$gate" "$port" "$certs" >"$run/gate" 2>"$run/gate.err" &
     gate_process=$!
     started+=("$gate_process")
     disown "$gate_process" # bash is not to tell how it ends
     for _ in $(seq 100); do
-        grep -q ready "$run/gate" && return
+        grep -q ready "$run/gate" 2>/dev/null && return
         sleep 0.1
     done
     give_up 'the gate does not listen'

@@ -20,9 +20,13 @@
        sign ID HEX                       sign these bytes with this key
        rename ID NAME
        get ID                            the object itself
+       create-aes BITS NAME              make an AES key under this name
+       locate NAME                       which objects have this name?
+       attributes ID                     all attributes of an object
+       discover                          which versions of KMIP does the server speak?
        raw HEX                           the request of these bytes, of any of the seventeen operations
 
-   docs/PROGRAM.md has the whole grammar. In a text, as an identifier or a name, a space and a % are written as % and two
+   docs/PROGRAM.md and docs/CALL.md have the whole grammar, and what is answered. In a text, as an identifier or a name, a space and a % are written as % and two
    upper-case hex digits, and any other byte may be; "-" is the empty text, and "%2D" the text "-". kmip_word of
    kmip_tls.h writes texts so.
 
@@ -71,7 +75,8 @@ enum {
    KMIP_NO_FORM             the request has no wire form, since a text is too long for it
    KMIP_MEMORY              out of memory
 
-   A message is 4096 bytes and twice the call's and the credential's lengths at most, for all calls but `raw`. */
+   Room for 4096 bytes and twice the call's and the credential's lengths is mostly enough; where it is not, call again
+   with as much as was returned. */
 int64_t kmip_request(const uint8_t *call, size_t call_len, bool has_credential, const uint8_t *user, size_t user_len,
                      const uint8_t *password, size_t password_len, uint8_t *into, size_t room);
 
@@ -94,7 +99,8 @@ int64_t kmip_contents_len(const uint8_t *head, size_t eight, uint32_t limit);
    into, room               where the line is written, if it fits
    length                   how many bytes the line has; 0 where there is none
 
-   A line has 8 bytes for each byte of the response and 4096 more at most.
+   Room for 4096 bytes and 8 for each byte of the response is mostly enough; where it is not, call again with as much as
+   `length` tells.
 
    A response belongs to a call by its operation alone: KMIP has no other tie where there is one batch item. So one call
    at a time on a connection. */

@@ -19,21 +19,32 @@
 # KMIP_RECORD (a file that each call and its response are added to), KMIP_TIMEOUT (seconds for each call; status 3 when
 # they are over), KMIP_CALL (the program, if it is not kmip_call on the path).
 
-# The word that stands for a text in a call: what is special is written as % and two hex digits.
-kmip_word() {
-    local LC_ALL=C text=$1 word= byte i
+# Leaves in KMIP_WORD the word that stands for a text in a call: what is special is written as % and two hex digits.
+kmip_escape() { # TEXT
+    local LC_ALL=C text=$1 byte i
+    KMIP_WORD=$text
     case $text in
-    '') printf -- - && return ;;
-    -) printf %s %2D && return ;;
+    '') KMIP_WORD=- ;;
+    -) KMIP_WORD=%2D ;;
+    *[!A-Za-z0-9._~-]*)
+        KMIP_WORD=
+        for ((i = 0; i < ${#text}; i++)); do
+            byte=${text:i:1}
+            case $byte in
+            [A-Za-z0-9._~-]) ;;
+            *) printf -v byte %d "'$byte" && printf -v byte %%%02X $((byte & 255)) ;;
+            esac
+            KMIP_WORD+=$byte
+        done
+        ;;
     esac
-    for ((i = 0; i < ${#text}; i++)); do
-        byte=${text:i:1}
-        case $byte in
-        [A-Za-z0-9._~-]) word+=$byte ;;
-        *) printf -v byte %d "'$byte" && printf -v byte %%%02X $((byte & 255)) && word+=$byte ;;
-        esac
-    done
-    printf %s "$word"
+}
+
+# The same on standard output.
+kmip_word() { # TEXT
+    local KMIP_WORD
+    kmip_escape "$1"
+    printf '%s\n' "$KMIP_WORD"
 }
 
 # Opens the connection: 0, or 3 where there is none. The reason is on standard error.
@@ -79,13 +90,16 @@ kmip() { # CALL WORD..
         fi
         ;;
     esac
-    local words=() word program=(${KMIP_CALL:-kmip_call}) status
+    local words=() word KMIP_WORD program=(${KMIP_CALL:-kmip_call}) status
     if [[ -n ${KMIP_TIMEOUT-} ]]; then program=(timeout "$KMIP_TIMEOUT" "${program[@]}"); fi
     if [[ -n ${KMIP_USER+set} ]]; then words+=("user=$KMIP_USER"); fi
     if [[ -n ${KMIP_LIMIT+set} ]]; then words+=("limit=$KMIP_LIMIT"); fi
     if [[ -n ${KMIP_RECORD+set} ]]; then words+=("record=$KMIP_RECORD"); fi
     words+=("${1-}")
-    for word in "${@:2}"; do words+=("$(kmip_word "$word")"); done
+    for word in "${@:2}"; do
+        kmip_escape "$word"
+        words+=("$KMIP_WORD")
+    done
     "${program[@]}" "${words[@]}" 2>&1 <&"$KMIP_IN" >&"$KMIP_OUT"
     status=$?
     if [[ $status == 124 && -n ${KMIP_TIMEOUT-} ]]; then return 3; fi

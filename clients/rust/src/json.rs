@@ -55,7 +55,10 @@ mod tests {
         assert_eq!(error_in(line), Error::ItemNotFound("no \"k\" \u{1f}".into()));
         assert_eq!(error_in("{\"error\":\"New\",\"text\":\"x\"}"), Error::Unknown("x".into()));
         assert_eq!(error_in("rubbish"), Error::Unknown("rubbish".into()));
-        assert_eq!(error_in("{\"error\":\"ServerError\",\"text\":\"\\u12\"}"), Error::Unknown("{\"error\":\"ServerError\",\"text\":\"\\u12\"}".into()));
+        assert_eq!(
+            error_in("{\"error\":\"ServerError\",\"text\":\"\\u12\"}"),
+            Error::Unknown("{\"error\":\"ServerError\",\"text\":\"\\u12\"}".into())
+        );
     }
 
     #[test]

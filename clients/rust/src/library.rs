@@ -2,17 +2,27 @@
 
 extern "C" {
     fn kmip_request(
-        call: *const u8, call_len: usize, has_credential: bool, user: *const u8, user_len: usize,
-        password: *const u8, password_len: usize, into: *mut u8, room: usize,
+        call: *const u8,
+        call_len: usize,
+        has_credential: bool,
+        user: *const u8,
+        user_len: usize,
+        password: *const u8,
+        password_len: usize,
+        into: *mut u8,
+        room: usize,
     ) -> i64;
     fn kmip_contents_len(head: *const u8, eight: usize, limit: u32) -> i64;
     fn kmip_answer(
-        call: *const u8, call_len: usize, response: *const u8, response_len: usize, into: *mut u8,
-        room: usize, length: *mut i64,
+        call: *const u8,
+        call_len: usize,
+        response: *const u8,
+        response_len: usize,
+        into: *mut u8,
+        room: usize,
+        length: *mut i64,
     ) -> i32;
-    fn kmip_value(
-        response: *const u8, response_len: usize, tag: u32, index: usize, into: *mut u8, room: usize,
-    ) -> i64;
+    fn kmip_value(response: *const u8, response_len: usize, tag: u32, index: usize, into: *mut u8, room: usize) -> i64;
 }
 
 /// Why there is no request.
@@ -68,8 +78,15 @@ pub fn request(call: &str, credential: Option<(&str, &str)>) -> Result<Vec<u8>, 
     // SAFETY: each pointer is of a slice of the length beside it, and none is null.
     let made = with_room(room, |into| unsafe {
         kmip_request(
-            call.as_ptr(), call.len(), credential.is_some(), user.as_ptr(), user.len(),
-            password.as_ptr(), password.len(), into.as_mut_ptr(), into.len(),
+            call.as_ptr(),
+            call.len(),
+            credential.is_some(),
+            user.as_ptr(),
+            user.len(),
+            password.as_ptr(),
+            password.len(),
+            into.as_mut_ptr(),
+            into.len(),
         )
     });
     made.map_err(|code| match code {
@@ -95,7 +112,13 @@ pub fn answer(call: &str, response: &[u8]) -> (Status, String) {
     let line = with_room(4096 + 8 * response.len(), |into| unsafe {
         let mut length = 0;
         status = kmip_answer(
-            call.as_ptr(), call.len(), response.as_ptr(), response.len(), into.as_mut_ptr(), into.len(), &mut length,
+            call.as_ptr(),
+            call.len(),
+            response.as_ptr(),
+            response.len(),
+            into.as_mut_ptr(),
+            into.len(),
+            &mut length,
         );
         length
     });

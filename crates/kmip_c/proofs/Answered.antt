@@ -1,5 +1,5 @@
 -- What C is told of a response.
-use Rattle.std.proofs.Common.{◌≡◌, ℕ, ℤ, pos, List, length, Option, Some, None, refl, sym, ap, ◌∙◌}
+use Rattle.std.proofs.Common.{◌≡◌, ℕ, ℤ, pos, List, length, Option, Some, None, refl, ap, ◌∙◌}
 use Rattle.kmip_words.specs.Exchange.{ending_of, json_line}
 use Rattle.kmip_words.specs.declared.call.Call.{Call}
 use Rattle.kmip_words.specs.declared.ending.Ending.{Ending}

@@ -1,14 +1,14 @@
 -- The search for a value: what is left of a message gives what is left to find.
 use Rattle.std.proofs.Common.{◌≡◌, ℕ, zero, suc, ◌+◌, ◌-◌, ◌%◌, ◌≤◌, ◌<◌, Bool, true, false, cond, eqb, List, [], ◌∷◌, ◌++◌, length, take, drop, Option, Some, None, refl, sym, ap, subst, ◌∙◌, arith, append_assoc}
 use Rattle.std.proofs.Math.Seq.{take-length, drop-length}
-use Rattle.std.proofs.lemmas.List.{get_or-take, length-take, length-take-le, length-drop, length-append, take_at, drop_at, drop-take, take-append-le, drop-append-le, take-append-drop}
+use Rattle.std.proofs.lemmas.List.{get_or-take, length-take-le, length-drop, length-append, take_at, take-append-le, drop-append-le, take-append-drop}
 use Rattle.std.proofs.lemmas.Bool.{eq-eqb, eqb-true}
 use Rattle.std.specs.List.{slice_get}
 use Rattle.kmip_wire.specs.Tree.{Tree, Trees, Scalar, scalar, structure, none, more, integer, long_integer, big_integer, enumeration, boolean, text_string, byte_string, date_time, interval}
 use Rattle.kmip_wire.specs.Head.{head_tag, head_code, head_length, size_at, value_of}
 use Rattle.kmip_wire.specs.Kinds.{code_of, kind_of_scalar}
 use Rattle.kmip_wire.specs.Parses.{Parses, ParseAll}
-use Rattle.kmip_wire.proofs.Computed.{sized, size_at-take, head_length-take, head_tag-take, value_of-take}
+use Rattle.kmip_wire.proofs.Computed.{sized, size_at-take, head_tag-take, value_of-take}
 use Rattle.kmip_c.specs.Items.{items, all_items, values, value_at}
 use Rattle.kmip_c.specs.Fronts.{next_of}
 

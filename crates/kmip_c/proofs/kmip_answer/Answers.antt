@@ -1,4 +1,4 @@
-use Rattle.std.proofs.Common.{◌≡◌, ◌∙◌, ap, sym, rules, w32, w64, SFits, pos, length, List, ℕ}
+use Rattle.std.proofs.Common.{◌∙◌, ap, sym, rules, w32, w64, SFits, pos, length, List, ℕ}
 use Rattle.std.proofs.lemmas.Int.{to_z-of_z}
 use Rattle.std.proofs.lemmas.Option.{none-some}
 use Rattle.kmip_c.specs.Calls.{call_of}

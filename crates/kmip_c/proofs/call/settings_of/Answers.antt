@@ -1,4 +1,4 @@
-use Rattle.std.proofs.Common.{◌≡◌, ◌∙◌, ap, sym, Some}
+use Rattle.std.proofs.Common.{◌∙◌, ap, sym, Some}
 use Rattle.kmip_words.specs.Exchange.{Settings}
 use Rattle.kmip_c.proofs.Calls.{no_user, no_password, both}
 use Rattle.kmip_c.proofs.call.settings_of.Goals as goal

@@ -1,7 +1,4 @@
-use Rattle.std.proofs.Common.{◌≡◌, sym, ap, ◌∙◌, subst, arith, ◌≤◌, Some, Option, List, ℕ, ◌-◌, eqb, false}
-use Rattle.std.proofs.lemmas.Bool.Decides.{nat_tests}
-use Rattle.kmip_wire.specs.Head.{head_tag}
-use Rattle.kmip_c.specs.Fronts.{next_of}
+use Rattle.std.proofs.Common.{sym, ap, ◌∙◌, subst, arith, ◌≤◌, Some, List, ℕ, ◌-◌}
 use Rattle.kmip_c.specs.Items.{value_at}
 use Rattle.kmip_c.proofs.Finding.{Finding, begins, ends, hit, passed, other}
 use Rattle.kmip_c.proofs.find.found.Goals.{then-front-tag+else-left-eq0, else-front-tag}
