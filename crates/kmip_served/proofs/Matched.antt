@@ -1,6 +1,6 @@
 -- The requests of the helpers are matched: each line computes.
 use Rattle.std.proofs.Common.{refl}
-use Rattle.kmip_request_objects.specs.Tables.{name, attribute, template_attribute, key_wrapping_specification, revocation_reason}
+use Rattle.kmip_request_objects.specs.Tables.{attribute, template_attribute, revocation_reason}
 use Rattle.kmip_request_read.specs.Matched.{IsMatched}
 use Rattle.kmip_store.specs.declared.call.Call.{Call}
 use Rattle.kmip_store.specs.declared.call.Call.TheVariants.{Query, CreateRsaKeyPair, RngRetrieve, Sign, ActivateKey, RevokeKey, DestroyKey, RenameKey, GetKey}

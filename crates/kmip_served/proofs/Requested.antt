@@ -63,11 +63,11 @@ pub is_call : (p : RequestPayload) (c : Call) → request_of c ≡ p → Some c 
 is_call p c h = sym (own_call c) ∙ ap (λ x. call_of (request_for x)) h
 
 none_called : (p : RequestPayload) → ((c : Call) → request_of c ≡ p → ⊥) → None ≡ call_of (request_for p)
-none_called p no = go (call_of (request_for p)) refl
+none_called p never = go (call_of (request_for p)) refl
   where
     go : (o : Option Call) → call_of (request_for p) ≡ o → None ≡ o
     go None e = refl
-    go (Some c) e = absurd (no c (request_payload_same (request_of c) p (call_payload (request_for p) c e)))
+    go (Some c) e = absurd (never c (request_payload_same (request_of c) p (call_payload (request_for p) c e)))
 
 pub no_candidate : (p : RequestPayload) → picked p ≡ None → None ≡ call_of (request_for p)
 no_candidate p none = none_called p (λ c h. none_some ⊥ (sym none ∙ (ap picked (sym h) ∙ picked_own c)))

@@ -126,6 +126,10 @@ item_for call Failed =
     failed_item (Some (call_operation call)) reasons.CryptographicFailure (codes "maker failed")
 item_for call answer = done_item (call_operation call) (payload_for call answer)
 
+-- the items of a pair, which tell nothing of what was asked for
+abbrev pub pair_item : Answer → BatchItem
+pair_item answer = item_for (CreateRsaKeyPair (pos 0) [] []) answer
+
 -- the item that refuses bytes that are no request
 abbrev pub invalid_item : BatchItem
 invalid_item = failed_item None reasons.InvalidMessage (codes "invalid message")

@@ -7,7 +7,7 @@ ghost use Rattle.kmip_store.specs.Steps.{Supports, Created, Random, Signed, Done
 ghost use Rattle.kmip_store.specs.declared.call.Call.{Call};
 ghost use Rattle.kmip_store.specs.declared.call.Call.TheVariants as calls;
 ghost use Rattle.kmip_served.specs.Answering.{refusal_of, Tells};
-ghost use Rattle.kmip_served.specs.Items.{failed_item, done_item, item_for, key_type, key_block_of, key_object, name_attribute};
+ghost use Rattle.kmip_served.specs.Items.{failed_item, done_item, item_for, key_type, key_block_of, key_object, name_attribute, pair_item};
 ghost use Rattle.kmip_served.specs.Requests.{call_operation};
 
 use kmip_enums::{NameType, ObjectType, Operation, ResultReason, ResultStatus};
@@ -135,8 +135,7 @@ pub fn query_item(alloc: Global) -> Result<BatchItem, OutOfMemory>
 
 /// The item that tells the identifiers of a new pair.
 pub fn pair_item(private_id: Text, public_id: Text) -> BatchItem
-    ensures { (bits : ℤ) (private public : List ℕ) →
-        result ≡ item_for (calls.CreateRsaKeyPair bits private public) (Created private_id public_id) }
+    ensures { result ≡ pair_item (Created private_id public_id) }
 {
     done(
         Operation::CreateKeyPair,

@@ -1,50 +1,57 @@
 //! The call that makes a pair of keys.
 
-ghost use Rattle.std.specs.Prelude.{◌≡◌, ◌+◌, List, ℕ, ℤ, IfOk, length};
+ghost use Rattle.std.specs.Prelude.{◌≡◌, ◌+◌, IfOk, length};
 ghost use Rattle.kmip_store.specs.Makers.{MakerKeeps};
 ghost use Rattle.kmip_store.specs.Objects.{identifier};
 ghost use Rattle.kmip_store.specs.Steps.{Created, Failed};
 ghost use Rattle.kmip_store.specs.declared.call.Call.TheVariants.{CreateRsaKeyPair};
 ghost use Rattle.kmip_served.specs.Answering.{Serves, IsTold, chosen};
-ghost use Rattle.kmip_served.specs.Items.{item_for};
+ghost use Rattle.kmip_served.specs.Items.{pair_item as item_of_pair};
 
-use crate::items::{pair_item, refusal};
+use crate::items::{failed, pair_item};
 use crate::stamp::Stamp;
-use kmip_enums::Operation;
+use kmip_enums::{Operation, ResultReason};
+use kmip_response::BatchItem;
 use kmip_store::{Maker, Store, StoreError};
 use kmip_wire::{Blob, OutOfMemory, Text, WireError};
 
-/// The bytes of the response that tells the identifiers of the next pair.
+/// The bytes of the response with this item.
 ///
-/// Identifiers are short, so that the message has a wire form: memory alone is wanting.
+/// Identifiers and fixed texts are short, so that it has a wire form: memory alone is wanting.
+fn tell(stamp: &Stamp, item: BatchItem) -> Result<Blob, OutOfMemory>
+    ensures { IfOk result (λ bytes. IsTold stamp.now.time item bytes) }
+{
+    match stamp.write(item) {
+        Ok(response) => Ok(response),
+        Err(_) => Err(OutOfMemory),
+    }
+}
+
+/// The bytes of the response that tells the identifiers of the next pair.
 fn created(stamp: &Stamp, store: &Store) -> Result<Blob, OutOfMemory>
-    ensures { IfOk result (λ bytes. (bits : ℤ) (private public : List ℕ) →
-        IsTold stamp.now.time (item_for (CreateRsaKeyPair bits private public)
+    ensures { IfOk result (λ bytes. IsTold stamp.now.time (item_of_pair
         (Created (identifier (length store.now)) (identifier (length store.now + 1)))) bytes) }
 {
-    let Ok((private_id, public_id)) = store.next_identifiers() else {
-        return Err(OutOfMemory);
-    };
-    match stamp.write(pair_item(private_id, public_id)) {
-        Ok(response) => Ok(response),
+    match store.next_identifiers() {
+        Ok(pair) => {
+            let (private_id, public_id) = pair;
+            tell(stamp, pair_item(private_id, public_id))
+        }
         Err(_) => Err(OutOfMemory),
     }
 }
 
 /// The bytes of the response that refuses a pair.
 fn refused(stamp: &Stamp) -> Result<Blob, OutOfMemory>
-    ensures { IfOk result (λ bytes. (bits : ℤ) (private public : List ℕ) →
-        IsTold stamp.now.time (item_for (CreateRsaKeyPair bits private public) Failed) bytes) }
+    ensures { IfOk result (λ bytes. IsTold stamp.now.time (item_of_pair Failed) bytes) }
 {
-    let item = refusal(
+    let item = failed(
         stamp.alloc,
-        Operation::CreateKeyPair,
-        StoreError::CryptographicFailure,
+        Some(Operation::CreateKeyPair),
+        ResultReason::CryptographicFailure,
+        "maker failed",
     )?;
-    match stamp.write(item) {
-        Ok(response) => Ok(response),
-        Err(_) => Err(OutOfMemory),
-    }
+    tell(stamp, item)
 }
 
 /// The response that the store's answer wants.

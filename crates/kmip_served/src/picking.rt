@@ -1,6 +1,6 @@
 //! Which helper's call a request is.
 
-ghost use Rattle.std.specs.Prelude.{◌≡◌, IfOk};
+ghost use Rattle.std.specs.Prelude.{◌≡◌, IfOk, true, false};
 ghost use Rattle.kmip_request_read.specs.Reading.{request_for};
 ghost use Rattle.kmip_served.specs.Picked.{id_text, value_name, value_number, first_name, second_number, length_in, private_name, public_name, picked};
 ghost use Rattle.kmip_served.specs.Requests as calls;
@@ -15,7 +15,7 @@ use kmip_request::{
 };
 use kmip_store::Call;
 use kmip_types::{AttributeValue, Data, DataLength, UniqueIdentifier};
-use kmip_wire::{Blob, List, OutOfMemory, Text, TryClone};
+use kmip_wire::{Blob, Boxed, List, OutOfMemory, Text, TryClone};
 use std::alloc::Global;
 
 /// The request of a helper's call.
@@ -165,20 +165,29 @@ fn picked(alloc: Global, payload: &RequestPayload) -> Result<Option<Call>, OutOf
     Ok(Some(call))
 }
 
+/// Whether the request of the call is this payload.
+fn is_made_by(alloc: Global, call: &Call, payload: &RequestPayload) -> Result<bool, OutOfMemory>
+    ensures same { IfOk result (λ same. same ≡ true → calls.request_of call.now ≡ payload.now) }
+    ensures other { IfOk result (λ same. same ≡ false → calls.request_of call.now ≡ payload.now → ⊥) }
+{
+    let request = Boxed::new(alloc, request_of(alloc, call)?)?;
+    Ok(*request.get() == *payload)
+}
+
 /// The helper's call whose request this is, where there is one.
 ///
 /// Its arguments are taken from where they stand in the payload, and the request of that call is
 /// compared with the payload as a whole.
+#[tactic(auto, using(crate::proofs::Requested::is_call, crate::proofs::Requested::no_candidate, crate::proofs::Requested::other_request))]
 pub fn call_of(alloc: Global, payload: &RequestPayload) -> Result<Option<Call>, OutOfMemory>
     ensures { IfOk result (λ found. found ≡ calls.call_of (request_for payload.now)) }
 {
-    let Some(call) = picked(alloc, payload)? else {
-        return Ok(None);
-    };
-    let request = request_of(alloc, &call)?;
-    if request == *payload {
-        Ok(Some(call))
-    } else {
-        Ok(None)
+    let found = picked(alloc, payload)?;
+    match found {
+        Some(call) => {
+            let same = is_made_by(alloc, &call, payload)?;
+            if same { Ok(Some(call)) } else { Ok(None) }
+        }
+        None => Ok(None),
     }
 }
