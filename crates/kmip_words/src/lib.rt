@@ -29,9 +29,5 @@ pub use raw::RawRequest;
 pub use setup::{client_of, limited};
 pub use show::show_error;
 pub use streams::{read_up_to, write_out};
-<<<<<<< HEAD
 pub use values::{bytes_of, number_of};
-=======
-pub use values::number_of;
 pub use words::words_of;
->>>>>>> 0d7a7934383e9dcd96de8ef7c3c31f4a14a26d43
