@@ -7,3 +7,4 @@ pub mod Runs
 pub mod Whole
 pub mod SentBytes
 pub mod Tellings
+pub mod Captured

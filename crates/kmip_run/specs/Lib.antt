@@ -6,3 +6,4 @@ pub mod Auditing
 pub mod Transcript
 pub mod Sent
 pub mod Told
+pub mod Reported

@@ -1,6 +1,6 @@
 //! Laws over what the program stands on, each the contract of a function that does nothing, or only reads.
 
-ghost use Rattle.std.specs.Prelude.{◌≡◌, ◌↔◌, ℕ, List, Option, map, take, length};
+ghost use Rattle.std.specs.Prelude.{◌≡◌, ◌↔◌, ℕ, List, Option, map, take, length, IfOk};
 ghost use Rattle.kmip_wire.specs.Bytes.{AreBytes};
 ghost use Rattle.kmip_wire.specs.Parses.{AreTexts, joined_texts};
 ghost use Rattle.kmip_types.specs.declared.auth.CredentialType.{CredentialType as Credential};
@@ -8,17 +8,21 @@ ghost use Rattle.kmip_request.specs.Held.{AreTexts as AreCredentialTexts};
 ghost use Rattle.kmip_request.specs.Message.{request_bytes};
 ghost use Rattle.kmip_request.specs.declared.payload.RequestPayload.{RequestPayload as Payload};
 ghost use Rattle.kmip_request_read.specs.Matched.{IsMatched};
-ghost use Rattle.kmip_client.specs.Session.{session, all_sent};
+ghost use Rattle.kmip_client.specs.Session.{session, all_sent, all_taken};
+ghost use Rattle.kmip_client.specs.Order.{AreServed};
+ghost use Rattle.kmip_audit.specs.Agreement.{AreMatched};
 ghost use Rattle.kmip_client.specs.Skeletons.{texts_of};
+ghost use Rattle.kmip_run.specs.Reported.{ReportsTurns};
 ghost use Rattle.kmip_run.specs.Sent.{messages_of, AreHeld, IsSent, GivesBack};
 ghost use Rattle.kmip_run.specs.Told.{AllAnswered, skeletons_in};
 
+use kmip_audit::{Report, audit, sessions_are_reported};
 use kmip_client::diagnostics_of_sessions;
 use kmip_request::RequestPayload;
 use kmip_request_read::{RequestReadError, from_slice, request_parses};
 use kmip_shape::{Item, known_items};
 use kmip_types::auth::CredentialType;
-use kmip_wire::{one_tree, parsed_ranges, tree_computed};
+use kmip_wire::{OutOfMemory, one_tree, parsed_ranges, tree_computed};
 use std::alloc::Global;
 
 /// Without a fault, what a session sends splits in exactly one way into texts that parse. They are, in order, the
@@ -100,4 +104,21 @@ pub fn diagnostics_of_whole_sessions(
     tree_computed();
     parsed_ranges();
     diagnostics_of_sessions();
+}
+
+/// What a session without a fault sent and took, each request valid and matched and each message within the limit, is
+/// reported as it was answered: both sides are whole, and the outcome of each exchange is that it was answered exactly
+/// where the answer is a payload.
+pub fn traffic_of_sessions_is_reported(
+    alloc: Global,
+    sent: &[u8],
+    received: &[u8],
+) -> Result<Report, OutOfMemory>
+    ensures { (payloads : List Payload) (credential : Option Credential) (limit : Option ℕ) (messages : List (List ℕ)) (rest : List ℕ) →
+        AreMatched payloads credential → AreServed payloads credential limit messages rest →
+        sent.now ≡ all_sent (session payloads credential limit rest) → received.now ≡ take (all_taken (session payloads credential limit rest)) rest →
+        IfOk result (λ report. ReportsTurns payloads (session payloads credential limit rest) report) }
+{
+    sessions_are_reported();
+    audit(alloc, sent, received)
 }
