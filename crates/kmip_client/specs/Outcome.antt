@@ -1,5 +1,6 @@
 -- What one exchange sends, takes and answers, and what a call did to its link.
 use Rattle.std.specs.Prelude.{◌≡◌, ℕ, ◌+◌, ◌<◌, ◌≤◌, List, [], ◌++◌, length, take, drop, Option, Some, None, Result, Ok, Err, codes, IsTrue, IsSome}
+use Rattle.kmip_tags.specs.Tags.{RESPONSE_MESSAGE}
 use Rattle.std.specs.Fmt.{decimal}
 use Rattle.kmip_wire.specs.Tree.{Tree}
 use Rattle.kmip_wire.specs.Reading.{item_of}
@@ -37,7 +38,7 @@ seen = seen_by response_payload_val
 
 -- the tag of a response message (KMIP 1.0, 9.1.3.1)
 abbrev pub response_tag : ℕ
-response_tag = 0x42007B
+response_tag = RESPONSE_MESSAGE
 
 abbrev pub value_answer : Operation → Option Val → Answer
 value_answer operation None = Err (InternalError (codes "not a response message"))

@@ -23,14 +23,18 @@ use std::alloc::Global;
 /// What a client adds to each request, and how it reads responses.
 #[derive(Drop)]
 pub struct Settings {
+    /// The credential that each request carries in its header, if any: KMIP 1.0, 6.6.
     pub authentication: Option<Authentication>,
+    /// The limit on the size of a response.
     pub config: Config,
 }
 
 /// The diagnostics of a call.
 #[derive(Drop)]
 pub struct Diagnostics {
+    /// The skeleton of the last request: its tags, types and nesting, without values.
     pub request: Option<Text>,
+    /// The skeleton of the last response, or of as much of it as was read.
     pub response: Option<Text>,
 }
 

@@ -18,6 +18,7 @@ pub enum MessageStop {
     Refused(HeadError),
     /// The link failed.
     Fault,
+    /// Memory ran out; what was read until then is lost.
     OutOfMemory,
 }
 

@@ -16,6 +16,7 @@ pub enum ReadStop {
     Ended,
     /// The link failed.
     Fault,
+    /// Memory ran out; what was read until then is lost.
     OutOfMemory,
 }
 

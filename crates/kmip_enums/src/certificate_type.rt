@@ -9,7 +9,9 @@ use std::fmt::{self, Display, Formatter, Write};
 /// What kind of certificate it is: KMIP 1.0, 9.1.3.2.6.
 #[derive(Clone, Copy, PartialEq, Eq, Drop)]
 pub enum CertificateType {
+    /// X.509.
     X509 = 1,
+    /// PGP.
     PGP = 2,
 }
 

@@ -11,6 +11,7 @@ use std::fmt::{self, Display, Formatter, Write};
 /// What kind of credential it is: KMIP 1.0, 9.1.3.2.1.
 #[derive(Clone, Copy, PartialEq, Eq, Drop)]
 pub enum CredentialType {
+    /// A username and a password: KMIP 1.0, 2.1.2.
     UsernameAndPassword = 1,
 }
 

@@ -9,12 +9,19 @@ use std::fmt::{self, Display, Formatter, Write};
 /// How one object is linked to another: KMIP 1.0, 9.1.3.2.19.
 #[derive(Clone, Copy, PartialEq, Eq, Drop)]
 pub enum LinkType {
+    /// To the certificate of a public key.
     CertificateLink = 0x101,
+    /// To the public key of a private key or a certificate.
     PublicKeyLink = 0x102,
+    /// To the private key of a public key.
     PrivateKeyLink = 0x103,
+    /// To the object that a key was derived from.
     DerivationBaseObjectLink = 0x104,
+    /// To a key that was derived from the object.
     DerivedKeyLink = 0x105,
+    /// To the object in its place after a re-key or re-certify.
     ReplacementObjectLink = 0x106,
+    /// To the object whose place it took.
     ReplacedObjectLink = 0x107,
 }
 

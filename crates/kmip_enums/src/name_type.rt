@@ -9,7 +9,9 @@ use std::fmt::{self, Display, Formatter, Write};
 /// How a name is to be read: KMIP 1.0, 9.1.3.2.10.
 #[derive(Clone, Copy, PartialEq, Eq, Drop)]
 pub enum NameType {
+    /// Any text.
     UninterpretedTextString = 1,
+    /// A URI.
     URI = 2,
 }
 

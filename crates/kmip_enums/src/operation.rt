@@ -11,46 +11,87 @@ use std::fmt::{self, Display, Formatter, Write};
 /// What a request asks for: KMIP 1.0, 9.1.3.2.26, with those that KMIP 1.1 and 1.2 add.
 #[derive(Clone, Copy, PartialEq, Eq, Drop)]
 pub enum Operation {
+    /// KMIP 1.0, 4.1.
     Create = 1,
+    /// KMIP 1.0, 4.2.
     CreateKeyPair = 2,
+    /// KMIP 1.0, 4.3.
     Register = 3,
+    /// KMIP 1.0, 4.4.
     Rekey = 4,
+    /// KMIP 1.0, 4.5.
     DeriveKey = 5,
+    /// KMIP 1.0, 4.6.
     Certify = 6,
+    /// KMIP 1.0, 4.7.
     Recertify = 7,
+    /// KMIP 1.0, 4.8.
     Locate = 8,
+    /// KMIP 1.0, 4.9.
     Check = 9,
+    /// KMIP 1.0, 4.10.
     Get = 10,
+    /// KMIP 1.0, 4.11.
     GetAttributes = 11,
+    /// KMIP 1.0, 4.12.
     GetAttributeList = 12,
+    /// KMIP 1.0, 4.13.
     AddAttribute = 13,
+    /// KMIP 1.0, 4.14.
     ModifyAttribute = 14,
+    /// KMIP 1.0, 4.15.
     DeleteAttribute = 15,
+    /// KMIP 1.0, 4.16.
     ObtainLease = 16,
+    /// KMIP 1.0, 4.17.
     GetUsageAllocation = 17,
+    /// KMIP 1.0, 4.18.
     Activate = 18,
+    /// KMIP 1.0, 4.19.
     Revoke = 19,
+    /// KMIP 1.0, 4.20.
     Destroy = 20,
+    /// KMIP 1.0, 4.21.
     Archive = 21,
+    /// KMIP 1.0, 4.22.
     Recover = 22,
+    /// KMIP 1.0, 4.23.
     Validate = 23,
+    /// KMIP 1.0, 4.24.
     Query = 24,
+    /// KMIP 1.0, 4.25.
     Cancel = 25,
+    /// KMIP 1.0, 4.26.
     Poll = 26,
+    /// KMIP 1.0, 5.1.
     Notify = 27,
+    /// KMIP 1.0, 5.2.
     Put = 28,
+    /// KMIP 1.1, 4.5.
     RekeyKeyPair = 29,
+    /// KMIP 1.1, 4.26.
     DiscoverVersions = 30,
+    /// KMIP 1.2, 4.29.
     Encrypt = 31,
+    /// KMIP 1.2, 4.30.
     Decrypt = 32,
+    /// KMIP 1.2, 4.31.
     Sign = 33,
+    /// KMIP 1.2, 4.32.
     SignatureVerify = 34,
+    /// KMIP 1.2, 4.33.
     MAC = 35,
+    /// KMIP 1.2, 4.34.
     MACVerify = 36,
+    /// KMIP 1.2, 4.35.
     RNGRetrieve = 37,
+    /// KMIP 1.2, 4.36.
     RNGSeed = 38,
+    /// KMIP 1.2, 4.37.
     Hash = 39,
+    /// KMIP 1.2, 4.38.
     CreateSplitKey = 40,
+    /// KMIP 1.2, 4.39.
     JoinSplitKey = 41,
 }
 

@@ -9,8 +9,11 @@ use std::fmt::{self, Display, Formatter, Write};
 /// What a query asks for: KMIP 1.0, 9.1.3.2.23.
 #[derive(Clone, Copy, PartialEq, Eq, Drop)]
 pub enum QueryFunction {
+    /// The operations that the server supports.
     QueryOperations = 1,
+    /// The types of managed objects that the server supports.
     QueryObjects = 2,
+    /// What the vendor tells of the server.
     QueryServerInformation = 3,
 }
 

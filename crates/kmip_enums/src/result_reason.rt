@@ -9,23 +9,41 @@ use std::fmt::{self, Display, Formatter, Write};
 /// Why an operation failed: KMIP 1.0, 9.1.3.2.28.
 #[derive(Clone, Copy, PartialEq, Eq, Drop)]
 pub enum ResultReason {
+    /// No object has that identifier or those attributes.
     ItemNotFound = 0x1,
+    /// The response is longer than the request allows.
     ResponseTooLarge = 0x2,
+    /// The credential was not accepted.
     AuthenticationNotSuccessful = 0x3,
+    /// The server could not read the request.
     InvalidMessage = 0x4,
+    /// The server has no such operation.
     OperationNotSupported = 0x5,
+    /// A field that is required is absent.
     MissingData = 0x6,
+    /// A field has a value that is not allowed.
     InvalidField = 0x7,
+    /// The server lacks an optional feature that was asked for.
     FeatureNotSupported = 0x8,
+    /// A cancel ended the operation.
     OperationCanceledByRequester = 0x9,
+    /// The cryptographic operation failed.
     CryptographicFailure = 0xA,
+    /// The operation is not allowed on this object or now.
     IllegalOperation = 0xB,
+    /// The client may not do it, or the state of the object forbids it.
     PermissionDenied = 0xC,
+    /// The object is archived and has to be recovered first.
     ObjectArchived = 0xD,
+    /// The attribute has no instance of that index.
     IndexOutOfBounds = 0xE,
+    /// The server does not know the application namespace.
     ApplicationNamespaceNotSupported = 0xF,
+    /// The server cannot give the key in this format.
     KeyFormatTypeNotSupported = 0x10,
+    /// The server cannot give the key in this compression.
     KeyCompressionTypeNotSupported = 0x11,
+    /// Any other failure.
     GeneralFailure = 0x100,
 }
 

@@ -9,9 +9,13 @@ use std::fmt::{self, Display, Formatter, Write};
 /// How an operation ended: KMIP 1.0, 9.1.3.2.27.
 #[derive(Clone, Copy, PartialEq, Eq, Drop)]
 pub enum ResultStatus {
+    /// The operation was done.
     Success = 0,
+    /// It was not done; the result reason says why.
     OperationFailed = 1,
+    /// It is being done; a poll asks for its result.
     OperationPending = 2,
+    /// It was done and taken back, since another of the batch failed.
     OperationUndone = 3,
 }
 

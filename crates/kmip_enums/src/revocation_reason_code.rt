@@ -9,12 +9,19 @@ use std::fmt::{self, Display, Formatter, Write};
 /// Why an object is revoked: KMIP 1.0, 9.1.3.2.18.
 #[derive(Clone, Copy, PartialEq, Eq, Drop)]
 pub enum RevocationReasonCode {
+    /// No reason is given.
     Unspecified = 1,
+    /// The key may be known to others.
     KeyCompromise = 2,
+    /// The authority's key may be known to others.
     CACompromise = 3,
+    /// The subject's name or affiliation changed.
     AffiliationChanged = 4,
+    /// Another object takes its place.
     Superseded = 5,
+    /// The object is no longer needed.
     CessationOfOperation = 6,
+    /// A privilege was withdrawn.
     PrivilegeWithdrawn = 7,
 }
 

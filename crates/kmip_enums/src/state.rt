@@ -9,11 +9,17 @@ use std::fmt::{self, Display, Formatter, Write};
 /// Where an object is in its life: KMIP 1.0, 3.17.
 #[derive(Clone, Copy, PartialEq, Eq, Drop)]
 pub enum State {
+    /// Made, and not yet to be used.
     PreActive = 1,
+    /// In use.
     Active = 2,
+    /// No longer to be used for protecting data.
     Deactivated = 3,
+    /// Known to others, or thought to be.
     Compromised = 4,
+    /// Its key material is gone.
     Destroyed = 5,
+    /// Its key material is gone, and was compromised.
     DestroyedCompromised = 6,
 }
 

@@ -1,5 +1,6 @@
 -- Keys whose parts are told.
 use Rattle.std.specs.Prelude.{codes, ℕ, List, Option}
+use Rattle.kmip_tags.specs.Tags.{CRT_COEFFICIENT, G, J, KEY, MODULUS, P, PRIME_EXPONENT_P, PRIME_EXPONENT_Q, PRIVATE_EXPONENT, PUBLIC_EXPONENT, Q, X, Y}
 use Rattle.kmip_wire.specs.declared.kind.Kind.TheVariants.{BigInteger, ByteString}
 use Rattle.kmip_shape.specs.Shape.{Shape, Scalar, Rows, NoRow, AndRow, Required, Optional, Plain, Under}
 use Rattle.kmip_shape.specs.Val.{Val, Bytes, Record, AndField, NoField, One}
@@ -17,65 +18,65 @@ use Rattle.kmip_keys.specs.declared.transparent_keys.TransparentDHPublicKey.{Tra
 -- Transparent Symmetric Key (KMIP 1.0, 2.1.7.1)
 abbrev pub transparent_symmetric_key : Shape
 transparent_symmetric_key = Rows
-    (AndRow (codes "key") (Under 0x42003F) Required Plain (Scalar ByteString)
+    (AndRow (codes "key") (Under KEY) Required Plain (Scalar ByteString)
     NoRow)
 
 -- Transparent DSA Private Key (KMIP 1.0, 2.1.7.2)
 abbrev pub transparent_dsa_private_key : Shape
 transparent_dsa_private_key = Rows
-    (AndRow (codes "p") (Under 0x42005E) Required Plain (Scalar BigInteger)
-    (AndRow (codes "q") (Under 0x420071) Required Plain (Scalar BigInteger)
-    (AndRow (codes "g") (Under 0x420037) Required Plain (Scalar BigInteger)
-    (AndRow (codes "x") (Under 0x42009F) Required Plain (Scalar BigInteger)
+    (AndRow (codes "p") (Under P) Required Plain (Scalar BigInteger)
+    (AndRow (codes "q") (Under Q) Required Plain (Scalar BigInteger)
+    (AndRow (codes "g") (Under G) Required Plain (Scalar BigInteger)
+    (AndRow (codes "x") (Under X) Required Plain (Scalar BigInteger)
     NoRow))))
 
 -- Transparent DSA Public Key (KMIP 1.0, 2.1.7.3)
 abbrev pub transparent_dsa_public_key : Shape
 transparent_dsa_public_key = Rows
-    (AndRow (codes "p") (Under 0x42005E) Required Plain (Scalar BigInteger)
-    (AndRow (codes "q") (Under 0x420071) Required Plain (Scalar BigInteger)
-    (AndRow (codes "g") (Under 0x420037) Required Plain (Scalar BigInteger)
-    (AndRow (codes "y") (Under 0x4200A0) Required Plain (Scalar BigInteger)
+    (AndRow (codes "p") (Under P) Required Plain (Scalar BigInteger)
+    (AndRow (codes "q") (Under Q) Required Plain (Scalar BigInteger)
+    (AndRow (codes "g") (Under G) Required Plain (Scalar BigInteger)
+    (AndRow (codes "y") (Under Y) Required Plain (Scalar BigInteger)
     NoRow))))
 
 -- Transparent RSA Private Key (KMIP 1.0, 2.1.7.4)
 abbrev pub transparent_rsa_private_key : Shape
 transparent_rsa_private_key = Rows
-    (AndRow (codes "modulus") (Under 0x420052) Required Plain (Scalar BigInteger)
-    (AndRow (codes "private_exponent") (Under 0x420063) Optional Plain (Scalar BigInteger)
-    (AndRow (codes "public_exponent") (Under 0x42006C) Optional Plain (Scalar BigInteger)
-    (AndRow (codes "p") (Under 0x42005E) Optional Plain (Scalar BigInteger)
-    (AndRow (codes "q") (Under 0x420071) Optional Plain (Scalar BigInteger)
-    (AndRow (codes "prime_exponent_p") (Under 0x420060) Optional Plain (Scalar BigInteger)
-    (AndRow (codes "prime_exponent_q") (Under 0x420061) Optional Plain (Scalar BigInteger)
-    (AndRow (codes "crt_coefficient") (Under 0x420027) Optional Plain (Scalar BigInteger)
+    (AndRow (codes "modulus") (Under MODULUS) Required Plain (Scalar BigInteger)
+    (AndRow (codes "private_exponent") (Under PRIVATE_EXPONENT) Optional Plain (Scalar BigInteger)
+    (AndRow (codes "public_exponent") (Under PUBLIC_EXPONENT) Optional Plain (Scalar BigInteger)
+    (AndRow (codes "p") (Under P) Optional Plain (Scalar BigInteger)
+    (AndRow (codes "q") (Under Q) Optional Plain (Scalar BigInteger)
+    (AndRow (codes "prime_exponent_p") (Under PRIME_EXPONENT_P) Optional Plain (Scalar BigInteger)
+    (AndRow (codes "prime_exponent_q") (Under PRIME_EXPONENT_Q) Optional Plain (Scalar BigInteger)
+    (AndRow (codes "crt_coefficient") (Under CRT_COEFFICIENT) Optional Plain (Scalar BigInteger)
     NoRow))))))))
 
 -- Transparent RSA Public Key (KMIP 1.0, 2.1.7.5)
 abbrev pub transparent_rsa_public_key : Shape
 transparent_rsa_public_key = Rows
-    (AndRow (codes "modulus") (Under 0x420052) Required Plain (Scalar BigInteger)
-    (AndRow (codes "public_exponent") (Under 0x42006C) Required Plain (Scalar BigInteger)
+    (AndRow (codes "modulus") (Under MODULUS) Required Plain (Scalar BigInteger)
+    (AndRow (codes "public_exponent") (Under PUBLIC_EXPONENT) Required Plain (Scalar BigInteger)
     NoRow))
 
 -- Transparent DH Private Key (KMIP 1.0, 2.1.7.6)
 abbrev pub transparent_dh_private_key : Shape
 transparent_dh_private_key = Rows
-    (AndRow (codes "p") (Under 0x42005E) Required Plain (Scalar BigInteger)
-    (AndRow (codes "q") (Under 0x420071) Optional Plain (Scalar BigInteger)
-    (AndRow (codes "g") (Under 0x420037) Required Plain (Scalar BigInteger)
-    (AndRow (codes "j") (Under 0x42003E) Optional Plain (Scalar BigInteger)
-    (AndRow (codes "x") (Under 0x42009F) Required Plain (Scalar BigInteger)
+    (AndRow (codes "p") (Under P) Required Plain (Scalar BigInteger)
+    (AndRow (codes "q") (Under Q) Optional Plain (Scalar BigInteger)
+    (AndRow (codes "g") (Under G) Required Plain (Scalar BigInteger)
+    (AndRow (codes "j") (Under J) Optional Plain (Scalar BigInteger)
+    (AndRow (codes "x") (Under X) Required Plain (Scalar BigInteger)
     NoRow)))))
 
 -- Transparent DH Public Key (KMIP 1.0, 2.1.7.7)
 abbrev pub transparent_dh_public_key : Shape
 transparent_dh_public_key = Rows
-    (AndRow (codes "p") (Under 0x42005E) Required Plain (Scalar BigInteger)
-    (AndRow (codes "q") (Under 0x420071) Optional Plain (Scalar BigInteger)
-    (AndRow (codes "g") (Under 0x420037) Required Plain (Scalar BigInteger)
-    (AndRow (codes "j") (Under 0x42003E) Optional Plain (Scalar BigInteger)
-    (AndRow (codes "y") (Under 0x4200A0) Required Plain (Scalar BigInteger)
+    (AndRow (codes "p") (Under P) Required Plain (Scalar BigInteger)
+    (AndRow (codes "q") (Under Q) Optional Plain (Scalar BigInteger)
+    (AndRow (codes "g") (Under G) Required Plain (Scalar BigInteger)
+    (AndRow (codes "j") (Under J) Optional Plain (Scalar BigInteger)
+    (AndRow (codes "y") (Under Y) Required Plain (Scalar BigInteger)
     NoRow)))))
 
 abbrev pub transparent_symmetric_key_val : TransparentSymmetricKey → Val

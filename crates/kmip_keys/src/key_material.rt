@@ -19,12 +19,19 @@ use std::alloc::Global;
 pub enum KeyMaterial {
     /// The bytes of the formats Raw, Opaque, PKCS1, PKCS8, X509 and ECPrivateKey.
     Bytes(Blob),
+    /// Of key format type Transparent Symmetric Key: KMIP 1.0, 2.1.7.1.
     TransparentSymmetricKey(TransparentSymmetricKey),
+    /// Of key format type Transparent DSA Private Key: KMIP 1.0, 2.1.7.2.
     TransparentDSAPrivateKey(TransparentDSAPrivateKey),
+    /// Of key format type Transparent DSA Public Key: KMIP 1.0, 2.1.7.3.
     TransparentDSAPublicKey(TransparentDSAPublicKey),
+    /// Of key format type Transparent RSA Private Key: KMIP 1.0, 2.1.7.4.
     TransparentRSAPrivateKey(TransparentRSAPrivateKey),
+    /// Of key format type Transparent RSA Public Key: KMIP 1.0, 2.1.7.5.
     TransparentRSAPublicKey(TransparentRSAPublicKey),
+    /// Of key format type Transparent DH Private Key: KMIP 1.0, 2.1.7.6.
     TransparentDHPrivateKey(TransparentDHPrivateKey),
+    /// Of key format type Transparent DH Public Key: KMIP 1.0, 2.1.7.7.
     TransparentDHPublicKey(TransparentDHPublicKey),
     /// Contents of no form, which are never read and have no wire form.
     Structure(Blob),

@@ -12,6 +12,10 @@ use kmip_shape::{
     BigOne, BigOpt, Item, Outer, ReadError, ReadItem, ShowItem, Sink, WriteItem, fields,
     known_record, read_record, record_len, show_record, write_record,
 };
+use kmip_tags::tags::{
+    CRT_COEFFICIENT, G, J, KEY, MODULUS, P, PRIME_EXPONENT_P, PRIME_EXPONENT_Q, PRIVATE_EXPONENT,
+    PUBLIC_EXPONENT, Q, X, Y,
+};
 use kmip_wire::{Blob, Buffer, ItemRef, OutOfMemory, Tag, TryClone, clone_optional};
 use std::alloc::Global;
 
@@ -22,7 +26,7 @@ pub struct TransparentSymmetricKey {
     pub key: Blob,
 }
 
-type TransparentSymmetricKeyRows = Row<One<Blob, 0x42003F>, End>;
+type TransparentSymmetricKeyRows = Row<One<Blob, KEY>, End>;
 
 impl TryClone for TransparentSymmetricKey {
     fn try_clone(&self, alloc: Global) -> Result<TransparentSymmetricKey, OutOfMemory> {
@@ -70,15 +74,19 @@ impl ShowItem for TransparentSymmetricKey {
 /// A private key of DSA: KMIP 1.0, 2.1.7.2.
 #[derive(PartialEq, Eq, Drop)]
 pub struct TransparentDSAPrivateKey {
+    /// The prime modulus P.
     pub p: Blob,
+    /// The prime divisor Q of P - 1.
     pub q: Blob,
+    /// The generator G.
     pub g: Blob,
+    /// The private exponent X.
     pub x: Blob,
 }
 
 type TransparentDSAPrivateKeyRows = Row<
-    BigOne<0x42005E>,
-    Row<BigOne<0x420071>, Row<BigOne<0x420037>, Row<BigOne<0x42009F>, End>>>,
+    BigOne<P>,
+    Row<BigOne<Q>, Row<BigOne<G>, Row<BigOne<X>, End>>>,
 >;
 
 impl TryClone for TransparentDSAPrivateKey {
@@ -138,15 +146,19 @@ impl ShowItem for TransparentDSAPrivateKey {
 /// A public key of DSA: KMIP 1.0, 2.1.7.3.
 #[derive(PartialEq, Eq, Drop)]
 pub struct TransparentDSAPublicKey {
+    /// The prime modulus P.
     pub p: Blob,
+    /// The prime divisor Q of P - 1.
     pub q: Blob,
+    /// The generator G.
     pub g: Blob,
+    /// The public value Y, G to the power X modulo P.
     pub y: Blob,
 }
 
 type TransparentDSAPublicKeyRows = Row<
-    BigOne<0x42005E>,
-    Row<BigOne<0x420071>, Row<BigOne<0x420037>, Row<BigOne<0x4200A0>, End>>>,
+    BigOne<P>,
+    Row<BigOne<Q>, Row<BigOne<G>, Row<BigOne<Y>, End>>>,
 >;
 
 impl TryClone for TransparentDSAPublicKey {
@@ -206,27 +218,38 @@ impl ShowItem for TransparentDSAPublicKey {
 /// A private key of RSA: KMIP 1.0, 2.1.7.4.
 #[derive(PartialEq, Eq, Drop)]
 pub struct TransparentRSAPrivateKey {
+    /// The modulus.
     pub modulus: Blob,
+    /// The private exponent.
     pub private_exponent: Option<Blob>,
+    /// The public exponent.
     pub public_exponent: Option<Blob>,
+    /// The first prime factor of the modulus.
     pub p: Option<Blob>,
+    /// The second prime factor of the modulus.
     pub q: Option<Blob>,
+    /// The private exponent modulo P - 1.
     pub prime_exponent_p: Option<Blob>,
+    /// The private exponent modulo Q - 1.
     pub prime_exponent_q: Option<Blob>,
+    /// The inverse of Q modulo P.
     pub crt_coefficient: Option<Blob>,
 }
 
 type TransparentRSAPrivateKeyRows = Row<
-    BigOne<0x420052>,
+    BigOne<MODULUS>,
     Row<
-        BigOpt<0x420063>,
+        BigOpt<PRIVATE_EXPONENT>,
         Row<
-            BigOpt<0x42006C>,
+            BigOpt<PUBLIC_EXPONENT>,
             Row<
-                BigOpt<0x42005E>,
+                BigOpt<P>,
                 Row<
-                    BigOpt<0x420071>,
-                    Row<BigOpt<0x420060>, Row<BigOpt<0x420061>, Row<BigOpt<0x420027>, End>>>,
+                    BigOpt<Q>,
+                    Row<
+                        BigOpt<PRIME_EXPONENT_P>,
+                        Row<BigOpt<PRIME_EXPONENT_Q>, Row<BigOpt<CRT_COEFFICIENT>, End>>,
+                    >,
                 >,
             >,
         >,
@@ -357,11 +380,13 @@ impl ShowItem for TransparentRSAPrivateKey {
 /// A public key of RSA: KMIP 1.0, 2.1.7.5.
 #[derive(PartialEq, Eq, Drop)]
 pub struct TransparentRSAPublicKey {
+    /// The modulus.
     pub modulus: Blob,
+    /// The public exponent.
     pub public_exponent: Blob,
 }
 
-type TransparentRSAPublicKeyRows = Row<BigOne<0x420052>, Row<BigOne<0x42006C>, End>>;
+type TransparentRSAPublicKeyRows = Row<BigOne<MODULUS>, Row<BigOne<PUBLIC_EXPONENT>, End>>;
 
 impl TryClone for TransparentRSAPublicKey {
     fn try_clone(&self, alloc: Global) -> Result<TransparentRSAPublicKey, OutOfMemory> {
@@ -423,16 +448,21 @@ impl ShowItem for TransparentRSAPublicKey {
 /// A private key of Diffie and Hellman: KMIP 1.0, 2.1.7.6.
 #[derive(PartialEq, Eq, Drop)]
 pub struct TransparentDHPrivateKey {
+    /// The prime modulus P.
     pub p: Blob,
+    /// The prime divisor Q of P - 1.
     pub q: Option<Blob>,
+    /// The generator G.
     pub g: Blob,
+    /// The cofactor J, (P - 1) / Q.
     pub j: Option<Blob>,
+    /// The private exponent X.
     pub x: Blob,
 }
 
 type TransparentDHPrivateKeyRows = Row<
-    BigOne<0x42005E>,
-    Row<BigOpt<0x420071>, Row<BigOne<0x420037>, Row<BigOpt<0x42003E>, Row<BigOne<0x42009F>, End>>>>,
+    BigOne<P>,
+    Row<BigOpt<Q>, Row<BigOne<G>, Row<BigOpt<J>, Row<BigOne<X>, End>>>>,
 >;
 
 impl TryClone for TransparentDHPrivateKey {
@@ -499,16 +529,21 @@ impl ShowItem for TransparentDHPrivateKey {
 /// A public key of Diffie and Hellman: KMIP 1.0, 2.1.7.7.
 #[derive(PartialEq, Eq, Drop)]
 pub struct TransparentDHPublicKey {
+    /// The prime modulus P.
     pub p: Blob,
+    /// The prime divisor Q of P - 1.
     pub q: Option<Blob>,
+    /// The generator G.
     pub g: Blob,
+    /// The cofactor J, (P - 1) / Q.
     pub j: Option<Blob>,
+    /// The public value Y, G to the power X modulo P.
     pub y: Blob,
 }
 
 type TransparentDHPublicKeyRows = Row<
-    BigOne<0x42005E>,
-    Row<BigOpt<0x420071>, Row<BigOne<0x420037>, Row<BigOpt<0x42003E>, Row<BigOne<0x4200A0>, End>>>>,
+    BigOne<P>,
+    Row<BigOpt<Q>, Row<BigOne<G>, Row<BigOpt<J>, Row<BigOne<Y>, End>>>>,
 >;
 
 impl TryClone for TransparentDHPublicKey {

@@ -13,6 +13,10 @@ use kmip_shape::{
     Item, Outer, ReadError, ReadItem, ReadRoot, ShowItem, Sink, fields, known_record, read_record,
     show_record,
 };
+use kmip_tags::tags::{
+    ATTRIBUTE, CRYPTOGRAPHIC_ALGORITHM, CRYPTOGRAPHIC_LENGTH, KEY_BLOCK, KEY_COMPRESSION_TYPE,
+    KEY_FORMAT_TYPE, KEY_MATERIAL, KEY_VALUE, KEY_WRAPPING_DATA,
+};
 use kmip_types::{CryptographicAlgorithm, KeyCompressionType, KeyFormatType, KeyMaterial};
 use kmip_wire::{Blob, ItemRef, List, OutOfMemory, Tag, TryClone, clone_optional};
 use std::alloc::Global;
@@ -22,10 +26,11 @@ use std::alloc::Global;
 pub struct KeyValue {
     /// `Wrapped` where the key value is one Byte String, else of the key block's format.
     pub key_material: KeyMaterial,
+    /// Attributes that are wrapped together with the key material.
     pub attributes: Option<List<Attribute>>,
 }
 
-type KeyValueRows = Row<One<KeyMaterial, 0x420043>, Row<OptMany<Attribute, 0x420008>, End>>;
+type KeyValueRows = Row<One<KeyMaterial, KEY_MATERIAL>, Row<OptMany<Attribute, ATTRIBUTE>, End>>;
 
 impl TryClone for KeyValue {
     fn try_clone(&self, alloc: Global) -> Result<KeyValue, OutOfMemory> {
@@ -77,25 +82,32 @@ impl ShowItem for KeyValue {
 /// A key with its format, algorithm and length: KMIP 1.0, 2.1.3.
 #[derive(PartialEq, Eq, Drop)]
 pub struct KeyBlock {
+    /// The format of the key material: KMIP 1.0, 9.1.3.2.3.
     pub key_format_type: KeyFormatType,
+    /// How an elliptic curve's point is compressed: KMIP 1.0, 9.1.3.2.2.
     pub key_compression_type: Option<KeyCompressionType>,
     /// In the form of `key_format_type`.
     pub key_value: KeyValue,
+    /// The algorithm that the key is for: KMIP 1.0, 3.4.
     pub cryptographic_algorithm: Option<CryptographicAlgorithm>,
     /// The length of the key in bits.
     pub cryptographic_length: Option<i32>,
+    /// How the key value is wrapped, if it is: KMIP 1.0, 2.1.5.
     pub key_wrapping_data: Option<KeyWrappingData>,
 }
 
 type KeyBlockRows<'a> = Choosing<
-    One<KeyFormatType, 0x420042>,
+    One<KeyFormatType, KEY_FORMAT_TYPE>,
     Row<
-        Opt<KeyCompressionType, 0x420041>,
+        Opt<KeyCompressionType, KEY_COMPRESSION_TYPE>,
         Row<
-            ChosenOne<'a, KeyValue, 0x420045>,
+            ChosenOne<'a, KeyValue, KEY_VALUE>,
             Row<
-                Opt<CryptographicAlgorithm, 0x420028>,
-                Row<Opt<i32, 0x42002A>, Row<Opt<KeyWrappingData, 0x420046>, End>>,
+                Opt<CryptographicAlgorithm, CRYPTOGRAPHIC_ALGORITHM>,
+                Row<
+                    Opt<i32, CRYPTOGRAPHIC_LENGTH>,
+                    Row<Opt<KeyWrappingData, KEY_WRAPPING_DATA>, End>,
+                >,
             >,
         >,
     >,
@@ -155,10 +167,10 @@ impl ReadItem for KeyBlock {
 }
 
 impl ReadRoot for KeyBlock {
-    ghost root_tag = { 0x420040 };
+    ghost root_tag = { KEY_BLOCK };
 
     fn root_tag() -> Tag {
-        Tag::of(0x420040)
+        Tag::of(KEY_BLOCK)
     }
 }
 

@@ -11,6 +11,10 @@ use kmip_shape::{
     Item, Outer, ReadError, ReadItem, ReadRoot, ShowItem, Sink, fields, known_record, read_record,
     show_record,
 };
+use kmip_tags::tags::{
+    CRYPTOGRAPHIC_PARAMETERS, ENCRYPTION_KEY_INFORMATION, IV_COUNTER_NONCE, KEY_WRAPPING_DATA,
+    MAC_SIGNATURE, MAC_SIGNATURE_KEY_INFORMATION, UNIQUE_IDENTIFIER, WRAPPING_METHOD,
+};
 use kmip_types::{CryptographicParameters, UniqueIdentifier, WrappingMethod};
 use kmip_wire::{Blob, ItemRef, OutOfMemory, Tag, TryClone, clone_optional};
 use std::alloc::Global;
@@ -18,13 +22,15 @@ use std::alloc::Global;
 /// The key that wraps by encryption, and how: KMIP 1.0, 2.1.5.
 #[derive(PartialEq, Eq, Drop)]
 pub struct EncryptionKeyInformation {
+    /// The identifier of the key that encrypts.
     pub unique_identifier: UniqueIdentifier,
+    /// How it encrypts.
     pub cryptographic_parameters: Option<CryptographicParameters>,
 }
 
 type EncryptionKeyInformationRows = Row<
-    One<UniqueIdentifier, 0x420094>,
-    Row<Opt<CryptographicParameters, 0x42002B>, End>,
+    One<UniqueIdentifier, UNIQUE_IDENTIFIER>,
+    Row<Opt<CryptographicParameters, CRYPTOGRAPHIC_PARAMETERS>, End>,
 >;
 
 impl TryClone for EncryptionKeyInformation {
@@ -64,10 +70,10 @@ impl ReadItem for EncryptionKeyInformation {
 }
 
 impl ReadRoot for EncryptionKeyInformation {
-    ghost root_tag = { 0x420036 };
+    ghost root_tag = { ENCRYPTION_KEY_INFORMATION };
 
     fn root_tag() -> Tag {
-        Tag::of(0x420036)
+        Tag::of(ENCRYPTION_KEY_INFORMATION)
     }
 }
 
@@ -84,13 +90,15 @@ impl ShowItem for EncryptionKeyInformation {
 /// The key that wraps by a MAC or a signature, and how: KMIP 1.0, 2.1.5.
 #[derive(PartialEq, Eq, Drop)]
 pub struct MACOrSignatureKeyInformation {
+    /// The identifier of the key that signs.
     pub unique_identifier: UniqueIdentifier,
+    /// How it signs.
     pub cryptographic_parameters: Option<CryptographicParameters>,
 }
 
 type MACOrSignatureKeyInformationRows = Row<
-    One<UniqueIdentifier, 0x420094>,
-    Row<Opt<CryptographicParameters, 0x42002B>, End>,
+    One<UniqueIdentifier, UNIQUE_IDENTIFIER>,
+    Row<Opt<CryptographicParameters, CRYPTOGRAPHIC_PARAMETERS>, End>,
 >;
 
 impl TryClone for MACOrSignatureKeyInformation {
@@ -130,10 +138,10 @@ impl ReadItem for MACOrSignatureKeyInformation {
 }
 
 impl ReadRoot for MACOrSignatureKeyInformation {
-    ghost root_tag = { 0x42004E };
+    ghost root_tag = { MAC_SIGNATURE_KEY_INFORMATION };
 
     fn root_tag() -> Tag {
-        Tag::of(0x42004E)
+        Tag::of(MAC_SIGNATURE_KEY_INFORMATION)
     }
 }
 
@@ -150,20 +158,25 @@ impl ShowItem for MACOrSignatureKeyInformation {
 /// How a key was wrapped: KMIP 1.0, 2.1.5.
 #[derive(PartialEq, Eq, Drop)]
 pub struct KeyWrappingData {
+    /// Whether the key is encrypted, signed or both: KMIP 1.0, 9.1.3.2.4.
     pub wrapping_method: WrappingMethod,
+    /// The key that encrypts, where the method encrypts.
     pub encryption_key_information: Option<EncryptionKeyInformation>,
+    /// The key that signs, where the method signs.
     pub mac_or_signature_key_information: Option<MACOrSignatureKeyInformation>,
+    /// The MAC or signature of the key value.
     pub mac_or_signature: Option<Blob>,
+    /// The IV, counter or nonce, where the cipher mode has one.
     pub iv_or_counter_or_nonce: Option<Blob>,
 }
 
 type KeyWrappingDataRows = Row<
-    One<WrappingMethod, 0x42009E>,
+    One<WrappingMethod, WRAPPING_METHOD>,
     Row<
-        Opt<EncryptionKeyInformation, 0x420036>,
+        Opt<EncryptionKeyInformation, ENCRYPTION_KEY_INFORMATION>,
         Row<
-            Opt<MACOrSignatureKeyInformation, 0x42004E>,
-            Row<Opt<Blob, 0x42004D>, Row<Opt<Blob, 0x42003D>, End>>,
+            Opt<MACOrSignatureKeyInformation, MAC_SIGNATURE_KEY_INFORMATION>,
+            Row<Opt<Blob, MAC_SIGNATURE>, Row<Opt<Blob, IV_COUNTER_NONCE>, End>>,
         >,
     >,
 >;
@@ -221,10 +234,10 @@ impl ReadItem for KeyWrappingData {
 }
 
 impl ReadRoot for KeyWrappingData {
-    ghost root_tag = { 0x420046 };
+    ghost root_tag = { KEY_WRAPPING_DATA };
 
     fn root_tag() -> Tag {
-        Tag::of(0x420046)
+        Tag::of(KEY_WRAPPING_DATA)
     }
 }
 

@@ -14,18 +14,26 @@ use kmip_shape::{
     Item, Outer, ReadError, ReadItem, ReadRoot, ShowItem, Sink, fields, known_record, read_record,
     show_case, show_record,
 };
+use kmip_tags::tags::{
+    CERTIFICATE, CERTIFICATE_TYPE, CERTIFICATE_VALUE, KEY_BLOCK, PRIVATE_KEY, PUBLIC_KEY,
+    SYMMETRIC_KEY,
+};
 use kmip_wire::{Blob, ItemRef, OutOfMemory, Tag, TryClone};
 use std::alloc::Global;
 
 /// A certificate: KMIP 1.0, 2.2.1.
 #[derive(PartialEq, Eq, Drop)]
 pub struct Certificate {
+    /// X.509 or PGP: KMIP 1.0, 9.1.3.2.6.
     pub certificate_type: CertificateType,
     /// The bytes of the certificate.
     pub certificate_value: Blob,
 }
 
-type CertificateRows = Row<One<CertificateType, 0x42001D>, Row<One<Blob, 0x42001E>, End>>;
+type CertificateRows = Row<
+    One<CertificateType, CERTIFICATE_TYPE>,
+    Row<One<Blob, CERTIFICATE_VALUE>, End>,
+>;
 
 impl TryClone for Certificate {
     fn try_clone(&self, alloc: Global) -> Result<Certificate, OutOfMemory> {
@@ -61,10 +69,10 @@ impl ReadItem for Certificate {
 }
 
 impl ReadRoot for Certificate {
-    ghost root_tag = { 0x420013 };
+    ghost root_tag = { CERTIFICATE };
 
     fn root_tag() -> Tag {
-        Tag::of(0x420013)
+        Tag::of(CERTIFICATE)
     }
 }
 
@@ -81,10 +89,11 @@ impl ShowItem for Certificate {
 /// A symmetric key: KMIP 1.0, 2.2.2.
 #[derive(PartialEq, Eq, Drop)]
 pub struct SymmetricKey {
+    /// The key and what belongs to it: KMIP 1.0, 2.1.3.
     pub key_block: KeyBlock,
 }
 
-type SymmetricKeyRows = Row<One<KeyBlock, 0x420040>, End>;
+type SymmetricKeyRows = Row<One<KeyBlock, KEY_BLOCK>, End>;
 
 impl TryClone for SymmetricKey {
     fn try_clone(&self, alloc: Global) -> Result<SymmetricKey, OutOfMemory> {
@@ -114,10 +123,10 @@ impl ReadItem for SymmetricKey {
 }
 
 impl ReadRoot for SymmetricKey {
-    ghost root_tag = { 0x42008F };
+    ghost root_tag = { SYMMETRIC_KEY };
 
     fn root_tag() -> Tag {
-        Tag::of(0x42008F)
+        Tag::of(SYMMETRIC_KEY)
     }
 }
 
@@ -130,10 +139,11 @@ impl ShowItem for SymmetricKey {
 /// A public key: KMIP 1.0, 2.2.3.
 #[derive(PartialEq, Eq, Drop)]
 pub struct PublicKey {
+    /// The key and what belongs to it: KMIP 1.0, 2.1.3.
     pub key_block: KeyBlock,
 }
 
-type PublicKeyRows = Row<One<KeyBlock, 0x420040>, End>;
+type PublicKeyRows = Row<One<KeyBlock, KEY_BLOCK>, End>;
 
 impl TryClone for PublicKey {
     fn try_clone(&self, alloc: Global) -> Result<PublicKey, OutOfMemory> {
@@ -163,10 +173,10 @@ impl ReadItem for PublicKey {
 }
 
 impl ReadRoot for PublicKey {
-    ghost root_tag = { 0x42006D };
+    ghost root_tag = { PUBLIC_KEY };
 
     fn root_tag() -> Tag {
-        Tag::of(0x42006D)
+        Tag::of(PUBLIC_KEY)
     }
 }
 
@@ -179,10 +189,11 @@ impl ShowItem for PublicKey {
 /// A private key: KMIP 1.0, 2.2.4.
 #[derive(PartialEq, Eq, Drop)]
 pub struct PrivateKey {
+    /// The key and what belongs to it: KMIP 1.0, 2.1.3.
     pub key_block: KeyBlock,
 }
 
-type PrivateKeyRows = Row<One<KeyBlock, 0x420040>, End>;
+type PrivateKeyRows = Row<One<KeyBlock, KEY_BLOCK>, End>;
 
 impl TryClone for PrivateKey {
     fn try_clone(&self, alloc: Global) -> Result<PrivateKey, OutOfMemory> {
@@ -212,10 +223,10 @@ impl ReadItem for PrivateKey {
 }
 
 impl ReadRoot for PrivateKey {
-    ghost root_tag = { 0x420064 };
+    ghost root_tag = { PRIVATE_KEY };
 
     fn root_tag() -> Tag {
-        Tag::of(0x420064)
+        Tag::of(PRIVATE_KEY)
     }
 }
 
@@ -228,9 +239,13 @@ impl ShowItem for PrivateKey {
 /// An object of the type that stands beside it: KMIP 1.0, 2.2.
 #[derive(PartialEq, Eq, Drop)]
 pub enum ManagedObject {
+    /// A certificate: KMIP 1.0, 2.2.1.
     Certificate(Certificate),
+    /// A symmetric key: KMIP 1.0, 2.2.2.
     SymmetricKey(SymmetricKey),
+    /// A public key: KMIP 1.0, 2.2.3.
     PublicKey(PublicKey),
+    /// A private key: KMIP 1.0, 2.2.4.
     PrivateKey(PrivateKey),
 }
 

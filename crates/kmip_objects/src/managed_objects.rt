@@ -17,6 +17,7 @@ use kmip_shape::columns::{Case, Column};
 use kmip_shape::fields::{FieldRow, ShowRow};
 use kmip_shape::show::show_one;
 use kmip_shape::{Item, Outer, ReadError, Sink};
+use kmip_tags::tags::{CERTIFICATE, PRIVATE_KEY, PUBLIC_KEY, SYMMETRIC_KEY};
 use kmip_wire::ItemRef;
 use std::alloc::Global;
 
@@ -24,10 +25,10 @@ use std::alloc::Global;
 /// others are not looked at.
 #[derive(Drop)]
 pub struct ManagedObjects<'a> {
-    certificate: Case<'a, Certificate, 1, 0x420013>,
-    symmetric_key: Case<'a, SymmetricKey, 2, 0x42008F>,
-    public_key: Case<'a, PublicKey, 3, 0x42006D>,
-    private_key: Case<'a, PrivateKey, 4, 0x420064>,
+    certificate: Case<'a, Certificate, 1, CERTIFICATE>,
+    symmetric_key: Case<'a, SymmetricKey, 2, SYMMETRIC_KEY>,
+    public_key: Case<'a, PublicKey, 3, PUBLIC_KEY>,
+    private_key: Case<'a, PrivateKey, 4, PRIVATE_KEY>,
 }
 
 impl<'a> Column<'a> for ManagedObjects<'a> {
@@ -38,10 +39,10 @@ impl<'a> Column<'a> for ManagedObjects<'a> {
     ghost reads = { λ o c xs. option_and_then (λ n. case_field managed_objects managed_objects c n xs) c.number };
 
     ghost resume = { λ s o c xs. option_and_then (λ n.
-        if among n (1 ∷ []) then resume_only (λ x. option_map (case_of 1) (read_in certificate managed_objects c x)) s.certificate.several (option_map item_tree s.certificate.item) (filter (has_tag 0x420013) xs)
-        else if among n (2 ∷ []) then resume_only (λ x. option_map (case_of 2) (read_in symmetric_key managed_objects c x)) s.symmetric_key.several (option_map item_tree s.symmetric_key.item) (filter (has_tag 0x42008F) xs)
-        else if among n (3 ∷ []) then resume_only (λ x. option_map (case_of 3) (read_in public_key managed_objects c x)) s.public_key.several (option_map item_tree s.public_key.item) (filter (has_tag 0x42006D) xs)
-        else if among n (4 ∷ []) then resume_only (λ x. option_map (case_of 4) (read_in private_key managed_objects c x)) s.private_key.several (option_map item_tree s.private_key.item) (filter (has_tag 0x420064) xs)
+        if among n (1 ∷ []) then resume_only (λ x. option_map (case_of 1) (read_in certificate managed_objects c x)) s.certificate.several (option_map item_tree s.certificate.item) (filter (has_tag CERTIFICATE) xs)
+        else if among n (2 ∷ []) then resume_only (λ x. option_map (case_of 2) (read_in symmetric_key managed_objects c x)) s.symmetric_key.several (option_map item_tree s.symmetric_key.item) (filter (has_tag SYMMETRIC_KEY) xs)
+        else if among n (3 ∷ []) then resume_only (λ x. option_map (case_of 3) (read_in public_key managed_objects c x)) s.public_key.several (option_map item_tree s.public_key.item) (filter (has_tag PUBLIC_KEY) xs)
+        else if among n (4 ∷ []) then resume_only (λ x. option_map (case_of 4) (read_in private_key managed_objects c x)) s.private_key.several (option_map item_tree s.private_key.item) (filter (has_tag PRIVATE_KEY) xs)
         else None) c.number };
 
     ghost shows = { λ x. one (managed_object_val x) };

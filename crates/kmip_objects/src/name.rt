@@ -12,6 +12,7 @@ use kmip_shape::{
     Item, Outer, ReadError, ReadItem, ReadRoot, ShowItem, Sink, fields, known_record, read_record,
     show_record,
 };
+use kmip_tags::tags::{NAME, NAME_TYPE, NAME_VALUE};
 use kmip_types::NameValue;
 use kmip_wire::{ItemRef, OutOfMemory, Tag, TryClone};
 use std::alloc::Global;
@@ -19,12 +20,13 @@ use std::alloc::Global;
 /// The name of an object: KMIP 1.0, 3.2.
 #[derive(PartialEq, Eq, Drop)]
 pub struct Name {
+    /// The name itself.
     pub name: NameValue,
     /// How the name is to be read.
     pub name_type: NameType,
 }
 
-type NameRows = Row<One<NameValue, 0x420055>, Row<One<NameType, 0x420054>, End>>;
+type NameRows = Row<One<NameValue, NAME_VALUE>, Row<One<NameType, NAME_TYPE>, End>>;
 
 impl TryClone for Name {
     fn try_clone(&self, alloc: Global) -> Result<Name, OutOfMemory> {
@@ -55,10 +57,10 @@ impl ReadItem for Name {
 }
 
 impl ReadRoot for Name {
-    ghost root_tag = { 0x420053 };
+    ghost root_tag = { NAME };
 
     fn root_tag() -> Tag {
-        Tag::of(0x420053)
+        Tag::of(NAME)
     }
 }
 

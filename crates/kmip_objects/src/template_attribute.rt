@@ -13,17 +13,20 @@ use kmip_shape::{
     Item, Outer, ReadError, ReadItem, ReadRoot, ShowItem, Sink, fields, known_record, read_record,
     show_record,
 };
+use kmip_tags::tags::{ATTRIBUTE, NAME, TEMPLATE_ATTRIBUTE};
 use kmip_wire::{ItemRef, List, OutOfMemory, Tag, TryClone, clone_optional};
 use std::alloc::Global;
 
 /// Attributes of a new object, and names of templates that hold more: KMIP 1.0, 2.1.8.
 #[derive(PartialEq, Eq, Drop)]
 pub struct TemplateAttribute {
+    /// The names of templates that stand for their attributes.
     pub name: Option<List<Name>>,
+    /// Further attributes.
     pub attributes: Option<List<Attribute>>,
 }
 
-type TemplateAttributeRows = Row<OptMany<Name, 0x420053>, Row<OptMany<Attribute, 0x420008>, End>>;
+type TemplateAttributeRows = Row<OptMany<Name, NAME>, Row<OptMany<Attribute, ATTRIBUTE>, End>>;
 
 impl TryClone for TemplateAttribute {
     fn try_clone(&self, alloc: Global) -> Result<TemplateAttribute, OutOfMemory> {
@@ -54,10 +57,10 @@ impl ReadItem for TemplateAttribute {
 }
 
 impl ReadRoot for TemplateAttribute {
-    ghost root_tag = { 0x420091 };
+    ghost root_tag = { TEMPLATE_ATTRIBUTE };
 
     fn root_tag() -> Tag {
-        Tag::of(0x420091)
+        Tag::of(TEMPLATE_ATTRIBUTE)
     }
 }
 

@@ -1,5 +1,6 @@
 -- Requests of the same bytes have the same tree, and no request's bytes begin another's.
 use Rattle.std.proofs.Common.{◌≡◌, ℕ, ◌<◌, ◌≤◌, ◌^◌, nat_lt, ltb-true, pos, true, List, [], ◌∷◌, ◌++◌, Option, Some, None, refl, ap, arith}
+use Rattle.kmip_tags.specs.Tags.{BATCH_COUNT, REQUEST_PAYLOAD}
 use Rattle.std.specs.Prelude.{IsUtf8, IfSome, FitsSigned}
 use Rattle.std.specs.Int.{w32}
 use Rattle.std.proofs.lemmas.Int.{ints}
@@ -23,10 +24,10 @@ use Rattle.kmip_shape.proofs.Ranges.{depth, Keeps, AllKeep, keeps_more, then_kee
 
 -- ---- the table of a payload
 
-payload_keeps : (p : RequestPayload) (c : Option CredentialType) → IsHeld p c → Keeps (tree_of request_payload 0x420079 (request_payload_val p)) 32
+payload_keeps : (p : RequestPayload) (c : Option CredentialType) → IsHeld p c → Keeps (tree_of request_payload REQUEST_PAYLOAD (request_payload_val p)) 32
 payload_keeps p c h =
-    keeps_more (tree_of request_payload 0x420079 (request_payload_val p)) (depth request_payload) 32 payload_depth
-    (fits_ranges request_payload (request_payload_val p) 0x420079 payload_in_range (omega arith) h.0)
+    keeps_more (tree_of request_payload REQUEST_PAYLOAD (request_payload_val p)) (depth request_payload) 32 payload_depth
+    (fits_ranges request_payload (request_payload_val p) REQUEST_PAYLOAD payload_in_range (omega arith) h.0)
 
 -- ---- the head of a request, and the message
 
@@ -97,9 +98,9 @@ small_fits n h = omega (arith, ints, h)
 
 header_keeps : (minor : ℕ) (trees : List Tree) → minor ≤ 2 → AllKeep (Some trees) 4 → HasRanges (header_tree minor trees) × (levels (header_tree minor trees) ≤ 5)
 header_keeps minor trees m h =
-    let count : AllKeep (Some (scalar 0x42000D (integer (pos 1)) ∷ [])) 4 = (((omega arith, small_fits 1 (omega arith)), tt), omega arith) in
-    let rest : AllKeep (Some (trees ++ scalar 0x42000D (integer (pos 1)) ∷ [])) 4 =
-    then_keeps (Some trees) (Some (scalar 0x42000D (integer (pos 1)) ∷ [])) 4 4 4 (omega arith) (omega arith) h count in
+    let count : AllKeep (Some (scalar BATCH_COUNT (integer (pos 1)) ∷ [])) 4 = (((omega arith, small_fits 1 (omega arith)), tt), omega arith) in
+    let rest : AllKeep (Some (trees ++ scalar BATCH_COUNT (integer (pos 1)) ∷ [])) 4 =
+    then_keeps (Some trees) (Some (scalar BATCH_COUNT (integer (pos 1)) ∷ [])) 4 4 4 (omega arith) (omega arith) h count in
     ((omega arith, ((omega arith, ((omega arith, small_fits 1 (omega arith)), ((omega arith, small_fits minor m), tt))), rest.0)), omega (arith, rest.1))
 
 message_keeps : (header : Tree) (operation : ℕ) (payload : Option Tree) → HasRanges header × (levels header ≤ 5) → operation < 2 ^ 32 → Keeps payload 32
@@ -110,7 +111,7 @@ message_keeps header operation (Some t) h o k =
 
 request_keeps : (p : RequestPayload) (c : Option CredentialType) → IsHeld p c → Keeps (request_tree p c) 64
 request_keeps p c h =
-    message_keeps (header_tree (minor_of p) (authentication_trees c)) (operation_line (operation_of p)).number (tree_of request_payload 0x420079 (request_payload_val p))
+    message_keeps (header_tree (minor_of p) (authentication_trees c)) (operation_line (operation_of p)).number (tree_of request_payload REQUEST_PAYLOAD (request_payload_val p))
     (header_keeps (minor_of p) (authentication_trees c) (minor_fits p) (authentication_keeps c h.1)) (operation_fits p) (payload_keeps p c h)
 
 -- ---- trees of the same bytes

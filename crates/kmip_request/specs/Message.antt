@@ -1,5 +1,6 @@
 -- The message of a request (KMIP 1.0, 7.1), and when there is one.
 use Rattle.std.specs.Prelude.{ℕ, pos, List, [], ◌∷◌, ◌++◌, Option, Some, None, IsSome}
+use Rattle.kmip_tags.specs.Tags.{AUTHENTICATION, BATCH_COUNT, BATCH_ITEM, CREDENTIAL, CREDENTIAL_TYPE, CREDENTIAL_VALUE, OPERATION, PASSWORD, PROTOCOL_VERSION, PROTOCOL_VERSION_MAJOR, PROTOCOL_VERSION_MINOR, REQUEST_HEADER, REQUEST_MESSAGE, REQUEST_PAYLOAD, USERNAME}
 use Rattle.std.specs.Option.{option_map, option_and_then}
 use Rattle.kmip_wire.specs.Tree.{Tree, scalar, structure, trees_of, integer, enumeration, text_string}
 use Rattle.kmip_wire.specs.Bytes.{bytes}
@@ -51,16 +52,16 @@ version_of payload = record { 0 = record { 0 = pos 1 }; 1 = record { 0 = pos (mi
 
 abbrev pub password_trees : Option (List ℕ) → List Tree
 password_trees None = []
-password_trees (Some password) = scalar 0x4200A1 (text_string password) ∷ []
+password_trees (Some password) = scalar PASSWORD (text_string password) ∷ []
 
 -- the item of a credential, where there is one
 abbrev pub authentication_trees : Option CredentialType → List Tree
 authentication_trees None = []
 authentication_trees (Some (UsernameAndPassword c)) =
-    structure 0x42000C (trees_of (
-    structure 0x420023 (trees_of (
-    scalar 0x420024 (enumeration 1)
-    ∷ structure 0x420025 (trees_of (scalar 0x420099 (text_string c.username) ∷ password_trees c.password))
+    structure AUTHENTICATION (trees_of (
+    structure CREDENTIAL (trees_of (
+    scalar CREDENTIAL_TYPE (enumeration 1)
+    ∷ structure CREDENTIAL_VALUE (trees_of (scalar USERNAME (text_string c.username) ∷ password_trees c.password))
     ∷ []))
     ∷ []))
     ∷ []
@@ -72,23 +73,23 @@ credential_of a = elim ((a.0).1) [ values.UsernameAndPassword username password 
 -- the head of a request: its version, the credential where there is one, and that it has one batch item
 abbrev pub header_tree : ℕ → List Tree → Tree
 header_tree minor authentication =
-    structure 0x420077 (trees_of (
-    structure 0x420069 (trees_of (scalar 0x42006A (integer (pos 1)) ∷ scalar 0x42006B (integer (pos minor)) ∷ []))
-    ∷ (authentication ++ scalar 0x42000D (integer (pos 1)) ∷ [])))
+    structure REQUEST_HEADER (trees_of (
+    structure PROTOCOL_VERSION (trees_of (scalar PROTOCOL_VERSION_MAJOR (integer (pos 1)) ∷ scalar PROTOCOL_VERSION_MINOR (integer (pos minor)) ∷ []))
+    ∷ (authentication ++ scalar BATCH_COUNT (integer (pos 1)) ∷ [])))
 
 -- the message round the item of a payload
 abbrev pub message_tree : Tree → ℕ → Tree → Tree
 message_tree header operation payload =
-    structure 0x420078 (trees_of (
+    structure REQUEST_MESSAGE (trees_of (
     header
-    ∷ structure 0x42000F (trees_of (scalar 0x42005C (enumeration operation) ∷ payload ∷ []))
+    ∷ structure BATCH_ITEM (trees_of (scalar OPERATION (enumeration operation) ∷ payload ∷ []))
     ∷ []))
 
 -- the request message round a payload and a credential, where the payload has a tree
 abbrev pub request_tree : RequestPayload → Option CredentialType → Option Tree
 request_tree payload credential =
     option_map (message_tree (header_tree (minor_of payload) (authentication_trees credential)) (operation_line (operation_of payload)).number)
-    (tree_of request_payload 0x420079 (request_payload_val payload))
+    (tree_of request_payload REQUEST_PAYLOAD (request_payload_val payload))
 
 -- the one canonical message of a request, where it has one
 abbrev pub request_bytes : RequestPayload → Option CredentialType → Option (List ℕ)

@@ -15,6 +15,7 @@ use kmip_shape::{
     Item, Outer, ReadError, ReadItem, WriteItem, fields, known_record, read_record, record_len,
     write_record,
 };
+use kmip_tags::tags::{CREDENTIAL, CREDENTIAL_TYPE, CREDENTIAL_VALUE, PASSWORD, USERNAME};
 use kmip_types::auth;
 use kmip_wire::{Buffer, ItemRef, OutOfMemory, Tag, Text, TryClone, clone_optional};
 use std::alloc::Global;
@@ -98,10 +99,11 @@ impl ReadItem for Password {
 /// What a credential of each type holds: KMIP 1.0, 2.1.2.
 #[derive(PartialEq, Eq, Drop)]
 pub enum CredentialValue {
+    /// A username, and a password where there is one.
     UsernameAndPassword(Username, Option<Password>),
 }
 
-type UsernameAndPasswordRows = Row<One<Username, 0x420099>, Row<Opt<Password, 0x4200A1>, End>>;
+type UsernameAndPasswordRows = Row<One<Username, USERNAME>, Row<Opt<Password, PASSWORD>, End>>;
 
 impl TryClone for CredentialValue {
     fn try_clone(&self, alloc: Global) -> Result<CredentialValue, OutOfMemory> {
@@ -169,8 +171,8 @@ impl ReadItem for CredentialValue {
 pub struct Credential(pub CredentialType, pub CredentialValue);
 
 type CredentialRows<'a> = Choosing<
-    One<CredentialType, 0x420024>,
-    Row<ChosenOne<'a, CredentialValue, 0x420025>, End>,
+    One<CredentialType, CREDENTIAL_TYPE>,
+    Row<ChosenOne<'a, CredentialValue, CREDENTIAL_VALUE>, End>,
 >;
 
 impl TryClone for Credential {
@@ -232,7 +234,7 @@ impl Authentication {
     }
 }
 
-type AuthenticationRows = Row<One<Credential, 0x420023>, End>;
+type AuthenticationRows = Row<One<Credential, CREDENTIAL>, End>;
 
 impl TryClone for Authentication {
     fn try_clone(&self, alloc: Global) -> Result<Authentication, OutOfMemory> {

@@ -13,6 +13,10 @@ use kmip_shape::{
     Item, Outer, ReadError, ReadItem, WriteItem, fields, known_record, read_record, record_len,
     write_record,
 };
+use kmip_tags::tags::{
+    AUTHENTICATION, BATCH_COUNT, MAXIMUM_RESPONSE_SIZE, PROTOCOL_VERSION, PROTOCOL_VERSION_MAJOR,
+    PROTOCOL_VERSION_MINOR,
+};
 use kmip_wire::{Buffer, ItemRef, OutOfMemory, Tag, TryClone, clone_optional};
 use std::alloc::Global;
 
@@ -21,8 +25,8 @@ use std::alloc::Global;
 pub struct ProtocolVersion(pub ProtocolVersionMajor, pub ProtocolVersionMinor);
 
 type ProtocolVersionRows = Row<
-    One<ProtocolVersionMajor, 0x42006A>,
-    Row<One<ProtocolVersionMinor, 0x42006B>, End>,
+    One<ProtocolVersionMajor, PROTOCOL_VERSION_MAJOR>,
+    Row<One<ProtocolVersionMinor, PROTOCOL_VERSION_MINOR>, End>,
 >;
 
 impl Item for ProtocolVersion {
@@ -64,10 +68,10 @@ pub struct RequestHeader(
 );
 
 pub(crate) type RequestHeaderRows = Row<
-    One<ProtocolVersion, 0x420069>,
+    One<ProtocolVersion, PROTOCOL_VERSION>,
     Row<
-        Opt<MaximumResponseSize, 0x420050>,
-        Row<Opt<Authentication, 0x42000C>, Row<One<BatchCount, 0x42000D>, End>>,
+        Opt<MaximumResponseSize, MAXIMUM_RESPONSE_SIZE>,
+        Row<Opt<Authentication, AUTHENTICATION>, Row<One<BatchCount, BATCH_COUNT>, End>>,
     >,
 >;
 

@@ -14,6 +14,9 @@ use kmip_shape::{
     Item, Outer, ReadError, ReadItem, ReadRoot, WriteItem, fields, known_record, read_record,
     record_len, write_record,
 };
+use kmip_tags::tags::{
+    BATCH_ITEM, OPERATION, REQUEST_HEADER, REQUEST_MESSAGE, REQUEST_PAYLOAD, UNIQUE_BATCH_ITEM_ID,
+};
 use kmip_types::UniqueBatchItemID;
 use kmip_wire::{Buffer, ItemRef, List, OutOfMemory, Tag, TryClone, clone_optional};
 use std::alloc::Global;
@@ -27,8 +30,8 @@ pub struct BatchItem(
 );
 
 pub(crate) type BatchItemRows<'a, P> = Choosing<
-    One<Operation, 0x42005C>,
-    Row<Opt<UniqueBatchItemID, 0x420093>, Row<ChosenOne<'a, P, 0x420079>, End>>,
+    One<Operation, OPERATION>,
+    Row<Opt<UniqueBatchItemID, UNIQUE_BATCH_ITEM_ID>, Row<ChosenOne<'a, P, REQUEST_PAYLOAD>, End>>,
 >;
 
 impl TryClone for BatchItem {
@@ -80,7 +83,10 @@ impl ReadItem for BatchItem {
 #[derive(PartialEq, Eq, Drop)]
 pub struct RequestMessage(pub RequestHeader, pub List<BatchItem>);
 
-type RequestMessageRows = Row<One<RequestHeader, 0x420077>, Row<Many<BatchItem, 0x42000F>, End>>;
+type RequestMessageRows = Row<
+    One<RequestHeader, REQUEST_HEADER>,
+    Row<Many<BatchItem, BATCH_ITEM>, End>,
+>;
 
 impl TryClone for RequestMessage {
     fn try_clone(&self, alloc: Global) -> Result<RequestMessage, OutOfMemory> {
@@ -118,9 +124,9 @@ impl ReadItem for RequestMessage {
 }
 
 impl ReadRoot for RequestMessage {
-    ghost root_tag = { 0x420078 };
+    ghost root_tag = { REQUEST_MESSAGE };
 
     fn root_tag() -> Tag {
-        Tag::of(0x420078)
+        Tag::of(REQUEST_MESSAGE)
     }
 }

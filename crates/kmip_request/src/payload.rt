@@ -20,6 +20,13 @@ use kmip_shape::{
     Item, Outer, ReadError, ReadItem, TagOpt, WriteItem, copy_list, fields, known_record,
     read_record, record_len, write_record,
 };
+use kmip_tags::tags::{
+    ATTRIBUTE, ATTRIBUTE_INDEX, ATTRIBUTE_NAME, COMMON_TEMPLATE_ATTRIBUTE,
+    COMPROMISE_OCCURRENCE_DATE, CRYPTOGRAPHIC_PARAMETERS, DATA, DATA_LENGTH, KEY_COMPRESSION_TYPE,
+    KEY_FORMAT_TYPE, KEY_WRAPPING_SPECIFICATION, OBJECT_TYPE, PRIVATE_KEY_TEMPLATE_ATTRIBUTE,
+    PROTOCOL_VERSION, PUBLIC_KEY_TEMPLATE_ATTRIBUTE, QUERY_FUNCTION, REVOCATION_REASON,
+    TEMPLATE_ATTRIBUTE, UNIQUE_IDENTIFIER,
+};
 use kmip_types::{
     AttributeIndex, AttributeName, CompromiseOccurrenceDate, CryptographicParameters, Data,
     DataLength, KeyCompressionType, KeyFormatType, UniqueIdentifier,
@@ -120,63 +127,69 @@ impl RequestPayload {
     }
 }
 
-type CreateRows = Row<One<ObjectType, 0x420057>, Row<One<TemplateAttribute, 0x420091>, End>>;
+type CreateRows = Row<
+    One<ObjectType, OBJECT_TYPE>,
+    Row<One<TemplateAttribute, TEMPLATE_ATTRIBUTE>, End>,
+>;
 
 type CreateKeyPairRows = Row<
-    Opt<CommonTemplateAttribute, 0x42001F>,
+    Opt<CommonTemplateAttribute, COMMON_TEMPLATE_ATTRIBUTE>,
     Row<
-        Opt<PrivateKeyTemplateAttribute, 0x420065>,
-        Row<Opt<PublicKeyTemplateAttribute, 0x42006E>, End>,
+        Opt<PrivateKeyTemplateAttribute, PRIVATE_KEY_TEMPLATE_ATTRIBUTE>,
+        Row<Opt<PublicKeyTemplateAttribute, PUBLIC_KEY_TEMPLATE_ATTRIBUTE>, End>,
     >,
 >;
 
 type RegisterRows = Row<
-    One<ObjectType, 0x420057>,
-    Row<One<TemplateAttribute, 0x420091>, Row<TagOpt<ManagedObject>, End>>,
+    One<ObjectType, OBJECT_TYPE>,
+    Row<One<TemplateAttribute, TEMPLATE_ATTRIBUTE>, Row<TagOpt<ManagedObject>, End>>,
 >;
 
-type LocateRows = Row<Many<Attribute, 0x420008>, End>;
+type LocateRows = Row<Many<Attribute, ATTRIBUTE>, End>;
 
 type GetRows = Row<
-    Opt<UniqueIdentifier, 0x420094>,
+    Opt<UniqueIdentifier, UNIQUE_IDENTIFIER>,
     Row<
-        Opt<KeyFormatType, 0x420042>,
+        Opt<KeyFormatType, KEY_FORMAT_TYPE>,
         Row<
-            Opt<KeyCompressionType, 0x420041>,
-            Row<Opt<Boxed<KeyWrappingSpecification>, 0x420047>, End>,
+            Opt<KeyCompressionType, KEY_COMPRESSION_TYPE>,
+            Row<Opt<Boxed<KeyWrappingSpecification>, KEY_WRAPPING_SPECIFICATION>, End>,
         >,
     >,
 >;
 
 type GetAttributesRows = Row<
-    Opt<UniqueIdentifier, 0x420094>,
-    Row<OptMany<AttributeName, 0x42000A>, End>,
+    Opt<UniqueIdentifier, UNIQUE_IDENTIFIER>,
+    Row<OptMany<AttributeName, ATTRIBUTE_NAME>, End>,
 >;
 
-type IdentifierRows = Row<Opt<UniqueIdentifier, 0x420094>, End>;
+type IdentifierRows = Row<Opt<UniqueIdentifier, UNIQUE_IDENTIFIER>, End>;
 
-type EditRows = Row<Opt<UniqueIdentifier, 0x420094>, Row<One<Attribute, 0x420008>, End>>;
+type EditRows = Row<Opt<UniqueIdentifier, UNIQUE_IDENTIFIER>, Row<One<Attribute, ATTRIBUTE>, End>>;
 
 type DeleteAttributeRows = Row<
-    Opt<UniqueIdentifier, 0x420094>,
-    Row<One<AttributeName, 0x42000A>, Row<Opt<AttributeIndex, 0x420009>, End>>,
+    Opt<UniqueIdentifier, UNIQUE_IDENTIFIER>,
+    Row<One<AttributeName, ATTRIBUTE_NAME>, Row<Opt<AttributeIndex, ATTRIBUTE_INDEX>, End>>,
 >;
 
 type RevokeRows = Row<
-    Opt<UniqueIdentifier, 0x420094>,
-    Row<One<RevocationReason, 0x420081>, Row<Opt<CompromiseOccurrenceDate, 0x420021>, End>>,
+    Opt<UniqueIdentifier, UNIQUE_IDENTIFIER>,
+    Row<
+        One<RevocationReason, REVOCATION_REASON>,
+        Row<Opt<CompromiseOccurrenceDate, COMPROMISE_OCCURRENCE_DATE>, End>,
+    >,
 >;
 
-type QueryRows = Row<Many<QueryFunction, 0x420074>, End>;
+type QueryRows = Row<Many<QueryFunction, QUERY_FUNCTION>, End>;
 
-type DiscoverVersionsRows = Row<Many<ProtocolVersion, 0x420069>, End>;
+type DiscoverVersionsRows = Row<Many<ProtocolVersion, PROTOCOL_VERSION>, End>;
 
 type SignRows = Row<
-    Opt<UniqueIdentifier, 0x420094>,
-    Row<Opt<CryptographicParameters, 0x42002B>, Row<One<Data, 0x4200C2>, End>>,
+    Opt<UniqueIdentifier, UNIQUE_IDENTIFIER>,
+    Row<Opt<CryptographicParameters, CRYPTOGRAPHIC_PARAMETERS>, Row<One<Data, DATA>, End>>,
 >;
 
-type RNGRetrieveRows = Row<One<DataLength, 0x4200C4>, End>;
+type RNGRetrieveRows = Row<One<DataLength, DATA_LENGTH>, End>;
 
 impl Item for RequestPayload {
     ghost shape = { request_payload };

@@ -18,6 +18,7 @@ use crate::payload::RequestPayload;
 use kmip_enums::Operation;
 use kmip_shape::scalars::put_structure;
 use kmip_shape::{WriteItem, fields, record_len, structure_len, write_record};
+use kmip_tags::tags::{BATCH_ITEM, REQUEST_HEADER, REQUEST_MESSAGE};
 use kmip_types::auth;
 use kmip_wire::{Blob, Buffer, Tag, WireError};
 use std::alloc::Global;
@@ -39,12 +40,12 @@ fn write_header(
     requires room { size_of request_header (lent_header_val version.now authentication.now)
         ≤ out.old.spare }
     ensures { Appends out.old out.new
-        (text_of request_header 0x420077 (lent_header_val version.now authentication.now))
+        (text_of request_header REQUEST_HEADER (lent_header_val version.now authentication.now))
         (size_of request_header (lent_header_val version.now authentication.now)) }
 {
     write_record::<RequestHeaderRows>(
         fields![version, &None, authentication, &BatchCount(1)],
-        Tag::of(0x420077),
+        Tag::of(REQUEST_HEADER),
         out,
     );
 }
@@ -64,12 +65,12 @@ fn write_item<P: WriteItem>(operation: &Operation, payload: &P, out: &mut Buffer
     requires room { size_of (batch_item_of P.shape)
         (lent_item_val operation.now (P.val payload.now)) ≤ out.old.spare }
     ensures { Appends out.old out.new
-        (text_of (batch_item_of P.shape) 0x42000F (lent_item_val operation.now (P.val payload.now)))
+        (text_of (batch_item_of P.shape) BATCH_ITEM (lent_item_val operation.now (P.val payload.now)))
         (size_of (batch_item_of P.shape) (lent_item_val operation.now (P.val payload.now))) }
 {
     write_record::<BatchItemRows<'_, P>>(
         fields![operation, &None, payload],
-        Tag::of(0x42000F),
+        Tag::of(BATCH_ITEM),
         out,
     );
 }
@@ -97,7 +98,7 @@ fn message_size<P: WriteItem>(
     operation: &Operation,
     payload: &P,
 ) -> Option<u64>
-    ensures none { result ≡ None → bytes_of (request_message_of P.shape) 0x420078
+    ensures none { result ≡ None → bytes_of (request_message_of P.shape) REQUEST_MESSAGE
         (lent_message_val version.now authentication.now operation.now (P.val payload.now)) ≡ None }
     ensures form { IfSome result (λ _. HasForm (request_message_of P.shape)
         (lent_message_val version.now authentication.now operation.now (P.val payload.now))) }
@@ -121,10 +122,10 @@ fn write_parts<P: WriteItem>(
     requires len { len ≡ size_of (request_message_of P.shape)
         (lent_message_val version.now authentication.now operation.now (P.val payload.now)) }
     requires room { len ≤ out.old.spare }
-    ensures { Appends out.old out.new (text_of (request_message_of P.shape) 0x420078
+    ensures { Appends out.old out.new (text_of (request_message_of P.shape) REQUEST_MESSAGE
         (lent_message_val version.now authentication.now operation.now (P.val payload.now))) len }
 {
-    put_structure(Tag::of(0x420078), (len - 8) as u32, out);
+    put_structure(Tag::of(REQUEST_MESSAGE), (len - 8) as u32, out);
     write_header(version, authentication, out);
     write_item(operation, payload, out);
 }
@@ -144,7 +145,7 @@ fn write_whole<P: WriteItem>(
     requires len { len ≡ size_of (request_message_of P.shape)
         (lent_message_val version.now authentication.now operation.now (P.val payload.now)) }
     requires room { len ≤ out.old.spare }
-    ensures { bytes_of (request_message_of P.shape) 0x420078
+    ensures { bytes_of (request_message_of P.shape) REQUEST_MESSAGE
         (lent_message_val version.now authentication.now operation.now (P.val payload.now))
         ≡ Some out.new.bytes }
 {
@@ -161,11 +162,11 @@ fn write_message<P: WriteItem>(
     out: &mut Buffer,
 ) -> Result<(), WireError>
     requires { out.old.bytes ≡ [] }
-    ensures ok { OnOk result (bytes_of (request_message_of P.shape) 0x420078
+    ensures ok { OnOk result (bytes_of (request_message_of P.shape) REQUEST_MESSAGE
         (lent_message_val version.now authentication.now operation.now (P.val payload.now))
         ≡ Some out.new.bytes) }
     ensures no_form { IsErrOf result WireError.NoForm →
-        bytes_of (request_message_of P.shape) 0x420078
+        bytes_of (request_message_of P.shape) REQUEST_MESSAGE
         (lent_message_val version.now authentication.now operation.now (P.val payload.now)) ≡ None }
     ensures never { IfErr result (λ e. e ≢ WireError.Malformed) }
     ensures empty { OnErr result (out.new.bytes ≡ []) }

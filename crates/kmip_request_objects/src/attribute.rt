@@ -11,6 +11,7 @@ use kmip_shape::{
     Item, Outer, ReadError, ReadItem, WriteItem, fields, known_record, read_record, record_len,
     write_record,
 };
+use kmip_tags::tags::{ATTRIBUTE_INDEX, ATTRIBUTE_NAME, ATTRIBUTE_VALUE};
 use kmip_types::{AttributeIndex, AttributeName, AttributeValue};
 use kmip_wire::{Buffer, ItemRef, OutOfMemory, Tag, TryClone};
 use std::alloc::Global;
@@ -24,8 +25,11 @@ pub struct Attribute(
 );
 
 type AttributeRows<'a> = Choosing<
-    One<AttributeName, 0x42000A>,
-    Row<Opt<AttributeIndex, 0x420009>, Row<ChosenOne<'a, AttributeValue, 0x42000B>, End>>,
+    One<AttributeName, ATTRIBUTE_NAME>,
+    Row<
+        Opt<AttributeIndex, ATTRIBUTE_INDEX>,
+        Row<ChosenOne<'a, AttributeValue, ATTRIBUTE_VALUE>, End>,
+    >,
 >;
 
 impl TryClone for Attribute {

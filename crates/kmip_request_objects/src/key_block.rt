@@ -13,6 +13,10 @@ use kmip_shape::{
     Item, Outer, ReadError, ReadItem, WriteItem, fields, known_record, read_record, record_len,
     write_record,
 };
+use kmip_tags::tags::{
+    ATTRIBUTE, CRYPTOGRAPHIC_ALGORITHM, CRYPTOGRAPHIC_LENGTH, KEY_COMPRESSION_TYPE,
+    KEY_FORMAT_TYPE, KEY_MATERIAL, KEY_VALUE, KEY_WRAPPING_DATA,
+};
 use kmip_types::{
     CryptographicAlgorithm, CryptographicLength, KeyCompressionType, KeyFormatType, KeyMaterial,
 };
@@ -23,7 +27,7 @@ use std::alloc::Global;
 #[derive(PartialEq, Eq, Drop)]
 pub struct KeyValue(pub KeyMaterial, pub Option<List<Attribute>>);
 
-type KeyValueRows = Row<One<KeyMaterial, 0x420043>, Row<OptMany<Attribute, 0x420008>, End>>;
+type KeyValueRows = Row<One<KeyMaterial, KEY_MATERIAL>, Row<OptMany<Attribute, ATTRIBUTE>, End>>;
 
 impl TryClone for KeyValue {
     fn try_clone(&self, alloc: Global) -> Result<KeyValue, OutOfMemory> {
@@ -75,14 +79,17 @@ pub struct KeyBlock(
 );
 
 type KeyBlockRows<'a> = Choosing<
-    One<KeyFormatType, 0x420042>,
+    One<KeyFormatType, KEY_FORMAT_TYPE>,
     Row<
-        Opt<KeyCompressionType, 0x420041>,
+        Opt<KeyCompressionType, KEY_COMPRESSION_TYPE>,
         Row<
-            ChosenOpt<'a, KeyValue, 0x420045>,
+            ChosenOpt<'a, KeyValue, KEY_VALUE>,
             Row<
-                Opt<CryptographicAlgorithm, 0x420028>,
-                Row<Opt<CryptographicLength, 0x42002A>, Row<Opt<KeyWrappingData, 0x420046>, End>>,
+                Opt<CryptographicAlgorithm, CRYPTOGRAPHIC_ALGORITHM>,
+                Row<
+                    Opt<CryptographicLength, CRYPTOGRAPHIC_LENGTH>,
+                    Row<Opt<KeyWrappingData, KEY_WRAPPING_DATA>, End>,
+                >,
             >,
         >,
     >,

@@ -13,6 +13,10 @@ use kmip_shape::{
     Item, Outer, ReadError, ReadItem, WriteItem, fields, known_record, read_record, record_len,
     write_record,
 };
+use kmip_tags::tags::{
+    ATTRIBUTE, CRYPTOGRAPHIC_PARAMETERS, ENCRYPTION_KEY_INFORMATION, IV_COUNTER_NONCE,
+    MAC_SIGNATURE, MAC_SIGNATURE_KEY_INFORMATION, UNIQUE_IDENTIFIER, WRAPPING_METHOD,
+};
 use kmip_types::{CryptographicParameters, UniqueIdentifier, WrappingMethod};
 use kmip_wire::{Buffer, ItemRef, List, OutOfMemory, Tag, TryClone, clone_optional};
 use std::alloc::Global;
@@ -22,8 +26,8 @@ use std::alloc::Global;
 pub struct EncryptionKeyInformation(pub UniqueIdentifier, pub Option<CryptographicParameters>);
 
 type EncryptionKeyInformationRows = Row<
-    One<UniqueIdentifier, 0x420094>,
-    Row<Opt<CryptographicParameters, 0x42002B>, End>,
+    One<UniqueIdentifier, UNIQUE_IDENTIFIER>,
+    Row<Opt<CryptographicParameters, CRYPTOGRAPHIC_PARAMETERS>, End>,
 >;
 
 impl TryClone for EncryptionKeyInformation {
@@ -71,8 +75,8 @@ impl ReadItem for EncryptionKeyInformation {
 pub struct MACOrSignatureKeyInformation(pub UniqueIdentifier, pub Option<CryptographicParameters>);
 
 type MACOrSignatureKeyInformationRows = Row<
-    One<UniqueIdentifier, 0x420094>,
-    Row<Opt<CryptographicParameters, 0x42002B>, End>,
+    One<UniqueIdentifier, UNIQUE_IDENTIFIER>,
+    Row<Opt<CryptographicParameters, CRYPTOGRAPHIC_PARAMETERS>, End>,
 >;
 
 impl TryClone for MACOrSignatureKeyInformation {
@@ -127,14 +131,17 @@ pub struct KeyWrappingData(
 );
 
 type KeyWrappingDataRows = Row<
-    One<WrappingMethod, 0x42009E>,
+    One<WrappingMethod, WRAPPING_METHOD>,
     Row<
-        Opt<EncryptionKeyInformation, 0x420036>,
+        Opt<EncryptionKeyInformation, ENCRYPTION_KEY_INFORMATION>,
         Row<
-            Opt<MACOrSignatureKeyInformation, 0x42004E>,
+            Opt<MACOrSignatureKeyInformation, MAC_SIGNATURE_KEY_INFORMATION>,
             Row<
-                Opt<MACOrSignature, 0x42004D>,
-                Row<Opt<IVOrCounterOrNonce, 0x42003D>, Row<OptMany<Attribute, 0x420008>, End>>,
+                Opt<MACOrSignature, MAC_SIGNATURE>,
+                Row<
+                    Opt<IVOrCounterOrNonce, IV_COUNTER_NONCE>,
+                    Row<OptMany<Attribute, ATTRIBUTE>, End>,
+                >,
             >,
         >,
     >,
@@ -205,10 +212,13 @@ pub struct KeyWrappingSpecification(
 );
 
 type KeyWrappingSpecificationRows = Row<
-    One<WrappingMethod, 0x42009E>,
+    One<WrappingMethod, WRAPPING_METHOD>,
     Row<
-        Opt<EncryptionKeyInformation, 0x420036>,
-        Row<Opt<MACOrSignatureKeyInformation, 0x42004E>, Row<OptMany<Attribute, 0x420008>, End>>,
+        Opt<EncryptionKeyInformation, ENCRYPTION_KEY_INFORMATION>,
+        Row<
+            Opt<MACOrSignatureKeyInformation, MAC_SIGNATURE_KEY_INFORMATION>,
+            Row<OptMany<Attribute, ATTRIBUTE>, End>,
+        >,
     >,
 >;
 

@@ -14,6 +14,7 @@ use kmip_shape::{
     Item, OfTag, Outer, ReadError, ReadItem, WriteItem, fields, known_record, read_record,
     record_len, write_record,
 };
+use kmip_tags::tags::{ATTRIBUTE, KEY_BLOCK, PRIVATE_KEY, PUBLIC_KEY, SYMMETRIC_KEY, TEMPLATE};
 use kmip_wire::{Boxed, Buffer, ItemRef, List, OutOfMemory, Tag, TryClone};
 use std::alloc::Global;
 
@@ -21,7 +22,7 @@ use std::alloc::Global;
 #[derive(PartialEq, Eq, Drop)]
 pub struct SymmetricKey(pub Boxed<KeyBlock>);
 
-type SymmetricKeyRows = Row<One<Boxed<KeyBlock>, 0x420040>, End>;
+type SymmetricKeyRows = Row<One<Boxed<KeyBlock>, KEY_BLOCK>, End>;
 
 impl TryClone for SymmetricKey {
     fn try_clone(&self, alloc: Global) -> Result<SymmetricKey, OutOfMemory> {
@@ -62,7 +63,7 @@ impl ReadItem for SymmetricKey {
 #[derive(PartialEq, Eq, Drop)]
 pub struct PublicKey(pub Boxed<KeyBlock>);
 
-type PublicKeyRows = Row<One<Boxed<KeyBlock>, 0x420040>, End>;
+type PublicKeyRows = Row<One<Boxed<KeyBlock>, KEY_BLOCK>, End>;
 
 impl TryClone for PublicKey {
     fn try_clone(&self, alloc: Global) -> Result<PublicKey, OutOfMemory> {
@@ -103,7 +104,7 @@ impl ReadItem for PublicKey {
 #[derive(PartialEq, Eq, Drop)]
 pub struct PrivateKey(pub Boxed<KeyBlock>);
 
-type PrivateKeyRows = Row<One<Boxed<KeyBlock>, 0x420040>, End>;
+type PrivateKeyRows = Row<One<Boxed<KeyBlock>, KEY_BLOCK>, End>;
 
 impl TryClone for PrivateKey {
     fn try_clone(&self, alloc: Global) -> Result<PrivateKey, OutOfMemory> {
@@ -144,7 +145,7 @@ impl ReadItem for PrivateKey {
 #[derive(PartialEq, Eq, Drop)]
 pub struct Template(pub List<Attribute>);
 
-type TemplateRows = Row<Many<Attribute, 0x420008>, End>;
+type TemplateRows = Row<Many<Attribute, ATTRIBUTE>, End>;
 
 impl TryClone for Template {
     fn try_clone(&self, alloc: Global) -> Result<Template, OutOfMemory> {
@@ -184,9 +185,13 @@ impl ReadItem for Template {
 /// An object that is handed to the server, under its own tag: KMIP 1.0, 2.2.
 #[derive(PartialEq, Eq, Drop)]
 pub enum ManagedObject {
+    /// A symmetric key: KMIP 1.0, 2.2.2.
     SymmetricKey(SymmetricKey),
+    /// A public key: KMIP 1.0, 2.2.3.
     PublicKey(PublicKey),
+    /// A private key: KMIP 1.0, 2.2.4.
     PrivateKey(PrivateKey),
+    /// A template: KMIP 1.0, 2.2.6.
     Template(Template),
 }
 
@@ -229,19 +234,19 @@ impl Item for ManagedObject {
 impl WriteItem for ManagedObject {
     fn wire_len(&self, _tag: Tag) -> Option<u64> {
         match self {
-            ManagedObject::SymmetricKey(object) => object.wire_len(Tag::of(0x42008F)),
-            ManagedObject::PublicKey(object) => object.wire_len(Tag::of(0x42006D)),
-            ManagedObject::PrivateKey(object) => object.wire_len(Tag::of(0x420064)),
-            ManagedObject::Template(object) => object.wire_len(Tag::of(0x420090)),
+            ManagedObject::SymmetricKey(object) => object.wire_len(Tag::of(SYMMETRIC_KEY)),
+            ManagedObject::PublicKey(object) => object.wire_len(Tag::of(PUBLIC_KEY)),
+            ManagedObject::PrivateKey(object) => object.wire_len(Tag::of(PRIVATE_KEY)),
+            ManagedObject::Template(object) => object.wire_len(Tag::of(TEMPLATE)),
         }
     }
 
     fn write_into(&self, _tag: Tag, out: &mut Buffer) {
         match self {
-            ManagedObject::SymmetricKey(object) => object.write_into(Tag::of(0x42008F), out),
-            ManagedObject::PublicKey(object) => object.write_into(Tag::of(0x42006D), out),
-            ManagedObject::PrivateKey(object) => object.write_into(Tag::of(0x420064), out),
-            ManagedObject::Template(object) => object.write_into(Tag::of(0x420090), out),
+            ManagedObject::SymmetricKey(object) => object.write_into(Tag::of(SYMMETRIC_KEY), out),
+            ManagedObject::PublicKey(object) => object.write_into(Tag::of(PUBLIC_KEY), out),
+            ManagedObject::PrivateKey(object) => object.write_into(Tag::of(PRIVATE_KEY), out),
+            ManagedObject::Template(object) => object.write_into(Tag::of(TEMPLATE), out),
         }
     }
 }
@@ -249,20 +254,25 @@ impl WriteItem for ManagedObject {
 impl ReadItem for ManagedObject {
     fn read(alloc: Global, outer: Outer<'_>, item: ItemRef<'_>) -> Result<Self, ReadError> {
         match item.tag().number() {
-            0x42008F => Ok(ManagedObject::SymmetricKey(SymmetricKey::read(alloc, outer, item)?)),
-            0x42006D => Ok(ManagedObject::PublicKey(PublicKey::read(alloc, outer, item)?)),
-            0x420064 => Ok(ManagedObject::PrivateKey(PrivateKey::read(alloc, outer, item)?)),
-            0x420090 => Ok(ManagedObject::Template(Template::read(alloc, outer, item)?)),
+            SYMMETRIC_KEY => Ok(ManagedObject::SymmetricKey(SymmetricKey::read(
+                alloc, outer, item,
+            )?)),
+            PUBLIC_KEY => Ok(ManagedObject::PublicKey(PublicKey::read(alloc, outer, item)?)),
+            PRIVATE_KEY => Ok(ManagedObject::PrivateKey(PrivateKey::read(alloc, outer, item)?)),
+            TEMPLATE => Ok(ManagedObject::Template(Template::read(alloc, outer, item)?)),
             _ => Err(ReadError::Unread),
         }
     }
 }
 
 impl OfTag for ManagedObject {
-    ghost tags = { 0x42008F ∷ 0x42006D ∷ 0x420064 ∷ 0x420090 ∷ [] };
+    ghost tags = { SYMMETRIC_KEY ∷ PUBLIC_KEY ∷ PRIVATE_KEY ∷ TEMPLATE ∷ [] };
 
     fn has_case(tag: Tag) -> bool {
-        matches!(tag.number(), 0x42008F | 0x42006D | 0x420064 | 0x420090)
+        matches!(
+            tag.number(),
+            SYMMETRIC_KEY | PUBLIC_KEY | PRIVATE_KEY | TEMPLATE
+        )
     }
 
     ghost own = { λ o. refl };

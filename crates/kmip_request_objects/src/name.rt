@@ -13,6 +13,7 @@ use kmip_shape::{
     Item, Outer, ReadError, ReadItem, WriteItem, fields, known_record, read_record, record_len,
     write_record,
 };
+use kmip_tags::tags::{NAME_TYPE, NAME_VALUE};
 use kmip_types::NameValue;
 use kmip_wire::{Buffer, ItemRef, OutOfMemory, Tag, TryClone};
 use std::alloc::Global;
@@ -30,7 +31,7 @@ impl Display for Name {
     }
 }
 
-type NameRows = Row<One<NameValue, 0x420055>, Row<One<NameType, 0x420054>, End>>;
+type NameRows = Row<One<NameValue, NAME_VALUE>, Row<One<NameType, NAME_TYPE>, End>>;
 
 impl TryClone for Name {
     fn try_clone(&self, alloc: Global) -> Result<Name, OutOfMemory> {

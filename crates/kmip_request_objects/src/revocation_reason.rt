@@ -12,6 +12,7 @@ use kmip_shape::{
     Item, Outer, ReadError, ReadItem, WriteItem, fields, known_record, read_record, record_len,
     write_record,
 };
+use kmip_tags::tags::{REVOCATION_MESSAGE, REVOCATION_REASON_CODE};
 use kmip_types::RevocationMessage;
 use kmip_wire::{Buffer, ItemRef, OutOfMemory, Tag, TryClone, clone_optional};
 use std::alloc::Global;
@@ -21,8 +22,8 @@ use std::alloc::Global;
 pub struct RevocationReason(pub RevocationReasonCode, pub Option<RevocationMessage>);
 
 type RevocationReasonRows = Row<
-    One<RevocationReasonCode, 0x420082>,
-    Row<Opt<RevocationMessage, 0x420080>, End>,
+    One<RevocationReasonCode, REVOCATION_REASON_CODE>,
+    Row<Opt<RevocationMessage, REVOCATION_MESSAGE>, End>,
 >;
 
 impl TryClone for RevocationReason {

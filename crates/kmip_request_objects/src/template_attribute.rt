@@ -16,6 +16,7 @@ use kmip_shape::{
     Item, Outer, ReadError, ReadItem, WriteItem, fields, known_record, read_record, record_len,
     write_record,
 };
+use kmip_tags::tags::{ATTRIBUTE, NAME};
 use kmip_types::NameValue;
 use kmip_wire::{Buffer, ItemRef, List, OutOfMemory, Tag, Text, TryClone, clone_optional};
 use std::alloc::Global;
@@ -53,7 +54,7 @@ impl TemplateAttribute {
     }
 }
 
-type TemplateAttributeRows = Row<OptMany<Name, 0x420053>, Row<OptMany<Attribute, 0x420008>, End>>;
+type TemplateAttributeRows = Row<OptMany<Name, NAME>, Row<OptMany<Attribute, ATTRIBUTE>, End>>;
 
 impl TryClone for TemplateAttribute {
     fn try_clone(&self, alloc: Global) -> Result<TemplateAttribute, OutOfMemory> {
@@ -121,8 +122,8 @@ impl CommonTemplateAttribute {
 }
 
 type CommonTemplateAttributeRows = Row<
-    OptMany<Name, 0x420053>,
-    Row<OptMany<Attribute, 0x420008>, End>,
+    OptMany<Name, NAME>,
+    Row<OptMany<Attribute, ATTRIBUTE>, End>,
 >;
 
 impl TryClone for CommonTemplateAttribute {
@@ -193,8 +194,8 @@ impl PrivateKeyTemplateAttribute {
 }
 
 type PrivateKeyTemplateAttributeRows = Row<
-    OptMany<Name, 0x420053>,
-    Row<OptMany<Attribute, 0x420008>, End>,
+    OptMany<Name, NAME>,
+    Row<OptMany<Attribute, ATTRIBUTE>, End>,
 >;
 
 impl TryClone for PrivateKeyTemplateAttribute {
@@ -265,8 +266,8 @@ impl PublicKeyTemplateAttribute {
 }
 
 type PublicKeyTemplateAttributeRows = Row<
-    OptMany<Name, 0x420053>,
-    Row<OptMany<Attribute, 0x420008>, End>,
+    OptMany<Name, NAME>,
+    Row<OptMany<Attribute, ATTRIBUTE>, End>,
 >;
 
 impl TryClone for PublicKeyTemplateAttribute {

@@ -1,5 +1,6 @@
 -- What a matched request's message reads as, and that what is read is matched.
 use Rattle.std.proofs.Common.{◌≡◌, ℕ, ◌≤◌, ◌<◌, ◌==◌, length, slice_index_or, pos, negsuc, Bool, true, false, cond, List, [], ◌∷◌, Option, Some, None, refl, sym, ◌∙◌, ap, subst, eq-eqb, arith}
+use Rattle.kmip_tags.specs.Tags.{AUTHENTICATION, REQUEST_HEADER, REQUEST_MESSAGE, REQUEST_PAYLOAD}
 use Rattle.std.specs.Prelude.{Result, Ok, Err, IsUtf8, IsSome, IfSome, ◌≤ℤ◌}
 use Rattle.std.specs.Option.{option_map, option_and_then}
 use Rattle.std.proofs.lemmas.Int.{ints}
@@ -50,20 +51,20 @@ some_bytes None b h = none_some _ h
 some_bytes (Some t) b h = (t, refl, h)
 
 -- the tree that a message's bytes are written of, as which they parse
-written : (val : Val) (b : List ℕ) → Fits request_message val → bytes_of request_message 0x420078 val ≡ Some b → (t : Tree) × (tree_of request_message 0x420078 val ≡ Some t) × Parses t 1 b
+written : (val : Val) (b : List ℕ) → Fits request_message val → bytes_of request_message REQUEST_MESSAGE val ≡ Some b → (t : Tree) × (tree_of request_message REQUEST_MESSAGE val ≡ Some t) × Parses t 1 b
 written val b f h =
-    let s = some_bytes (tree_of request_message 0x420078 val) b h in
-    let k : Keeps (Some s.0) (depth request_message) = subst (λ (o : Option Tree). Keeps o (depth request_message)) s.1 (fits_ranges request_message val 0x420078 message_in_range (omega arith) f) in
+    let s = some_bytes (tree_of request_message REQUEST_MESSAGE val) b h in
+    let k : Keeps (Some s.0) (depth request_message) = subst (λ (o : Option Tree). Keeps o (depth request_message)) s.1 (fits_ranges request_message val REQUEST_MESSAGE message_in_range (omega arith) f) in
     (s.0, s.1, written_parses s.0 1 b k.0 (omega arith) (omega (arith, k.1, message_depth)) s.2)
 
-pub written_as : (val : Val) (root : Tree) (b : List ℕ) → Fits request_message val → bytes_of request_message 0x420078 val ≡ Some b → Parses root 1 b → tree_of request_message 0x420078 val ≡ Some root
+pub written_as : (val : Val) (root : Tree) (b : List ℕ) → Fits request_message val → bytes_of request_message REQUEST_MESSAGE val ≡ Some b → Parses root 1 b → tree_of request_message REQUEST_MESSAGE val ≡ Some root
 written_as val root b f h p =
     let w = written val b f h in w.1 ∙ ap (λ (t : Tree). Some t) (one_tree w.0 root 1 b w.2 p)
 
 -- it has its ranges
-written_ranges : (val : Val) (root : Tree) (b : List ℕ) → Fits request_message val → bytes_of request_message 0x420078 val ≡ Some b → Parses root 1 b → HasRanges root
+written_ranges : (val : Val) (root : Tree) (b : List ℕ) → Fits request_message val → bytes_of request_message REQUEST_MESSAGE val ≡ Some b → Parses root 1 b → HasRanges root
 written_ranges val root b f h p =
-    let k : Keeps (tree_of request_message 0x420078 val) (depth request_message) = fits_ranges request_message val 0x420078 message_in_range (omega arith) f in
+    let k : Keeps (tree_of request_message REQUEST_MESSAGE val) (depth request_message) = fits_ranges request_message val REQUEST_MESSAGE message_in_range (omega arith) f in
     let l : Keeps (Some root) (depth request_message) = subst (λ (o : Option Tree). Keeps o (depth request_message)) (written_as val root b f h p) k in
     l.0
 
@@ -75,26 +76,26 @@ root_of shape tag t val h = go (tag_of t == tag) h
     go false h = none_some _ h
 
 -- what is read from the tree that it is written as is selected
-pub canonical_selected : (val : Val) (root : Tree) (b : List ℕ) → Parses root 1 b → IsCanonical request_message 0x420078 root b val → selected_in val NoCase request_message no_outer 0x420078
+pub canonical_selected : (val : Val) (root : Tree) (b : List ℕ) → Parses root 1 b → IsCanonical request_message REQUEST_MESSAGE root b val → selected_in val NoCase request_message no_outer REQUEST_MESSAGE
 canonical_selected val root b p c =
-    selected val NoCase request_message no_outer 0x420078 root message_once (written_as val root b c.0 c.2 p) (root_of request_message 0x420078 root val c.1)
+    selected val NoCase request_message no_outer REQUEST_MESSAGE root message_once (written_as val root b c.0 c.2 p) (root_of request_message REQUEST_MESSAGE root val c.1)
 
 -- ---- what is read is matched
 
-payload_selected : (payload : RequestPayload) (a : Option Authentication) → selected_in (request_message_val (message_of payload a)) NoCase request_message no_outer 0x420078
-    → selected_in (request_payload_val payload) NoCase request_payload (under_operation payload) 0x420079
+payload_selected : (payload : RequestPayload) (a : Option Authentication) → selected_in (request_message_val (message_of payload a)) NoCase request_message no_outer REQUEST_MESSAGE
+    → selected_in (request_payload_val payload) NoCase request_payload (under_operation payload) REQUEST_PAYLOAD
 payload_selected payload a s = ((s.2).1).0.2.2.1
 
 has_tree : (o : Option Tree) (f : Tree → Tree) (b : List ℕ) → option_and_then bytes (option_map f o) ≡ Some b → IsSome o
 has_tree None f b h = none_some _ h
 has_tree (Some t) f b h = refl
 
-pub matched : (payload : RequestPayload) (a : Option Authentication) (message : RequestMessage) (root : Tree) (b : List ℕ) → message ≡ message_of payload a → Parses root 1 b → IsCanonical request_message 0x420078 root b (request_message_val message)
+pub matched : (payload : RequestPayload) (a : Option Authentication) (message : RequestMessage) (root : Tree) (b : List ℕ) → message ≡ message_of payload a → Parses root 1 b → IsCanonical request_message REQUEST_MESSAGE root b (request_message_val message)
     → IsMatched payload × (request_bytes payload (option_map credential_of a) ≡ Some b)
 matched payload a message root b e p c =
-    let c' : IsCanonical request_message 0x420078 root b (request_message_val (message_of payload a)) = subst (λ (m : RequestMessage). IsCanonical request_message 0x420078 root b (request_message_val m)) e c in
+    let c' : IsCanonical request_message REQUEST_MESSAGE root b (request_message_val (message_of payload a)) = subst (λ (m : RequestMessage). IsCanonical request_message REQUEST_MESSAGE root b (request_message_val m)) e c in
     let same : request_bytes payload (option_map credential_of a) ≡ Some b = sym (bytes_are payload a) ∙ c'.2 in (
-      (has_tree (tree_of request_payload 0x420079 (request_payload_val payload)) _ b same, payload_selected payload a (canonical_selected (request_message_val (message_of payload a)) root b p c')),
+      (has_tree (tree_of request_payload REQUEST_PAYLOAD (request_payload_val payload)) _ b same, payload_selected payload a (canonical_selected (request_message_val (message_of payload a)) root b p c')),
       same,
     )
 
@@ -159,18 +160,18 @@ header_fits p (Some c) h = (tt, (tt, (one_low, one_high), (tt, (minor_low p, min
 message_fits : (p : RequestPayload) (c : Option CredentialType) → IsHeld p c → Fits request_message (request_message_val (message_of p (option_map item_of c)))
 message_fits p c h = (tt, header_fits p c h.1, (tt, ((tt, operation_fits p, (tt, tt, (tt, h.0, tt))), tt), tt))
 
-authentication_selected : (c : CredentialType) → selected_in (authentication_val (item_of c)) NoCase authentication no_outer 0x42000C
+authentication_selected : (c : CredentialType) → selected_in (authentication_val (item_of c)) NoCase authentication no_outer AUTHENTICATION
 authentication_selected (UsernameAndPassword c) = go c.password
   where
-    go : (o : Option (List ℕ)) → selected_in (authentication_val (record { 0 = record { 0 = types.UsernameAndPassword; 1 = values.UsernameAndPassword (record { 0 = c.username }) (option_map password_of o) } })) NoCase authentication no_outer 0x42000C
+    go : (o : Option (List ℕ)) → selected_in (authentication_val (record { 0 = record { 0 = types.UsernameAndPassword; 1 = values.UsernameAndPassword (record { 0 = c.username }) (option_map password_of o) } })) NoCase authentication no_outer AUTHENTICATION
     go None = (tt, (tt, tt, (tt, (refl, (tt, tt, (tt, tt, tt))), tt)), tt)
     go (Some text) = (tt, (tt, tt, (tt, (refl, (tt, tt, (tt, tt, tt))), tt)), tt)
 
-header_selected : (p : RequestPayload) (c : Option CredentialType) → selected_in (request_header_val (header_of p (option_map item_of c))) NoCase request_header no_outer 0x420077
+header_selected : (p : RequestPayload) (c : Option CredentialType) → selected_in (request_header_val (header_of p (option_map item_of c))) NoCase request_header no_outer REQUEST_HEADER
 header_selected p None = (tt, (tt, tt, (tt, tt, tt)), (tt, tt, (tt, tt, (tt, tt, tt))))
 header_selected p (Some c) = (tt, (tt, tt, (tt, tt, tt)), (tt, tt, (tt, authentication_selected c, (tt, tt, tt))))
 
-message_selected : (p : RequestPayload) (c : Option CredentialType) → IsMatched p → selected_in (request_message_val (message_of p (option_map item_of c))) NoCase request_message no_outer 0x420078
+message_selected : (p : RequestPayload) (c : Option CredentialType) → IsMatched p → selected_in (request_message_val (message_of p (option_map item_of c))) NoCase request_message no_outer REQUEST_MESSAGE
 message_selected p c m = (tt, header_selected p c, (tt, ((tt, tt, (tt, tt, (tt, m.1, tt))), tt), tt))
 
 read_root : (shape : Shape) (tag : ℕ) (t : Tree) (val : Val) → tag_of t ≡ tag → read_of shape no_outer t ≡ Some val → root_read shape tag t ≡ Some val
@@ -178,14 +179,14 @@ read_root shape tag t val e h =
     let k : (tag_of t == tag) ≡ true = eq-eqb (tag_of t) tag e in rw k h
 
 -- the message round a matched request is read from the tree of its bytes
-pub canonical_of : (p : RequestPayload) (c : Option CredentialType) (root : Tree) (b : List ℕ) → IsHeld p c → IsMatched p → request_bytes p c ≡ Some b → Parses root 1 b → IsCanonical request_message 0x420078 root b (request_message_val (message_of p (option_map item_of c)))
+pub canonical_of : (p : RequestPayload) (c : Option CredentialType) (root : Tree) (b : List ℕ) → IsHeld p c → IsMatched p → request_bytes p c ≡ Some b → Parses root 1 b → IsCanonical request_message REQUEST_MESSAGE root b (request_message_val (message_of p (option_map item_of c)))
 canonical_of p c root b h m e parses =
     let val = request_message_val (message_of p (option_map item_of c)) in
     let f : Fits request_message val = message_fits p c h in
-    let of : bytes_of request_message 0x420078 val ≡ Some b = bytes_are p (option_map item_of c) ∙ (ap (λ d. request_bytes p d) (credentials_back c) ∙ e) in
-    let tree : tree_of request_message 0x420078 val ≡ Some root = written_as val root b f of parses in
-    let read : read_of request_message no_outer root ≡ Some val = read_back val NoCase request_message no_outer 0x420078 root message_once f (message_selected p c m) tree in
-    (f, read_root request_message 0x420078 root val (tag_plain val NoCase request_message 0x420078 root refl tree) read, of)
+    let of : bytes_of request_message REQUEST_MESSAGE val ≡ Some b = bytes_are p (option_map item_of c) ∙ (ap (λ d. request_bytes p d) (credentials_back c) ∙ e) in
+    let tree : tree_of request_message REQUEST_MESSAGE val ≡ Some root = written_as val root b f of parses in
+    let read : read_of request_message no_outer root ≡ Some val = read_back val NoCase request_message no_outer REQUEST_MESSAGE root message_once f (message_selected p c m) tree in
+    (f, read_root request_message REQUEST_MESSAGE root val (tag_plain val NoCase request_message REQUEST_MESSAGE root refl tree) read, of)
 
 -- the tree of a matched request's bytes
 pub parsed : (p : RequestPayload) (c : Option CredentialType) (b : List ℕ) → IsHeld p c → request_bytes p c ≡ Some b → (root : Tree) × Parses root 1 b
@@ -215,7 +216,7 @@ plain_of message item version items v header own =
 
 -- ---- one message of one text
 
-pub one_message : (m n : RequestMessage) (root : Tree) (b : List ℕ) → IsCanonical request_message 0x420078 root b (request_message_val m) → IsCanonical request_message 0x420078 root b (request_message_val n) → m ≡ n
+pub one_message : (m n : RequestMessage) (root : Tree) (b : List ℕ) → IsCanonical request_message REQUEST_MESSAGE root b (request_message_val m) → IsCanonical request_message REQUEST_MESSAGE root b (request_message_val n) → m ≡ n
 one_message m n root b h k = request_message_same m n (some_same _ _ (sym h.1 ∙ k.1))
 
 first_item : (x y : BatchItem) → x ∷ [] ≡ y ∷ [] → x ≡ y
@@ -235,7 +236,7 @@ one_request p q c d b h k m n e f =
     (parts.0, sym (credentials_back c) ∙ (ap (λ x. option_map credential_of x) parts.1 ∙ credentials_back d))
 
 -- what is read of a matched request's bytes
-pub read_parts : (p q : RequestPayload) (a : Option Authentication) (c : Option CredentialType) (message : RequestMessage) (root : Tree) (b : List ℕ) → message ≡ message_of q a → IsCanonical request_message 0x420078 root b (request_message_val message)
+pub read_parts : (p q : RequestPayload) (a : Option Authentication) (c : Option CredentialType) (message : RequestMessage) (root : Tree) (b : List ℕ) → message ≡ message_of q a → IsCanonical request_message REQUEST_MESSAGE root b (request_message_val message)
     → IsHeld p c → IsMatched p → request_bytes p c ≡ Some b → Parses root 1 b → (q ≡ p) × (option_map credential_of a ≡ c)
 read_parts p q a c message root b e k h m f parses =
     let same = one_message message (message_of p (option_map item_of c)) root b k (canonical_of p c root b h m f parses) in
@@ -249,10 +250,10 @@ err_same (Ok a) x y h k = absurd (cc)
 err_same (Err e) x y h k = let i : e ≡ x = cc in let j : e ≡ y = cc in sym i ∙ j
 
 -- where no value is canonical, the bytes are those of no matched request
-pub none_canonical : (root : Tree) (b : List ℕ) → Parses root 1 b → ((val : Val) → IsCanonical request_message 0x420078 root b val → ⊥) → (p : RequestPayload) (c : Option CredentialType) → IsHeld p c → IsMatched p → request_bytes p c ≡ Some b → ⊥
+pub none_canonical : (root : Tree) (b : List ℕ) → Parses root 1 b → ((val : Val) → IsCanonical request_message REQUEST_MESSAGE root b val → ⊥) → (p : RequestPayload) (c : Option CredentialType) → IsHeld p c → IsMatched p → request_bytes p c ≡ Some b → ⊥
 none_canonical root b parses none p c h m e = none (request_message_val (message_of p (option_map item_of c))) (canonical_of p c root b h m e parses)
 
 -- nor are they where the message that is read has other parts
-pub other_parts : (message : RequestMessage) (root : Tree) (b : List ℕ) → Parses root 1 b → IsCanonical request_message 0x420078 root b (request_message_val message) → (IsPlain message → ⊥) → (p : RequestPayload) (c : Option CredentialType) → IsHeld p c → IsMatched p → request_bytes p c ≡ Some b → ⊥
+pub other_parts : (message : RequestMessage) (root : Tree) (b : List ℕ) → Parses root 1 b → IsCanonical request_message REQUEST_MESSAGE root b (request_message_val message) → (IsPlain message → ⊥) → (p : RequestPayload) (c : Option CredentialType) → IsHeld p c → IsMatched p → request_bytes p c ≡ Some b → ⊥
 other_parts message root b parses k other p c h m e =
     other (p, option_map item_of c, one_message message (message_of p (option_map item_of c)) root b k (canonical_of p c root b h m e parses))

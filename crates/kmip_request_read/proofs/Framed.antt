@@ -1,5 +1,6 @@
 -- The bytes of a request are one structure: a head of eight bytes, and as many bytes as its length field says.
 use Rattle.std.proofs.Common.{◌≡◌, ℕ, ◌+◌, ◌≤◌, ◌<◌, ◌^◌, ◌%◌, Bool, true, false, cond, nat_lt, ltb-true, length, List, [], ◌∷◌, Option, Some, None, refl, sym, ap, subst, arith}
+use Rattle.kmip_tags.specs.Tags.{BATCH_ITEM, OPERATION, REQUEST_MESSAGE, REQUEST_PAYLOAD}
 use Rattle.std.specs.Option.{option_map, option_and_then}
 use Rattle.std.proofs.lemmas.Nat.{from_be_bytes-to_be_bytes_4}
 use Rattle.kmip_wire.specs.Tree.{Tree, Trees, scalar, structure, trees_of, enumeration}
@@ -43,8 +44,8 @@ structure_is tag ts b h = contents_are tag (all_bytes ts) b (trees_aligned ts) h
 message_is : (header : Tree) (operation : ℕ) (payload : Option Tree) (b : List ℕ) → option_and_then bytes (option_map (message_tree header operation) payload) ≡ Some b → IsMessage b
 message_is header operation None b h = none_some _ h
 message_is header operation (Some t) b h =
-    structure_is 0x420078 (trees_of (header ∷ structure 0x42000F (trees_of (scalar 0x42005C (enumeration operation) ∷ t ∷ [])) ∷ [])) b h
+    structure_is REQUEST_MESSAGE (trees_of (header ∷ structure BATCH_ITEM (trees_of (scalar OPERATION (enumeration operation) ∷ t ∷ [])) ∷ [])) b h
 
 pub request_is_message : (p : RequestPayload) (c : Option CredentialType) (b : List ℕ) → request_bytes p c ≡ Some b → (8 ≤ length b) × (length b ≡ 8 + head_length b)
 request_is_message p c b h =
-    message_is (header_tree (minor_of p) (authentication_trees c)) (operation_line (operation_of p)).number (tree_of request_payload 0x420079 (request_payload_val p)) b h
+    message_is (header_tree (minor_of p) (authentication_trees c)) (operation_line (operation_of p)).number (tree_of request_payload REQUEST_PAYLOAD (request_payload_val p)) b h

@@ -1,5 +1,6 @@
 -- What is read as a request is matched, and the bytes are its message.
 use Rattle.std.proofs.Common.{◌≡◌, ℕ, ◌==◌, ◌&&◌, pos, Bool, true, false, cond, List, [], ◌∷◌, Option, Some, None, refl, sym, ◌∙◌, ap, subst}
+use Rattle.kmip_tags.specs.Tags.{AUTHENTICATION, BATCH_COUNT, BATCH_ITEM, OPERATION, PROTOCOL_VERSION, PROTOCOL_VERSION_MAJOR, PROTOCOL_VERSION_MINOR, REQUEST_HEADER, REQUEST_MESSAGE, REQUEST_PAYLOAD}
 use Rattle.std.specs.Prelude.{IsSome, nat_eq}
 use Rattle.std.specs.Option.{option_map, option_and_then}
 use Rattle.std.specs.Cmp.{unsigned_Decides}
@@ -106,8 +107,8 @@ message_says message r h =
 
 -- the tree of such a message, from the trees of its credential and its payload
 whole_tree : (minor n : ℕ) (credential : Option (List Tree)) (payload : Option Tree) (root : Tree) →
-    structure_of 0x420078 (then_trees (one_tree (structure_of 0x420077 (then_trees (Some (structure 0x420069 (trees_of (scalar 0x42006A (integer (pos 1)) ∷ scalar 0x42006B (integer (pos minor)) ∷ [])) ∷ [])) (then_trees (Some []) (then_trees credential (then_trees (Some (scalar 0x42000D (integer (pos 1)) ∷ [])) (Some [])))))))
-    (then_trees (then_trees (one_tree (structure_of 0x42000F (then_trees (Some (scalar 0x42005C (enumeration n) ∷ [])) (then_trees (Some []) (then_trees (one_tree payload) (Some [])))))) (Some [])) (Some []))) ≡ Some root →
+    structure_of REQUEST_MESSAGE (then_trees (one_tree (structure_of REQUEST_HEADER (then_trees (Some (structure PROTOCOL_VERSION (trees_of (scalar PROTOCOL_VERSION_MAJOR (integer (pos 1)) ∷ scalar PROTOCOL_VERSION_MINOR (integer (pos minor)) ∷ [])) ∷ [])) (then_trees (Some []) (then_trees credential (then_trees (Some (scalar BATCH_COUNT (integer (pos 1)) ∷ [])) (Some [])))))))
+    (then_trees (then_trees (one_tree (structure_of BATCH_ITEM (then_trees (Some (scalar OPERATION (enumeration n) ∷ [])) (then_trees (Some []) (then_trees (one_tree payload) (Some [])))))) (Some [])) (Some []))) ≡ Some root →
     (authentication : List Tree) × (option_map (message_tree (header_tree minor authentication) n) payload ≡ Some root)
 whole_tree minor n None payload root h = none_some _ h
 whole_tree minor n (Some trees) None root h = none_some _ h
@@ -118,30 +119,30 @@ has_payload None f root h = none_some _ h
 has_payload (Some t) f root h = refl
 
 payload_selected : (r : Request) (credential : Field) →
-    selected_in (message_round (header_with (minor_for r.operation) credential) (item_of_request r)) NoCase request_message no_outer 0x420078 →
-    selected_in r.payload NoCase request_payload (under_number r.operation) 0x420079
+    selected_in (message_round (header_with (minor_for r.operation) credential) (item_of_request r)) NoCase request_message no_outer REQUEST_MESSAGE →
+    selected_in r.payload NoCase request_payload (under_number r.operation) REQUEST_PAYLOAD
 payload_selected r credential s = ((s.2).1).0.2.2.1
 
-of_message : (message : Val) (r : Request) (root : Tree) (b : List ℕ) → IsOf message r → tree_of request_message 0x420078 message ≡ Some root → bytes root ≡ Some b →
-    selected_in message NoCase request_message no_outer 0x420078 → IsMatchedValue r.operation r.payload × ((trees : List Tree) × (message_with r trees ≡ Some b))
+of_message : (message : Val) (r : Request) (root : Tree) (b : List ℕ) → IsOf message r → tree_of request_message REQUEST_MESSAGE message ≡ Some root → bytes root ≡ Some b →
+    selected_in message NoCase request_message no_outer REQUEST_MESSAGE → IsMatchedValue r.operation r.payload × ((trees : List Tree) × (message_with r trees ≡ Some b))
 of_message message r root b is tree own s =
     let made : Val = message_round (header_with (minor_for r.operation) is.0) (item_of_request r) in
-    let tree_made : tree_of request_message 0x420078 made ≡ Some root = subst (λ (m : Val). tree_of request_message 0x420078 m ≡ Some root) is.1 tree in
-    let s_made : selected_in made NoCase request_message no_outer 0x420078 = subst (λ (m : Val). selected_in m NoCase request_message no_outer 0x420078) is.1 s in
-    let w = whole_tree (minor_for r.operation) (operation_line r.operation).number (trees_in is.0 NoCase authentication 0x42000C) (tree_of request_payload 0x420079 r.payload) root tree_made in (
-      (has_payload (tree_of request_payload 0x420079 r.payload) _ root w.1, payload_selected r is.0 s_made),
+    let tree_made : tree_of request_message REQUEST_MESSAGE made ≡ Some root = subst (λ (m : Val). tree_of request_message REQUEST_MESSAGE m ≡ Some root) is.1 tree in
+    let s_made : selected_in made NoCase request_message no_outer REQUEST_MESSAGE = subst (λ (m : Val). selected_in m NoCase request_message no_outer REQUEST_MESSAGE) is.1 s in
+    let w = whole_tree (minor_for r.operation) (operation_line r.operation).number (trees_in is.0 NoCase authentication AUTHENTICATION) (tree_of request_payload REQUEST_PAYLOAD r.payload) root tree_made in (
+      (has_payload (tree_of request_payload REQUEST_PAYLOAD r.payload) _ root w.1, payload_selected r is.0 s_made),
       (w.0, ap (λ (o : Option Tree). option_and_then bytes o) w.1 ∙ own),
     )
 
 pub read_matched : (b : List ℕ) (r : Request) → request_read b ≡ Some r → IsMatchedValue r.operation r.payload × ((trees : List Tree) × (message_with r trees ≡ Some b))
 unfolding request_read
 read_matched b r h =
-    let p = and_then_some (item_of 64 b) (λ tree. option_and_then (canonical_in b tree) (root_read request_message 0x420078 tree)) r h in
+    let p = and_then_some (item_of 64 b) (λ tree. option_and_then (canonical_in b tree) (root_read request_message REQUEST_MESSAGE tree)) r h in
     let root : Tree = p.0 in
-    let m = and_then_some (root_read request_message 0x420078 root) (canonical_in b root) r p.2 in
+    let m = and_then_some (root_read request_message REQUEST_MESSAGE root) (canonical_in b root) r p.2 in
     let message : Val = m.0 in
-    let t = test_some (is_tree root (tree_of request_message 0x420078 message) && are_bytes b (bytes root)) (request_in message) r m.2 in
-    let tests = both (is_tree root (tree_of request_message 0x420078 message)) (are_bytes b (bytes root)) t.0 in
-    let tree : tree_of request_message 0x420078 message ≡ Some root = is_tree_says root _ tests.0 in
+    let t = test_some (is_tree root (tree_of request_message REQUEST_MESSAGE message) && are_bytes b (bytes root)) (request_in message) r m.2 in
+    let tests = both (is_tree root (tree_of request_message REQUEST_MESSAGE message)) (are_bytes b (bytes root)) t.0 in
+    let tree : tree_of request_message REQUEST_MESSAGE message ≡ Some root = is_tree_says root _ tests.0 in
     of_message message r root b (message_says message r t.1) tree (are_bytes_says b _ tests.1)
-    (selected message NoCase request_message no_outer 0x420078 root message_once tree (root_of request_message 0x420078 root message m.1))
+    (selected message NoCase request_message no_outer REQUEST_MESSAGE root message_once tree (root_of request_message REQUEST_MESSAGE root message m.1))

@@ -1,5 +1,6 @@
 -- What bytes are read as, by values: a plain message holds the request of its payload, and no other holds one.
 use Rattle.std.proofs.Common.{◌≡◌, ℕ, ◌==◌, ◌&&◌, ℤ, pos, Bool, true, false, cond, List, [], ◌∷◌, Option, Some, None, refl, sym, ◌∙◌, ap, subst, ◌⊎◌, inl, inr, arith}
+use Rattle.kmip_tags.specs.Tags.{REQUEST_MESSAGE, REQUEST_PAYLOAD}
 use Rattle.std.specs.Bool.{Decides}
 use Rattle.std.specs.Option.{option_map, option_and_then}
 use Rattle.std.specs.Ordering.{int_eq}
@@ -88,7 +89,7 @@ is_case (RNGRetrieve a) = (_, refl)
 -- the canonical message of a payload is that of its request
 pub bytes_same : (p : RequestPayload) (c : Option CredentialType) → request_bytes p c ≡ message_bytes (request_for p) c
 bytes_same p c =
-    ap (λ (n : ℕ). option_and_then bytes (option_map (message_tree (header_tree n (authentication_trees c)) (operation_line (operation_of p)).number) (tree_of request_payload 0x420079 (request_payload_val p)))) (sym (minor_same p))
+    ap (λ (n : ℕ). option_and_then bytes (option_map (message_tree (header_tree n (authentication_trees c)) (operation_line (operation_of p)).number) (tree_of request_payload REQUEST_PAYLOAD (request_payload_val p)))) (sym (minor_same p))
 
 -- ---- a batch item
 
@@ -209,26 +210,26 @@ parsed root b p = (tree_computed root 1 b first_level).1 p
 both_hold : (x y : Bool) → x ≡ true → y ≡ true → (x && y) ≡ true
 both_hold x y p q = rw (p, q) refl
 
-written : (b : List ℕ) (root : Tree) (message : Val) → tree_of request_message 0x420078 message ≡ Some root → bytes root ≡ Some b → canonical_in b root message ≡ request_in message
+written : (b : List ℕ) (root : Tree) (message : Val) → tree_of request_message REQUEST_MESSAGE message ≡ Some root → bytes root ≡ Some b → canonical_in b root message ≡ request_in message
 written b root message t h =
-    let e : is_tree root (tree_of request_message 0x420078 message) ≡ true = ap (is_tree root) t ∙ same_tree-refl root in
+    let e : is_tree root (tree_of request_message REQUEST_MESSAGE message) ≡ true = ap (is_tree root) t ∙ same_tree-refl root in
     let f : are_bytes b (bytes root) ≡ true = ap (are_bytes b) h ∙ (bytes_eq-Decides b b).1 refl in
-    let g : (is_tree root (tree_of request_message 0x420078 message) && are_bytes b (bytes root)) ≡ true = both_hold _ _ e f in rw g refl
+    let g : (is_tree root (tree_of request_message REQUEST_MESSAGE message) && are_bytes b (bytes root)) ≡ true = both_hold _ _ e f in rw g refl
 
 -- where a message is canonical, what is read is what it holds
-pub held : (root : Tree) (b : List ℕ) (message : Val) → Parses root 1 b → IsCanonical request_message 0x420078 root b message → request_read b ≡ request_in message
+pub held : (root : Tree) (b : List ℕ) (message : Val) → Parses root 1 b → IsCanonical request_message REQUEST_MESSAGE root b message → request_read b ≡ request_in message
 unfolding request_read
 held root b message p c =
     let P : Option Val → Type 0 = λ o. option_and_then (canonical_in b root) o ≡ request_in message in
-    let Q : Option Tree → Type 0 = λ o. option_and_then (λ tree. option_and_then (canonical_in b tree) (root_read request_message 0x420078 tree)) o ≡ request_in message in
-    let tree : tree_of request_message 0x420078 message ≡ Some root = written_as message root b c.0 c.2 p in
+    let Q : Option Tree → Type 0 = λ o. option_and_then (λ tree. option_and_then (canonical_in b tree) (root_read request_message REQUEST_MESSAGE tree)) o ≡ request_in message in
+    let tree : tree_of request_message REQUEST_MESSAGE message ≡ Some root = written_as message root b c.0 c.2 p in
     let own : bytes root ≡ Some b = sym (ap (λ (o : Option Tree). option_and_then bytes o) tree) ∙ c.2 in
     subst Q (sym (parsed root b p)) (subst P (sym c.1) (written b root message tree own))
 
-pub plain_read : (m : RequestMessage) (p : RequestPayload) (a : Option Authentication) (root : Tree) (b : List ℕ) → m ≡ message_of p a → Parses root 1 b → IsCanonical request_message 0x420078 root b (request_message_val m) → request_read b ≡ Some (request_for p)
+pub plain_read : (m : RequestMessage) (p : RequestPayload) (a : Option Authentication) (root : Tree) (b : List ℕ) → m ≡ message_of p a → Parses root 1 b → IsCanonical request_message REQUEST_MESSAGE root b (request_message_val m) → request_read b ≡ Some (request_for p)
 plain_read m p a root b is parses c = held root b (request_message_val m) parses c ∙ (ap (λ (x : RequestMessage). request_in (request_message_val x)) is ∙ plain_request p a)
 
-pub other_read : (m : RequestMessage) (root : Tree) (b : List ℕ) → Parses root 1 b → IsCanonical request_message 0x420078 root b (request_message_val m) → (IsPlain m → ⊥) → request_read b ≡ None
+pub other_read : (m : RequestMessage) (root : Tree) (b : List ℕ) → Parses root 1 b → IsCanonical request_message REQUEST_MESSAGE root b (request_message_val m) → (IsPlain m → ⊥) → request_read b ≡ None
 other_read m root b parses c other = held root b (request_message_val m) parses c ∙ other_request m other
 
 pub are_bytes_says : (b : List ℕ) (o : Option (List ℕ)) → are_bytes b o ≡ true → o ≡ Some b
@@ -239,24 +240,24 @@ pub is_tree_says : (root : Tree) (o : Option Tree) → is_tree root o ≡ true �
 is_tree_says root None h = absurd (cc)
 is_tree_says root (Some t) h = ap (λ (x : Tree). Some x) (same_tree-sound t root h)
 
-not_written : (b : List ℕ) (root : Tree) (message : Val) → (tree_of request_message 0x420078 message ≡ Some root → bytes root ≡ Some b → ⊥) → (t : Bool) →
-    (is_tree root (tree_of request_message 0x420078 message) && are_bytes b (bytes root)) ≡ t → t ≡ false
+not_written : (b : List ℕ) (root : Tree) (message : Val) → (tree_of request_message REQUEST_MESSAGE message ≡ Some root → bytes root ≡ Some b → ⊥) → (t : Bool) →
+    (is_tree root (tree_of request_message REQUEST_MESSAGE message) && are_bytes b (bytes root)) ≡ t → t ≡ false
 not_written b root message none false h = refl
 not_written b root message none true h =
-    let p = both (is_tree root (tree_of request_message 0x420078 message)) (are_bytes b (bytes root)) h in
+    let p = both (is_tree root (tree_of request_message REQUEST_MESSAGE message)) (are_bytes b (bytes root)) h in
     absurd (none (is_tree_says root _ p.0) (are_bytes_says b _ p.1))
 
 -- where no value is written as the bytes that it is read from, nothing is read
-pub none_read : (root : Tree) (b : List ℕ) → Parses root 1 b → ((val : Val) → IsWrittenAs request_message 0x420078 root b val → ⊥) → request_read b ≡ None
+pub none_read : (root : Tree) (b : List ℕ) → Parses root 1 b → ((val : Val) → IsWrittenAs request_message REQUEST_MESSAGE root b val → ⊥) → request_read b ≡ None
 unfolding request_read
 none_read root b p none =
-    let Q : Option Tree → Type 0 = λ o. option_and_then (λ tree. option_and_then (canonical_in b tree) (root_read request_message 0x420078 tree)) o ≡ None in
-    subst Q (sym (parsed root b p)) (go (root_read request_message 0x420078 root) refl)
+    let Q : Option Tree → Type 0 = λ o. option_and_then (λ tree. option_and_then (canonical_in b tree) (root_read request_message REQUEST_MESSAGE tree)) o ≡ None in
+    subst Q (sym (parsed root b p)) (go (root_read request_message REQUEST_MESSAGE root) refl)
   where
-    go : (o : Option Val) → root_read request_message 0x420078 root ≡ o → option_and_then (canonical_in b root) o ≡ None
+    go : (o : Option Val) → root_read request_message REQUEST_MESSAGE root ≡ o → option_and_then (canonical_in b root) o ≡ None
     go None h = refl
     go (Some val) h =
-        let e : (is_tree root (tree_of request_message 0x420078 val) && are_bytes b (bytes root)) ≡ false =
+        let e : (is_tree root (tree_of request_message REQUEST_MESSAGE val) && are_bytes b (bytes root)) ≡ false =
         not_written b root val (λ tree own. none val (h, ap (λ (o : Option Tree). option_and_then bytes o) tree ∙ own)) _ refl in rw e refl
 
 -- where the bytes are no item, nothing is read
@@ -264,7 +265,7 @@ pub no_item : (b : List ℕ) → ((t : Tree) → Parses t 1 b → ⊥) → reque
 unfolding request_read
 no_item b none = go (item_of 64 b) refl
   where
-    go : (o : Option Tree) → item_of 64 b ≡ o → option_and_then (λ tree. option_and_then (canonical_in b tree) (root_read request_message 0x420078 tree)) o ≡ None
+    go : (o : Option Tree) → item_of 64 b ≡ o → option_and_then (λ tree. option_and_then (canonical_in b tree) (root_read request_message REQUEST_MESSAGE tree)) o ≡ None
     go None h = refl
     go (Some t) h = absurd (none t ((tree_computed t 1 b first_level).0 h))
 

@@ -1,5 +1,6 @@
 -- Which payloads are matched: each choice in them holds the case that is selected where it stands.
 use Rattle.std.specs.Prelude.{Some, None, IsSome}
+use Rattle.kmip_tags.specs.Tags.{REQUEST_PAYLOAD}
 use Rattle.kmip_shape.specs.Val.{Val}
 use Rattle.kmip_shape.specs.Shape.{OuterValue, NoCase}
 use Rattle.kmip_shape.specs.Trees.{tree_of}
@@ -31,7 +32,7 @@ under_operation payload = under_number (operation_of payload)
 -- - no optional list is Some of an empty one.
 abbrev pub IsMatchedValue : Operation → Val → Type 0
 IsMatchedValue operation payload =
-    IsSome (tree_of request_payload 0x420079 payload) × selected_in payload NoCase request_payload (under_number operation) 0x420079
+    IsSome (tree_of request_payload REQUEST_PAYLOAD payload) × selected_in payload NoCase request_payload (under_number operation) REQUEST_PAYLOAD
 
 abbrev pub IsMatched : RequestPayload → Type 0
 IsMatched payload = IsMatchedValue (operation_of payload) (request_payload_val payload)

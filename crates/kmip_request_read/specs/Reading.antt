@@ -1,5 +1,6 @@
 -- What bytes are read as, said by values alone.
 use Rattle.std.specs.Prelude.{ℕ, ℤ, pos, ◌==◌, ◌&&◌, Bool, true, false, List, Option, Some, None, if◌then◌else◌, bytes_eq}
+use Rattle.kmip_tags.specs.Tags.{REQUEST_MESSAGE, REQUEST_PAYLOAD}
 use Rattle.std.specs.Option.{option_map, option_and_then}
 use Rattle.std.specs.Ordering.{int_eq}
 use Rattle.kmip_wire.specs.Tree.{Tree}
@@ -39,7 +40,7 @@ minor_for _ = 0
 abbrev pub message_with : Request → List Tree → Option (List ℕ)
 message_with request authentication = option_and_then bytes (option_map
     (message_tree (header_tree (minor_for request.operation) authentication) (operation_line request.operation).number)
-    (tree_of request_payload 0x420079 request.payload))
+    (tree_of request_payload REQUEST_PAYLOAD request.payload))
 
 -- the one canonical message of a request and a credential, where it has one
 abbrev pub message_bytes : Request → Option CredentialType → Option (List ℕ)
@@ -77,8 +78,8 @@ is_tree tree (Some written) = same_tree written tree
 -- the same, where the message is written as this tree, and that as these bytes
 abbrev pub canonical_in : List ℕ → Tree → Val → Option Request
 canonical_in b tree message =
-    if is_tree tree (tree_of request_message 0x420078 message) && are_bytes b (bytes tree) then request_in message else None
+    if is_tree tree (tree_of request_message REQUEST_MESSAGE message) && are_bytes b (bytes tree) then request_in message else None
 
 -- the request that bytes are: they are one item, which reads as a message that is written as the item and as these bytes, and which a client writes
 unfoldable pub request_read : List ℕ → Option Request
-request_read b = option_and_then (λ tree. option_and_then (canonical_in b tree) (root_read request_message 0x420078 tree)) (item_of 64 b)
+request_read b = option_and_then (λ tree. option_and_then (canonical_in b tree) (root_read request_message REQUEST_MESSAGE tree)) (item_of 64 b)

@@ -30,6 +30,7 @@ pub enum RequestReadError {
     Malformed,
     /// They are one, and not that of a request as a client writes it.
     NotCanonical,
+    /// Memory ran out; the bytes may be a request or not.
     OutOfMemory,
 }
 

@@ -6,6 +6,10 @@ use kmip_request::{
     PublicKeyTemplateAttribute, TemplateAttribute,
 };
 use kmip_shape::{WriteItem, to_blob};
+use kmip_tags::tags::{
+    ATTRIBUTE, COMMON_TEMPLATE_ATTRIBUTE, PRIVATE_KEY_TEMPLATE_ATTRIBUTE,
+    PUBLIC_KEY_TEMPLATE_ATTRIBUTE, TEMPLATE_ATTRIBUTE,
+};
 use kmip_types::{
     ApplicationData, ApplicationNamespace, CryptographicAlgorithm, CryptographicLength,
     CryptographicParameters, CryptographicUsageMask, LinkedObjectIdentifier, NameValue,
@@ -25,7 +29,7 @@ fn is_made(
 ) -> Result<(), Fail> {
     assert!(rt; attribute.1.is_none());
     assert!(rt; attribute.try_clone(alloc)? == attribute);
-    let written = to_blob(alloc, &attribute, Tag::of(0x420008))?;
+    let written = to_blob(alloc, &attribute, Tag::of(ATTRIBUTE))?;
     assert!(rt; written.as_slice() == expected);
     Ok(())
 }
@@ -202,7 +206,7 @@ fn named_template_attribute(rt: HostRuntime) -> Result<(), Fail> {
     // 91{53{55 "t",54 e1}}
     let expected =
         b"\x42\x00\x91\x01\x00\x00\x00\x28\x42\x00\x53\x01\x00\x00\x00\x20\x42\x00\x55\x07\x00\x00\x00\x01\x74\x00\x00\x00\x00\x00\x00\x00\x42\x00\x54\x05\x00\x00\x00\x04\x00\x00\x00\x01\x00\x00\x00\x00";
-    is_template(&rt, alloc, &template, 0x420091, expected)
+    is_template(&rt, alloc, &template, TEMPLATE_ATTRIBUTE, expected)
 }
 
 #[test]
@@ -212,7 +216,7 @@ fn named_common_template_attribute(rt: HostRuntime) -> Result<(), Fail> {
     // 1F{53{55 "t",54 e1}}
     let expected =
         b"\x42\x00\x1F\x01\x00\x00\x00\x28\x42\x00\x53\x01\x00\x00\x00\x20\x42\x00\x55\x07\x00\x00\x00\x01\x74\x00\x00\x00\x00\x00\x00\x00\x42\x00\x54\x05\x00\x00\x00\x04\x00\x00\x00\x01\x00\x00\x00\x00";
-    is_template(&rt, alloc, &template, 0x42001F, expected)
+    is_template(&rt, alloc, &template, COMMON_TEMPLATE_ATTRIBUTE, expected)
 }
 
 #[test]
@@ -226,7 +230,13 @@ fn named_private_key_template_attribute(rt: HostRuntime) -> Result<(), Fail> {
     // 65{53{55 "t",54 e1}}
     let expected =
         b"\x42\x00\x65\x01\x00\x00\x00\x28\x42\x00\x53\x01\x00\x00\x00\x20\x42\x00\x55\x07\x00\x00\x00\x01\x74\x00\x00\x00\x00\x00\x00\x00\x42\x00\x54\x05\x00\x00\x00\x04\x00\x00\x00\x01\x00\x00\x00\x00";
-    is_template(&rt, alloc, &template, 0x420065, expected)
+    is_template(
+        &rt,
+        alloc,
+        &template,
+        PRIVATE_KEY_TEMPLATE_ATTRIBUTE,
+        expected,
+    )
 }
 
 #[test]
@@ -240,7 +250,13 @@ fn named_public_key_template_attribute(rt: HostRuntime) -> Result<(), Fail> {
     // 6E{53{55 "t",54 e1}}
     let expected =
         b"\x42\x00\x6E\x01\x00\x00\x00\x28\x42\x00\x53\x01\x00\x00\x00\x20\x42\x00\x55\x07\x00\x00\x00\x01\x74\x00\x00\x00\x00\x00\x00\x00\x42\x00\x54\x05\x00\x00\x00\x04\x00\x00\x00\x01\x00\x00\x00\x00";
-    is_template(&rt, alloc, &template, 0x42006E, expected)
+    is_template(
+        &rt,
+        alloc,
+        &template,
+        PUBLIC_KEY_TEMPLATE_ATTRIBUTE,
+        expected,
+    )
 }
 
 #[test]

@@ -11,6 +11,10 @@ use kmip_enums::{Operation, ResultReason, ResultStatus};
 use kmip_shape::columns::{ChosenOpt, One, Opt};
 use kmip_shape::record::{Choosing, End, Row};
 use kmip_shape::{Item, Outer, ReadError, ReadItem, ReadRoot, fields, known_record, read_record};
+use kmip_tags::tags::{
+    BATCH_ITEM, MESSAGE_EXTENSION, OPERATION, RESPONSE_PAYLOAD, RESULT_MESSAGE, RESULT_REASON,
+    RESULT_STATUS, UNIQUE_BATCH_ITEM_ID,
+};
 use kmip_types::UniqueBatchItemID;
 use kmip_wire::{ItemRef, OutOfMemory, Tag, Text, TryClone, clone_optional};
 use std::alloc::Global;
@@ -18,13 +22,19 @@ use std::alloc::Global;
 /// What one operation came to: KMIP 1.0, 7.2.
 #[derive(PartialEq, Eq, Drop)]
 pub struct BatchItem {
+    /// The operation that it is the result of; absent where the server could not read it: KMIP 1.0, 6.2.
     pub operation: Option<Operation>,
+    /// The identifier of the request's batch item, where that had one: KMIP 1.0, 6.4.
     pub unique_batch_item_id: Option<UniqueBatchItemID>,
+    /// Whether the operation succeeded: KMIP 1.0, 6.9.
     pub result_status: ResultStatus,
+    /// Why it failed: KMIP 1.0, 6.10.
     pub result_reason: Option<ResultReason>,
+    /// The server's own words: KMIP 1.0, 6.11.
     pub result_message: Option<Text>,
     /// Chosen by `operation`; a payload without one, or under another, is not read.
     pub payload: Option<ResponsePayload>,
+    /// A vendor's extension: KMIP 1.0, 6.16.
     pub message_extension: Option<MessageExtension>,
 }
 
@@ -68,18 +78,18 @@ impl Item for BatchItem {
 }
 
 type BatchItemRows<'a> = Choosing<
-    Opt<Operation, 0x42005C>,
+    Opt<Operation, OPERATION>,
     Row<
-        Opt<UniqueBatchItemID, 0x420093>,
+        Opt<UniqueBatchItemID, UNIQUE_BATCH_ITEM_ID>,
         Row<
-            One<ResultStatus, 0x42007F>,
+            One<ResultStatus, RESULT_STATUS>,
             Row<
-                Opt<ResultReason, 0x42007E>,
+                Opt<ResultReason, RESULT_REASON>,
                 Row<
-                    Opt<Text, 0x42007D>,
+                    Opt<Text, RESULT_MESSAGE>,
                     Row<
-                        ChosenOpt<'a, ResponsePayload, 0x42007C>,
-                        Row<Opt<MessageExtension, 0x420051>, End>,
+                        ChosenOpt<'a, ResponsePayload, RESPONSE_PAYLOAD>,
+                        Row<Opt<MessageExtension, MESSAGE_EXTENSION>, End>,
                     >,
                 >,
             >,
@@ -111,9 +121,9 @@ impl ReadItem for BatchItem {
 }
 
 impl ReadRoot for BatchItem {
-    ghost root_tag = { 0x42000F };
+    ghost root_tag = { BATCH_ITEM };
 
     fn root_tag() -> Tag {
-        Tag::of(0x42000F)
+        Tag::of(BATCH_ITEM)
     }
 }

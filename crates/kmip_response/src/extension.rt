@@ -8,6 +8,7 @@ ghost use Rattle.kmip_response.specs.Same.{message_extension_same};
 use kmip_shape::columns::One;
 use kmip_shape::record::{End, Row};
 use kmip_shape::{Item, Outer, ReadError, ReadItem, ReadRoot, fields, known_record, read_record};
+use kmip_tags::tags::{CRITICALITY_INDICATOR, MESSAGE_EXTENSION, VENDOR_IDENTIFICATION};
 use kmip_wire::{ItemRef, OutOfMemory, Tag, Text, TryClone};
 use std::alloc::Global;
 
@@ -18,9 +19,11 @@ pub struct VendorExtension;
 /// An extension of a message: KMIP 1.0, 6.16.
 #[derive(PartialEq, Eq, Drop)]
 pub struct MessageExtension {
+    /// Whose extension it is.
     pub vendor_identification: Text,
     /// Whether a receiver that does not know the extension must refuse the message.
     pub criticality_indicator: bool,
+    /// The vendor's own items.
     pub vendor_extension: VendorExtension,
 }
 
@@ -49,7 +52,10 @@ impl Item for MessageExtension {
     ghost same = { message_extension_same };
 }
 
-type MessageExtensionRows = Row<One<Text, 0x42009D>, Row<One<bool, 0x420026>, End>>;
+type MessageExtensionRows = Row<
+    One<Text, VENDOR_IDENTIFICATION>,
+    Row<One<bool, CRITICALITY_INDICATOR>, End>,
+>;
 
 impl ReadItem for MessageExtension {
     fn read(alloc: Global, outer: Outer<'_>, item: ItemRef<'_>) -> Result<Self, ReadError> {
@@ -65,9 +71,9 @@ impl ReadItem for MessageExtension {
 }
 
 impl ReadRoot for MessageExtension {
-    ghost root_tag = { 0x420051 };
+    ghost root_tag = { MESSAGE_EXTENSION };
 
     fn root_tag() -> Tag {
-        Tag::of(0x420051)
+        Tag::of(MESSAGE_EXTENSION)
     }
 }

@@ -11,17 +11,26 @@ use kmip_shape::{
     Item, Outer, ReadError, ReadItem, ReadRoot, ShowItem, Sink, Timestamp, fields, known_record,
     read_record, show_record,
 };
+use kmip_tags::tags::{
+    BATCH_COUNT, PROTOCOL_VERSION, PROTOCOL_VERSION_MAJOR, PROTOCOL_VERSION_MINOR, RESPONSE_HEADER,
+    TIME_STAMP,
+};
 use kmip_wire::{ItemRef, Tag};
 use std::alloc::Global;
 
 /// The version of KMIP that a server speaks: KMIP 1.0, 6.1.
 #[derive(Clone, Copy, PartialEq, Eq, Drop)]
 pub struct ProtocolVersion {
+    /// The number before the point.
     pub major: i32,
+    /// The number after the point.
     pub minor: i32,
 }
 
-type ProtocolVersionRows = Row<One<i32, 0x42006A>, Row<One<i32, 0x42006B>, End>>;
+type ProtocolVersionRows = Row<
+    One<i32, PROTOCOL_VERSION_MAJOR>,
+    Row<One<i32, PROTOCOL_VERSION_MINOR>, End>,
+>;
 
 impl Item for ProtocolVersion {
     ghost shape = { protocol_version };
@@ -53,16 +62,17 @@ impl ShowItem for ProtocolVersion {
 }
 
 impl ReadRoot for ProtocolVersion {
-    ghost root_tag = { 0x420069 };
+    ghost root_tag = { PROTOCOL_VERSION };
 
     fn root_tag() -> Tag {
-        Tag::of(0x420069)
+        Tag::of(PROTOCOL_VERSION)
     }
 }
 
 /// The head of a response: KMIP 1.0, 7.2.
 #[derive(Clone, Copy, PartialEq, Eq, Drop)]
 pub struct ResponseHeader {
+    /// The version that the response is written in: KMIP 1.0, 6.1.
     pub protocol_version: ProtocolVersion,
     /// When the response was made, in seconds since 1970.
     pub timestamp: i64,
@@ -71,8 +81,8 @@ pub struct ResponseHeader {
 }
 
 type ResponseHeaderRows = Row<
-    One<ProtocolVersion, 0x420069>,
-    Row<One<Timestamp, 0x420092>, Row<One<i32, 0x42000D>, End>>,
+    One<ProtocolVersion, PROTOCOL_VERSION>,
+    Row<One<Timestamp, TIME_STAMP>, Row<One<i32, BATCH_COUNT>, End>>,
 >;
 
 impl Item for ResponseHeader {
@@ -106,9 +116,9 @@ impl ReadItem for ResponseHeader {
 }
 
 impl ReadRoot for ResponseHeader {
-    ghost root_tag = { 0x42007A };
+    ghost root_tag = { RESPONSE_HEADER };
 
     fn root_tag() -> Tag {
-        Tag::of(0x42007A)
+        Tag::of(RESPONSE_HEADER)
     }
 }

@@ -10,12 +10,14 @@ use crate::header::ResponseHeader;
 use kmip_shape::columns::{NonEmpty, One};
 use kmip_shape::record::{End, Row};
 use kmip_shape::{Item, Outer, ReadError, ReadItem, ReadRoot, fields, known_record, read_record};
+use kmip_tags::tags::{BATCH_ITEM, RESPONSE_HEADER, RESPONSE_MESSAGE};
 use kmip_wire::{ItemRef, List, OutOfMemory, Tag, TryClone};
 use std::alloc::Global;
 
 /// A response: KMIP 1.0, 7.1.
 #[derive(PartialEq, Eq, Drop)]
 pub struct ResponseMessage {
+    /// Version, time stamp and number of batch items: KMIP 1.0, 7.2.
     pub header: ResponseHeader,
     /// At least one.
     pub batch_items: List<BatchItem>,
@@ -43,8 +45,8 @@ impl Item for ResponseMessage {
 }
 
 type ResponseMessageRows = Row<
-    One<ResponseHeader, 0x42007A>,
-    Row<NonEmpty<BatchItem, 0x42000F>, End>,
+    One<ResponseHeader, RESPONSE_HEADER>,
+    Row<NonEmpty<BatchItem, BATCH_ITEM>, End>,
 >;
 
 impl ReadItem for ResponseMessage {
@@ -58,9 +60,9 @@ impl ReadItem for ResponseMessage {
 }
 
 impl ReadRoot for ResponseMessage {
-    ghost root_tag = { 0x42007B };
+    ghost root_tag = { RESPONSE_MESSAGE };
 
     fn root_tag() -> Tag {
-        Tag::of(0x42007B)
+        Tag::of(RESPONSE_MESSAGE)
     }
 }

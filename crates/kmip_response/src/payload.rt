@@ -23,22 +23,39 @@ use std::alloc::Global;
 /// What an operation answers, chosen by the operation of its batch item.
 #[derive(PartialEq, Eq, Drop)]
 pub enum ResponsePayload {
+    /// What Create returns: KMIP 1.0, 4.1.
     Create(CreateResponsePayload),
+    /// What Create Key Pair returns: KMIP 1.0, 4.2.
     CreateKeyPair(CreateKeyPairResponsePayload),
+    /// What Register returns: KMIP 1.0, 4.3.
     Register(RegisterResponsePayload),
+    /// What Locate returns: KMIP 1.0, 4.8.
     Locate(LocateResponsePayload),
+    /// What Get returns: KMIP 1.0, 4.10.
     Get(Boxed<GetResponsePayload>),
+    /// What Get Attributes returns: KMIP 1.0, 4.11.
     GetAttributes(GetAttributesResponsePayload),
+    /// What Get Attribute List returns: KMIP 1.0, 4.12.
     GetAttributeList(GetAttributeListResponsePayload),
+    /// What Add Attribute returns: KMIP 1.0, 4.13.
     AddAttribute(AttributeEditResponsePayload),
+    /// What Modify Attribute returns: KMIP 1.0, 4.14.
     ModifyAttribute(AttributeEditResponsePayload),
+    /// What Delete Attribute returns: KMIP 1.0, 4.15.
     DeleteAttribute(AttributeEditResponsePayload),
+    /// What Activate returns: KMIP 1.0, 4.18.
     Activate(UniqueIdentifierResponsePayload),
+    /// What Revoke returns: KMIP 1.0, 4.19.
     Revoke(UniqueIdentifierResponsePayload),
+    /// What Destroy returns: KMIP 1.0, 4.20.
     Destroy(UniqueIdentifierResponsePayload),
+    /// What Query returns: KMIP 1.0, 4.24.
     Query(QueryResponsePayload),
+    /// What Discover Versions returns: KMIP 1.1, 4.26.
     DiscoverVersions(DiscoverVersionsResponsePayload),
+    /// What Sign returns: KMIP 1.2, 4.31.
     Sign(SignResponsePayload),
+    /// What RNG Retrieve returns: KMIP 1.2, 4.35.
     RNGRetrieve(RNGRetrieveResponsePayload),
 }
 

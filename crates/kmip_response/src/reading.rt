@@ -17,6 +17,7 @@ pub enum ResponseError {
     Malformed,
     /// The structure at the front has another tag or another shape.
     Unread,
+    /// Memory ran out; the bytes may be a response or not.
     OutOfMemory,
 }
 

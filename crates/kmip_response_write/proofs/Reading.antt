@@ -1,5 +1,6 @@
 -- What a settled message's bytes are read as.
 use Rattle.std.proofs.Common.{◌≡◌, ℕ, ◌+◌, ◌%◌, ◌≤◌, ◌==◌, length, take, drop, length-take, length-drop, Bool, true, false, cond, List, Option, Some, None, refl, sym, ◌∙◌, ap, subst, eq-eqb, arith}
+use Rattle.kmip_tags.specs.Tags.{RESPONSE_MESSAGE}
 use Rattle.std.specs.Prelude.{IsSome, Result, Ok, Err, IfOk}
 use Rattle.kmip_wire.specs.declared.error.WireError.{WireError}
 use Rattle.kmip_wire.specs.Found.{Writes}
@@ -54,19 +55,19 @@ root_of shape tag t val h = go (tag_of t == tag) h
     go false h = none_some _ h
 
 -- the tree of a settled message reads as the message
-pub tree_read : (m : ResponseMessage) (t : Tree) → IsHeld m → IsSettled m → response_tree m ≡ Some t → root_read response_message 0x42007B t ≡ Some (response_message_val m)
+pub tree_read : (m : ResponseMessage) (t : Tree) → IsHeld m → IsSettled m → response_tree m ≡ Some t → root_read response_message RESPONSE_MESSAGE t ≡ Some (response_message_val m)
 tree_read m t f s e =
-    root_reads response_message 0x42007B t (response_message_val m)
-    (tag_plain (response_message_val m) NoCase response_message 0x42007B t refl e)
-    (read_back (response_message_val m) NoCase response_message no_outer 0x42007B t table_once f s.1 e)
+    root_reads response_message RESPONSE_MESSAGE t (response_message_val m)
+    (tag_plain (response_message_val m) NoCase response_message RESPONSE_MESSAGE t refl e)
+    (read_back (response_message_val m) NoCase response_message no_outer RESPONSE_MESSAGE t table_once f s.1 e)
 
 is_there : (o : Option Tree) (t : Tree) → o ≡ Some t → IsSome o
 is_there o t e = rw e refl
 
 -- and what a message's tree reads as is no other message but a settled one
-pub read_settled : (m : ResponseMessage) (t : Tree) → response_tree m ≡ Some t → root_read response_message 0x42007B t ≡ Some (response_message_val m) → IsSettled m
+pub read_settled : (m : ResponseMessage) (t : Tree) → response_tree m ≡ Some t → root_read response_message RESPONSE_MESSAGE t ≡ Some (response_message_val m) → IsSettled m
 read_settled m t e h =
-    (is_there _ t e, selected (response_message_val m) NoCase response_message no_outer 0x42007B t table_once e (root_of response_message 0x42007B t (response_message_val m) h))
+    (is_there _ t e, selected (response_message_val m) NoCase response_message no_outer RESPONSE_MESSAGE t table_once e (root_of response_message RESPONSE_MESSAGE t (response_message_val m) h))
 
 -- ---- the bytes of a message
 
@@ -78,7 +79,7 @@ some_bytes (Some t) b h = (t, refl, h)
 written : (m : ResponseMessage) (b : List ℕ) → IsHeld m → response_bytes m ≡ Some b → (t : Tree) × (response_tree m ≡ Some t) × Parses t 1 b
 written m b f h =
     let s = some_bytes (response_tree m) b h in
-    let k : Keeps (Some s.0) (depth response_message) = subst (λ (o : Option Tree). Keeps o (depth response_message)) s.1 (fits_ranges response_message (response_message_val m) 0x42007B table_in_range (omega arith) f) in
+    let k : Keeps (Some s.0) (depth response_message) = subst (λ (o : Option Tree). Keeps o (depth response_message)) s.1 (fits_ranges response_message (response_message_val m) RESPONSE_MESSAGE table_in_range (omega arith) f) in
     (s.0, s.1, written_parses s.0 1 b k.0 (omega arith) (omega (arith, k.1, table_depth)) s.2)
 
 -- a whole text is its own front
@@ -96,12 +97,12 @@ structure_is (Some ts) tag t e = subst (λ (x : Tree). if_structure x ≡ Some x
 -- a message's tree is the structure at the front of its bytes
 front_is : (m : ResponseMessage) (t : Tree) (b : List ℕ) → response_tree m ≡ Some t → Parses t 1 b → front_structure b ≡ Some t
 front_is m t b e p =
-    ap (λ (o : Option Tree). option_and_then if_structure o) (front_whole t b p) ∙ structure_is _ 0x42007B t e
+    ap (λ (o : Option Tree). option_and_then if_structure o) (front_whole t b p) ∙ structure_is _ RESPONSE_MESSAGE t e
 
 pub bytes_read : (m : ResponseMessage) (b : List ℕ) → IsHeld m → IsSettled m → response_bytes m ≡ Some b → response_read b ≡ Some (response_message_val m)
 bytes_read m b f s h =
     let w = written m b f h in
-    ap (λ (o : Option Tree). option_and_then (root_read response_message 0x42007B) o) (front_is m w.0 b w.1 w.2) ∙ tree_read m w.0 f s w.1
+    ap (λ (o : Option Tree). option_and_then (root_read response_message RESPONSE_MESSAGE) o) (front_is m w.0 b w.1 w.2) ∙ tree_read m w.0 f s w.1
 
 pub one_message : (m n : ResponseMessage) (b : List ℕ) → IsHeld m → IsHeld n → IsSettled m → IsSettled n → response_bytes m ≡ Some b → response_bytes n ≡ Some b → m ≡ n
 one_message m n b f g s t h k =
@@ -141,4 +142,4 @@ structure_whole (structure tag ts) b e p =
     (p.head, omega (arith, whole, even))
 
 pub one_whole : (m : ResponseMessage) (b : List ℕ) → IsHeld m → response_bytes m ≡ Some b → (8 ≤ length b) × (length b ≡ 8 + head_length b)
-one_whole m b f h = let w = written m b f h in structure_whole w.0 b (structure_is _ 0x42007B w.0 w.1) w.2
+one_whole m b f h = let w = written m b f h in structure_whole w.0 b (structure_is _ RESPONSE_MESSAGE w.0 w.1) w.2

@@ -1,5 +1,6 @@
 -- Which responses reading gives back: each choice in them holds the case that is selected where it stands.
 use Rattle.std.specs.Prelude.{ℕ, List, Option, IsSome}
+use Rattle.kmip_tags.specs.Tags.{RESPONSE_MESSAGE}
 use Rattle.std.specs.Option.{option_and_then}
 use Rattle.kmip_wire.specs.Tree.{Tree}
 use Rattle.kmip_shape.specs.Val.{Val}
@@ -15,15 +16,15 @@ use Rattle.kmip_response.specs.declared.message.ResponseMessage.{ResponseMessage
 
 -- the tree that a message is written as, where there is one
 abbrev pub response_tree : ResponseMessage → Option Tree
-response_tree message = tree_of response_message 0x42007B (response_message_val message)
+response_tree message = tree_of response_message RESPONSE_MESSAGE (response_message_val message)
 
 -- the one canonical message, where there is one
 abbrev pub response_bytes : ResponseMessage → Option (List ℕ)
-response_bytes message = bytes_of response_message 0x42007B (response_message_val message)
+response_bytes message = bytes_of response_message RESPONSE_MESSAGE (response_message_val message)
 
 -- what `from_slice` reads of bytes
 abbrev pub response_read : List ℕ → Option Val
-response_read b = option_and_then (root_read response_message 0x42007B) (front_structure b)
+response_read b = option_and_then (root_read response_message RESPONSE_MESSAGE) (front_structure b)
 
 -- what holds of every message that Rust can hold: numbers are in range, texts are UTF-8
 abbrev pub IsHeld : ResponseMessage → Type 0
@@ -44,4 +45,4 @@ IsHeld message = Fits response_message (response_message_val message)
 abbrev pub IsSettled : ResponseMessage → Type 0
 IsSettled message =
     IsSome (response_tree message)
-    × selected_in (response_message_val message) NoCase response_message no_outer 0x42007B
+    × selected_in (response_message_val message) NoCase response_message no_outer RESPONSE_MESSAGE

@@ -1,6 +1,7 @@
 //! Laws over the definitions, each the contract of a function that does nothing.
 
 ghost use Rattle.std.specs.Prelude.{◌≡◌, ◌+◌, ◌≤◌, ℕ, List, length, Some, true};
+ghost use Rattle.kmip_tags.specs.Tags.{RESPONSE_MESSAGE};
 ghost use Rattle.std.specs.List.{list_all};
 ghost use Rattle.kmip_wire.specs.Head.{head_length};
 ghost use Rattle.kmip_wire.specs.Tree.{Tree};
@@ -18,9 +19,9 @@ ghost use Rattle.kmip_response_write.specs.Settled.{response_tree, response_byte
 pub fn settled_is_read()
     ensures read { (m : ResponseMessage) (t : Tree) → IsHeld m → IsSettled m →
         response_tree m ≡ Some t →
-        root_read response_message 0x42007B t ≡ Some (response_message_val m) }
+        root_read response_message RESPONSE_MESSAGE t ≡ Some (response_message_val m) }
     ensures only { (m : ResponseMessage) (t : Tree) → response_tree m ≡ Some t →
-        root_read response_message 0x42007B t ≡ Some (response_message_val m) → IsSettled m }
+        root_read response_message RESPONSE_MESSAGE t ≡ Some (response_message_val m) → IsSettled m }
 {}
 
 /// The bytes of a settled message are read as the message.

@@ -11,6 +11,7 @@ ghost use Rattle.kmip_response_write.specs.Settled.{IsSettled, response_bytes, r
 use crate::item::WriteResponse;
 use kmip_response::ResponseMessage;
 use kmip_shape::Item;
+use kmip_tags::tags::RESPONSE_MESSAGE;
 use kmip_wire::{Blob, Buffer, Tag, WireError};
 use std::alloc::Global;
 
@@ -50,7 +51,7 @@ fn to_blob<T: WriteResponse>(alloc: Global, item: &T, tag: Tag) -> Result<Blob, 
 fn written(alloc: Global, message: &ResponseMessage) -> Result<Blob, WireError>
     ensures { Writes result (response_bytes message.now) }
 {
-    to_blob(alloc, message, Tag::of(0x42007B))
+    to_blob(alloc, message, Tag::of(RESPONSE_MESSAGE))
 }
 
 /// The canonical bytes of a response (KMIP 1.0, 7.1), each record's items in the order of its

@@ -1,5 +1,6 @@
 -- The exchanges that `make N` makes of a number, and what they come to.
 use Rattle.std.specs.Prelude.{◌≡◌, ℕ, zero, suc, ℤ, pos, ◌+◌, ◌*◌, ◌/◌, ◌%◌, ◌^◌, ◌==◌, List, [], ◌∷◌, ◌++◌, length, drop, replicate, Bool, true, false, None, if◌then◌else◌, codes}
+use Rattle.kmip_tags.specs.Tags.{BATCH_COUNT, BATCH_ITEM, DATA, OPERATION, PROTOCOL_VERSION, PROTOCOL_VERSION_MAJOR, PROTOCOL_VERSION_MINOR, RESPONSE_HEADER, RESPONSE_MESSAGE, RESPONSE_PAYLOAD, RESULT_MESSAGE, RESULT_REASON, RESULT_STATUS, TIME_STAMP, UNIQUE_IDENTIFIER}
 use Rattle.std.specs.Fmt.{decimal}
 use Rattle.kmip_wire.specs.Tree.{Tree, scalar, structure, trees_of, integer, enumeration, text_string, byte_string, date_time}
 use Rattle.kmip_wire.specs.Bytes.{bytes}
@@ -25,33 +26,33 @@ next_of x = (6364136223846793005 * x + 1442695040888963407) % 2 ^ 64
 
 -- the version 1 with this minor number (KMIP 1.0, 6.1)
 abbrev pub version_tree : ℤ → Tree
-version_tree minor = structure 0x420069 (trees_of (scalar 0x42006A (integer (pos 1)) ∷ scalar 0x42006B (integer minor) ∷ []))
+version_tree minor = structure PROTOCOL_VERSION (trees_of (scalar PROTOCOL_VERSION_MAJOR (integer (pos 1)) ∷ scalar PROTOCOL_VERSION_MINOR (integer minor) ∷ []))
 
 -- the header of a response: its version, the time stamp 1, and that it has one batch item (KMIP 1.0, 7.2)
 abbrev pub head_tree : ℤ → Tree
-head_tree minor = structure 0x42007A (trees_of (version_tree minor ∷ scalar 0x420092 (date_time 1) ∷ scalar 0x42000D (integer (pos 1)) ∷ []))
+head_tree minor = structure RESPONSE_HEADER (trees_of (version_tree minor ∷ scalar TIME_STAMP (date_time 1) ∷ scalar BATCH_COUNT (integer (pos 1)) ∷ []))
 
 -- a response message, with the fields of its batch item (KMIP 1.0, 7.1)
 abbrev pub response_tree : ℤ → List Tree → Tree
-response_tree minor fields = structure 0x42007B (trees_of (head_tree minor ∷ structure 0x42000F (trees_of fields) ∷ []))
+response_tree minor fields = structure RESPONSE_MESSAGE (trees_of (head_tree minor ∷ structure BATCH_ITEM (trees_of fields) ∷ []))
 
 -- the first field of a batch item
 abbrev pub operation_tree : Operation → Tree
-operation_tree operation = scalar 0x42005C (enumeration (operation_line operation).number)
+operation_tree operation = scalar OPERATION (enumeration (operation_line operation).number)
 
 -- what follows the operation where it succeeded: its status, and the payload of these fields
 abbrev pub done_trees : List Tree → List Tree
 done_trees payload =
-    scalar 0x42007F (enumeration (result_status_line statuses.Success).number)
-    ∷ structure 0x42007C (trees_of payload)
+    scalar RESULT_STATUS (enumeration (result_status_line statuses.Success).number)
+    ∷ structure RESPONSE_PAYLOAD (trees_of payload)
     ∷ []
 
 -- and where the object was not found: status, reason and message
 abbrev pub gone_trees : List Tree
 gone_trees =
-    scalar 0x42007F (enumeration (result_status_line statuses.OperationFailed).number)
-    ∷ scalar 0x42007E (enumeration (result_reason_line reasons.ItemNotFound).number)
-    ∷ scalar 0x42007D (text_string (codes "gone"))
+    scalar RESULT_STATUS (enumeration (result_status_line statuses.OperationFailed).number)
+    ∷ scalar RESULT_REASON (enumeration (result_reason_line reasons.ItemNotFound).number)
+    ∷ scalar RESULT_MESSAGE (text_string (codes "gone"))
     ∷ []
 
 -- a response to a request, of its version and its operation, with the fields that follow the operation
@@ -64,10 +65,10 @@ with_tree call request fields = record { call = call; response = or_empty (bytes
 
 -- so many random bytes, each this one
 abbrev pub random_made : ℕ → ℕ → Recorded
-random_made count byte = with_tree (Rng (pos count)) (rng_request (pos count)) (done_trees (scalar 0x4200C2 (byte_string (replicate count byte)) ∷ []))
+random_made count byte = with_tree (Rng (pos count)) (rng_request (pos count)) (done_trees (scalar DATA (byte_string (replicate count byte)) ∷ []))
 
 abbrev pub activated_made : List ℕ → Recorded
-activated_made id = with_tree (Activate id) (activate_request id) (done_trees (scalar 0x420094 (text_string id) ∷ []))
+activated_made id = with_tree (Activate id) (activate_request id) (done_trees (scalar UNIQUE_IDENTIFIER (text_string id) ∷ []))
 
 -- a server that knows Create and Query
 abbrev pub queried_made : Recorded

@@ -60,7 +60,9 @@ pub enum Call {
 /// A call, and the response that was recorded for it.
 #[derive(Drop)]
 pub struct Recorded {
+    /// The call that was made.
     pub call: Call,
+    /// The server's response, as it came.
     pub response: Blob,
 }
 

@@ -9,6 +9,11 @@ use crate::call::{Call, Recorded};
 use itoa::Buffer;
 use kmip_enums::{Operation, ResultReason, ResultStatus};
 use kmip_shape::Enumeration;
+use kmip_tags::tags::{
+    BATCH_COUNT, BATCH_ITEM, DATA, OPERATION, PROTOCOL_VERSION, PROTOCOL_VERSION_MAJOR,
+    PROTOCOL_VERSION_MINOR, RESPONSE_HEADER, RESPONSE_MESSAGE, RESPONSE_PAYLOAD, RESULT_MESSAGE,
+    RESULT_REASON, RESULT_STATUS, TIME_STAMP, UNIQUE_IDENTIFIER,
+};
 use kmip_wire::{Blob, Node, OutOfMemory, Tag, Text, Tree, Trees, WireError, write_tree};
 use std::alloc::Global;
 
@@ -37,9 +42,9 @@ fn version(alloc: Global, minor: i32) -> Result<Tree, OutOfMemory>
     ensures { IfOk result (λ tree. tree ≡ version_tree minor) }
 {
     let mut items = Trees::new(alloc);
-    items.push(item(0x42006A, Node::Integer(1)))?;
-    items.push(item(0x42006B, Node::Integer(minor)))?;
-    Ok(item(0x420069, Node::Structure(items)))
+    items.push(item(PROTOCOL_VERSION_MAJOR, Node::Integer(1)))?;
+    items.push(item(PROTOCOL_VERSION_MINOR, Node::Integer(minor)))?;
+    Ok(item(PROTOCOL_VERSION, Node::Structure(items)))
 }
 
 /// The header of a response: its version, the time stamp 1, and that it has one batch item.
@@ -48,9 +53,9 @@ fn head(alloc: Global, minor: i32) -> Result<Tree, OutOfMemory>
 {
     let mut items = Trees::new(alloc);
     items.push(version(alloc, minor)?)?;
-    items.push(item(0x420092, Node::DateTime(1)))?;
-    items.push(item(0x42000D, Node::Integer(1)))?;
-    Ok(item(0x42007A, Node::Structure(items)))
+    items.push(item(TIME_STAMP, Node::DateTime(1)))?;
+    items.push(item(BATCH_COUNT, Node::Integer(1)))?;
+    Ok(item(RESPONSE_HEADER, Node::Structure(items)))
 }
 
 /// The canonical bytes of a tree, which has such.
@@ -70,15 +75,15 @@ fn response(alloc: Global, minor: i32, fields: Trees) -> Result<Blob, OutOfMemor
 {
     let mut items = Trees::new(alloc);
     items.push(head(alloc, minor)?)?;
-    items.push(item(0x42000F, Node::Structure(fields)))?;
-    written(alloc, &item(0x42007B, Node::Structure(items)))
+    items.push(item(BATCH_ITEM, Node::Structure(fields)))?;
+    written(alloc, &item(RESPONSE_MESSAGE, Node::Structure(items)))
 }
 
 /// The item of an operation.
 fn operation_item(operation: Operation) -> Tree
     ensures { result ≡ operation_tree operation }
 {
-    item(0x42005C, Node::Enumeration(operation.number()))
+    item(OPERATION, Node::Enumeration(operation.number()))
 }
 
 /// The fields of a batch item of an operation that succeeded.
@@ -87,8 +92,11 @@ fn done(alloc: Global, operation: Operation, payload: Trees) -> Result<Trees, Ou
 {
     let mut fields = Trees::new(alloc);
     fields.push(operation_item(operation))?;
-    fields.push(item(0x42007F, Node::Enumeration(ResultStatus::Success.number())))?;
-    fields.push(item(0x42007C, Node::Structure(payload)))?;
+    fields.push(item(
+        RESULT_STATUS,
+        Node::Enumeration(ResultStatus::Success.number()),
+    ))?;
+    fields.push(item(RESPONSE_PAYLOAD, Node::Structure(payload)))?;
     Ok(fields)
 }
 
@@ -99,14 +107,14 @@ fn gone(alloc: Global, operation: Operation) -> Result<Trees, OutOfMemory>
     let mut fields = Trees::new(alloc);
     fields.push(operation_item(operation))?;
     fields.push(item(
-        0x42007F,
+        RESULT_STATUS,
         Node::Enumeration(ResultStatus::OperationFailed.number()),
     ))?;
     fields.push(item(
-        0x42007E,
+        RESULT_REASON,
         Node::Enumeration(ResultReason::ItemNotFound.number()),
     ))?;
-    fields.push(item(0x42007D, Node::TextString(Text::of(alloc, "gone")?)))?;
+    fields.push(item(RESULT_MESSAGE, Node::TextString(Text::of(alloc, "gone")?)))?;
     Ok(fields)
 }
 
@@ -115,7 +123,7 @@ fn random(alloc: Global, count: u8, byte: u8) -> Result<Recorded, OutOfMemory>
     ensures { IfOk result (λ made. made ≡ random_made count byte) }
 {
     let bytes = Blob::of_vec(vec![in alloc; byte; usize::from(count)]?);
-    let payload = one(alloc, item(0x4200C2, Node::ByteString(bytes)))?;
+    let payload = one(alloc, item(DATA, Node::ByteString(bytes)))?;
     let response = response(alloc, 2, done(alloc, Operation::RNGRetrieve, payload)?)?;
     let call = Call::Rng {
         num_bytes: i32::from(count),
@@ -129,7 +137,7 @@ fn activated(alloc: Global, id: &str) -> Result<Recorded, OutOfMemory>
 {
     let payload = one(
         alloc,
-        item(0x420094, Node::TextString(Text::of(alloc, id)?)),
+        item(UNIQUE_IDENTIFIER, Node::TextString(Text::of(alloc, id)?)),
     )?;
     let response = response(alloc, 0, done(alloc, Operation::Activate, payload)?)?;
     let call = Call::Activate {

@@ -502,8 +502,11 @@ impl<'a, T: ReadItem + Chooses, const TAG: u32> Chooser<'a> for Opt<T, TAG> {
 /// case is chosen.
 #[derive(Drop)]
 pub struct Case<'a, T, const NUMBER: u32, const TAG: u32> {
+    /// The item, where there is one.
     pub item: Option<ItemRef<'a>>,
+    /// Whether there is more than one.
     pub several: bool,
+    /// The type that it is read as.
     pub read: PhantomData<T>,
 }
 

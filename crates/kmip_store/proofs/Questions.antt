@@ -13,7 +13,9 @@ use Rattle.kmip_store.specs.declared.maker.MakerError.{MakerError}
 use Rattle.kmip_store.specs.declared.maker.MakerError.TheVariants.{Fault}
 use Rattle.kmip_store.specs.Makers.{MakerState, Answered, Rose, Makes, is_answer}
 use Rattle.kmip_store.specs.Objects.{found, identifier}
-use Rattle.kmip_store.specs.Steps.{Call, CreateRsaKeyPair, Sign, Answer, Signed, Created, Failed, stay, step, question, can_sign, key_of, made_bytes}
+use Rattle.kmip_store.specs.declared.call.Call.{Call}
+use Rattle.kmip_store.specs.declared.call.Call.TheVariants.{CreateRsaKeyPair, Sign}
+use Rattle.kmip_store.specs.Steps.{Answer, Signed, Created, Failed, stay, step, question, can_sign, key_of, made_bytes}
 use Rattle.kmip_store.specs.Answers.{Grew, suits, IsStep, Asks, Gets}
 
 -- what a call of a maker that refused did

@@ -7,7 +7,9 @@ use Rattle.kmip_store.specs.declared.object.Object.{Object}
 use Rattle.kmip_store.specs.declared.maker.Made.{Made}
 use Rattle.kmip_store.specs.declared.maker.Made.TheVariants as answers
 use Rattle.kmip_store.specs.Objects.{identifier, found, is_pre_active, is_active, is_destroyed}
-use Rattle.kmip_store.specs.Steps.{Call, Query, CreateRsaKeyPair, RngRetrieve, Sign, ActivateKey, RevokeKey, DestroyKey, RenameKey, GetKey, Answer, Got, Stepped, stay, become, allowed, on_found, step, get, can_sign, made_bytes}
+use Rattle.kmip_store.specs.declared.call.Call.{Call}
+use Rattle.kmip_store.specs.declared.call.Call.TheVariants.{Query, CreateRsaKeyPair, RngRetrieve, Sign, ActivateKey, RevokeKey, DestroyKey, RenameKey, GetKey}
+use Rattle.kmip_store.specs.Steps.{Answer, Got, Stepped, stay, become, allowed, on_found, step, get, can_sign, made_bytes}
 use Rattle.kmip_enums.specs.declared.state.State.TheVariants.{Active, Deactivated, Destroyed}
 use Rattle.kmip_store.specs.Runs.{Turn, objects_after, new_identifiers, identifiers_given}
 use Rattle.kmip_store.proofs.Places.{other_bytes}

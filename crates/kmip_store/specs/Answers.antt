@@ -7,7 +7,8 @@ use Rattle.kmip_store.specs.declared.maker.Asked.{Asked}
 use Rattle.kmip_store.specs.declared.maker.Made.{Made}
 use Rattle.kmip_store.specs.declared.maker.MakerError.TheVariants as maker
 use Rattle.kmip_store.specs.Makers.{MakerState, Answered, IsSilent, Rose, Makes, is_answer}
-use Rattle.kmip_store.specs.Steps.{Call, Answer, NotFound, Denied, Failed, stay, step, question}
+use Rattle.kmip_store.specs.declared.call.Call.{Call}
+use Rattle.kmip_store.specs.Steps.{Answer, NotFound, Denied, Failed, stay, step, question}
 
 -- A call that asks no maker is its step. Where memory runs out, the objects are as they were.
 abbrev pub Steps :

@@ -7,26 +7,13 @@ use Rattle.kmip_enums.specs.declared.object_type.ObjectType.{ObjectType}
 use Rattle.kmip_enums.specs.declared.object_type.ObjectType.TheVariants.{PublicKey, PrivateKey}
 use Rattle.kmip_enums.specs.declared.state.State.TheVariants.{PreActive, Active, Deactivated, Destroyed}
 use Rattle.kmip_store.specs.declared.object.Object.{Object}
+use Rattle.kmip_store.specs.declared.call.Call.{Call}
+use Rattle.kmip_store.specs.declared.call.Call.TheVariants.{Query, CreateRsaKeyPair, RngRetrieve, Sign, ActivateKey, RevokeKey, DestroyKey, RenameKey, GetKey}
 use Rattle.kmip_store.specs.declared.maker.Asked.{Asked}
 use Rattle.kmip_store.specs.declared.maker.Asked.TheVariants as questions
 use Rattle.kmip_store.specs.declared.maker.Made.{Made}
 use Rattle.kmip_store.specs.declared.maker.Made.TheVariants as answers
 use Rattle.kmip_store.specs.Objects.{identifier, found, is_pre_active, is_active, is_destroyed, is_public}
-
--- a call, with what it names; the first text of a call on an object is its identifier
-pub data Call : Type 0 where
-  Query : Call
-  -- the length in bits, and the names of the private and the public key
-  CreateRsaKeyPair : ℤ → List ℕ → List ℕ → Call
-  RngRetrieve : ℤ → Call
-  -- and the bytes to sign
-  Sign : List ℕ → List ℕ → Call
-  ActivateKey : List ℕ → Call
-  RevokeKey : List ℕ → Call
-  DestroyKey : List ℕ → Call
-  -- and the new name
-  RenameKey : List ℕ → List ℕ → Call
-  GetKey : List ℕ → Call
 
 pub data Answer : Type 0 where
   -- no object has the identifier

@@ -11,6 +11,7 @@
 //!     let signature = store.sign(&mut maker, private.as_str(), b"message")?;
 #![tactic(auto)]
 
+mod call;
 mod error;
 mod laws;
 mod maker;
@@ -20,6 +21,7 @@ mod objects;
 mod plain_maker;
 mod store;
 
+pub use call::Call;
 pub use error::StoreError;
 pub use laws::{destroyed_stays, identifiers_differ};
 pub use maker::{Asked, Made, Maker, MakerError};

@@ -4,10 +4,12 @@ ghost use Rattle.std.specs.Prelude.{ℕ, ◌≡◌, ◌≢◌, ◌+◌, ◌^◌,
 ghost use Rattle.std.specs.Prelude.{vec_len, vec_capacity, bytes_eq, decimal, slice_get};
 ghost use Rattle.std.specs.Prelude.{Some, None, IfOk, OnErr, IfErr};
 ghost use Rattle.kmip_store.specs.Objects.{found, identifier as identifier_of};
-ghost use Rattle.kmip_store.specs.Steps.{CreateRsaKeyPair, RngRetrieve, Sign, ActivateKey};
-ghost use Rattle.kmip_store.specs.Steps.{RevokeKey, DestroyKey, RenameKey, GetKey};
+ghost use Rattle.kmip_store.specs.declared.call.Call.TheVariants.{CreateRsaKeyPair, RngRetrieve};
+ghost use Rattle.kmip_store.specs.declared.call.Call.TheVariants.{Sign, ActivateKey, RevokeKey};
+ghost use Rattle.kmip_store.specs.declared.call.Call.TheVariants.{DestroyKey, RenameKey, GetKey};
 ghost use Rattle.kmip_store.specs.Steps.{Done, Created, Random, Signed, Got};
 ghost use Rattle.kmip_store.specs.Answers.{Steps, Asks, Gets};
+ghost use Rattle.kmip_store.specs.Makers.{MakerKeeps};
 ghost use Rattle.kmip_store.specs.declared.maker.Asked.TheVariants as questions;
 ghost use Rattle.kmip_store.specs.declared.maker.Made.TheVariants.{Bytes};
 
@@ -87,9 +89,10 @@ pub fn create<M: Maker>(
     private_name: &str,
     public_name: &str,
 ) -> Result<(Text, Text), StoreError>
-    ensures { Asks (λ pair. Created pair.0 pair.1)
+    ensures step { Asks (λ pair. Created pair.0 pair.1)
         objects.old.items (CreateRsaKeyPair key_length private_name.now public_name.now)
         objects.new.items (M.state maker.old) (M.state maker.new) result }
+    ensures keeps { MakerKeeps (M.state maker.old) (M.state maker.new) }
 {
     let identifiers = next_identifiers(alloc, objects.as_slice())?;
     let private_name = Text::of(alloc, private_name)?;
@@ -120,8 +123,9 @@ pub fn retrieve<M: Maker>(
     maker: &mut M,
     num_bytes: i32,
 ) -> Result<Blob, StoreError>
-    ensures { Asks Random objects.now (RngRetrieve num_bytes) objects.now
+    ensures step { Asks Random objects.now (RngRetrieve num_bytes) objects.now
         (M.state maker.old) (M.state maker.new) result }
+    ensures keeps { MakerKeeps (M.state maker.old) (M.state maker.new) }
 {
     match maker.random(alloc, num_bytes) {
         Ok(bytes) => Ok(bytes),
@@ -148,8 +152,9 @@ fn signature<M: Maker>(
     object: &Object,
     bytes: &[u8],
 ) -> Result<Blob, StoreError>
-    ensures { Gets (λ signature. Bytes signature) (questions.Sign object.now.key bytes.now)
+    ensures gets { Gets (λ signature. Bytes signature) (questions.Sign object.now.key bytes.now)
         (M.state maker.old) (M.state maker.new) result }
+    ensures keeps { MakerKeeps (M.state maker.old) (M.state maker.new) }
 {
     match maker.sign(alloc, &object.key, bytes) {
         Ok(signature) => Ok(signature),
@@ -167,8 +172,9 @@ pub fn sign<M: Maker>(
     id: &str,
     bytes: &[u8],
 ) -> Result<Blob, StoreError>
-    ensures { Asks Signed objects.now (Sign id.now bytes.now) objects.now
+    ensures step { Asks Signed objects.now (Sign id.now bytes.now) objects.now
         (M.state maker.old) (M.state maker.new) result }
+    ensures keeps { MakerKeeps (M.state maker.old) (M.state maker.new) }
 {
     let object = named(objects, id)?;
     if !object.can_sign() {

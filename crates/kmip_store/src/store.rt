@@ -3,10 +3,12 @@
 ghost use Rattle.std.specs.Prelude.{◌≡◌, ◌≢◌, ◌+◌, [], length, IfOk, IfErr, option_copied};
 ghost use Rattle.std.specs.Option.{option_map};
 ghost use Rattle.kmip_store.specs.Objects.{found, object_of, identifier};
-ghost use Rattle.kmip_store.specs.Steps.{CreateRsaKeyPair, RngRetrieve, Sign, ActivateKey};
-ghost use Rattle.kmip_store.specs.Steps.{RevokeKey, DestroyKey, RenameKey, GetKey};
+ghost use Rattle.kmip_store.specs.declared.call.Call.TheVariants.{CreateRsaKeyPair, RngRetrieve};
+ghost use Rattle.kmip_store.specs.declared.call.Call.TheVariants.{Sign, ActivateKey, RevokeKey};
+ghost use Rattle.kmip_store.specs.declared.call.Call.TheVariants.{DestroyKey, RenameKey, GetKey};
 ghost use Rattle.kmip_store.specs.Steps.{Done, Created, Random, Signed, Got};
 ghost use Rattle.kmip_store.specs.Answers.{Steps, Asks};
+ghost use Rattle.kmip_store.specs.Makers.{MakerKeeps};
 
 use crate::error::StoreError;
 use crate::maker::Maker;
@@ -91,9 +93,10 @@ impl Store {
         private_name: &str,
         public_name: &str,
     ) -> Result<(Text, Text), StoreError>
-        ensures { Asks (λ pair. Created pair.0 pair.1)
+        ensures step { Asks (λ pair. Created pair.0 pair.1)
             self.old (CreateRsaKeyPair key_length private_name.now public_name.now) self.new
             (M.state maker.old) (M.state maker.new) result }
+        ensures keeps { MakerKeeps (M.state maker.old) (M.state maker.new) }
     {
         objects::create(
             self.alloc,
@@ -114,8 +117,10 @@ impl Store {
         maker: &mut M,
         num_bytes: i32,
     ) -> Result<Blob, StoreError>
-        ensures { Asks Random self.old (RngRetrieve num_bytes) self.new
+        ensures step { Asks Random self.old (RngRetrieve num_bytes) self.new
             (M.state maker.old) (M.state maker.new) result }
+        ensures stays { self.new ≡ self.old }
+        ensures keeps { MakerKeeps (M.state maker.old) (M.state maker.new) }
     {
         objects::retrieve(self.alloc, self.objects.as_slice(), maker, num_bytes)
     }
@@ -131,8 +136,10 @@ impl Store {
         id: &str,
         bytes: &[u8],
     ) -> Result<Blob, StoreError>
-        ensures { Asks Signed self.old (Sign id.now bytes.now) self.new
+        ensures step { Asks Signed self.old (Sign id.now bytes.now) self.new
             (M.state maker.old) (M.state maker.new) result }
+        ensures stays { self.new ≡ self.old }
+        ensures keeps { MakerKeeps (M.state maker.old) (M.state maker.new) }
     {
         objects::sign(self.alloc, self.objects.as_slice(), maker, id, bytes)
     }

@@ -7,6 +7,7 @@ ghost use Rattle.kmip_tags.specs.Table.{names};
 
 mod map;
 mod table;
+pub mod tags;
 #[cfg(test)]
 mod tests;
 

@@ -9,6 +9,7 @@ use kmip_shape::record::{End, Row};
 use kmip_shape::{
     BigInteger, Outer, Timestamp, copy_list, copy_optional_list, fields, read_record, read_root,
 };
+use kmip_tags::tags::ATTRIBUTE_INDEX;
 use kmip_types::{AttributeValue, CryptographicParameters, DataLength, Values};
 use kmip_wire::{Blob, ItemRef, List, Text, Tree, Trees, clone_items, read_tree};
 use std::alloc::Global;
@@ -142,7 +143,11 @@ fn records(rt: HostRuntime) -> Result<(), Fail> {
     let bytes =
         b"\x42\x00\x08\x01\x00\x00\x00\x10\x42\x00\x09\x02\x00\x00\x00\x04\x00\x00\x00\x05\x00\x00\x00\x00";
     let item = ItemRef::root(bytes).ok_or("no item")?;
-    let fields![number] = read_record::<Row<One<i32, 0x420009>, End>>(alloc, Outer::none(), item)?;
+    let fields![number] = read_record::<Row<One<i32, ATTRIBUTE_INDEX>, End>>(
+        alloc,
+        Outer::none(),
+        item,
+    )?;
     assert_eq!(&rt; number, 5);
     // 7C{57 e4,94 "k",64{40{42 e1,45{43 xAA}}}}
     let bytes =

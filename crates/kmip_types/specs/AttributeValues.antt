@@ -1,5 +1,6 @@
 -- The value of an attribute: for each variant its case, what selects it, and its shape.
 use Rattle.std.specs.Prelude.{ℕ, pos, ◌+◌, List, [], ◌∷◌, None, codes, ◌≡◌, refl}
+use Rattle.kmip_tags.specs.Tags.{APPLICATION_DATA, APPLICATION_NAMESPACE, LINKED_OBJECT_IDENTIFIER, LINK_TYPE, NAME_TYPE, NAME_VALUE}
 use Rattle.std.proofs.Common.{ap, ◌∙◌}
 use Rattle.kmip_wire.specs.declared.kind.Kind.TheVariants as kinds
 use Rattle.kmip_shape.specs.Val.{Val, Vals, Field, Fields, Number, Text, Bytes, Truth, Record, Case, Absent, One, Many, NoField, AndField, NoVal, AndVal, vals_of}
@@ -24,22 +25,22 @@ use Rattle.kmip_types.specs.declared.attribute_value.AttributeValue.TheVariants.
 -- Name (KMIP 1.0, 3.2)
 abbrev pub name : Shape
 name = Rows
-    (AndRow (codes "name_value") (Under 0x420055) Required Plain (Scalar kinds.TextString)
-    (AndRow (codes "name_type") (Under 0x420054) Required Plain (OneOf name_types)
+    (AndRow (codes "name_value") (Under NAME_VALUE) Required Plain (Scalar kinds.TextString)
+    (AndRow (codes "name_type") (Under NAME_TYPE) Required Plain (OneOf name_types)
     NoRow))
 
 -- Link (KMIP 1.0, 3.29)
 abbrev pub link : Shape
 link = Rows
-    (AndRow (codes "link_type") (Under 0x42004B) Required Plain (OneOf link_types)
-    (AndRow (codes "linked_object_identifier") (Under 0x42004C) Required Plain (Scalar kinds.TextString)
+    (AndRow (codes "link_type") (Under LINK_TYPE) Required Plain (OneOf link_types)
+    (AndRow (codes "linked_object_identifier") (Under LINKED_OBJECT_IDENTIFIER) Required Plain (Scalar kinds.TextString)
     NoRow))
 
 -- Application Specific Information (KMIP 1.0, 3.30)
 abbrev pub application_specific_information : Shape
 application_specific_information = Rows
-    (AndRow (codes "application_namespace") (Under 0x420003) Required Plain (Scalar kinds.TextString)
-    (AndRow (codes "application_data") (Under 0x420002) Required Plain (Scalar kinds.TextString)
+    (AndRow (codes "application_namespace") (Under APPLICATION_NAMESPACE) Required Plain (Scalar kinds.TextString)
+    (AndRow (codes "application_data") (Under APPLICATION_DATA) Required Plain (Scalar kinds.TextString)
     NoRow))
 
 -- the cases of an attribute's value: by the name of the attribute, and under any other name by the type of the item

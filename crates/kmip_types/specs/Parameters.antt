@@ -1,5 +1,6 @@
 -- Parameters of a cryptographic operation.
 use Rattle.std.specs.Prelude.{codes, Option}
+use Rattle.kmip_tags.specs.Tags.{BLOCK_CIPHER_MODE, COUNTER_LENGTH, CRYPTOGRAPHIC_ALGORITHM, DIGITAL_SIGNATURE_ALGORITHM, FIXED_FIELD_LENGTH, HASHING_ALGORITHM, INITIAL_COUNTER_VALUE, INVOCATION_FIELD_LENGTH, IV_LENGTH, KEY_ROLE_TYPE, PADDING_METHOD, RANDOM_IV, TAG_LENGTH}
 use Rattle.kmip_wire.specs.declared.kind.Kind.TheVariants.{Boolean, Integer}
 use Rattle.kmip_shape.specs.Shape.{Shape, RowList, Scalar, OneOf, Rows, NoRow, AndRow, Optional, Plain, Under}
 use Rattle.kmip_codes.specs.BlockCipherModes.{block_cipher_modes, block_cipher_mode_val, block_cipher_mode_same}
@@ -31,19 +32,19 @@ use Rattle.kmip_types.specs.declared.cryptographic_parameters.CryptographicParam
 -- Cryptographic Parameters (KMIP 1.0, 3.6; KMIP 1.2, 3.6)
 abbrev pub parameter_rows : RowList
 parameter_rows =
-    AndRow (codes "block_cipher_mode") (Under 0x420011) Optional Plain (OneOf block_cipher_modes)
-    (AndRow (codes "padding_method") (Under 0x42005F) Optional Plain (OneOf padding_methods)
-    (AndRow (codes "hashing_algorithm") (Under 0x420038) Optional Plain (OneOf hashing_algorithms)
-    (AndRow (codes "key_role_type") (Under 0x420083) Optional Plain (OneOf key_role_types)
-    (AndRow (codes "digital_signature_algorithm") (Under 0x4200AE) Optional Plain (OneOf digital_signature_algorithms)
-    (AndRow (codes "cryptographic_algorithm") (Under 0x420028) Optional Plain (OneOf cryptographic_algorithms)
-    (AndRow (codes "random_iv") (Under 0x4200C5) Optional Plain (Scalar Boolean)
-    (AndRow (codes "iv_length") (Under 0x4200CD) Optional Plain (Scalar Integer)
-    (AndRow (codes "tag_length") (Under 0x4200CE) Optional Plain (Scalar Integer)
-    (AndRow (codes "fixed_field_length") (Under 0x4200CF) Optional Plain (Scalar Integer)
-    (AndRow (codes "invocation_field_length") (Under 0x4200D2) Optional Plain (Scalar Integer)
-    (AndRow (codes "counter_length") (Under 0x4200D0) Optional Plain (Scalar Integer)
-    (AndRow (codes "initial_counter_value") (Under 0x4200D1) Optional Plain (Scalar Integer)
+    AndRow (codes "block_cipher_mode") (Under BLOCK_CIPHER_MODE) Optional Plain (OneOf block_cipher_modes)
+    (AndRow (codes "padding_method") (Under PADDING_METHOD) Optional Plain (OneOf padding_methods)
+    (AndRow (codes "hashing_algorithm") (Under HASHING_ALGORITHM) Optional Plain (OneOf hashing_algorithms)
+    (AndRow (codes "key_role_type") (Under KEY_ROLE_TYPE) Optional Plain (OneOf key_role_types)
+    (AndRow (codes "digital_signature_algorithm") (Under DIGITAL_SIGNATURE_ALGORITHM) Optional Plain (OneOf digital_signature_algorithms)
+    (AndRow (codes "cryptographic_algorithm") (Under CRYPTOGRAPHIC_ALGORITHM) Optional Plain (OneOf cryptographic_algorithms)
+    (AndRow (codes "random_iv") (Under RANDOM_IV) Optional Plain (Scalar Boolean)
+    (AndRow (codes "iv_length") (Under IV_LENGTH) Optional Plain (Scalar Integer)
+    (AndRow (codes "tag_length") (Under TAG_LENGTH) Optional Plain (Scalar Integer)
+    (AndRow (codes "fixed_field_length") (Under FIXED_FIELD_LENGTH) Optional Plain (Scalar Integer)
+    (AndRow (codes "invocation_field_length") (Under INVOCATION_FIELD_LENGTH) Optional Plain (Scalar Integer)
+    (AndRow (codes "counter_length") (Under COUNTER_LENGTH) Optional Plain (Scalar Integer)
+    (AndRow (codes "initial_counter_value") (Under INITIAL_COUNTER_VALUE) Optional Plain (Scalar Integer)
     NoRow))))))))))))
 
 abbrev pub cryptographic_parameters : Shape

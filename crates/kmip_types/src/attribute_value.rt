@@ -14,6 +14,10 @@ use kmip_names::{ApplicationData, ApplicationNamespace, LinkedObjectIdentifier, 
 use kmip_shape::columns::One;
 use kmip_shape::record::{End, Row};
 use kmip_shape::{Item, fields, known_record};
+use kmip_tags::tags::{
+    APPLICATION_DATA, APPLICATION_NAMESPACE, LINK_TYPE, LINKED_OBJECT_IDENTIFIER, NAME_TYPE,
+    NAME_VALUE,
+};
 use kmip_wire::{Blob, OutOfMemory, Text};
 use std::alloc::Global;
 use std::marker::Model;
@@ -45,14 +49,19 @@ pub enum AttributeValue {
     ContactInformation(Text),
     /// A custom structure. It has a wire form where none of its members writes a structure.
     Structure(Values),
+    /// A value of type Integer.
     Integer(i32),
+    /// A value of type Long Integer.
     LongInteger(i64),
     /// The bytes of the number, the highest first. It has a wire form where they are a multiple of 8.
     BigInteger(Blob),
     /// The number of an enumeration.
     Enumeration(u32),
+    /// A value of type Boolean.
     Boolean(bool),
+    /// A value of type Text String.
     TextString(Text),
+    /// A value of type Byte String.
     ByteString(Blob),
     /// The eight bytes of the signed seconds since 1970, as an unsigned number.
     DateTime(u64),
@@ -159,15 +168,18 @@ impl Values {
 }
 
 /// The rows of a Name: KMIP 1.0, 3.2.
-pub type NameRows = Row<One<NameValue, 0x420055>, Row<One<NameType, 0x420054>, End>>;
+pub type NameRows = Row<One<NameValue, NAME_VALUE>, Row<One<NameType, NAME_TYPE>, End>>;
 
 /// The rows of a Link: KMIP 1.0, 3.29.
-pub type LinkRows = Row<One<LinkType, 0x42004B>, Row<One<LinkedObjectIdentifier, 0x42004C>, End>>;
+pub type LinkRows = Row<
+    One<LinkType, LINK_TYPE>,
+    Row<One<LinkedObjectIdentifier, LINKED_OBJECT_IDENTIFIER>, End>,
+>;
 
 /// The rows of Application Specific Information: KMIP 1.0, 3.30.
 pub type InformationRows = Row<
-    One<ApplicationNamespace, 0x420003>,
-    Row<One<ApplicationData, 0x420002>, End>,
+    One<ApplicationNamespace, APPLICATION_NAMESPACE>,
+    Row<One<ApplicationData, APPLICATION_DATA>, End>,
 >;
 
 impl Item for AttributeValue {

@@ -13,10 +13,11 @@ use kmip_shape::scalars::{
     put_enumeration, put_integer, put_interval, put_long_integer, put_text, text_len,
 };
 use kmip_shape::{WriteItem, begin_structure, fields, plus_len, record_len, write_record};
+use kmip_tags::tags::ATTRIBUTE_VALUE;
 use kmip_wire::{Buffer, Tag};
 
 /// The tag of every child of a custom structure.
-const CHILD: u32 = 0x42000B;
+const CHILD: u32 = ATTRIBUTE_VALUE;
 
 impl AttributeValue {
     /// The length as a child of a custom structure, and `None` exactly where it has no form as one.

@@ -7,13 +7,16 @@ use kmip_wire::Text;
 /// What a client shows to be let in.
 #[derive(Drop)]
 pub enum CredentialType {
+    /// A username and a password: KMIP 1.0, 2.1.2.
     UsernameAndPassword(UsernameAndPasswordCredential),
 }
 
 /// A username, and its password where there is one: KMIP 1.0, 2.1.2.
 #[derive(Drop)]
 pub struct UsernameAndPasswordCredential {
+    /// The name of the user.
     pub username: Text,
+    /// The password, where there is one.
     pub password: Option<Text>,
 }
 

@@ -17,6 +17,11 @@ use kmip_shape::{
     Item, Outer, ReadError, ReadItem, ShowItem, Sink, WriteItem, fields, known_record, read_record,
     record_len, show_record, write_record,
 };
+use kmip_tags::tags::{
+    BLOCK_CIPHER_MODE, COUNTER_LENGTH, CRYPTOGRAPHIC_ALGORITHM, DIGITAL_SIGNATURE_ALGORITHM,
+    FIXED_FIELD_LENGTH, HASHING_ALGORITHM, INITIAL_COUNTER_VALUE, INVOCATION_FIELD_LENGTH,
+    IV_LENGTH, KEY_ROLE_TYPE, PADDING_METHOD, RANDOM_IV, TAG_LENGTH,
+};
 use kmip_wire::{Buffer, ItemRef, Tag};
 use std::alloc::Global;
 
@@ -184,30 +189,33 @@ impl CryptographicParameters {
 }
 
 type CryptographicParametersRows = Row<
-    Opt<BlockCipherMode, 0x420011>,
+    Opt<BlockCipherMode, BLOCK_CIPHER_MODE>,
     Row<
-        Opt<PaddingMethod, 0x42005F>,
+        Opt<PaddingMethod, PADDING_METHOD>,
         Row<
-            Opt<HashingAlgorithm, 0x420038>,
+            Opt<HashingAlgorithm, HASHING_ALGORITHM>,
             Row<
-                Opt<KeyRoleType, 0x420083>,
+                Opt<KeyRoleType, KEY_ROLE_TYPE>,
                 Row<
-                    Opt<DigitalSignatureAlgorithm, 0x4200AE>,
+                    Opt<DigitalSignatureAlgorithm, DIGITAL_SIGNATURE_ALGORITHM>,
                     Row<
-                        Opt<CryptographicAlgorithm, 0x420028>,
+                        Opt<CryptographicAlgorithm, CRYPTOGRAPHIC_ALGORITHM>,
                         Row<
-                            Opt<RandomIV, 0x4200C5>,
+                            Opt<RandomIV, RANDOM_IV>,
                             Row<
-                                Opt<IVLength, 0x4200CD>,
+                                Opt<IVLength, IV_LENGTH>,
                                 Row<
-                                    Opt<TagLength, 0x4200CE>,
+                                    Opt<TagLength, TAG_LENGTH>,
                                     Row<
-                                        Opt<FixedFieldLength, 0x4200CF>,
+                                        Opt<FixedFieldLength, FIXED_FIELD_LENGTH>,
                                         Row<
-                                            Opt<InvocationFieldLength, 0x4200D2>,
+                                            Opt<InvocationFieldLength, INVOCATION_FIELD_LENGTH>,
                                             Row<
-                                                Opt<CounterLength, 0x4200D0>,
-                                                Row<Opt<InitialCounterValue, 0x4200D1>, End>,
+                                                Opt<CounterLength, COUNTER_LENGTH>,
+                                                Row<
+                                                    Opt<InitialCounterValue, INITIAL_COUNTER_VALUE>,
+                                                    End,
+                                                >,
                                             >,
                                         >,
                                     >,

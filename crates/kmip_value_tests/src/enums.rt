@@ -6,6 +6,7 @@ use kmip_enums::{
 use kmip_shape::ShowItem;
 use kmip_shape::children::{read_list, read_one, read_opt};
 use kmip_shape::read::{Outer, ReadError, ReadItem};
+use kmip_tags::tags::{OBJECT_TYPE, OPERATION};
 use kmip_wire::{ItemRef, Tag, Text};
 use std::test::Fail;
 
@@ -192,7 +193,7 @@ fn readers(rt: HostRuntime) -> Result<(), Fail> {
         let item = ItemRef::root(bytes.as_slice()).ok_or("no item")?;
         assert!(rt; Operation::read(alloc, outer, item) == Err(ReadError::Unread));
     }
-    let operation = Tag::of(0x42005C);
+    let operation = Tag::of(OPERATION);
     let bytes = hex::decode(alloc, TWO)?;
     let two = ItemRef::root(bytes.as_slice()).ok_or("no item")?;
     assert!(rt; read_one::<Operation>(alloc, outer, two, operation) == Err(ReadError::Unread));
@@ -208,7 +209,7 @@ fn readers(rt: HostRuntime) -> Result<(), Fail> {
     Operation::Create.show(alloc, &mut shown)?;
     assert_eq!(rt; shown.as_str(), "Create");
 
-    let object_type = Tag::of(0x420057);
+    let object_type = Tag::of(OBJECT_TYPE);
     assert!(rt; read_one::<ObjectType>(alloc, outer, one, object_type) == Err(ReadError::Unread));
     assert!(rt; read_opt::<ObjectType>(alloc, outer, one, object_type)?.is_none());
     assert!(rt; read_list::<ObjectType>(alloc, outer, one, object_type)?.len() == 0);

@@ -2,6 +2,7 @@ use crate::support::Under::{Nothing, Number};
 use crate::support::{Case, are_read};
 use kmip_keys::{KeyMaterial, TransparentRSAPublicKey};
 use kmip_shape::item_len;
+use kmip_tags::tags::KEY_MATERIAL;
 use kmip_wire::{Blob, Tag, TryClone};
 use std::test::Fail;
 
@@ -132,7 +133,7 @@ fn transparent_keys(rt: HostRuntime) -> Result<(), Fail> {
 #[test]
 fn without_a_form(rt: HostRuntime) -> Result<(), Fail> {
     let alloc = rt.alloc();
-    let tag = Tag::of(0x420043);
+    let tag = Tag::of(KEY_MATERIAL);
     let structure = KeyMaterial::Structure(Blob::of(alloc, b"\xAA")?);
     assert!(&rt; item_len(&structure, tag).is_none());
     let wrapped = KeyMaterial::Wrapped(Blob::of(alloc, b"\xAA")?);

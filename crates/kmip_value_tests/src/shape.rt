@@ -4,6 +4,7 @@ use kmip_shape::{
     BigInteger, Boxed, Item, List, Outer, ReadError, ReadItem, ShowItem, Timestamp,
     copy_optional_list, read_list, read_one, read_opt, to_blob,
 };
+use kmip_tags::tags::OPERATION;
 use kmip_wire::{Blob, ItemRef, Tag, Text};
 use std::test::Fail;
 
@@ -46,7 +47,7 @@ fn children_of_a_tag(rt: HostRuntime) {
         let Some(view) = ItemRef::root(bytes) else {
             panic!(rt; "no item")
         };
-        let tag = Tag::of(0x42005C);
+        let tag = Tag::of(OPERATION);
         match read_one::<i32>(rt.alloc(), Outer::none(), view, tag) {
             Ok(read) => assert!(rt; one == Some(read)),
             Err(error) => assert!(rt; one.is_none() && error == ReadError::Unread),
@@ -76,7 +77,7 @@ fn shown_and_written(rt: HostRuntime) {
     assert!(rt;
         out.as_str() == "\"a\\\"b\\\\c\\x0A\\x7F\u{e9}\"x\"0AFF\"-518446744073709551615true"
     );
-    let written = to_blob(alloc, &1i32, Tag::of(0x42005C)).expect(&rt, "a form");
+    let written = to_blob(alloc, &1i32, Tag::of(OPERATION)).expect(&rt, "a form");
     assert!(rt; written.as_slice() == &ITEM[..]);
 }
 

@@ -2,6 +2,7 @@ use crate::support::Under::{Name, Nothing};
 use crate::support::{Case, are_read};
 use kmip_codes::{HashingAlgorithm, PaddingMethod};
 use kmip_shape::{Outer, ReadItem, item_len, to_blob};
+use kmip_tags::tags::{ATTRIBUTE_VALUE, CRYPTOGRAPHIC_PARAMETERS};
 use kmip_types::{AttributeValue, CryptographicParameters, Values};
 use kmip_wire::{Blob, ItemRef, Tag, TryClone};
 use std::alloc::Global;
@@ -222,7 +223,7 @@ fn members_are_copied_and_compared(rt: HostRuntime) -> Result<(), Fail> {
 #[test]
 fn without_a_form(rt: HostRuntime) -> Result<(), Fail> {
     let alloc = rt.alloc();
-    let tag = Tag::of(0x42000B);
+    let tag = Tag::of(ATTRIBUTE_VALUE);
     let mut members = Values::new(alloc);
     members.push(AttributeValue::Structure(Values::new(alloc)))?;
     assert!(&rt; item_len(&AttributeValue::Structure(members), tag).is_none());
@@ -246,7 +247,7 @@ const HASHED: &str =
 #[test]
 fn cryptographic_parameters(rt: HostRuntime) -> Result<(), Fail> {
     let alloc = rt.alloc();
-    let tag = Tag::of(0x42002B);
+    let tag = Tag::of(CRYPTOGRAPHIC_PARAMETERS);
     let padded = CryptographicParameters::default().with_padding_method(PaddingMethod::PKCS1_v1_5);
     assert!(&rt;
         to_blob(alloc, &padded, tag)?.as_slice() == hex::decode(alloc, PADDED)?.as_slice()

@@ -27,13 +27,19 @@ pub struct Tree {
 pub enum Node {
     /// The children in order.
     Structure(Trees),
+    /// A signed number of 32 bits.
     Integer(i32),
+    /// A signed number of 64 bits.
     LongInteger(i64),
     /// The bytes of the number. It has a wire form where they are a multiple of 8.
     BigInteger(Blob),
+    /// A number of an enumeration.
     Enumeration(u32),
+    /// A truth value.
     Boolean(bool),
+    /// A text in UTF-8.
     TextString(Text),
+    /// Bytes.
     ByteString(Blob),
     /// The eight bytes of the signed seconds since 1970, as an unsigned number.
     DateTime(u64),

@@ -12,6 +12,7 @@ use kmip_shape::{
     Item, Outer, ReadError, ReadItem, ReadRoot, ShowItem, Sink, fields, known_record, read_record,
     show_record,
 };
+use kmip_tags::tags::{ATTRIBUTE, ATTRIBUTE_NAME, RESPONSE_PAYLOAD, UNIQUE_IDENTIFIER};
 use kmip_types::{AttributeName, UniqueIdentifier};
 use kmip_wire::{ItemRef, List, OutOfMemory, Tag, TryClone, clone_optional};
 use std::alloc::Global;
@@ -19,13 +20,15 @@ use std::alloc::Global;
 /// What Get Attributes answers: KMIP 1.0, 4.11.
 #[derive(PartialEq, Eq, Drop)]
 pub struct GetAttributesResponsePayload {
+    /// The identifier of the object.
     pub unique_identifier: UniqueIdentifier,
+    /// The attributes asked for that the object has.
     pub attributes: Option<List<Attribute>>,
 }
 
 type GetAttributesResponsePayloadRows = Row<
-    One<UniqueIdentifier, 0x420094>,
-    Row<OptMany<Attribute, 0x420008>, End>,
+    One<UniqueIdentifier, UNIQUE_IDENTIFIER>,
+    Row<OptMany<Attribute, ATTRIBUTE>, End>,
 >;
 
 impl TryClone for GetAttributesResponsePayload {
@@ -65,10 +68,10 @@ impl ReadItem for GetAttributesResponsePayload {
 }
 
 impl ReadRoot for GetAttributesResponsePayload {
-    ghost root_tag = { 0x42007C };
+    ghost root_tag = { RESPONSE_PAYLOAD };
 
     fn root_tag() -> Tag {
-        Tag::of(0x42007C)
+        Tag::of(RESPONSE_PAYLOAD)
     }
 }
 
@@ -85,14 +88,15 @@ impl ShowItem for GetAttributesResponsePayload {
 /// What Get Attribute List answers: KMIP 1.0, 4.12.
 #[derive(PartialEq, Eq, Drop)]
 pub struct GetAttributeListResponsePayload {
+    /// The identifier of the object.
     pub unique_identifier: UniqueIdentifier,
     /// At least one.
     pub attributes: List<AttributeName>,
 }
 
 type GetAttributeListResponsePayloadRows = Row<
-    One<UniqueIdentifier, 0x420094>,
-    Row<NonEmpty<AttributeName, 0x42000A>, End>,
+    One<UniqueIdentifier, UNIQUE_IDENTIFIER>,
+    Row<NonEmpty<AttributeName, ATTRIBUTE_NAME>, End>,
 >;
 
 impl TryClone for GetAttributeListResponsePayload {
@@ -132,10 +136,10 @@ impl ReadItem for GetAttributeListResponsePayload {
 }
 
 impl ReadRoot for GetAttributeListResponsePayload {
-    ghost root_tag = { 0x42007C };
+    ghost root_tag = { RESPONSE_PAYLOAD };
 
     fn root_tag() -> Tag {
-        Tag::of(0x42007C)
+        Tag::of(RESPONSE_PAYLOAD)
     }
 }
 
@@ -152,14 +156,15 @@ impl ShowItem for GetAttributeListResponsePayload {
 /// What Add Attribute, Modify Attribute and Delete Attribute answer: KMIP 1.0, 4.13 to 4.15.
 #[derive(PartialEq, Eq, Drop)]
 pub struct AttributeEditResponsePayload {
+    /// The identifier of the object.
     pub unique_identifier: UniqueIdentifier,
     /// The attribute that was added, changed or taken away.
     pub attribute: Attribute,
 }
 
 type AttributeEditResponsePayloadRows = Row<
-    One<UniqueIdentifier, 0x420094>,
-    Row<One<Attribute, 0x420008>, End>,
+    One<UniqueIdentifier, UNIQUE_IDENTIFIER>,
+    Row<One<Attribute, ATTRIBUTE>, End>,
 >;
 
 impl TryClone for AttributeEditResponsePayload {
@@ -199,10 +204,10 @@ impl ReadItem for AttributeEditResponsePayload {
 }
 
 impl ReadRoot for AttributeEditResponsePayload {
-    ghost root_tag = { 0x42007C };
+    ghost root_tag = { RESPONSE_PAYLOAD };
 
     fn root_tag() -> Tag {
-        Tag::of(0x42007C)
+        Tag::of(RESPONSE_PAYLOAD)
     }
 }
 

@@ -11,6 +11,7 @@ use kmip_shape::{
     Item, Outer, ReadError, ReadItem, ReadRoot, ShowItem, Sink, fields, known_record, read_record,
     show_record,
 };
+use kmip_tags::tags::{DATA, RESPONSE_PAYLOAD, SIGNATURE_DATA, UNIQUE_IDENTIFIER};
 use kmip_types::UniqueIdentifier;
 use kmip_wire::{Blob, ItemRef, OutOfMemory, Tag, TryClone};
 use std::alloc::Global;
@@ -18,12 +19,16 @@ use std::alloc::Global;
 /// What Sign answers: KMIP 1.2, 4.31.
 #[derive(PartialEq, Eq, Drop)]
 pub struct SignResponsePayload {
+    /// The identifier of the object.
     pub unique_identifier: UniqueIdentifier,
     /// The bytes of the signature.
     pub signature_data: Blob,
 }
 
-type SignResponsePayloadRows = Row<One<UniqueIdentifier, 0x420094>, Row<One<Blob, 0x4200C3>, End>>;
+type SignResponsePayloadRows = Row<
+    One<UniqueIdentifier, UNIQUE_IDENTIFIER>,
+    Row<One<Blob, SIGNATURE_DATA>, End>,
+>;
 
 impl TryClone for SignResponsePayload {
     fn try_clone(&self, alloc: Global) -> Result<SignResponsePayload, OutOfMemory> {
@@ -62,10 +67,10 @@ impl ReadItem for SignResponsePayload {
 }
 
 impl ReadRoot for SignResponsePayload {
-    ghost root_tag = { 0x42007C };
+    ghost root_tag = { RESPONSE_PAYLOAD };
 
     fn root_tag() -> Tag {
-        Tag::of(0x42007C)
+        Tag::of(RESPONSE_PAYLOAD)
     }
 }
 
@@ -86,7 +91,7 @@ pub struct RNGRetrieveResponsePayload {
     pub random_bytes: Blob,
 }
 
-type RNGRetrieveResponsePayloadRows = Row<One<Blob, 0x4200C2>, End>;
+type RNGRetrieveResponsePayloadRows = Row<One<Blob, DATA>, End>;
 
 impl TryClone for RNGRetrieveResponsePayload {
     fn try_clone(&self, alloc: Global) -> Result<RNGRetrieveResponsePayload, OutOfMemory> {
@@ -118,10 +123,10 @@ impl ReadItem for RNGRetrieveResponsePayload {
 }
 
 impl ReadRoot for RNGRetrieveResponsePayload {
-    ghost root_tag = { 0x42007C };
+    ghost root_tag = { RESPONSE_PAYLOAD };
 
     fn root_tag() -> Tag {
-        Tag::of(0x42007C)
+        Tag::of(RESPONSE_PAYLOAD)
     }
 }
 

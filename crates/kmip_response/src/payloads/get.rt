@@ -13,6 +13,7 @@ use kmip_shape::{
     Item, Outer, ReadError, ReadItem, ReadRoot, ShowItem, Sink, fields, known_record, read_record,
     show_record,
 };
+use kmip_tags::tags::{OBJECT_TYPE, RESPONSE_PAYLOAD, UNIQUE_IDENTIFIER};
 use kmip_types::UniqueIdentifier;
 use kmip_wire::{ItemRef, OutOfMemory, Tag, TryClone};
 use std::alloc::Global;
@@ -20,15 +21,17 @@ use std::alloc::Global;
 /// What Get answers: KMIP 1.0, 4.10.
 #[derive(PartialEq, Eq, Drop)]
 pub struct GetResponsePayload {
+    /// The type of the object.
     pub object_type: ObjectType,
+    /// The identifier of the object.
     pub unique_identifier: UniqueIdentifier,
     /// The object, of the type `object_type`.
     pub cryptographic_object: ManagedObject,
 }
 
 type GetResponsePayloadRows<'a> = Choosing<
-    One<ObjectType, 0x420057>,
-    Row<One<UniqueIdentifier, 0x420094>, Row<ManagedObjects<'a>, End>>,
+    One<ObjectType, OBJECT_TYPE>,
+    Row<One<UniqueIdentifier, UNIQUE_IDENTIFIER>, Row<ManagedObjects<'a>, End>>,
 >;
 
 impl TryClone for GetResponsePayload {
@@ -71,10 +74,10 @@ impl ReadItem for GetResponsePayload {
 }
 
 impl ReadRoot for GetResponsePayload {
-    ghost root_tag = { 0x42007C };
+    ghost root_tag = { RESPONSE_PAYLOAD };
 
     fn root_tag() -> Tag {
-        Tag::of(0x42007C)
+        Tag::of(RESPONSE_PAYLOAD)
     }
 }
 

@@ -13,6 +13,10 @@ use kmip_shape::{
     Item, Outer, ReadError, ReadItem, ReadRoot, ShowItem, Sink, fields, known_record, read_record,
     show_record,
 };
+use kmip_tags::tags::{
+    ATTRIBUTE, OBJECT_TYPE, PRIVATE_KEY_UNIQUE_IDENTIFIER, PUBLIC_KEY_UNIQUE_IDENTIFIER,
+    RESPONSE_PAYLOAD, TEMPLATE_ATTRIBUTE, UNIQUE_IDENTIFIER,
+};
 use kmip_types::UniqueIdentifier;
 use kmip_wire::{ItemRef, List, OutOfMemory, Tag, TryClone, clone_optional};
 use std::alloc::Global;
@@ -20,15 +24,17 @@ use std::alloc::Global;
 /// What Create answers: KMIP 1.0, 4.1.
 #[derive(PartialEq, Eq, Drop)]
 pub struct CreateResponsePayload {
+    /// The type of the object.
     pub object_type: ObjectType,
+    /// The identifier of the object.
     pub unique_identifier: UniqueIdentifier,
     /// Attributes that the server set.
     pub object_attributes: Option<List<Attribute>>,
 }
 
 type CreateResponsePayloadRows = Row<
-    One<ObjectType, 0x420057>,
-    Row<One<UniqueIdentifier, 0x420094>, Row<OptMany<Attribute, 0x420008>, End>>,
+    One<ObjectType, OBJECT_TYPE>,
+    Row<One<UniqueIdentifier, UNIQUE_IDENTIFIER>, Row<OptMany<Attribute, ATTRIBUTE>, End>>,
 >;
 
 impl TryClone for CreateResponsePayload {
@@ -71,10 +77,10 @@ impl ReadItem for CreateResponsePayload {
 }
 
 impl ReadRoot for CreateResponsePayload {
-    ghost root_tag = { 0x42007C };
+    ghost root_tag = { RESPONSE_PAYLOAD };
 
     fn root_tag() -> Tag {
-        Tag::of(0x42007C)
+        Tag::of(RESPONSE_PAYLOAD)
     }
 }
 
@@ -95,13 +101,15 @@ impl ShowItem for CreateResponsePayload {
 /// What Create Key Pair answers: KMIP 1.0, 4.2.
 #[derive(PartialEq, Eq, Drop)]
 pub struct CreateKeyPairResponsePayload {
+    /// The identifier of the private key.
     pub private_key_unique_identifier: UniqueIdentifier,
+    /// The identifier of the public key.
     pub public_key_unique_identifier: UniqueIdentifier,
 }
 
 type CreateKeyPairResponsePayloadRows = Row<
-    One<UniqueIdentifier, 0x420066>,
-    Row<One<UniqueIdentifier, 0x42006F>, End>,
+    One<UniqueIdentifier, PRIVATE_KEY_UNIQUE_IDENTIFIER>,
+    Row<One<UniqueIdentifier, PUBLIC_KEY_UNIQUE_IDENTIFIER>, End>,
 >;
 
 impl TryClone for CreateKeyPairResponsePayload {
@@ -141,10 +149,10 @@ impl ReadItem for CreateKeyPairResponsePayload {
 }
 
 impl ReadRoot for CreateKeyPairResponsePayload {
-    ghost root_tag = { 0x42007C };
+    ghost root_tag = { RESPONSE_PAYLOAD };
 
     fn root_tag() -> Tag {
-        Tag::of(0x42007C)
+        Tag::of(RESPONSE_PAYLOAD)
     }
 }
 
@@ -167,14 +175,15 @@ impl ShowItem for CreateKeyPairResponsePayload {
 /// What Register answers: KMIP 1.0, 4.3.
 #[derive(PartialEq, Eq, Drop)]
 pub struct RegisterResponsePayload {
+    /// The identifier of the object.
     pub unique_identifier: UniqueIdentifier,
     /// Attributes that the server set.
     pub template_attributes: Option<List<TemplateAttribute>>,
 }
 
 type RegisterResponsePayloadRows = Row<
-    One<UniqueIdentifier, 0x420094>,
-    Row<OptMany<TemplateAttribute, 0x420091>, End>,
+    One<UniqueIdentifier, UNIQUE_IDENTIFIER>,
+    Row<OptMany<TemplateAttribute, TEMPLATE_ATTRIBUTE>, End>,
 >;
 
 impl TryClone for RegisterResponsePayload {
@@ -214,10 +223,10 @@ impl ReadItem for RegisterResponsePayload {
 }
 
 impl ReadRoot for RegisterResponsePayload {
-    ghost root_tag = { 0x42007C };
+    ghost root_tag = { RESPONSE_PAYLOAD };
 
     fn root_tag() -> Tag {
-        Tag::of(0x42007C)
+        Tag::of(RESPONSE_PAYLOAD)
     }
 }
 
@@ -234,10 +243,11 @@ impl ShowItem for RegisterResponsePayload {
 /// What Locate answers: the objects that have all the attributes: KMIP 1.0, 4.8.
 #[derive(PartialEq, Eq, Drop)]
 pub struct LocateResponsePayload {
+    /// The identifiers of all objects found, none where there is none.
     pub unique_identifiers: List<UniqueIdentifier>,
 }
 
-type LocateResponsePayloadRows = Row<Many<UniqueIdentifier, 0x420094>, End>;
+type LocateResponsePayloadRows = Row<Many<UniqueIdentifier, UNIQUE_IDENTIFIER>, End>;
 
 impl TryClone for LocateResponsePayload {
     fn try_clone(&self, alloc: Global) -> Result<LocateResponsePayload, OutOfMemory> {
@@ -269,10 +279,10 @@ impl ReadItem for LocateResponsePayload {
 }
 
 impl ReadRoot for LocateResponsePayload {
-    ghost root_tag = { 0x42007C };
+    ghost root_tag = { RESPONSE_PAYLOAD };
 
     fn root_tag() -> Tag {
-        Tag::of(0x42007C)
+        Tag::of(RESPONSE_PAYLOAD)
     }
 }
 
@@ -289,10 +299,11 @@ impl ShowItem for LocateResponsePayload {
 /// The identifier of the object that Activate, Revoke or Destroy was made on: KMIP 1.0, 4.18 to 4.20.
 #[derive(PartialEq, Eq, Drop)]
 pub struct UniqueIdentifierResponsePayload {
+    /// The identifier of the object.
     pub unique_identifier: UniqueIdentifier,
 }
 
-type UniqueIdentifierResponsePayloadRows = Row<One<UniqueIdentifier, 0x420094>, End>;
+type UniqueIdentifierResponsePayloadRows = Row<One<UniqueIdentifier, UNIQUE_IDENTIFIER>, End>;
 
 impl TryClone for UniqueIdentifierResponsePayload {
     fn try_clone(&self, alloc: Global) -> Result<UniqueIdentifierResponsePayload, OutOfMemory> {
@@ -324,10 +335,10 @@ impl ReadItem for UniqueIdentifierResponsePayload {
 }
 
 impl ReadRoot for UniqueIdentifierResponsePayload {
-    ghost root_tag = { 0x42007C };
+    ghost root_tag = { RESPONSE_PAYLOAD };
 
     fn root_tag() -> Tag {
-        Tag::of(0x42007C)
+        Tag::of(RESPONSE_PAYLOAD)
     }
 }
 

@@ -14,12 +14,15 @@ use kmip_shape::{
     Item, Outer, ReadError, ReadItem, ReadRoot, ShowItem, Sink, copy_optional_list, fields,
     known_record, read_record, show_record,
 };
+use kmip_tags::tags::{
+    OBJECT_TYPE, OPERATION, PROTOCOL_VERSION, RESPONSE_PAYLOAD, VENDOR_IDENTIFICATION,
+};
 use kmip_wire::{ItemRef, List, OutOfMemory, Tag, Text, TryClone, clone_optional};
 use std::alloc::Global;
 
 type QueryResponsePayloadRows = Row<
-    OptMany<Operation, 0x42005C>,
-    Row<OptMany<ObjectType, 0x420057>, Row<Opt<Text, 0x42009D>, End>>,
+    OptMany<Operation, OPERATION>,
+    Row<OptMany<ObjectType, OBJECT_TYPE>, Row<Opt<Text, VENDOR_IDENTIFICATION>, End>>,
 >;
 
 impl TryClone for QueryResponsePayload {
@@ -64,10 +67,10 @@ impl ReadItem for QueryResponsePayload {
 }
 
 impl ReadRoot for QueryResponsePayload {
-    ghost root_tag = { 0x42007C };
+    ghost root_tag = { RESPONSE_PAYLOAD };
 
     fn root_tag() -> Tag {
-        Tag::of(0x42007C)
+        Tag::of(RESPONSE_PAYLOAD)
     }
 }
 
@@ -88,10 +91,11 @@ impl ShowItem for QueryResponsePayload {
 /// What Discover Versions answers: KMIP 1.1, 4.26.
 #[derive(PartialEq, Eq, Drop)]
 pub struct DiscoverVersionsResponsePayload {
+    /// The versions that both sides know, the one that the server likes best first.
     pub supported_versions: Option<List<ProtocolVersion>>,
 }
 
-type DiscoverVersionsResponsePayloadRows = Row<OptMany<ProtocolVersion, 0x420069>, End>;
+type DiscoverVersionsResponsePayloadRows = Row<OptMany<ProtocolVersion, PROTOCOL_VERSION>, End>;
 
 impl TryClone for DiscoverVersionsResponsePayload {
     fn try_clone(&self, alloc: Global) -> Result<DiscoverVersionsResponsePayload, OutOfMemory> {
@@ -123,10 +127,10 @@ impl ReadItem for DiscoverVersionsResponsePayload {
 }
 
 impl ReadRoot for DiscoverVersionsResponsePayload {
-    ghost root_tag = { 0x42007C };
+    ghost root_tag = { RESPONSE_PAYLOAD };
 
     fn root_tag() -> Tag {
-        Tag::of(0x42007C)
+        Tag::of(RESPONSE_PAYLOAD)
     }
 }
 

@@ -14,8 +14,11 @@ pub struct ServerInformation;
 /// What Query answers: KMIP 1.0, 4.24.
 #[derive(PartialEq, Eq, Drop)]
 pub struct QueryResponsePayload {
+    /// The operations that the server supports, where that was asked for.
     pub operations: Option<List<Operation>>,
+    /// The types of objects that the server supports, where that was asked for.
     pub object_types: Option<List<ObjectType>>,
+    /// What the vendor calls the server.
     pub vendor_identification: Option<Text>,
     /// Always `None`: what the server tells of itself is skipped.
     pub server_information: Option<ServerInformation>,

@@ -10,8 +10,8 @@ use Rattle.kmip_store.specs.Objects.{identifier}
 use Rattle.kmip_store.proofs.Questions.{refusal, create_step}
 use Rattle.kmip_store.proofs.objects.create.Goals as goal
 
-pub returns-in-Ok : goal.returns-in-Ok
-returns-in-Ok g c =
+pub returns-in-Ok-clause-step : goal.returns-in-Ok-clause-step
+returns-in-Ok-clause-step g c =
     let ids = c.in_ok-identifiers.ensures.texts in
     let same : c.as_slice.result.now ≡ c.args.objects.now.items = search rules in record {
       made = Some (answers.Pair c.in-Ok.pair.0 c.in-Ok.pair.1);
@@ -22,8 +22,8 @@ returns-in-Ok g c =
       told = subst (λ (n : ℤ). IsTrue (g.M.Maker.state c.args.maker.now).tells → Answered (g.M.Maker.state c.args.maker.now) (g.M.Maker.state c.key_pair.new.self) (questions.KeyPair n) (answers.Pair c.in-Ok.pair.0 c.in-Ok.pair.1)) (to_z-of_z c.ranges.key_length) c.in-Ok.ensures.call;
     }
 
-pub returns-in-Err-Fault : goal.returns-in-Err-Fault
-returns-in-Err-Fault g c =
+pub returns-in-Err-Fault-clause-step : goal.returns-in-Err-Fault-clause-step
+returns-in-Err-Fault-clause-step g c =
     let made : List ℕ × List ℕ → Made = λ pair. answers.Pair pair.0 pair.1 in
     let fault = refusal made (questions.KeyPair c.args.key_length) (g.M.Maker.state c.args.maker.now) (g.M.Maker.state c.key_pair.new.self) c.in-Err-Fault.field-0 c.in-Err-Fault.field-0-is
     (subst (λ (n : ℤ). Makes made (questions.KeyPair n) (g.M.Maker.state c.args.maker.now) (g.M.Maker.state c.key_pair.new.self) (Err c.in-Err-Fault.field-0)) (to_z-of_z c.ranges.key_length) c.in-Err-Fault.ensures.call) in

@@ -1,0 +1,7 @@
+pub mod Requests
+pub mod Picked
+pub mod Items
+pub mod Served
+pub mod Answering
+pub mod Machine
+pub mod State

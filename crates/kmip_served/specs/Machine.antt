@@ -1,0 +1,78 @@
+-- A server that is fed bytes: the messages in them, and what serving these one after the other comes to.
+use Rattle.std.specs.Prelude.{◌≡◌, ℕ, ℤ, ◌+◌, ◌==◌, ◌&&◌, nat_le, Bool, List, [], ◌∷◌, ◌++◌, length, fold, Option, Some, None, if◌then◌else◌}
+use Rattle.kmip_wire.specs.Head.{head_length}
+use Rattle.kmip_response.specs.declared.message.ResponseMessage.{ResponseMessage}
+use Rattle.kmip_response_write.specs.Settled.{response_bytes}
+use Rattle.kmip_store.specs.declared.maker.Asked.{Asked}
+use Rattle.kmip_store.specs.declared.maker.Made.{Made}
+use Rattle.kmip_store.specs.declared.object.Object.{Object}
+use Rattle.kmip_served.specs.Served.{Served, served, asks}
+use Rattle.kmip_served.specs.Answering.{listed}
+
+-- whether bytes are a head and as many more as it tells, whatever its type (KMIP 1.0, 9.1.1)
+unfoldable pub is_message : List ℕ → Bool
+is_message b = nat_le 8 (length b) && (length b == 8 + head_length b)
+
+-- bytes that were sent, as whole messages and the begun one
+pub record Split : Type 0 where
+  pub whole : List (List ℕ)
+  pub begun : List ℕ
+
+-- one byte more
+abbrev pub took : Split → ℕ → Split
+took split byte =
+    if is_message (split.begun ++ byte ∷ [])
+    then record { whole = split.whole ++ (split.begun ++ byte ∷ []) ∷ []; begun = [] }
+    else record { whole = split.whole; begun = split.begun ++ byte ∷ [] }
+
+abbrev pub nothing_sent : Split
+nothing_sent = record { whole = []; begun = [] }
+
+unfoldable pub split : List ℕ → Split
+split sent = fold took nothing_sent sent
+
+-- what serving came to
+pub record Run : Type 0 where
+  pub objects : List Object
+  -- the responses in order
+  pub told : List ResponseMessage
+  -- their bytes one after the other, none once a response has no wire form
+  pub ever : Option (List ℕ)
+  -- the questions to the maker
+  pub asked : List Asked
+  -- its answers that no question took yet
+  pub given : List Made
+
+abbrev pub first_for : Option Asked → List Made → Option Made
+first_for None given = None
+first_for (Some question) [] = None
+first_for (Some question) (answer ∷ given) = Some answer
+
+abbrev pub rest_for : Option Asked → List Made → List Made
+rest_for None given = given
+rest_for (Some question) [] = []
+rest_for (Some question) (answer ∷ given) = given
+
+abbrev pub then_bytes : Option (List ℕ) → Option (List ℕ) → Option (List ℕ)
+then_bytes (Some ever) (Some bytes) = Some (ever ++ bytes)
+then_bytes ever bytes = None
+
+-- one message more
+unfoldable pub serve : ℤ → Run → List ℕ → Run
+serve time run b =
+    let question = asks run.objects b in
+    let s = served run.objects b (first_for question run.given) time in
+    record {
+      objects = s.objects;
+      told = run.told ++ s.message ∷ [];
+      ever = then_bytes run.ever (response_bytes s.message);
+      asked = run.asked ++ listed question;
+      given = rest_for question run.given;
+    }
+
+abbrev pub fresh : List Made → Run
+fresh given = record { objects = []; told = []; ever = Some []; asked = []; given = given }
+
+-- serving these messages with these answers of the maker, from an empty store
+unfoldable pub run_of : ℤ → List Made → List (List ℕ) → Run
+run_of time given messages = fold (serve time) (fresh given) messages

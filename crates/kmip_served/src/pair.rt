@@ -1,0 +1,76 @@
+//! The call that makes a pair of keys.
+
+ghost use Rattle.std.specs.Prelude.{◌≡◌, ◌+◌, List, ℕ, ℤ, IfOk, length};
+ghost use Rattle.kmip_store.specs.Makers.{MakerKeeps};
+ghost use Rattle.kmip_store.specs.Objects.{identifier};
+ghost use Rattle.kmip_store.specs.Steps.{Created, Failed};
+ghost use Rattle.kmip_store.specs.declared.call.Call.TheVariants.{CreateRsaKeyPair};
+ghost use Rattle.kmip_served.specs.Answering.{Serves, IsTold};
+ghost use Rattle.kmip_served.specs.Items.{item_for};
+
+use crate::items::{pair_item, refusal};
+use crate::stamp::Stamp;
+use kmip_enums::Operation;
+use kmip_store::{Maker, Store, StoreError};
+use kmip_wire::{Blob, OutOfMemory, Text, WireError};
+
+/// The bytes of the response that tells the identifiers of the next pair.
+///
+/// Identifiers are short, so that the message has a wire form: memory alone is wanting.
+fn created(stamp: &Stamp, store: &Store) -> Result<Blob, OutOfMemory>
+    ensures { IfOk result (λ bytes. (bits : ℤ) (private public : List ℕ) →
+        IsTold stamp.now.time (item_for (CreateRsaKeyPair bits private public)
+        (Created (identifier (length store.now)) (identifier (length store.now + 1)))) bytes) }
+{
+    let Ok((private_id, public_id)) = store.next_identifiers() else {
+        return Err(OutOfMemory);
+    };
+    match stamp.write(pair_item(private_id, public_id)) {
+        Ok(response) => Ok(response),
+        Err(_) => Err(OutOfMemory),
+    }
+}
+
+/// The bytes of the response that refuses a pair.
+fn refused(stamp: &Stamp) -> Result<Blob, OutOfMemory>
+    ensures { IfOk result (λ bytes. (bits : ℤ) (private public : List ℕ) →
+        IsTold stamp.now.time (item_for (CreateRsaKeyPair bits private public) Failed) bytes) }
+{
+    let item = refusal(
+        stamp.alloc,
+        Operation::CreateKeyPair,
+        StoreError::CryptographicFailure,
+    )?;
+    match stamp.write(item) {
+        Ok(response) => Ok(response),
+        Err(_) => Err(OutOfMemory),
+    }
+}
+
+/// Adds an RSA pair (KMIP 1.0, 4.2). The response that tells its identifiers, and the one that
+/// refuses it, are both made before the maker is asked.
+pub fn create<M: Maker>(
+    stamp: &Stamp,
+    store: &mut Store,
+    maker: &mut M,
+    key_length: i32,
+    private_name: &Text,
+    public_name: &Text,
+) -> Result<Blob, WireError>
+    ensures answers { Serves (CreateRsaKeyPair key_length private_name.now public_name.now)
+        stamp.now.time store.old (M.state maker.old) (M.state maker.new) store.new result }
+    ensures keeps { MakerKeeps (M.state maker.old) (M.state maker.new) }
+{
+    let created = created(stamp, store)?;
+    let refused = refused(stamp)?;
+    match store.create_rsa_key_pair(
+        maker,
+        key_length,
+        private_name.as_str(),
+        public_name.as_str(),
+    ) {
+        Ok(_) => Ok(created),
+        Err(StoreError::CryptographicFailure) => Ok(refused),
+        Err(_) => Err(WireError::OutOfMemory),
+    }
+}
