@@ -1,8 +1,8 @@
 -- A whole message that is sent after whole messages is one message more.
-use Rattle.std.proofs.Common.{◌≡◌, ℕ, ◌+◌, ◌<◌, ◌≤◌, List, [], ◌∷◌, ◌++◌, length, refl, ◌∙◌, ap, sym, subst, arith, append_assoc, Bool, true, false, cond, get_or}
+use Rattle.std.proofs.Common.{◌≡◌, ℕ, ◌+◌, ◌-◌, ◌<◌, ◌≤◌, List, [], ◌∷◌, ◌++◌, length, take, drop, length-drop, refl, ◌∙◌, ap, sym, subst, arith, append_assoc, Bool, true, false, cond, get_or}
 use Rattle.std.specs.List.{fold}
 use Rattle.std.proofs.Math.ListN.{get_or-append}
-use Rattle.std.proofs.lemmas.List.{length-append}
+use Rattle.std.proofs.lemmas.List.{length-append, take-append-drop}
 use Rattle.std.proofs.lemmas.List.Sums.{fold-append}
 use Rattle.std.proofs.lemmas.Bool.Decides.{nat_tests}
 use Rattle.kmip_wire.specs.Head.{head_length}
@@ -32,7 +32,11 @@ part_is_none m rest whole some = go (is_message m) refl
         let same : head_length (m ++ rest) ≡ head_length m = head_same m rest p.head in
         absurd (omega (arith, p.size, whole.size, same, length-append m rest))
 
-abbrev with_begun : List (List ℕ) → List ℕ → Split
+pub append_none : (xs : List ℕ) → xs ≡ xs ++ []
+append_none [] = refl
+append_none (x ∷ xs) = ap (λ l. x ∷ l) (append_none xs)
+
+abbrev pub with_begun : List (List ℕ) → List ℕ → Split
 with_begun w m = record { whole = w; begun = m }
 
 tested : (w : List (List ℕ)) (m : List ℕ) (x : ℕ) (b : Bool) → is_message (m ++ x ∷ []) ≡ b →
@@ -57,3 +61,25 @@ split_message sent (x ∷ b) none whole =
     fold-append took nothing_sent sent (x ∷ b)
     ∙ ap (λ (m : List ℕ). fold took (with_begun (fold took nothing_sent sent).whole m) (x ∷ b)) none
     ∙ taken (fold took nothing_sent sent).whole [] x b whole
+
+-- bytes that go to a begun message and do not end it
+begun_grows : (w : List (List ℕ)) (m xs rest : List ℕ) → IsMessage (m ++ (xs ++ rest)) → 0 < length rest → fold took (with_begun w m) xs ≡ with_begun w (m ++ xs)
+begun_grows w m [] rest whole some = ap (with_begun w) (append_none m)
+begun_grows w m (x ∷ xs) rest whole some =
+    let e : (m ++ x ∷ []) ++ (xs ++ rest) ≡ m ++ (x ∷ (xs ++ rest)) = append_assoc m (x ∷ []) (xs ++ rest) in
+    let whole' : IsMessage ((m ++ x ∷ []) ++ (xs ++ rest)) = subst IsMessage (sym e) whole in
+    let more : 0 < length (xs ++ rest) = let l : length (xs ++ rest) ≡ length xs + length rest = length-append xs rest in omega (arith, some) in
+    let none : is_message (m ++ x ∷ []) ≡ false = part_is_none (m ++ x ∷ []) (xs ++ rest) whole' more in
+    ap (λ (s : Split). fold took s xs) (tested w m x false none)
+    ∙ begun_grows w (m ++ x ∷ []) xs rest whole' some
+    ∙ ap (with_begun w) (append_assoc m (x ∷ []) xs)
+
+-- a proper first part of a message after whole messages
+pub split_part : (sent b : List ℕ) (n : ℕ) → (split sent).begun ≡ [] → IsMessage b → n < length b → split (sent ++ take n b) ≡ with_begun (split sent).whole (take n b)
+unfolding split
+split_part sent b n none whole part =
+    let cut : take n b ++ drop n b ≡ b = take-append-drop n b in
+    let l : length (drop n b) ≡ length b - n = length-drop n b in
+    fold-append took nothing_sent sent (take n b)
+    ∙ ap (λ (m : List ℕ). fold took (with_begun (fold took nothing_sent sent).whole m) (take n b)) none
+    ∙ begun_grows (fold took nothing_sent sent).whole [] (take n b) (drop n b) (subst IsMessage (sym cut) whole) (omega (arith, part, l))

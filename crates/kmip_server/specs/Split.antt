@@ -1,5 +1,5 @@
 -- The messages in bytes that were sent one after the other.
-use Rattle.std.specs.Prelude.{◌≡◌, ℕ, ◌+◌, ◌<◌, ◌≤◌, ◌==◌, ◌&&◌, nat_le, Bool, List, [], ◌∷◌, ◌++◌, length, take, fold, if◌then◌else◌}
+use Rattle.std.specs.Prelude.{◌≡◌, ℕ, ◌+◌, ◌<◌, ◌≤◌, ◌==◌, ◌&&◌, nat_le, Bool, true, List, [], ◌∷◌, ◌++◌, length, take, fold, if◌then◌else◌}
 use Rattle.kmip_wire.specs.Head.{head_length}
 
 -- whether bytes are a head and as many more as it tells, whatever its type (KMIP 1.0, 9.1.1)
@@ -36,3 +36,4 @@ pub record Takes (begun bytes message : List ℕ) (whole : Bool) : Type 0 where
   pub is : message ≡ begun ++ take n bytes
   pub split_is : (w : List (List ℕ)) → fold took (record { whole = w; begun = begun }) (take n bytes) ≡
       (if whole then record { whole = w ++ message ∷ []; begun = [] } else record { whole = w; begun = message })
+  pub ends : whole ≡ true → (0 < n) × (is_message message ≡ true)

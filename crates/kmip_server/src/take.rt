@@ -1,8 +1,7 @@
 //! The message that a write is in.
 ghost use Rattle.std.specs.Prelude.{◌≡◌, ◌≤◌, IfOk, IsTrue, OnOk, OnErr, ◌++◌, length};
 ghost use Rattle.kmip_wire.specs.Head.{head_length};
-ghost use Rattle.kmip_server.specs.Split.{is_message};
-ghost use Rattle.kmip_server.specs.Split.{Takes};
+ghost use Rattle.kmip_server.specs.Split.{is_message, Takes};
 
 use std::alloc::{AllocError, Global};
 
