@@ -41,7 +41,8 @@ pub trait AnsweredByAny: Answered {
     /// That it is so. It does nothing.
     fn answers_any()
         ensures answers { (operation : TheOperation) → Self.Answers operation }
-        ensures whole { (operation : TheOperation) → (payload : Self) → Self.val operation payload ≡ whole payload };
+        ensures whole { (operation : TheOperation) → (payload : Self) →
+            Self.val operation payload ≡ whole payload };
 }
 
 impl AnsweredByAny for ResponsePayload {
@@ -88,7 +89,8 @@ impl Answered for GetResponsePayload {
 }
 
 impl Answered for AttributeEditResponsePayload {
-    ghost Answers = { λ operation. (operation ≡ TheOperation.AddAttribute) ⊎ ((operation ≡ TheOperation.ModifyAttribute) ⊎ (operation ≡ TheOperation.DeleteAttribute)) };
+    ghost Answers = { λ operation. (operation ≡ TheOperation.AddAttribute) ⊎
+        ((operation ≡ TheOperation.ModifyAttribute) ⊎ (operation ≡ TheOperation.DeleteAttribute)) };
 
     ghost val = { λ operation payload. Case (operation_line operation).number (attribute_edit_payload_val payload) };
 
@@ -103,7 +105,8 @@ impl Answered for AttributeEditResponsePayload {
 }
 
 impl Answered for UniqueIdentifierResponsePayload {
-    ghost Answers = { λ operation. (operation ≡ TheOperation.Activate) ⊎ ((operation ≡ TheOperation.Revoke) ⊎ (operation ≡ TheOperation.Destroy)) };
+    ghost Answers = { λ operation. (operation ≡ TheOperation.Activate) ⊎
+        ((operation ≡ TheOperation.Revoke) ⊎ (operation ≡ TheOperation.Destroy)) };
 
     ghost val = { λ operation payload. Case (operation_line operation).number (unique_identifier_payload_val payload) };
 

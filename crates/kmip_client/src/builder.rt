@@ -26,7 +26,8 @@ impl<T> Model for ClientBuilder<T> {
 impl<T> ClientBuilder<T> {
     /// A client over this link, with no credentials, no limit and no buffer.
     pub fn new(stream: T) -> Self
-        ensures { result ≡ record { link = stream; username = None; password = None; limit = None; buffered = false } }
+        ensures { result ≡
+            record { link = stream; username = None; password = None; limit = None; buffered = false } }
     {
         ClientBuilder {
             stream,
@@ -36,7 +37,7 @@ impl<T> ClientBuilder<T> {
         }
     }
 
-    /// Sets both, in place of those before. They are sent only where there is a password.
+    /// Sets the user name and the password, in place of those before. A user name without a password is not sent.
     pub fn with_credentials(self, username: Text, password: Option<Text>) -> Self
         ensures { result ≡ record self { username = Some username; password = password } }
     {
@@ -50,7 +51,8 @@ impl<T> ClientBuilder<T> {
 
     /// Sets how responses are read: their limit, and whether diagnostics are kept.
     pub fn with_reader_config(self, reader_config: Config) -> Self
-        ensures { result ≡ record self { limit = reader_config.max_bytes; buffered = reader_config.has_buf } }
+        ensures { result ≡
+            record self { limit = reader_config.max_bytes; buffered = reader_config.has_buf } }
     {
         ClientBuilder {
             stream: self.stream,
@@ -62,7 +64,8 @@ impl<T> ClientBuilder<T> {
 
     /// The client. It sends a credential exactly where username and password are both set.
     pub fn build(self) -> Client<T>
-        ensures { result ≡ record { link = self.link; credential = credential_for self.username self.password; limit = self.limit; buffered = self.buffered; errors = 0; request_text = None; response_text = None } }
+        ensures { result ≡
+            record { link = self.link; credential = credential_for self.username self.password; limit = self.limit; buffered = self.buffered; errors = 0; request_text = None; response_text = None } }
     {
         let authentication = match (self.username, self.password) {
             (Some(username), Some(password)) => {

@@ -21,7 +21,8 @@ use std::alloc::Global;
 
 /// Whether a batch item names this operation.
 fn is_of(answered: Option<Operation>, asked: Operation) -> bool
-    ensures { result ≡ is_number (pos (operation_line asked).number) (one_of (optional (enumeration_val operation_line) answered)) }
+    ensures { result ≡
+        is_number (pos (operation_line asked).number) (one_of (optional (enumeration_val operation_line) answered)) }
 {
     match answered {
         Some(answered) => answered.number() == asked.number(),
@@ -31,7 +32,8 @@ fn is_of(answered: Option<Operation>, asked: Operation) -> bool
 
 /// Whether an object was not found.
 fn is_not_found(reason: Option<ResultReason>) -> bool
-    ensures { result ≡ is_number (pos (result_reason_line ResultReason.ItemNotFound).number) (one_of (optional (enumeration_val result_reason_line) reason)) }
+    ensures { result ≡
+        is_number (pos (result_reason_line ResultReason.ItemNotFound).number) (one_of (optional (enumeration_val result_reason_line) reason)) }
 {
     match reason {
         Some(reason) => reason.number() == ResultReason::ItemNotFound.number(),

@@ -44,7 +44,8 @@ impl<T> Client<T> {
         authentication: Option<Authentication>,
         config: Config,
     ) -> Client<T>
-        ensures { result ≡ record { link = link; credential = option_map credential_of authentication; limit = config.max_bytes; buffered = config.has_buf; errors = 0; request_text = None; response_text = None } }
+        ensures { result ≡
+            record { link = link; credential = option_map credential_of authentication; limit = config.max_bytes; buffered = config.has_buf; errors = 0; request_text = None; response_text = None } }
     {
         Client {
             link,
@@ -149,7 +150,8 @@ impl<T: Link> Client<T> {
             Headline (request_bytes payload self.old.credential) (operation_of payload) self.old.limit (T.state self.old.link) (T.state self.new.link) (seen result) }
         ensures variant { IfOk result (λ answer. IsOfOperation (operation_of payload) (response_payload_val answer)) }
         ensures keeps { Keeps (T.state self.old.link) (T.state self.new.link) }
-        ensures settings { (self.new.credential ≡ self.old.credential) × (self.new.limit ≡ self.old.limit) × (self.new.buffered ≡ self.old.buffered) }
+        ensures settings { (self.new.credential ≡ self.old.credential) × (self.new.limit ≡ self.old.limit) ×
+            (self.new.buffered ≡ self.old.buffered) }
         ensures count { self.new.errors ≡ counted self.old.errors (loses_connection (seen result)) }
         ensures request_text { IsRequestText self.old.buffered (request_bytes payload self.old.credential) (seen result) self.new.request_text }
         ensures response_text { IsTrue (T.state self.old.link).tells →

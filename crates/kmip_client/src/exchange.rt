@@ -25,8 +25,11 @@ pub fn serialize(
     authentication: &Option<Authentication>,
     out: &mut Buffer,
 ) -> Result<(), Error>
-    ensures ok { OnOk result (request_bytes payload.now (option_map credential_of authentication.now) ≡ Some out.new.bytes) }
-    ensures err { IfErr result (λ e. ((e ≡ SerializeError (codes "request has no wire form")) × (request_bytes payload.now (option_map credential_of authentication.now) ≡ None)) ⊎ (e ≡ OutOfMemory)) }
+    ensures ok { OnOk result (request_bytes payload.now (option_map credential_of authentication.now) ≡
+        Some out.new.bytes) }
+    ensures err { IfErr result (λ e. ((e ≡ SerializeError (codes "request has no wire form")) ×
+        (request_bytes payload.now (option_map credential_of authentication.now) ≡ None)) ⊎
+        (e ≡ OutOfMemory)) }
 {
     match write_request_into(payload, authentication, out) {
         Ok(()) => Ok(()),
@@ -38,9 +41,12 @@ pub fn serialize(
 /// Sends the request.
 pub fn send<L: Link>(alloc: Global, link: &mut L, request: &[u8]) -> Result<(), Error>
     ensures keeps { Keeps (L.state link.old) (L.state link.new) }
-    ensures ok { OnOk result (IsTrue (L.state link.old).tells → Writes (L.state link.old) (L.state link.new) request.now) }
-    ensures part { OnErr result (IsTrue (L.state link.old).tells → WritesPart (L.state link.old) (L.state link.new) request.now) }
-    ensures err { IfErr result (λ e. ((e ≡ RequestWriteError (codes "link failed")) × Rose (L.state link.old).faults (L.state link.new).faults) ⊎ (e ≡ OutOfMemory)) }
+    ensures ok { OnOk result (IsTrue (L.state link.old).tells →
+        Writes (L.state link.old) (L.state link.new) request.now) }
+    ensures part { OnErr result (IsTrue (L.state link.old).tells →
+        WritesPart (L.state link.old) (L.state link.new) request.now) }
+    ensures err { IfErr result (λ e. ((e ≡ RequestWriteError (codes "link failed")) ×
+        Rose (L.state link.old).faults (L.state link.new).faults) ⊎ (e ≡ OutOfMemory)) }
 {
     match write_all(link, request) {
         Ok(()) => Ok(()),
@@ -61,11 +67,14 @@ pub fn exchange<L: Link, P: Answered>(
     requires answers { P.Answers operation }
     requires empty { taken.old.items ≡ [] }
     ensures keeps { Keeps (L.state link.old) (L.state link.new) }
-    ensures exchange { IsTrue (L.state link.old).tells → Exchanged (outcome_of (Some request.now) operation config.now.max_bytes (left_for (L.state link.old) (L.state link.new))) (L.state link.old) (L.state link.new) (seen_by (P.val operation) result) }
+    ensures exchange { IsTrue (L.state link.old).tells →
+        Exchanged (outcome_of (Some request.now) operation config.now.max_bytes (left_for (L.state link.old) (L.state link.new))) (L.state link.old) (L.state link.new) (seen_by (P.val operation) result) }
     ensures caused { Caused (Some request.now) operation config.now.max_bytes (L.state link.old).faults (L.state link.new).faults (seen_by (P.val operation) result) }
-    ensures reading { IsTrue (L.state link.old).tells → seen_by (P.val operation) result ≡ reading_failed → FailsReading L.state (Some request.now) link.old link.new }
+    ensures reading { IsTrue (L.state link.old).tells → seen_by (P.val operation) result ≡ reading_failed →
+        FailsReading L.state (Some request.now) link.old link.new }
     ensures bytes { IsTrue (L.state link.old).tells → lacks_memory (seen_by (P.val operation) result) ≡ false →
-        taken.new.items ≡ take ((L.state link.new).pos - (L.state link.old).pos) (left_for (L.state link.old) (L.state link.new)) }
+        taken.new.items ≡
+        take ((L.state link.new).pos - (L.state link.old).pos) (left_for (L.state link.old) (L.state link.new)) }
 {
     match send(alloc, link, request) {
         Ok(()) => {}

@@ -14,7 +14,8 @@ use kmip_diag::diagnostics_tell_skeletons;
 pub fn messages_are_answered_in_order()
     ensures { (payloads : List RequestPayload) (credential : Option CredentialType) (limit : Option ℕ) (messages : List (List ℕ)) (rest : List ℕ) →
         AreServed payloads credential limit messages rest →
-        map (λ turn. turn.outcome.answer) (session payloads credential limit rest) ≡ answers_to payloads messages }
+        map (λ turn. turn.outcome.answer) (session payloads credential limit rest) ≡
+        answers_to payloads messages }
 {}
 
 /// Two sessions whose requests and messages all parse, with numbers in their ranges, have equal diagnostics at every call exactly where the skeletons of their
@@ -22,8 +23,10 @@ pub fn messages_are_answered_in_order()
 /// of enumerations, all of them, and nothing else.
 pub fn diagnostics_of_sessions()
     ensures { (payloads others : List RequestPayload) (credential other : Option CredentialType) (limit most : Option ℕ) (rest bytes : List ℕ) →
-        (all : AllParse (session payloads credential limit rest)) → (each : AllParse (session others other most bytes)) →
-        (texts_of (session payloads credential limit rest) ≡ texts_of (session others other most bytes)) ↔ (skeletons_of (session payloads credential limit rest) all ≡ skeletons_of (session others other most bytes) each) }
+        (all : AllParse (session payloads credential limit rest)) →
+        (each : AllParse (session others other most bytes)) →
+        (texts_of (session payloads credential limit rest) ≡
+        texts_of (session others other most bytes)) ↔ (skeletons_of (session payloads credential limit rest) all ≡ skeletons_of (session others other most bytes) each) }
 {
     diagnostics_tell_skeletons();
 }

@@ -1,8 +1,18 @@
-//! A client of KMIP over any link.
+//! A client of KMIP 1.0, 1.1 and 1.2 over any link.
 //!
-//! [`Client::do_request`] writes one canonical request message and answers what the bytes left say. Its
-//! contract names what was sent and taken after each answer, and the cause of each error. [`exchange_all`] makes
-//! several calls in order, and its contract is about all of them.
+//! ```rust
+//! use kmip_client::ClientBuilder;
+//! use kmip_link::StreamLink;
+//!
+//! let mut client = ClientBuilder::new(StreamLink::new(reader, writer)).build();
+//! let (private_key, public_key) = client.create_rsa_key_pair(alloc, 2048, private_name, public_name)?;
+//! client.activate_key(alloc, private_key.as_str())?;
+//! let signed = client.sign(alloc, private_key.as_str(), b"message")?;
+//! ```
+//!
+//! Nine helpers make the calls of a signing service; [`Client::do_request`] makes any of the seventeen operations: it
+//! writes one request message, reads one response and returns its payload or a named [`Error`]. Its contract says what
+//! was sent and read after each outcome, and the cause of each error. [`exchange_all`] makes several calls in order.
 #![tactic(auto)]
 
 mod answer;

@@ -72,7 +72,8 @@ pub fn key_pair_request(
     private_key_name: Text,
     public_key_name: Text,
 ) -> Result<RequestPayload, OutOfMemory>
-    ensures { IfOk result (λ made. made ≡ requests.key_pair_request key_length private_key_name public_key_name) }
+    ensures { IfOk result (λ made. made ≡
+        requests.key_pair_request key_length private_key_name public_key_name) }
 {
     let both = pair_attributes(alloc, key_length)?;
     let signing = signing_attributes(alloc, private_key_name)?;

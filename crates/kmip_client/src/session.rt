@@ -46,11 +46,14 @@ pub fn exchange_all<T: Link>(
     ensures stops { IfOk result (λ answers. Stops payloads (map (exchange_told response_payload_val) answers)) }
     ensures calls { IfOk result (λ answers. Calls T.state payloads client.old (map (exchange_told response_payload_val) answers) client.new) }
     ensures cut { OnErr result (CutOff T.state payloads client.old client.new) }
-    ensures texts { IfOk result (λ answers. held_texts client.new ≡ last_texts (held_texts client.old) (map (exchange_told response_payload_val) answers)) }
+    ensures texts { IfOk result (λ answers. held_texts client.new ≡
+        last_texts (held_texts client.old) (map (exchange_told response_payload_val) answers)) }
     ensures requests { IfOk result (λ answers. AreRequestTexts client.old.buffered client.old.credential payloads (map (exchange_told response_payload_val) answers)) }
     ensures keeps { Keeps (T.state client.old.link) (T.state client.new.link) }
-    ensures settings { (client.new.credential ≡ client.old.credential) × (client.new.limit ≡ client.old.limit) × (client.new.buffered ≡ client.old.buffered) }
-    ensures count { IfOk result (λ answers. client.new.errors ≡ counted client.old.errors (ends_lost (map (exchange_told response_payload_val) answers))) }
+    ensures settings { (client.new.credential ≡ client.old.credential) × (client.new.limit ≡ client.old.limit) ×
+        (client.new.buffered ≡ client.old.buffered) }
+    ensures count { IfOk result (λ answers. client.new.errors ≡
+        counted client.old.errors (ends_lost (map (exchange_told response_payload_val) answers))) }
     ensures memory { IfErr result (λ e. e ≡ no_memory) }
 {
     exchanges(alloc, client, payloads.into_vec())
@@ -69,11 +72,14 @@ fn exchanges<T: Link, P: AnsweredByAny>(
     ensures stops { IfOk result (λ answers. Stops payloads.items (map (exchange_told P.whole) answers)) }
     ensures calls { IfOk result (λ answers. Calls T.state payloads.items client.old (map (exchange_told P.whole) answers) client.new) }
     ensures cut { OnErr result (CutOff T.state payloads.items client.old client.new) }
-    ensures texts { IfOk result (λ answers. held_texts client.new ≡ last_texts (held_texts client.old) (map (exchange_told P.whole) answers)) }
+    ensures texts { IfOk result (λ answers. held_texts client.new ≡
+        last_texts (held_texts client.old) (map (exchange_told P.whole) answers)) }
     ensures requests { IfOk result (λ answers. AreRequestTexts client.old.buffered client.old.credential payloads.items (map (exchange_told P.whole) answers)) }
     ensures keeps { Keeps (T.state client.old.link) (T.state client.new.link) }
-    ensures settings { (client.new.credential ≡ client.old.credential) × (client.new.limit ≡ client.old.limit) × (client.new.buffered ≡ client.old.buffered) }
-    ensures count { IfOk result (λ answers. client.new.errors ≡ counted client.old.errors (ends_lost (map (exchange_told P.whole) answers))) }
+    ensures settings { (client.new.credential ≡ client.old.credential) × (client.new.limit ≡ client.old.limit) ×
+        (client.new.buffered ≡ client.old.buffered) }
+    ensures count { IfOk result (λ answers. client.new.errors ≡
+        counted client.old.errors (ends_lost (map (exchange_told P.whole) answers))) }
     ensures memory { IfErr result (λ e. e ≡ no_memory) }
 {
     P::answers_any();
@@ -98,7 +104,8 @@ fn told<T, P: Drop>(
     client: &Client<T>,
     answer: Result<P>,
 ) -> std::result::Result<Exchange<P>, OutOfMemory>
-    ensures { IfOk result (λ exchange. exchange ≡ record { answer = answer; req_diag = client.now.request_text; res_diag = client.now.response_text }) }
+    ensures { IfOk result (λ exchange. exchange ≡
+        record { answer = answer; req_diag = client.now.request_text; res_diag = client.now.response_text }) }
 {
     Ok(Exchange {
         answer,

@@ -46,8 +46,10 @@ impl From<LinkError> for ReadStop {
 /// Writes all the bytes. Each write is offered the whole rest of them.
 pub fn write_all<L: Link>(link: &mut L, bytes: &[u8]) -> Result<(), LinkError>
     ensures keeps { Keeps (L.state link.old) (L.state link.new) }
-    ensures ok { OnOk result (IsTrue (L.state link.old).tells → Writes (L.state link.old) (L.state link.new) bytes.now) }
-    ensures err { OnErr result (IsTrue (L.state link.old).tells → WritesPart (L.state link.old) (L.state link.new) bytes.now) }
+    ensures ok { OnOk result (IsTrue (L.state link.old).tells →
+        Writes (L.state link.old) (L.state link.new) bytes.now) }
+    ensures err { OnErr result (IsTrue (L.state link.old).tells →
+        WritesPart (L.state link.old) (L.state link.new) bytes.now) }
     ensures cause { IsErrOf result LinkError.Fault → Rose (L.state link.old).faults (L.state link.new).faults }
 {
     let mut done = 0;
@@ -69,7 +71,8 @@ fn read_piece<L: Link>(link: &mut L, room: usize, taken: &mut Vec<u8>) -> Result
     ensures ended { IsErrOf result ReadStop.Ended → IsTrue (L.state link.old).tells →
         (left (L.state link.old) ≡ []) × Takes (L.state link.old) (L.state link.new) 0 }
     ensures fault { IsErrOf result ReadStop.Fault → Rose (L.state link.old).faults (L.state link.new).faults }
-    ensures idle { IsErrOf result ReadStop.Fault → IsTrue (L.state link.old).tells → Takes (L.state link.old) (L.state link.new) 0 }
+    ensures idle { IsErrOf result ReadStop.Fault → IsTrue (L.state link.old).tells →
+        Takes (L.state link.old) (L.state link.new) 0 }
     ensures err { OnErr result (taken.new.items ≡ taken.old.items) }
     ensures kept { take (length taken.old.items) taken.new.items ≡ taken.old.items }
     ensures part { IsTrue (L.state link.old).tells → TakesPart (L.state link.old) (L.state link.new) room }

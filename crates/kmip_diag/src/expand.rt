@@ -33,7 +33,8 @@ impl PrettyPrinter {
     /// the root, `Tag: NAME (0xTTTTTT), Type: TYPE (0xCC), Data: `, and then nothing for a Structure, the number in
     /// hex for an Enumeration and `<redacted>` for the rest. A tag without a name has the name `Unknown`.
     pub fn expand(&self, alloc: Global, text: &str) -> Result<Text, DiagError>
-        ensures { MatchResult result (λ lines. expansion self.now text.now ≡ Some lines) (λ e. e ≡ DiagError.NotADiagnostic → expansion self.now text.now ≡ None) }
+        ensures { MatchResult result (λ lines. expansion self.now text.now ≡
+            Some lines) (λ e. e ≡ DiagError.NotADiagnostic → expansion self.now text.now ≡ None) }
     {
         let mut again = Text::new(alloc);
         let mut lines = Text::new(alloc);

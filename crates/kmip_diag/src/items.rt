@@ -41,7 +41,8 @@ impl PrettyPrinter {
         text: &mut Text,
         item: ItemRef<'_>,
     ) -> Result<(), OutOfMemory>
-        ensures { IfOk result (λ _. text.new ≡ text.old ++ printed self.now (skeleton (item_tree item.entry))) }
+        ensures { IfOk result (λ _. text.new ≡
+            text.old ++ printed self.now (skeleton (item_tree item.entry))) }
     {
         self.push_tag(text, item.tag())?;
         if let Some(mark) = mark_of(item) {
@@ -62,7 +63,8 @@ impl PrettyPrinter {
         text: &mut Text,
         children: Children<'_>,
     ) -> Result<(), OutOfMemory>
-        ensures { IfOk result (λ _. text.new ≡ text.old ++ printed_all self.now (skeletons (trees_of (trees_left children.entry)))) }
+        ensures { IfOk result (λ _. text.new ≡
+            text.old ++ printed_all self.now (skeletons (trees_of (trees_left children.entry)))) }
     {
         for child in children {
             self.print_item(alloc, text, child)?;

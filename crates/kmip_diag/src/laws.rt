@@ -14,7 +14,8 @@ use kmip_wire::parsed_ranges;
 
 /// For each prefix, lists of skeletons with the same text are the same.
 pub fn printing_is_injective()
-    ensures { (prefix : Option ℕ) (ts us : Skeletons) → AreSkeletons ts → AreSkeletons us → printed_all prefix ts ≡ printed_all prefix us → ts ≡ us }
+    ensures { (prefix : Option ℕ) (ts us : Skeletons) → AreSkeletons ts → AreSkeletons us →
+        printed_all prefix ts ≡ printed_all prefix us → ts ≡ us }
 {}
 
 /// What is computed shows the bytes as the relation says.
@@ -24,29 +25,37 @@ pub fn diagnostic_shows_its_bytes()
 
 /// Bytes have one diagnostic at most.
 pub fn one_diagnostic_at_most()
-    ensures { (prefix : Option ℕ) (b text other : List ℕ) → IsDiagnostic prefix b text → IsDiagnostic prefix b other → text ≡ other }
+    ensures { (prefix : Option ℕ) (b text other : List ℕ) → IsDiagnostic prefix b text →
+        IsDiagnostic prefix b other → text ≡ other }
 {}
 
 /// The diagnostic of an item is the text of its skeleton.
 pub fn diagnostic_of_an_item()
-    ensures { (prefix : Option ℕ) (t : Tree) (b : List ℕ) → Parses t 1 b → diagnostic prefix b ≡ printed prefix (skeleton t) }
+    ensures { (prefix : Option ℕ) (t : Tree) (b : List ℕ) → Parses t 1 b →
+        diagnostic prefix b ≡ printed prefix (skeleton t) }
 {}
 
 /// The diagnostics of two items are the same exactly where their skeletons are.
 pub fn diagnostics_tell_skeletons()
-    ensures trees { (prefix : Option ℕ) (t u : Tree) (b c : List ℕ) → HasRanges t → HasRanges u → Parses t 1 b → Parses u 1 c → (diagnostic prefix b ≡ diagnostic prefix c) ↔ (skeleton t ≡ skeleton u) }
-    ensures bytes { (prefix : Option ℕ) (t u : Tree) (b c : List ℕ) → AreBytes b → AreBytes c → Parses t 1 b → Parses u 1 c → (diagnostic prefix b ≡ diagnostic prefix c) ↔ (skeleton t ≡ skeleton u) }
+    ensures trees { (prefix : Option ℕ) (t u : Tree) (b c : List ℕ) → HasRanges t → HasRanges u →
+        Parses t 1 b → Parses u 1 c →
+        (diagnostic prefix b ≡ diagnostic prefix c) ↔ (skeleton t ≡ skeleton u) }
+    ensures bytes { (prefix : Option ℕ) (t u : Tree) (b c : List ℕ) → AreBytes b → AreBytes c → Parses t 1 b →
+        Parses u 1 c → (diagnostic prefix b ≡ diagnostic prefix c) ↔ (skeleton t ≡ skeleton u) }
 {
     parsed_ranges();
 }
 
 /// The diagnostic of an item whose numbers are in their ranges is expanded into the lines of its skeleton.
 pub fn diagnostics_expand()
-    ensures { (prefix : Option ℕ) (t : Tree) (b : List ℕ) → HasRanges t → Parses t 1 b → expansion prefix (diagnostic prefix b) ≡ Some (lines_of 0 (skeleton t)) }
+    ensures { (prefix : Option ℕ) (t : Tree) (b : List ℕ) → HasRanges t → Parses t 1 b →
+        expansion prefix (diagnostic prefix b) ≡ Some (lines_of 0 (skeleton t)) }
 {}
 
 /// What is computed is the lines of the skeletons that the text is printed from, and nothing exactly where there are none.
 pub fn expansion_is_of_skeletons()
-    ensures lines { (prefix : Option ℕ) (text lines : List ℕ) → (expansion prefix text ≡ Some lines) ↔ IsExpansion prefix text lines }
-    ensures none { (prefix : Option ℕ) (text : List ℕ) → (expansion prefix text ≡ None) ↔ IsNoDiagnostic prefix text }
+    ensures lines { (prefix : Option ℕ) (text lines : List ℕ) →
+        (expansion prefix text ≡ Some lines) ↔ IsExpansion prefix text lines }
+    ensures none { (prefix : Option ℕ) (text : List ℕ) →
+        (expansion prefix text ≡ None) ↔ IsNoDiagnostic prefix text }
 {}

@@ -1,4 +1,13 @@
-//! Redacted diagnostics of TTLV items, and their expansion: tags, types, nesting and the numbers of enumerations are told, and no other value.
+//! Diagnostics of messages that may be logged: tags, types, nesting and the numbers of enumerations, and no other value.
+//!
+//! ```rust
+//! use kmip_diag::PrettyPrinter;
+//!
+//! let mut printer = PrettyPrinter::new();
+//! printer.with_tag_prefix(0x4200);
+//! let line = printer.to_diag_string(alloc, message)?; // 78[77[69[6Ai6Bi]0Di]0F[5Ce12:79[94t]]]
+//! let lines = printer.expand(alloc, line.as_str())?; // Tag: Request Message (0x420078), Type: Structure (0x01), ..
+//! ```
 #![tactic(auto)]
 
 mod expand;

@@ -90,7 +90,8 @@ fn mark_kind(mark: Mark) -> Kind
 }
 
 fn push_head(text: &mut Text, depth: u32, tag: Tag, kind: Kind) -> Result<(), OutOfMemory>
-    ensures { IfOk result (λ _. text.new ≡ text.old ++ (indent depth ++ (tag_part tag ++ (type_part kind ++ codes "Data: ")))) }
+    ensures { IfOk result (λ _. text.new ≡
+        text.old ++ (indent depth ++ (tag_part tag ++ (type_part kind ++ codes "Data: ")))) }
 {
     push_indent(text, depth)?;
     push_tag_part(text, tag)?;

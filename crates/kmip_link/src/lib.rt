@@ -1,9 +1,15 @@
 //! Links, sources and sinks: what moves bytes to and from the outside.
 //!
+//! ```rust
+//! use kmip_link::StreamLink;
+//!
+//! let link = StreamLink::new(tls_stream_reader, tls_stream_writer);
+//! ```
+//!
 //! A contract can name the bytes and the faults of each. A [`Link`] carries a client's requests and
-//! responses, a [`Source`] is what a program reads, a [`Sink`] is what it writes. The forms in memory tell
-//! their whole content, cut it into planned pieces and fail at planned calls. The forms over std's readers
-//! and writers ([`StreamLink`], [`StdSource`], [`StdSink`]) tell nothing of it: they are the trusted edge.
+//! responses, a [`Source`] is what a program reads, a [`Sink`] is what it writes. The forms in memory show
+//! their whole content to contracts, cut it into planned pieces and fail at planned calls. The forms over std's
+//! readers and writers ([`StreamLink`], [`StdSource`], [`StdSink`]) show nothing of it: they are the trusted edge.
 #![tactic(auto)]
 
 mod link;

@@ -27,7 +27,8 @@ impl Model for MemoryLink {
 
     ghost view = { λ m. record { ever = m.ever.items; pos = m.pos; sent = m.sent.items; sizes = m.sizes.items; place = m.place } };
 
-    ghost invariant = { λ m. (m.pos ≤ length m.ever.items) × ((length m.sizes.items ≡ 0) ⊎ (m.place < length m.sizes.items)) };
+    ghost invariant = { λ m. (m.pos ≤ length m.ever.items) × ((length m.sizes.items ≡ 0) ⊎
+        (m.place < length m.sizes.items)) };
 }
 
 impl MemoryLink {
@@ -48,7 +49,8 @@ impl MemoryLink {
     /// Adds bytes to the end of those to read. Its only error is want of memory, which changes nothing.
     pub fn feed(&mut self, bytes: &[u8]) -> Result<(), LinkError>
         ensures ok { OnOk result (self.new ≡ record self.old { ever = self.old.ever ++ bytes.now }) }
-        ensures left { OnOk result (drop self.new.pos self.new.ever ≡ drop self.old.pos self.old.ever ++ bytes.now) }
+        ensures left { OnOk result (drop self.new.pos self.new.ever ≡
+            drop self.old.pos self.old.ever ++ bytes.now) }
         ensures err { OnErr result (self.new ≡ self.old) }
         ensures cause { IfErr result (λ e. e ≡ LinkError.OutOfMemory) }
     {
@@ -121,9 +123,12 @@ impl Link for MemoryLink {
     fn read(&mut self, into: &mut [u8]) -> Result<usize, LinkError>
         ensures keeps { Keeps (memory_state self.old) (memory_state self.new) }
         ensures bound { IfOk result (λ n. n ≤ length into.new) }
-        ensures moved { IfOk result (λ n. IsTrue (memory_state self.old).tells → Reads (memory_state self.old) (memory_state self.new) into.new n) }
-        ensures idle { OnErr result (IsTrue (memory_state self.old).tells → IsIdle (memory_state self.old) (memory_state self.new)) }
-        ensures cause { IsErrOf result LinkError.Fault → Rose (memory_state self.old).faults (memory_state self.new).faults }
+        ensures moved { IfOk result (λ n. IsTrue (memory_state self.old).tells →
+            Reads (memory_state self.old) (memory_state self.new) into.new n) }
+        ensures idle { OnErr result (IsTrue (memory_state self.old).tells →
+            IsIdle (memory_state self.old) (memory_state self.new)) }
+        ensures cause { IsErrOf result LinkError.Fault →
+            Rose (memory_state self.old).faults (memory_state self.new).faults }
         ensures succeeds { IsOk result }
         ensures size { IfOk result (λ n. HasSize self.old (min (length into.old) (length (left (memory_state self.old)))) n) }
         ensures counts { CountsCall self.old self.new }
@@ -141,7 +146,8 @@ impl Link for MemoryLink {
         ensures keeps { Keeps (memory_state self.old) (memory_state self.new) }
         ensures bound { IfOk result (λ n. n ≤ length bytes.now) }
         ensures some { IfOk result (λ n. 0 < length bytes.now → 0 < n) }
-        ensures moved { IfOk result (λ n. IsTrue (memory_state self.old).tells → Writes (memory_state self.old) (memory_state self.new) (take n bytes.now)) }
+        ensures moved { IfOk result (λ n. IsTrue (memory_state self.old).tells →
+            Writes (memory_state self.old) (memory_state self.new) (take n bytes.now)) }
         ensures idle { OnErr result (self.new ≡ self.old) }
         ensures cause { IfErr result (λ e. e ≡ LinkError.OutOfMemory) }
         ensures size { IfOk result (λ n. HasSize self.old (length bytes.now) n) }

@@ -30,7 +30,8 @@ impl Model for MemorySource {
 impl MemorySource {
     /// A source of these bytes. Its only error is want of memory.
     pub fn new(alloc: Global, bytes: &[u8], failing: &[u64]) -> Result<MemorySource, LinkError>
-        ensures ok { IfOk result (λ it. it ≡ record { ever = bytes.now; pos = 0; failing = failing.now; number = 0; faults = 0 }) }
+        ensures ok { IfOk result (λ it. it ≡
+            record { ever = bytes.now; pos = 0; failing = failing.now; number = 0; faults = 0 }) }
         ensures cause { IfErr result (λ e. e ≡ LinkError.OutOfMemory) }
     {
         let mut ever = Vec::new(alloc);
@@ -59,7 +60,8 @@ impl Source for MemorySource {
         ensures cause { IsErrOf result LinkError.Fault → Rose self.old.faults self.new.faults }
         ensures fails { IsErrOf result LinkError.Fault ↔ Contains self.old.failing self.old.number }
         ensures other { IfErr result (λ e. e ≡ LinkError.Fault) }
-        ensures size { IfOk result (λ n. n ≡ min (length into.old) (length (source_left (source_state self.old)))) }
+        ensures size { IfOk result (λ n. n ≡
+            min (length into.old) (length (source_left (source_state self.old)))) }
         ensures number { self.new.number ≡ counted self.old.number }
         ensures steady { OnOk result (self.new.faults ≡ self.old.faults) }
         ensures rises { OnErr result (self.new.faults ≡ counted self.old.faults) }
@@ -98,7 +100,8 @@ impl Model for MemorySink {
 impl MemorySink {
     /// A sink that was sent nothing. Its only error is want of memory.
     pub fn new(alloc: Global, failing: &[u64]) -> Result<MemorySink, LinkError>
-        ensures ok { IfOk result (λ it. it ≡ record { sent = []; failing = failing.now; number = 0; faults = 0 }) }
+        ensures ok { IfOk result (λ it. it ≡
+            record { sent = []; failing = failing.now; number = 0; faults = 0 }) }
         ensures cause { IfErr result (λ e. e ≡ LinkError.OutOfMemory) }
     {
         let mut numbers = Vec::new(alloc);

@@ -31,7 +31,8 @@ impl PlannedLink {
 
     /// Puts the plan of failures over a link. Its only error is want of memory.
     pub fn new(alloc: Global, link: MemoryLink, failing: &[u64]) -> Result<PlannedLink, LinkError>
-        ensures ok { IfOk result (λ it. it ≡ record { link = link; failing = failing.now; number = 0; faults = 0 }) }
+        ensures ok { IfOk result (λ it. it ≡
+            record { link = link; failing = failing.now; number = 0; faults = 0 }) }
         ensures cause { IfErr result (λ e. e ≡ LinkError.OutOfMemory) }
     {
         let mut numbers = Vec::new(alloc);
@@ -55,7 +56,8 @@ impl PlannedLink {
     /// Counts a call, and fails where it is to fail.
     fn begin(&mut self) -> Result<(), LinkError>
         ensures ok { OnOk result (self.new ≡ record self.old { number = counted self.old.number }) }
-        ensures err { OnErr result (self.new ≡ record self.old { number = counted self.old.number; faults = counted self.old.faults }) }
+        ensures err { OnErr result (self.new ≡
+            record self.old { number = counted self.old.number; faults = counted self.old.faults }) }
         ensures fails { IsErrOf result LinkError.Fault ↔ Contains self.old.failing self.old.number }
         ensures cause { IfErr result (λ e. e ≡ LinkError.Fault) }
         ensures later { self.old.faults ≤ self.new.faults }

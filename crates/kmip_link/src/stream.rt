@@ -47,8 +47,10 @@ impl<R: Read, W: Write> Link for StreamLink<R, W> {
     fn read(&mut self, into: &mut [u8]) -> Result<usize, LinkError>
         ensures keeps { Keeps (silent self.old.faults) (silent self.new.faults) }
         ensures bound { IfOk result (λ n. n ≤ length into.new) }
-        ensures moved { IfOk result (λ n. IsTrue (silent self.old.faults).tells → Reads (silent self.old.faults) (silent self.new.faults) into.new n) }
-        ensures idle { OnErr result (IsTrue (silent self.old.faults).tells → IsIdle (silent self.old.faults) (silent self.new.faults)) }
+        ensures moved { IfOk result (λ n. IsTrue (silent self.old.faults).tells →
+            Reads (silent self.old.faults) (silent self.new.faults) into.new n) }
+        ensures idle { OnErr result (IsTrue (silent self.old.faults).tells →
+            IsIdle (silent self.old.faults) (silent self.new.faults)) }
         ensures cause { IsErrOf result LinkError.Fault → Rose self.old.faults self.new.faults }
         ensures steady { OnOk result (self.new.faults ≡ self.old.faults) }
         ensures rises { OnErr result (self.new.faults ≡ counted self.old.faults) }
@@ -65,8 +67,10 @@ impl<R: Read, W: Write> Link for StreamLink<R, W> {
         ensures keeps { Keeps (silent self.old.faults) (silent self.new.faults) }
         ensures bound { IfOk result (λ n. n ≤ length bytes.now) }
         ensures some { IfOk result (λ n. 0 < length bytes.now → 0 < n) }
-        ensures moved { IfOk result (λ n. IsTrue (silent self.old.faults).tells → Writes (silent self.old.faults) (silent self.new.faults) (take n bytes.now)) }
-        ensures idle { OnErr result (IsTrue (silent self.old.faults).tells → IsIdle (silent self.old.faults) (silent self.new.faults)) }
+        ensures moved { IfOk result (λ n. IsTrue (silent self.old.faults).tells →
+            Writes (silent self.old.faults) (silent self.new.faults) (take n bytes.now)) }
+        ensures idle { OnErr result (IsTrue (silent self.old.faults).tells →
+            IsIdle (silent self.old.faults) (silent self.new.faults)) }
         ensures cause { IsErrOf result LinkError.Fault → Rose self.old.faults self.new.faults }
         ensures steady { OnOk result (self.new.faults ≡ self.old.faults) }
         ensures rises { OnErr result (self.new.faults ≡ counted self.old.faults) }
@@ -102,8 +106,10 @@ impl<R: Read> Source for StdSource<R> {
     fn read(&mut self, into: &mut [u8]) -> Result<usize, LinkError>
         ensures keeps { SourceKeeps (silent_source self.old.faults) (silent_source self.new.faults) }
         ensures bound { IfOk result (λ n. n ≤ length into.new) }
-        ensures moved { IfOk result (λ n. IsTrue (silent_source self.old.faults).tells → SourceReads (silent_source self.old.faults) (silent_source self.new.faults) into.new n) }
-        ensures idle { OnErr result (IsTrue (silent_source self.old.faults).tells → SourceIsIdle (silent_source self.old.faults) (silent_source self.new.faults)) }
+        ensures moved { IfOk result (λ n. IsTrue (silent_source self.old.faults).tells →
+            SourceReads (silent_source self.old.faults) (silent_source self.new.faults) into.new n) }
+        ensures idle { OnErr result (IsTrue (silent_source self.old.faults).tells →
+            SourceIsIdle (silent_source self.old.faults) (silent_source self.new.faults)) }
         ensures cause { IsErrOf result LinkError.Fault → Rose self.old.faults self.new.faults }
         ensures steady { OnOk result (self.new.faults ≡ self.old.faults) }
         ensures rises { OnErr result (self.new.faults ≡ counted self.old.faults) }
@@ -140,8 +146,10 @@ impl<W: Write> Sink for StdSink<W> {
         ensures keeps { SinkKeeps (silent_sink self.old.faults) (silent_sink self.new.faults) }
         ensures bound { IfOk result (λ n. n ≤ length bytes.now) }
         ensures some { IfOk result (λ n. 0 < length bytes.now → 0 < n) }
-        ensures moved { IfOk result (λ n. IsTrue (silent_sink self.old.faults).tells → (silent_sink self.new.faults).sent ≡ take n bytes.now) }
-        ensures idle { OnErr result (IsTrue (silent_sink self.old.faults).tells → (silent_sink self.new.faults).sent ≡ (silent_sink self.old.faults).sent) }
+        ensures moved { IfOk result (λ n. IsTrue (silent_sink self.old.faults).tells →
+            (silent_sink self.new.faults).sent ≡ take n bytes.now) }
+        ensures idle { OnErr result (IsTrue (silent_sink self.old.faults).tells →
+            (silent_sink self.new.faults).sent ≡ (silent_sink self.old.faults).sent) }
         ensures cause { IsErrOf result LinkError.Fault → Rose self.old.faults self.new.faults }
         ensures steady { OnOk result (self.new.faults ≡ self.old.faults) }
         ensures rises { OnErr result (self.new.faults ≡ counted self.old.faults) }

@@ -55,7 +55,7 @@ impl ShowItem for Data {
     }
 }
 
-/// What tells the items of a batch apart: KMIP 1.0, 6.4.
+/// The identifier of a batch item, the same in request and response: KMIP 1.0, 6.4.
 #[derive(PartialEq, Eq, Drop)]
 pub struct UniqueBatchItemID(pub Blob);
 

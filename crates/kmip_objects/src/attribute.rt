@@ -1,6 +1,7 @@
 //! Attributes of objects.
 
 ghost use Rattle.std.specs.Prelude.{◌≡◌};
+ghost use Rattle.kmip_tags.specs.Tags as tags;
 ghost use Rattle.kmip_objects.specs.Tables.{attribute, name};
 ghost use Rattle.kmip_objects.specs.Values.{attribute_val};
 ghost use Rattle.kmip_objects.specs.Same.{attribute_same};
@@ -65,7 +66,7 @@ impl ReadItem for Attribute {
 }
 
 impl ReadRoot for Attribute {
-    ghost root_tag = { ATTRIBUTE };
+    ghost root_tag = { tags.ATTRIBUTE };
 
     fn root_tag() -> Tag {
         Tag::of(ATTRIBUTE)

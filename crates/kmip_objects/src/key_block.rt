@@ -1,6 +1,7 @@
 //! Keys with their format, algorithm and length.
 
 ghost use Rattle.std.specs.Prelude.{◌≡◌};
+ghost use Rattle.kmip_tags.specs.Tags as tags;
 ghost use Rattle.kmip_objects.specs.Tables.{key_wrapping_data, key_value, key_block};
 ghost use Rattle.kmip_objects.specs.Values.{key_value_val, key_block_val};
 ghost use Rattle.kmip_objects.specs.Same.{key_value_same, key_block_same};
@@ -167,7 +168,7 @@ impl ReadItem for KeyBlock {
 }
 
 impl ReadRoot for KeyBlock {
-    ghost root_tag = { KEY_BLOCK };
+    ghost root_tag = { tags.KEY_BLOCK };
 
     fn root_tag() -> Tag {
         Tag::of(KEY_BLOCK)

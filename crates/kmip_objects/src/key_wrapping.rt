@@ -1,6 +1,7 @@
 //! How keys were wrapped.
 
 ghost use Rattle.std.specs.Prelude.{◌≡◌};
+ghost use Rattle.kmip_tags.specs.Tags as tags;
 ghost use Rattle.kmip_objects.specs.Tables.{encryption_key_information, mac_or_signature_key_information, key_wrapping_data};
 ghost use Rattle.kmip_objects.specs.Values.{encryption_key_information_val, mac_or_signature_key_information_val, key_wrapping_data_val};
 ghost use Rattle.kmip_objects.specs.Same.{encryption_key_information_same, mac_or_signature_key_information_same, key_wrapping_data_same};
@@ -70,7 +71,7 @@ impl ReadItem for EncryptionKeyInformation {
 }
 
 impl ReadRoot for EncryptionKeyInformation {
-    ghost root_tag = { ENCRYPTION_KEY_INFORMATION };
+    ghost root_tag = { tags.ENCRYPTION_KEY_INFORMATION };
 
     fn root_tag() -> Tag {
         Tag::of(ENCRYPTION_KEY_INFORMATION)
@@ -138,7 +139,7 @@ impl ReadItem for MACOrSignatureKeyInformation {
 }
 
 impl ReadRoot for MACOrSignatureKeyInformation {
-    ghost root_tag = { MAC_SIGNATURE_KEY_INFORMATION };
+    ghost root_tag = { tags.MAC_SIGNATURE_KEY_INFORMATION };
 
     fn root_tag() -> Tag {
         Tag::of(MAC_SIGNATURE_KEY_INFORMATION)
@@ -234,7 +235,7 @@ impl ReadItem for KeyWrappingData {
 }
 
 impl ReadRoot for KeyWrappingData {
-    ghost root_tag = { KEY_WRAPPING_DATA };
+    ghost root_tag = { tags.KEY_WRAPPING_DATA };
 
     fn root_tag() -> Tag {
         Tag::of(KEY_WRAPPING_DATA)

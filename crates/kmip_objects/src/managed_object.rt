@@ -1,6 +1,7 @@
 //! Managed objects, each under its own tag.
 
 ghost use Rattle.std.specs.Prelude.{◌≡◌};
+ghost use Rattle.kmip_tags.specs.Tags as tags;
 ghost use Rattle.kmip_shape.specs.Shape.{Choice, OfNumber};
 ghost use Rattle.kmip_objects.specs.Tables.{key_block, certificate, symmetric_key, public_key, private_key, managed_objects};
 ghost use Rattle.kmip_objects.specs.Values.{certificate_val, symmetric_key_val, public_key_val, private_key_val, managed_object_val};
@@ -69,7 +70,7 @@ impl ReadItem for Certificate {
 }
 
 impl ReadRoot for Certificate {
-    ghost root_tag = { CERTIFICATE };
+    ghost root_tag = { tags.CERTIFICATE };
 
     fn root_tag() -> Tag {
         Tag::of(CERTIFICATE)
@@ -123,7 +124,7 @@ impl ReadItem for SymmetricKey {
 }
 
 impl ReadRoot for SymmetricKey {
-    ghost root_tag = { SYMMETRIC_KEY };
+    ghost root_tag = { tags.SYMMETRIC_KEY };
 
     fn root_tag() -> Tag {
         Tag::of(SYMMETRIC_KEY)
@@ -173,7 +174,7 @@ impl ReadItem for PublicKey {
 }
 
 impl ReadRoot for PublicKey {
-    ghost root_tag = { PUBLIC_KEY };
+    ghost root_tag = { tags.PUBLIC_KEY };
 
     fn root_tag() -> Tag {
         Tag::of(PUBLIC_KEY)
@@ -223,7 +224,7 @@ impl ReadItem for PrivateKey {
 }
 
 impl ReadRoot for PrivateKey {
-    ghost root_tag = { PRIVATE_KEY };
+    ghost root_tag = { tags.PRIVATE_KEY };
 
     fn root_tag() -> Tag {
         Tag::of(PRIVATE_KEY)

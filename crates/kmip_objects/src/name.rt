@@ -1,6 +1,7 @@
 //! Names of objects.
 
 ghost use Rattle.std.specs.Prelude.{◌≡◌};
+ghost use Rattle.kmip_tags.specs.Tags as tags;
 ghost use Rattle.kmip_objects.specs.Tables.{name};
 ghost use Rattle.kmip_objects.specs.Values.{name_val};
 ghost use Rattle.kmip_objects.specs.Same.{name_same};
@@ -57,7 +58,7 @@ impl ReadItem for Name {
 }
 
 impl ReadRoot for Name {
-    ghost root_tag = { NAME };
+    ghost root_tag = { tags.NAME };
 
     fn root_tag() -> Tag {
         Tag::of(NAME)

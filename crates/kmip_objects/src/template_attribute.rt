@@ -1,6 +1,7 @@
 //! Attributes of new objects.
 
 ghost use Rattle.std.specs.Prelude.{◌≡◌};
+ghost use Rattle.kmip_tags.specs.Tags as tags;
 ghost use Rattle.kmip_objects.specs.Tables.{name, template_attribute};
 ghost use Rattle.kmip_objects.specs.Values.{template_attribute_val};
 ghost use Rattle.kmip_objects.specs.Same.{template_attribute_same};
@@ -57,7 +58,7 @@ impl ReadItem for TemplateAttribute {
 }
 
 impl ReadRoot for TemplateAttribute {
-    ghost root_tag = { TEMPLATE_ATTRIBUTE };
+    ghost root_tag = { tags.TEMPLATE_ATTRIBUTE };
 
     fn root_tag() -> Tag {
         Tag::of(TEMPLATE_ATTRIBUTE)

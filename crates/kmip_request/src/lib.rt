@@ -1,4 +1,12 @@
-//! Requests: what a client asks, and how it is written as its one canonical message.
+//! Requests: what a client asks for, and how it is written as its one canonical message.
+//!
+//! ```rust
+//! use kmip_request::{RequestPayload, to_vec};
+//! use kmip_types::UniqueIdentifier;
+//!
+//! let id = UniqueIdentifier(Text::of(alloc, "17")?);
+//! let bytes = to_vec(alloc, RequestPayload::Activate(Some(id)), None)?;
+//! ```
 #![tactic(auto)]
 
 mod authentication;

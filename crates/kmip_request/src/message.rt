@@ -1,6 +1,7 @@
 //! The whole message.
 
 ghost use Rattle.std.specs.Prelude.{◌≡◌};
+ghost use Rattle.kmip_tags.specs.Tags as tags;
 ghost use Rattle.kmip_request.specs.Tables.{batch_item, request_message};
 ghost use Rattle.kmip_request.specs.Values.{batch_item_val, request_message_val};
 ghost use Rattle.kmip_request.specs.Same.{batch_item_same, request_message_same};
@@ -124,7 +125,7 @@ impl ReadItem for RequestMessage {
 }
 
 impl ReadRoot for RequestMessage {
-    ghost root_tag = { REQUEST_MESSAGE };
+    ghost root_tag = { tags.REQUEST_MESSAGE };
 
     fn root_tag() -> Tag {
         Tag::of(REQUEST_MESSAGE)

@@ -7,25 +7,30 @@ ghost use Rattle.kmip_request_objects.specs.Tables.{attribute, name, public_key,
 ghost use Rattle.kmip_request.specs.Values.{request_payload_val};
 ghost use Rattle.kmip_request.specs.Same.{request_payload_same};
 
+mod read;
+mod rows;
+
 use crate::header::ProtocolVersion;
 use crate::numbers::{ProtocolVersionMajor, ProtocolVersionMinor};
+use crate::payload::read::{
+    read_activate, read_add_attribute, read_create, read_create_key_pair, read_delete_attribute,
+    read_destroy, read_discover_versions, read_get, read_get_attribute_list, read_get_attributes,
+    read_locate, read_modify_attribute, read_query, read_register, read_revoke, read_rng_retrieve,
+    read_sign,
+};
+use crate::payload::rows::{
+    CreateKeyPairRows, CreateRows, DeleteAttributeRows, DiscoverVersionsRows, EditRows,
+    GetAttributesRows, GetRows, IdentifierRows, LocateRows, QueryRows, RNGRetrieveRows,
+    RegisterRows, RevokeRows, SignRows,
+};
 use kmip_enums::{ObjectType, Operation, QueryFunction};
 use kmip_request_objects::{
     Attribute, CommonTemplateAttribute, KeyWrappingSpecification, ManagedObject,
     PrivateKeyTemplateAttribute, PublicKeyTemplateAttribute, RevocationReason, TemplateAttribute,
 };
-use kmip_shape::columns::{Many, One, Opt, OptMany};
-use kmip_shape::record::{End, Row};
 use kmip_shape::{
-    Item, Outer, ReadError, ReadItem, TagOpt, WriteItem, copy_list, fields, known_record,
-    read_record, record_len, write_record,
-};
-use kmip_tags::tags::{
-    ATTRIBUTE, ATTRIBUTE_INDEX, ATTRIBUTE_NAME, COMMON_TEMPLATE_ATTRIBUTE,
-    COMPROMISE_OCCURRENCE_DATE, CRYPTOGRAPHIC_PARAMETERS, DATA, DATA_LENGTH, KEY_COMPRESSION_TYPE,
-    KEY_FORMAT_TYPE, KEY_WRAPPING_SPECIFICATION, OBJECT_TYPE, PRIVATE_KEY_TEMPLATE_ATTRIBUTE,
-    PROTOCOL_VERSION, PUBLIC_KEY_TEMPLATE_ATTRIBUTE, QUERY_FUNCTION, REVOCATION_REASON,
-    TEMPLATE_ATTRIBUTE, UNIQUE_IDENTIFIER,
+    Item, Outer, ReadError, ReadItem, WriteItem, copy_list, fields, known_record, record_len,
+    write_record,
 };
 use kmip_types::{
     AttributeIndex, AttributeName, CompromiseOccurrenceDate, CryptographicParameters, Data,
@@ -126,70 +131,6 @@ impl RequestPayload {
         ProtocolVersion(ProtocolVersionMajor(1), ProtocolVersionMinor(minor))
     }
 }
-
-type CreateRows = Row<
-    One<ObjectType, OBJECT_TYPE>,
-    Row<One<TemplateAttribute, TEMPLATE_ATTRIBUTE>, End>,
->;
-
-type CreateKeyPairRows = Row<
-    Opt<CommonTemplateAttribute, COMMON_TEMPLATE_ATTRIBUTE>,
-    Row<
-        Opt<PrivateKeyTemplateAttribute, PRIVATE_KEY_TEMPLATE_ATTRIBUTE>,
-        Row<Opt<PublicKeyTemplateAttribute, PUBLIC_KEY_TEMPLATE_ATTRIBUTE>, End>,
-    >,
->;
-
-type RegisterRows = Row<
-    One<ObjectType, OBJECT_TYPE>,
-    Row<One<TemplateAttribute, TEMPLATE_ATTRIBUTE>, Row<TagOpt<ManagedObject>, End>>,
->;
-
-type LocateRows = Row<Many<Attribute, ATTRIBUTE>, End>;
-
-type GetRows = Row<
-    Opt<UniqueIdentifier, UNIQUE_IDENTIFIER>,
-    Row<
-        Opt<KeyFormatType, KEY_FORMAT_TYPE>,
-        Row<
-            Opt<KeyCompressionType, KEY_COMPRESSION_TYPE>,
-            Row<Opt<Boxed<KeyWrappingSpecification>, KEY_WRAPPING_SPECIFICATION>, End>,
-        >,
-    >,
->;
-
-type GetAttributesRows = Row<
-    Opt<UniqueIdentifier, UNIQUE_IDENTIFIER>,
-    Row<OptMany<AttributeName, ATTRIBUTE_NAME>, End>,
->;
-
-type IdentifierRows = Row<Opt<UniqueIdentifier, UNIQUE_IDENTIFIER>, End>;
-
-type EditRows = Row<Opt<UniqueIdentifier, UNIQUE_IDENTIFIER>, Row<One<Attribute, ATTRIBUTE>, End>>;
-
-type DeleteAttributeRows = Row<
-    Opt<UniqueIdentifier, UNIQUE_IDENTIFIER>,
-    Row<One<AttributeName, ATTRIBUTE_NAME>, Row<Opt<AttributeIndex, ATTRIBUTE_INDEX>, End>>,
->;
-
-type RevokeRows = Row<
-    Opt<UniqueIdentifier, UNIQUE_IDENTIFIER>,
-    Row<
-        One<RevocationReason, REVOCATION_REASON>,
-        Row<Opt<CompromiseOccurrenceDate, COMPROMISE_OCCURRENCE_DATE>, End>,
-    >,
->;
-
-type QueryRows = Row<Many<QueryFunction, QUERY_FUNCTION>, End>;
-
-type DiscoverVersionsRows = Row<Many<ProtocolVersion, PROTOCOL_VERSION>, End>;
-
-type SignRows = Row<
-    Opt<UniqueIdentifier, UNIQUE_IDENTIFIER>,
-    Row<Opt<CryptographicParameters, CRYPTOGRAPHIC_PARAMETERS>, Row<One<Data, DATA>, End>>,
->;
-
-type RNGRetrieveRows = Row<One<DataLength, DATA_LENGTH>, End>;
 
 impl Item for RequestPayload {
     ghost shape = { request_payload };
@@ -374,82 +315,23 @@ impl WriteItem for RequestPayload {
 impl ReadItem for RequestPayload {
     fn read(alloc: Global, outer: Outer<'_>, item: ItemRef<'_>) -> Result<Self, ReadError> {
         match outer.number {
-            Some(1) => {
-                let fields![object_type, template] = read_record::<CreateRows>(alloc, outer, item)?;
-                Ok(RequestPayload::Create(object_type, template))
-            }
-            Some(2) => {
-                let fields![common, private_key, public_key] = read_record::<CreateKeyPairRows>(
-                    alloc, outer, item,
-                )?;
-                Ok(RequestPayload::CreateKeyPair(common, private_key, public_key))
-            }
-            Some(3) => {
-                let fields![object_type, template, object] = read_record::<RegisterRows>(
-                    alloc, outer, item,
-                )?;
-                Ok(RequestPayload::Register(object_type, template, object))
-            }
-            Some(8) => {
-                let fields![attributes] = read_record::<LocateRows>(alloc, outer, item)?;
-                Ok(RequestPayload::Locate(attributes))
-            }
-            Some(10) => {
-                let fields![id, format, compression, specification] = read_record::<GetRows>(
-                    alloc, outer, item,
-                )?;
-                Ok(RequestPayload::Get(id, format, compression, specification))
-            }
-            Some(11) => {
-                let fields![id, names] = read_record::<GetAttributesRows>(alloc, outer, item)?;
-                Ok(RequestPayload::GetAttributes(id, names))
-            }
-            Some(12) => {
-                let fields![id] = read_record::<IdentifierRows>(alloc, outer, item)?;
-                Ok(RequestPayload::GetAttributeList(id))
-            }
-            Some(13) => {
-                let fields![id, attribute] = read_record::<EditRows>(alloc, outer, item)?;
-                Ok(RequestPayload::AddAttribute(id, attribute))
-            }
-            Some(14) => {
-                let fields![id, attribute] = read_record::<EditRows>(alloc, outer, item)?;
-                Ok(RequestPayload::ModifyAttribute(id, attribute))
-            }
-            Some(15) => {
-                let fields![id, name, index] = read_record::<DeleteAttributeRows>(
-                    alloc, outer, item,
-                )?;
-                Ok(RequestPayload::DeleteAttribute(id, name, index))
-            }
-            Some(18) => {
-                let fields![id] = read_record::<IdentifierRows>(alloc, outer, item)?;
-                Ok(RequestPayload::Activate(id))
-            }
-            Some(19) => {
-                let fields![id, reason, date] = read_record::<RevokeRows>(alloc, outer, item)?;
-                Ok(RequestPayload::Revoke(id, reason, date))
-            }
-            Some(20) => {
-                let fields![id] = read_record::<IdentifierRows>(alloc, outer, item)?;
-                Ok(RequestPayload::Destroy(id))
-            }
-            Some(24) => {
-                let fields![functions] = read_record::<QueryRows>(alloc, outer, item)?;
-                Ok(RequestPayload::Query(functions))
-            }
-            Some(30) => {
-                let fields![versions] = read_record::<DiscoverVersionsRows>(alloc, outer, item)?;
-                Ok(RequestPayload::DiscoverVersions(versions))
-            }
-            Some(33) => {
-                let fields![id, parameters, data] = read_record::<SignRows>(alloc, outer, item)?;
-                Ok(RequestPayload::Sign(id, parameters, data))
-            }
-            Some(37) => {
-                let fields![length] = read_record::<RNGRetrieveRows>(alloc, outer, item)?;
-                Ok(RequestPayload::RNGRetrieve(length))
-            }
+            Some(1) => read_create(alloc, outer, item),
+            Some(2) => read_create_key_pair(alloc, outer, item),
+            Some(3) => read_register(alloc, outer, item),
+            Some(8) => read_locate(alloc, outer, item),
+            Some(10) => read_get(alloc, outer, item),
+            Some(11) => read_get_attributes(alloc, outer, item),
+            Some(12) => read_get_attribute_list(alloc, outer, item),
+            Some(13) => read_add_attribute(alloc, outer, item),
+            Some(14) => read_modify_attribute(alloc, outer, item),
+            Some(15) => read_delete_attribute(alloc, outer, item),
+            Some(18) => read_activate(alloc, outer, item),
+            Some(19) => read_revoke(alloc, outer, item),
+            Some(20) => read_destroy(alloc, outer, item),
+            Some(24) => read_query(alloc, outer, item),
+            Some(30) => read_discover_versions(alloc, outer, item),
+            Some(33) => read_sign(alloc, outer, item),
+            Some(37) => read_rng_retrieve(alloc, outer, item),
             _ => Err(ReadError::Unread),
         }
     }

@@ -29,7 +29,8 @@ fn attribute(alloc: Global, name: &str, value: AttributeValue) -> Result<Attribu
 impl Attribute {
     /// The identifier of an object, as a text: KMIP 1.0, 3.1.
     pub fn UniqueIdentifier(alloc: Global, value: Text) -> Result<Attribute, OutOfMemory>
-        ensures { IfOk result (λ made. made ≡ attribute_of (codes "Unique Identifier") (values.TextString value)) }
+        ensures { IfOk result (λ made. made ≡
+            attribute_of (codes "Unique Identifier") (values.TextString value)) }
     {
         attribute(
             alloc,
@@ -40,7 +41,8 @@ impl Attribute {
 
     /// A name that is an uninterpreted text: KMIP 1.0, 3.2.
     pub fn Name(alloc: Global, value: Text) -> Result<Attribute, OutOfMemory>
-        ensures { IfOk result (λ made. made ≡ attribute_of (codes "Name") (values.Name (record { 0 = value }) name_types.UninterpretedTextString)) }
+        ensures { IfOk result (λ made. made ≡
+            attribute_of (codes "Name") (values.Name (record { 0 = value }) name_types.UninterpretedTextString)) }
     {
         attribute(
             alloc,
@@ -51,7 +53,8 @@ impl Attribute {
 
     /// A name that is a URI: KMIP 1.0, 3.2.
     pub fn URI(alloc: Global, value: Text) -> Result<Attribute, OutOfMemory>
-        ensures { IfOk result (λ made. made ≡ attribute_of (codes "Name") (values.Name (record { 0 = value }) name_types.URI)) }
+        ensures { IfOk result (λ made. made ≡
+            attribute_of (codes "Name") (values.Name (record { 0 = value }) name_types.URI)) }
     {
         attribute(
             alloc,
@@ -62,7 +65,8 @@ impl Attribute {
 
     /// The type of an object: KMIP 1.0, 3.3.
     pub fn ObjectType(alloc: Global, value: ObjectType) -> Result<Attribute, OutOfMemory>
-        ensures { IfOk result (λ made. made ≡ attribute_of (codes "Object Type") (values.ObjectType value)) }
+        ensures { IfOk result (λ made. made ≡
+            attribute_of (codes "Object Type") (values.ObjectType value)) }
     {
         attribute(alloc, "Object Type", AttributeValue::ObjectType(value))
     }
@@ -72,7 +76,8 @@ impl Attribute {
         alloc: Global,
         value: CryptographicAlgorithm,
     ) -> Result<Attribute, OutOfMemory>
-        ensures { IfOk result (λ made. made ≡ attribute_of (codes "Cryptographic Algorithm") (values.CryptographicAlgorithm value)) }
+        ensures { IfOk result (λ made. made ≡
+            attribute_of (codes "Cryptographic Algorithm") (values.CryptographicAlgorithm value)) }
     {
         attribute(
             alloc,
@@ -83,7 +88,8 @@ impl Attribute {
 
     /// The length of a key in bits: KMIP 1.0, 3.5.
     pub fn CryptographicLength(alloc: Global, value: i32) -> Result<Attribute, OutOfMemory>
-        ensures { IfOk result (λ made. made ≡ attribute_of (codes "Cryptographic Length") (values.Integer value)) }
+        ensures { IfOk result (λ made. made ≡
+            attribute_of (codes "Cryptographic Length") (values.Integer value)) }
     {
         attribute(
             alloc,
@@ -97,7 +103,8 @@ impl Attribute {
         alloc: Global,
         cryptographic_parameters: CryptographicParameters,
     ) -> Result<Attribute, OutOfMemory>
-        ensures { IfOk result (λ made. made ≡ attribute_of (codes "Cryptographic Parameters") (values.CryptographicParameters cryptographic_parameters)) }
+        ensures { IfOk result (λ made. made ≡
+            attribute_of (codes "Cryptographic Parameters") (values.CryptographicParameters cryptographic_parameters)) }
     {
         attribute(
             alloc,
@@ -108,7 +115,8 @@ impl Attribute {
 
     /// The name of the policy that says who may do what: KMIP 1.0, 3.13.
     pub fn OperationPolicyName(alloc: Global, value: Text) -> Result<Attribute, OutOfMemory>
-        ensures { IfOk result (λ made. made ≡ attribute_of (codes "Operation Policy Name") (values.TextString value)) }
+        ensures { IfOk result (λ made. made ≡
+            attribute_of (codes "Operation Policy Name") (values.TextString value)) }
     {
         attribute(
             alloc,
@@ -122,7 +130,8 @@ impl Attribute {
         alloc: Global,
         value: CryptographicUsageMask,
     ) -> Result<Attribute, OutOfMemory>
-        ensures { IfOk result (λ made. made ≡ attribute_of (codes "Cryptographic Usage Mask") (values.Integer (cast_signed w32 (usage_bits value)))) }
+        ensures { IfOk result (λ made. made ≡
+            attribute_of (codes "Cryptographic Usage Mask") (values.Integer (cast_signed w32 (usage_bits value)))) }
     {
         attribute(
             alloc,
@@ -134,14 +143,16 @@ impl Attribute {
     /// When an object becomes ready for use, the eight bytes of the signed seconds since 1970 as an unsigned number:
     /// KMIP 1.0, 3.19.
     pub fn ActivationDate(alloc: Global, value: u64) -> Result<Attribute, OutOfMemory>
-        ensures { IfOk result (λ made. made ≡ attribute_of (codes "Activation Date") (values.DateTime value)) }
+        ensures { IfOk result (λ made. made ≡
+            attribute_of (codes "Activation Date") (values.DateTime value)) }
     {
         attribute(alloc, "Activation Date", AttributeValue::DateTime(value))
     }
 
     /// The group that an object belongs to: KMIP 1.0, 3.28.
     pub fn ObjectGroup(alloc: Global, value: Text) -> Result<Attribute, OutOfMemory>
-        ensures { IfOk result (λ made. made ≡ attribute_of (codes "Object Group") (values.TextString value)) }
+        ensures { IfOk result (λ made. made ≡
+            attribute_of (codes "Object Group") (values.TextString value)) }
     {
         attribute(alloc, "Object Group", AttributeValue::TextString(value))
     }
@@ -152,7 +163,8 @@ impl Attribute {
         link_type: LinkType,
         linked_object_identifier: LinkedObjectIdentifier,
     ) -> Result<Attribute, OutOfMemory>
-        ensures { IfOk result (λ made. made ≡ attribute_of (codes "Link") (values.Link link_type linked_object_identifier)) }
+        ensures { IfOk result (λ made. made ≡
+            attribute_of (codes "Link") (values.Link link_type linked_object_identifier)) }
     {
         attribute(
             alloc,
@@ -167,7 +179,8 @@ impl Attribute {
         application_namespace: ApplicationNamespace,
         application_data: ApplicationData,
     ) -> Result<Attribute, OutOfMemory>
-        ensures { IfOk result (λ made. made ≡ attribute_of (codes "Application Specific Information") (values.ApplicationSpecificInformation application_namespace application_data)) }
+        ensures { IfOk result (λ made. made ≡
+            attribute_of (codes "Application Specific Information") (values.ApplicationSpecificInformation application_namespace application_data)) }
     {
         attribute(
             alloc,
@@ -178,7 +191,8 @@ impl Attribute {
 
     /// Whom to ask about an object: KMIP 1.0, 3.31.
     pub fn ContactInformation(alloc: Global, value: Text) -> Result<Attribute, OutOfMemory>
-        ensures { IfOk result (λ made. made ≡ attribute_of (codes "Contact Information") (values.ContactInformation value)) }
+        ensures { IfOk result (λ made. made ≡
+            attribute_of (codes "Contact Information") (values.ContactInformation value)) }
     {
         attribute(
             alloc,

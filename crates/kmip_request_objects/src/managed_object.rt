@@ -1,6 +1,7 @@
 //! Managed objects, each under its own tag.
 
 ghost use Rattle.std.specs.Prelude.{◌≡◌, ◌∷◌, [], refl};
+ghost use Rattle.kmip_tags.specs.Tags as numbers;
 ghost use Rattle.kmip_shape.specs.Shape.{Choice, OfTag};
 ghost use Rattle.kmip_request_objects.specs.Tables.{name, symmetric_key, public_key, private_key, template, managed_objects};
 ghost use Rattle.kmip_request_objects.specs.Values.{symmetric_key_val, public_key_val, private_key_val, template_val, managed_object_val};
@@ -266,7 +267,7 @@ impl ReadItem for ManagedObject {
 }
 
 impl OfTag for ManagedObject {
-    ghost tags = { SYMMETRIC_KEY ∷ PUBLIC_KEY ∷ PRIVATE_KEY ∷ TEMPLATE ∷ [] };
+    ghost tags = { numbers.SYMMETRIC_KEY ∷ numbers.PUBLIC_KEY ∷ numbers.PRIVATE_KEY ∷ numbers.TEMPLATE ∷ [] };
 
     fn has_case(tag: Tag) -> bool {
         matches!(

@@ -48,7 +48,8 @@ impl TemplateAttribute {
         name: Text,
         attributes: List<Attribute>,
     ) -> Result<Self, OutOfMemory>
-        ensures { IfOk result (λ made. made ≡ record { 0 = Some (uninterpreted name ∷ []); 1 = Some attributes }) }
+        ensures { IfOk result (λ made. made ≡
+            record { 0 = Some (uninterpreted name ∷ []); 1 = Some attributes }) }
     {
         Ok(TemplateAttribute(Some(one_name(alloc, name)?), Some(attributes)))
     }
@@ -115,7 +116,8 @@ impl CommonTemplateAttribute {
         name: Text,
         attributes: List<Attribute>,
     ) -> Result<Self, OutOfMemory>
-        ensures { IfOk result (λ made. made ≡ record { 0 = Some (uninterpreted name ∷ []); 1 = Some attributes }) }
+        ensures { IfOk result (λ made. made ≡
+            record { 0 = Some (uninterpreted name ∷ []); 1 = Some attributes }) }
     {
         Ok(CommonTemplateAttribute(Some(one_name(alloc, name)?), Some(attributes)))
     }
@@ -187,7 +189,8 @@ impl PrivateKeyTemplateAttribute {
         name: Text,
         attributes: List<Attribute>,
     ) -> Result<Self, OutOfMemory>
-        ensures { IfOk result (λ made. made ≡ record { 0 = Some (uninterpreted name ∷ []); 1 = Some attributes }) }
+        ensures { IfOk result (λ made. made ≡
+            record { 0 = Some (uninterpreted name ∷ []); 1 = Some attributes }) }
     {
         Ok(PrivateKeyTemplateAttribute(Some(one_name(alloc, name)?), Some(attributes)))
     }
@@ -259,7 +262,8 @@ impl PublicKeyTemplateAttribute {
         name: Text,
         attributes: List<Attribute>,
     ) -> Result<Self, OutOfMemory>
-        ensures { IfOk result (λ made. made ≡ record { 0 = Some (uninterpreted name ∷ []); 1 = Some attributes }) }
+        ensures { IfOk result (λ made. made ≡
+            record { 0 = Some (uninterpreted name ∷ []); 1 = Some attributes }) }
     {
         Ok(PublicKeyTemplateAttribute(Some(one_name(alloc, name)?), Some(attributes)))
     }

@@ -41,7 +41,8 @@ fn read_canonical<T: ReadRoot + WriteItem>(
     bytes: &[u8],
 ) -> Result<T, RequestReadError>
     ensures ok { IfOk result (λ x. IsCanonical T.shape T.root_tag (item_tree item.entry) bytes.now (T.val x)) }
-    ensures not_canonical { result ≡ Err RequestReadError.NotCanonical → (val : Val) → IsWrittenAs T.shape T.root_tag (item_tree item.entry) bytes.now val → ⊥ }
+    ensures not_canonical { result ≡ Err RequestReadError.NotCanonical → (val : Val) →
+        IsWrittenAs T.shape T.root_tag (item_tree item.entry) bytes.now val → ⊥ }
     ensures never { IfErr result (λ e. e ≢ RequestReadError.Malformed) }
 {
     let value: T = match read_root(alloc, item) {
@@ -64,7 +65,8 @@ fn read_canonical<T: ReadRoot + WriteItem>(
 
 /// Whether a header is what a client writes, with this version.
 fn is_plain_header(header: &RequestHeader, version: ProtocolVersion) -> bool
-    ensures { IsTrue result ↔ (header.now ≡ record { 0 = version; 1 = None; 2 = header.now.2; 3 = record { 0 = pos 1 } }) }
+    ensures { IsTrue result ↔ (header.now ≡
+        record { 0 = version; 1 = None; 2 = header.now.2; 3 = record { 0 = pos 1 } }) }
 {
     let RequestHeader(made_in, size, _, count) = header;
     *made_in == version && size.is_none() && count.0 == 1
@@ -72,7 +74,8 @@ fn is_plain_header(header: &RequestHeader, version: ProtocolVersion) -> bool
 
 /// Whether a batch item is what a client writes round its payload.
 fn is_plain_item(item: &BatchItem) -> bool
-    ensures { IsTrue result ↔ (item.now ≡ record { 0 = operation_of item.now.2; 1 = None; 2 = item.now.2 }) }
+    ensures { IsTrue result ↔ (item.now ≡
+        record { 0 = operation_of item.now.2; 1 = None; 2 = item.now.2 }) }
 {
     let BatchItem(operation, identifier, payload) = item;
     *operation == payload.operation() && identifier.is_none()
@@ -126,11 +129,14 @@ pub fn from_slice(
 ) -> Result<(RequestPayload, Option<auth::CredentialType>), RequestReadError>
     ensures ok { IfOk result (λ r. IsMatched r.0 × (request_bytes r.0 r.1 ≡ Some bytes.now)) }
     ensures malformed { result ≡ Err RequestReadError.Malformed ↔ ((tree : Tree) → Parses tree 1 bytes.now → ⊥) }
-    ensures not_canonical { result ≡ Err RequestReadError.NotCanonical → (p : Payload) (c : Option CredentialType) → IsHeld p c → IsMatched p → request_bytes p c ≡ Some bytes.now → ⊥ }
+    ensures not_canonical { result ≡ Err RequestReadError.NotCanonical → (p : Payload) (c : Option CredentialType) →
+        IsHeld p c → IsMatched p → request_bytes p c ≡ Some bytes.now → ⊥ }
     ensures item { result ≡ Err RequestReadError.NotCanonical → (tree : Tree) × Parses tree 1 bytes.now }
     ensures value { IfOk result (λ r. request_read bytes.now ≡ Some (request_for r.0)) }
-    ensures unread { (result ≡ Err RequestReadError.Malformed) ⊎ (result ≡ Err RequestReadError.NotCanonical) → request_read bytes.now ≡ None }
-    ensures back { (p : Payload) (c : Option CredentialType) → IsHeld p c → IsMatched p → request_bytes p c ≡ Some bytes.now → IfOk result (λ r. (r.0 ≡ p) × (r.1 ≡ c)) }
+    ensures unread { (result ≡ Err RequestReadError.Malformed) ⊎ (result ≡ Err RequestReadError.NotCanonical) →
+        request_read bytes.now ≡ None }
+    ensures back { (p : Payload) (c : Option CredentialType) → IsHeld p c → IsMatched p →
+        request_bytes p c ≡ Some bytes.now → IfOk result (λ r. (r.0 ≡ p) × (r.1 ≡ c)) }
 {
     let Some(item) = ItemRef::root(bytes) else {
         return Err(RequestReadError::Malformed);

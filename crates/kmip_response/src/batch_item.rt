@@ -1,6 +1,7 @@
 //! One operation's result.
 
 ghost use Rattle.std.specs.Prelude.{◌≡◌};
+ghost use Rattle.kmip_tags.specs.Tags as tags;
 ghost use Rattle.kmip_response.specs.Tables.{batch_item};
 ghost use Rattle.kmip_response.specs.Values.{batch_item_val};
 ghost use Rattle.kmip_response.specs.Same.{batch_item_same};
@@ -121,7 +122,7 @@ impl ReadItem for BatchItem {
 }
 
 impl ReadRoot for BatchItem {
-    ghost root_tag = { BATCH_ITEM };
+    ghost root_tag = { tags.BATCH_ITEM };
 
     fn root_tag() -> Tag {
         Tag::of(BATCH_ITEM)

@@ -1,6 +1,7 @@
 //! What a vendor adds to a message.
 
 ghost use Rattle.std.specs.Prelude.{◌≡◌};
+ghost use Rattle.kmip_tags.specs.Tags as tags;
 ghost use Rattle.kmip_response.specs.Tables.{message_extension};
 ghost use Rattle.kmip_response.specs.Values.{message_extension_val};
 ghost use Rattle.kmip_response.specs.Same.{message_extension_same};
@@ -71,7 +72,7 @@ impl ReadItem for MessageExtension {
 }
 
 impl ReadRoot for MessageExtension {
-    ghost root_tag = { MESSAGE_EXTENSION };
+    ghost root_tag = { tags.MESSAGE_EXTENSION };
 
     fn root_tag() -> Tag {
         Tag::of(MESSAGE_EXTENSION)

@@ -1,6 +1,7 @@
 //! The head of a response.
 
 ghost use Rattle.std.specs.Prelude.{◌≡◌};
+ghost use Rattle.kmip_tags.specs.Tags as tags;
 ghost use Rattle.kmip_response.specs.Tables.{protocol_version, response_header};
 ghost use Rattle.kmip_response.specs.Values.{protocol_version_val, response_header_val};
 ghost use Rattle.kmip_response.specs.Same.{protocol_version_same, response_header_same};
@@ -62,7 +63,7 @@ impl ShowItem for ProtocolVersion {
 }
 
 impl ReadRoot for ProtocolVersion {
-    ghost root_tag = { PROTOCOL_VERSION };
+    ghost root_tag = { tags.PROTOCOL_VERSION };
 
     fn root_tag() -> Tag {
         Tag::of(PROTOCOL_VERSION)
@@ -116,7 +117,7 @@ impl ReadItem for ResponseHeader {
 }
 
 impl ReadRoot for ResponseHeader {
-    ghost root_tag = { RESPONSE_HEADER };
+    ghost root_tag = { tags.RESPONSE_HEADER };
 
     fn root_tag() -> Tag {
         Tag::of(RESPONSE_HEADER)

@@ -1,4 +1,13 @@
-//! Responses: what a server answers, and how it is read from checked bytes.
+//! Responses: what a server returns, and how it is read from checked bytes.
+//!
+//! ```rust
+//! use kmip_response::{ResponseMessage, from_slice};
+//!
+//! let message: ResponseMessage = from_slice(alloc, bytes)?;
+//! for item in message.batch_items.as_slice() {
+//!     if let Some(reason) = item.result_reason { .. }
+//! }
+//! ```
 //!
 //! Every type reads its children in one walk, makes no tree, and takes memory only for what the value holds.
 //! Known fields stand in any order, unknown tags are skipped; a second item of a single field, a missing

@@ -1,6 +1,7 @@
 //! The whole message.
 
 ghost use Rattle.std.specs.Prelude.{◌≡◌};
+ghost use Rattle.kmip_tags.specs.Tags as tags;
 ghost use Rattle.kmip_response.specs.Tables.{response_message};
 ghost use Rattle.kmip_response.specs.Values.{response_message_val};
 ghost use Rattle.kmip_response.specs.Same.{response_message_same};
@@ -60,7 +61,7 @@ impl ReadItem for ResponseMessage {
 }
 
 impl ReadRoot for ResponseMessage {
-    ghost root_tag = { RESPONSE_MESSAGE };
+    ghost root_tag = { tags.RESPONSE_MESSAGE };
 
     fn root_tag() -> Tag {
         Tag::of(RESPONSE_MESSAGE)

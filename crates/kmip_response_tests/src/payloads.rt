@@ -12,6 +12,7 @@ use std::process::Abort;
 use std::test::Fail;
 
 /// A structure in hex, and what it shows as where it is read.
+#[derive(Drop)]
 struct Case {
     hex: &'static str,
     shown: Option<&'static str>,
@@ -319,6 +320,42 @@ const RANDOM: [Case; 1] = [
 #[test]
 fn random(rt: HostRuntime) -> Result<(), Fail> {
     are_read::<RNGRetrieveResponsePayload>(&rt, rt.alloc(), &RANDOM)
+}
+
+/// The JSON of a structure in hex.
+fn json_of<T: ReadRoot + ShowItem>(alloc: Global, hex: &str) -> Result<Text, Fail> {
+    let bytes = hex::decode(alloc, hex)?;
+    match from_slice::<T>(alloc, bytes.as_slice()) {
+        Ok(value) => {
+            let mut text = Text::new(alloc);
+            value.show_json(alloc, &mut text)?;
+            Ok(text)
+        }
+        Err(_) => Err(Fail::from("not read")),
+    }
+}
+
+const KEY_JSON: &str =
+    r#"{"object_type":"SymmetricKey","unique_identifier":"s1","cryptographic_object":{"SymmetricKey":{"key_block":{"key_format_type":"Raw","key_value":{"key_material":{"Bytes":"00112233445566778899AABBCCDDEEFF"}},"cryptographic_algorithm":"AES","cryptographic_length":128}}}}"#;
+
+const CREATED_JSON: &str =
+    r#"{"object_type":"SymmetricKey","unique_identifier":"k1","object_attributes":[{"name":"State","value":{"State":"PreActive"}}]}"#;
+
+const SERVER_JSON: &str =
+    r#"{"operations":["Create","Query"],"object_types":["SymmetricKey"],"vendor_identification":"x"}"#;
+
+#[test]
+fn as_json(rt: HostRuntime) -> Result<(), Fail> {
+    let alloc = rt.alloc();
+    let key = json_of::<GetResponsePayload>(alloc, GOT[0].hex)?;
+    assert_eq!(&rt; key.as_str(), KEY_JSON);
+    let created = json_of::<CreateResponsePayload>(alloc, CREATED[1].hex)?;
+    assert_eq!(&rt; created.as_str(), CREATED_JSON);
+    let server = json_of::<QueryResponsePayload>(alloc, QUERIED[0].hex)?;
+    assert_eq!(&rt; server.as_str(), SERVER_JSON);
+    let none = json_of::<LocateResponsePayload>(alloc, LOCATED[0].hex)?;
+    assert_eq!(&rt; none.as_str(), r#"{"unique_identifiers":[]}"#);
+    Ok(())
 }
 
 // 69{6A i1,6B i2}

@@ -21,7 +21,8 @@ pub fn settled_is_read()
         response_tree m ≡ Some t →
         root_read response_message RESPONSE_MESSAGE t ≡ Some (response_message_val m) }
     ensures only { (m : ResponseMessage) (t : Tree) → response_tree m ≡ Some t →
-        root_read response_message RESPONSE_MESSAGE t ≡ Some (response_message_val m) → IsSettled m }
+        root_read response_message RESPONSE_MESSAGE t ≡ Some (response_message_val m) →
+        IsSettled m }
 {}
 
 /// The bytes of a settled message are read as the message.

@@ -11,7 +11,7 @@ use Rattle.kmip_shape.specs.Enumerations.{entry}
 use Rattle.kmip_shape.specs.Reads.{read_of, root_read}
 use Rattle.kmip_shape.specs.Trees.{tree_of}
 use Rattle.kmip_shape.specs.Writes.{bytes_of}
-use Rattle.kmip_shape.specs.Shown.{shown}
+use Rattle.kmip_shape.specs.Shown.{shown, json}
 use Rattle.kmip_shape.specs.Fits.{tags_once, choosers_stand}
 
 abbrev named : List ℕ → OuterValue
@@ -48,6 +48,9 @@ version_tree = refl
 version_shown : shown version version_val ≡ codes "{major=1,minor=2}"
 version_shown = rw (decimal_digit 1 (omega arith), decimal_digit 2 (omega arith)) refl
 
+version_json : json version version_val ≡ codes "{\"major\":1,\"minor\":2}"
+version_json = rw (decimal_digit 1 (omega arith), decimal_digit 2 (omega arith)) refl
+
 -- a padding method alone: 24 bytes
 abbrev parameters : Shape
 parameters = Rows (AndRow (codes "block_cipher_mode") (Under 0x420011) Optional Plain (OneOf (one (entry 1 (codes "CBC")))) (AndRow (codes "padding_method") (Under 0x42005F) Optional Plain (OneOf (one (entry 8 (codes "PKCS1_v1_5")))) NoRow))
@@ -59,6 +62,9 @@ parameters_bytes = refl
 
 parameters_shown : shown parameters (Record (AndField Absent (AndField (One (Number (pos 8))) NoField))) ≡ codes "{padding_method=PKCS1_v1_5}"
 parameters_shown = refl
+
+parameters_json : json parameters (Record (AndField Absent (AndField (One (Number (pos 8))) NoField))) ≡ codes "{\"padding_method\":\"PKCS1_v1_5\"}"
+parameters_json = refl
 
 number_outside_the_table : read_of parameters no_outer (structure 0x42002B (trees_of (one (scalar 0x42005F (enumeration 7))))) ≡ None
 number_outside_the_table = refl
@@ -85,11 +91,17 @@ digest_read = refl
 digest_shown : shown value digest_val ≡ codes "Structure[Enumeration(6),ByteString(x\"AABB\")]"
 digest_shown = rw (decimal_digit 6 (omega arith)) refl
 
+digest_json : json value digest_val ≡ codes "{\"Structure\":[{\"Enumeration\":6},{\"ByteString\":\"AABB\"}]}"
+digest_json = rw (decimal_digit 6 (omega arith)) refl
+
 state_read : read_of value (named (codes "State")) (scalar 0x42000B (enumeration 2)) ≡ Some (Case 1 (Number (pos 2)))
 state_read = refl
 
 state_shown : shown value (Case 1 (Number (pos 2))) ≡ codes "State(Active)"
 state_shown = refl
+
+state_json : json value (Case 1 (Number (pos 2))) ≡ codes "{\"State\":\"Active\"}"
+state_json = refl
 
 state_of_another_type : read_of value (named (codes "State")) (scalar 0x42000B (integer (pos 2))) ≡ None
 state_of_another_type = refl
@@ -136,6 +148,9 @@ wrapped_tree = refl
 wrapped_shown : shown key_value wrapped_val ≡ codes "{key_material=Wrapped(x\"AABB\")}"
 wrapped_shown = refl
 
+wrapped_json : json key_value wrapped_val ≡ codes "{\"key_material\":{\"Wrapped\":\"AABB\"}}"
+wrapped_json = refl
+
 wrapped_elsewhere : tree_of (Choice OfNumber materials) 0x420043 (Case 9 (Bytes (two 0xAA 0xBB))) ≡ None
 wrapped_elsewhere = refl
 
@@ -148,6 +163,9 @@ no_names = refl
 
 names_shown : shown names (Record (AndField (Many (AndVal (Text (codes "a\"b\\\n")) NoVal)) NoField)) ≡ codes "{attributes=[\"a\\\"b\\\\\\x0A\"]}"
 names_shown = refl
+
+names_json : json names (Record (AndField (Many (AndVal (Text (codes "a\"b\\\n")) NoVal)) NoField)) ≡ codes "{\"attributes\":[\"a\\\"b\\\\\\u000A\"]}"
+names_json = refl
 
 -- an object under its own tag: at most one under all of them
 abbrev objects : Cases

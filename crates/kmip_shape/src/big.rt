@@ -104,8 +104,8 @@ impl<'b, const TAG: u32> WriteRow<'b> for BigOne<TAG> {
 impl<'b, const TAG: u32> ShowRow<'b> for BigOne<TAG> {
     fn show(lent: &'b Blob, name: &str, after: bool, out: &mut Sink) -> bool {
         out.put_comma(after);
-        out.put(name);
-        out.put("=");
+        out.put_word(name);
+        out.put_name_mark();
         lent.show_into(out);
         true
     }

@@ -72,7 +72,7 @@ impl<T: Enumeration> ReadItem for T {
 
 impl<T: Enumeration> ShowItem for T {
     fn show_into(&self, out: &mut Sink) {
-        out.put(self.name());
+        out.put_word(self.name());
     }
 }
 

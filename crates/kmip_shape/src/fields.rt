@@ -22,7 +22,7 @@ ghost use Rattle.kmip_shape.specs.Writes.{structure_head, optional, optional_lis
 ghost use Rattle.kmip_shape.specs.Writes.{field_form, field_len, field_size, field_text};
 ghost use Rattle.kmip_shape.specs.Writes.{fields_form, fields_len, fields_size, fields_text};
 ghost use Rattle.kmip_shape.specs.Writes.{structure_len as len_of_structure};
-ghost use Rattle.kmip_shape.specs.Shown.{Grows, shown, row_shown, fields_shown, stands};
+ghost use Rattle.kmip_shape.specs.Shown.{Grows, row_styled, fields_styled, record_styled, stands};
 
 use crate::columns::{ChosenOne, ChosenOpt, Many, NonEmpty, One, Opt, OptMany};
 use crate::item::{Item, WriteItem};
@@ -81,7 +81,7 @@ pub trait ShowRow<'b>: FieldRow<'b> {
     fn show(lent: Self::Lent, name: &str, after: bool, out: &mut Sink) -> bool
         ensures after { (a : Bool) → after ≡ a → result ≡ (a || stands (Self.field lent)) }
         ensures text { (a : Bool) → after ≡ a →
-            Grows out.old out.new (row_shown (Self.field lent) NoCase name.now Self.shape a) };
+            Grows out.old out.new (row_styled (Self.field lent) NoCase name.now Self.shape a) };
 }
 
 /// The rows of a record, and its fields.
@@ -141,7 +141,7 @@ pub trait ShowRows<'b> {
     /// Appends what the fields show, after others or not.
     fn show(lent: Self::Lent, names: Self::Names, after: bool, out: &mut Sink)
         ensures { (a : Bool) → after ≡ a →
-            Grows out.old out.new (fields_shown (Self.fields lent) NoCase (named names) a) };
+            Grows out.old out.new (fields_styled (Self.fields lent) NoCase (named names) a) };
 }
 
 impl<'b, T: Item + 'b, const TAG: u32> FieldRow<'b> for One<T, TAG> {
@@ -557,7 +557,7 @@ where
 /// Appends the text of a record, its fields under their names.
 pub fn show_record<'b, R: ShowRows<'b>>(lent: R::Lent, names: R::Names, out: &mut Sink)
     ensures { Grows out.old out.new
-        (123 ∷ (fields_shown (R.fields lent) NoCase (R.named names) false ++ 125 ∷ [])) }
+        (record_styled (R.fields lent) (R.named names)) }
 {
     out.put("{");
     R::show(lent, names, false, out);

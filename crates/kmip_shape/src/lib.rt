@@ -2,8 +2,8 @@
 //! traits by which types of items are written, read and shown.
 //!
 //! A type implements `Item`, and then what it needs of `WriteItem`, `ReadItem` and `ShowItem`. The
-//! rows of a record are one type, as `Row<One<AttributeName, 0x42000A>, Row<Opt<AttributeIndex,
-//! 0x420009>, End>>`, by which it is read (`read_record`), written (`record_len`, `write_record`)
+//! rows of a record are one type, as `Row<One<AttributeName, ATTRIBUTE_NAME>, Row<Opt<AttributeIndex,
+//! ATTRIBUTE_INDEX>, End>>`, by which it is read (`read_record`), written (`record_len`, `write_record`)
 //! and shown (`show_record`).
 #![tactic(auto)]
 
@@ -24,6 +24,7 @@ mod rows;
 pub mod scalars;
 pub mod show;
 mod sink;
+mod style;
 mod wrapped;
 mod write;
 
@@ -41,5 +42,6 @@ pub use record::read_record;
 pub use rows::{begin_structure, known_items, plus_len, structure_len, write_list};
 pub use show::{ShowItem, show_case, show_in_brackets};
 pub use sink::Sink;
+pub use style::Style;
 pub use wrapped::{BigInteger, Timestamp};
 pub use write::{item_len, to_blob, write_item};

@@ -1,34 +1,46 @@
 //! Values shown as text.
 
-ghost use Rattle.std.specs.Prelude.{◌≡◌, ◌++◌, ◌∷◌, [], Bool, ◌||◌, false, true, OnOk};
+ghost use Rattle.std.specs.Prelude.{◌≡◌, ◌++◌, Bool, ◌||◌, false, true, OnOk};
 ghost use Rattle.kmip_shape.specs.Val.{One as one, Many as many};
 ghost use Rattle.kmip_shape.specs.Shape.{NoCase};
 ghost use Rattle.kmip_shape.specs.Writes.{optional, optional_list, vals};
-ghost use Rattle.kmip_shape.specs.Shown.{Grows, AddsPart, shown, row_shown, list_shown, stands};
+ghost use Rattle.kmip_shape.specs.Shown.{Grows, AddsPart, styled, shown, json, row_styled};
+ghost use Rattle.kmip_shape.specs.Shown.{list_styled, stands, beside, in_brackets};
 
 use crate::item::Item;
 use crate::sink::Sink;
+use crate::style::Style;
 use kmip_wire::{List, OutOfMemory, Text};
 use std::alloc::Global;
 use std::mem;
 
 /// An item that is shown as text.
 pub trait ShowItem: Item {
-    /// Appends its text to what grows until memory runs out. This is what a type writes; others
-    /// call `show`.
+    /// Appends its text, in the style of what grows, until memory runs out. This is what a type
+    /// writes; others call `show` or `show_json`.
     fn show_into(&self, out: &mut Sink)
-        ensures { Grows out.old out.new (shown Self.shape (Self.val self.now)) };
+        ensures { Grows out.old out.new (styled Self.shape (Self.val self.now)) };
 
     /// Appends its text. Where memory runs out, a first part of the text was appended.
     fn show(&self, alloc: Global, out: &mut Text) -> Result<(), OutOfMemory>
         ensures all { OnOk result (out.new ≡ out.old ++ shown Self.shape (Self.val self.now)) }
         ensures part { AddsPart out.old out.new (shown Self.shape (Self.val self.now)) }
     {
-        let mut sink = Sink::over(mem::replace(out, Text::new(alloc)));
+        let mut sink = Sink::over(mem::replace(out, Text::new(alloc)), Style::Bare);
         self.show_into(&mut sink);
-        let (text, live) = sink.into_text();
-        *out = text;
-        if live { Ok(()) } else { Err(OutOfMemory) }
+        sink.finish(out)
+    }
+
+    /// Appends it as JSON (RFC 8259): a record as an object, a list as an array, a choice as an
+    /// object of one member, bytes as a string of upper-case hex digits. Where memory runs out, a
+    /// first part of the text was appended.
+    fn show_json(&self, alloc: Global, out: &mut Text) -> Result<(), OutOfMemory>
+        ensures all { OnOk result (out.new ≡ out.old ++ json Self.shape (Self.val self.now)) }
+        ensures part { AddsPart out.old out.new (json Self.shape (Self.val self.now)) }
+    {
+        let mut sink = Sink::over(mem::replace(out, Text::new(alloc)), Style::Json);
+        self.show_into(&mut sink);
+        sink.finish(out)
     }
 }
 
@@ -36,11 +48,11 @@ pub trait ShowItem: Item {
 pub fn show_one<T: ShowItem>(item: &T, name: &str, after: bool, out: &mut Sink) -> bool
     ensures after { (a : Bool) → after ≡ a → result ≡ (a || stands (one (T.val item.now))) }
     ensures text { (a : Bool) → after ≡ a →
-        Grows out.old out.new (row_shown (one (T.val item.now)) NoCase name.now T.shape a) }
+        Grows out.old out.new (row_styled (one (T.val item.now)) NoCase name.now T.shape a) }
 {
     out.put_comma(after);
-    out.put(name);
-    out.put("=");
+    out.put_word(name);
+    out.put_name_mark();
     item.show_into(out);
     true
 }
@@ -54,7 +66,7 @@ pub(crate) fn show_optional<T: ShowItem>(
 ) -> bool
     ensures after { (a : Bool) → after ≡ a → result ≡ (a || stands (optional T.val item.now)) }
     ensures text { (a : Bool) → after ≡ a →
-        Grows out.old out.new (row_shown (optional T.val item.now) NoCase name.now T.shape a) }
+        Grows out.old out.new (row_styled (optional T.val item.now) NoCase name.now T.shape a) }
 {
     match item {
         Some(item) => show_one(item, name, after, out),
@@ -65,7 +77,7 @@ pub(crate) fn show_optional<T: ShowItem>(
 /// The items of a list, after others or not.
 #[tactic(auto, using(crate::proofs::Growth::growth))]
 pub(crate) fn show_items<T: ShowItem>(items: &[T], out: &mut Sink)
-    ensures { Grows out.old out.new (list_shown (vals T.val items.now) NoCase T.shape false) }
+    ensures { Grows out.old out.new (list_styled (vals T.val items.now) NoCase T.shape false) }
 {
     let mut after = false;
     for item in items {
@@ -84,11 +96,12 @@ pub(crate) fn show_list<T: ShowItem>(
 ) -> bool
     ensures after { (a : Bool) → after ≡ a → result ≡ (a || stands (many (vals T.val items.now))) }
     ensures text { (a : Bool) → after ≡ a →
-        Grows out.old out.new (row_shown (many (vals T.val items.now)) NoCase name.now T.shape a) }
+        Grows out.old out.new (row_styled (many (vals T.val items.now)) NoCase name.now T.shape a) }
 {
     out.put_comma(after);
-    out.put(name);
-    out.put("=[");
+    out.put_word(name);
+    out.put_name_mark();
+    out.put("[");
     show_items(items.as_slice(), out);
     out.put("]");
     true
@@ -105,7 +118,7 @@ pub(crate) fn show_optional_list<T: ShowItem>(
         result ≡ (a || stands (optional_list T.val items.now)) }
     ensures text { (a : Bool) → after ≡ a →
         Grows out.old out.new
-        (row_shown (optional_list T.val items.now) NoCase name.now T.shape a) }
+        (row_styled (optional_list T.val items.now) NoCase name.now T.shape a) }
 {
     match items {
         Some(items) => show_list(items, name, after, out),
@@ -115,18 +128,18 @@ pub(crate) fn show_optional_list<T: ShowItem>(
 
 /// A case whose value is a record or a list: its name, and the value itself.
 pub fn show_case<T: ShowItem>(name: &str, item: &T, out: &mut Sink)
-    ensures { Grows out.old out.new (name.now ++ shown T.shape (T.val item.now)) }
+    ensures { Grows out.old out.new (beside name.now (styled T.shape (T.val item.now))) }
 {
-    out.put(name);
+    out.open_case(name);
     item.show_into(out);
+    out.close_case();
 }
 
 /// A case of another value: its name, and the value in round brackets.
 pub fn show_in_brackets<T: ShowItem>(name: &str, item: &T, out: &mut Sink)
-    ensures { Grows out.old out.new (name.now ++ 40 ∷ (shown T.shape (T.val item.now) ++ 41 ∷ [])) }
+    ensures { Grows out.old out.new (in_brackets name.now (styled T.shape (T.val item.now))) }
 {
-    out.put(name);
-    out.put("(");
+    out.open_brackets(name);
     item.show_into(out);
-    out.put(")");
+    out.close_brackets();
 }

@@ -1,4 +1,11 @@
-//! The names of KMIP's tags, as a table and as a function.
+//! The tags of KMIP (KMIP 1.0, 9.1.3.1): a constant for each, and their names as a table and as a function.
+//!
+//! ```rust
+//! use kmip_tags::{name_of, tags};
+//! use kmip_wire::Tag;
+//!
+//! assert_eq!(rt; name_of(Tag::of(tags::UNIQUE_IDENTIFIER)), Some("Unique Identifier"));
+//! ```
 #![tactic(auto)]
 
 ghost use Rattle.std.specs.Prelude.{◌≡◌, option_map, slice_get, map, length};

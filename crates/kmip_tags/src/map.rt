@@ -20,7 +20,8 @@ impl Model for TagMap {
 
     ghost view = { λ t. entries_from first_tag (map (λ n. n.now) t.names.now) };
 
-    ghost invariant = { λ t. (map (λ n. n.now) t.names.now ≡ table_names) × (length t.names.now ≡ 292) };
+    ghost invariant = { λ t. (map (λ n. n.now) t.names.now ≡ table_names) ×
+        (length t.names.now ≡ 292) };
 }
 
 /// The whole table, which stands in the program: the allocator is not used, and `OutOfMemory` never comes.

@@ -1,7 +1,8 @@
 -- The text of the attribute values that hold no record.
-use Rattle.std.specs.Prelude.{ℕ, List, [], ◌++◌, codes}
+use Rattle.std.specs.Prelude.{ℕ, List, [], codes}
 use Rattle.std.specs.Fmt.{decimal, signed_decimal}
-use Rattle.kmip_shape.specs.Shown.{text_shown, bytes_shown, truth_shown}
+use Rattle.kmip_shape.specs.declared.style.Style.{Style}
+use Rattle.kmip_shape.specs.Shown.{always, word, text_styled, bytes_styled, truth_shown}
 use Rattle.kmip_enums.specs.ObjectTypes.{object_type_line}
 use Rattle.kmip_enums.specs.States.{state_line}
 use Rattle.kmip_codes.specs.CryptographicAlgorithms.{cryptographic_algorithm_line}
@@ -33,31 +34,31 @@ case_name (DateTime x) = codes "DateTime"
 case_name (Interval x) = codes "Interval"
 
 -- the text of the value, and none for a record
-abbrev pub plain_shown : AttributeValue → List ℕ
-plain_shown (Name x y) = []
-plain_shown (ObjectType x) = (object_type_line x).name
-plain_shown (CryptographicAlgorithm x) = (cryptographic_algorithm_line x).name
-plain_shown (CryptographicParameters x) = []
-plain_shown (State x) = (state_line x).name
-plain_shown (ObjectGroup x) = text_shown x
-plain_shown (Link x y) = []
-plain_shown (ApplicationSpecificInformation x y) = []
-plain_shown (ContactInformation x) = text_shown x
-plain_shown (Structure x) = []
-plain_shown (Integer x) = signed_decimal x
-plain_shown (LongInteger x) = signed_decimal x
-plain_shown (BigInteger x) = bytes_shown x
-plain_shown (Enumeration x) = decimal x
-plain_shown (Boolean x) = truth_shown x
-plain_shown (TextString x) = text_shown x
-plain_shown (ByteString x) = bytes_shown x
-plain_shown (DateTime x) = decimal x
-plain_shown (Interval x) = decimal x
+abbrev pub plain_styled : AttributeValue → Style → List ℕ
+plain_styled (Name x y) = word []
+plain_styled (ObjectType x) = word (object_type_line x).name
+plain_styled (CryptographicAlgorithm x) = word (cryptographic_algorithm_line x).name
+plain_styled (CryptographicParameters x) = word []
+plain_styled (State x) = word (state_line x).name
+plain_styled (ObjectGroup x) = text_styled x
+plain_styled (Link x y) = word []
+plain_styled (ApplicationSpecificInformation x y) = word []
+plain_styled (ContactInformation x) = text_styled x
+plain_styled (Structure x) = word []
+plain_styled (Integer x) = always (signed_decimal x)
+plain_styled (LongInteger x) = always (signed_decimal x)
+plain_styled (BigInteger x) = bytes_styled x
+plain_styled (Enumeration x) = always (decimal x)
+plain_styled (Boolean x) = always (truth_shown x)
+plain_styled (TextString x) = text_styled x
+plain_styled (ByteString x) = bytes_styled x
+plain_styled (DateTime x) = always (decimal x)
+plain_styled (Interval x) = always (decimal x)
 
-abbrev pub plain_text : Piece → List ℕ
-plain_text (piece.Word w) = w.now
-plain_text (piece.Chars s) = text_shown s.now
-plain_text (piece.Octets b) = bytes_shown b.now
-plain_text (piece.Signed z) = signed_decimal z
-plain_text (piece.Unsigned n) = decimal n
-plain_text (piece.Truth b) = truth_shown b
+abbrev pub plain_text : Piece → Style → List ℕ
+plain_text (piece.Word w) = word w.now
+plain_text (piece.Chars s) = text_styled s.now
+plain_text (piece.Octets b) = bytes_styled b.now
+plain_text (piece.Signed z) = always (signed_decimal z)
+plain_text (piece.Unsigned n) = always (decimal n)
+plain_text (piece.Truth b) = always (truth_shown b)

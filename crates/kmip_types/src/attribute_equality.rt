@@ -69,7 +69,8 @@ macro_rules! same_option {
 
 /// Whether two variants that may be absent are equal.
 fn same_variants<T: Enumeration>(left: &Option<T>, right: &Option<T>) -> bool
-    ensures { result ≡ same_field (optional (enumeration_val T.line) left.now) (optional (enumeration_val T.line) right.now) }
+    ensures { result ≡
+        same_field (optional (enumeration_val T.line) left.now) (optional (enumeration_val T.line) right.now) }
 {
     match left {
         Some(left) => match right {
@@ -109,7 +110,8 @@ fn same_fixed_field_length(
     left: &Option<FixedFieldLength>,
     right: &Option<FixedFieldLength>,
 ) -> bool
-    ensures { result ≡ same_field (optional fixed_field_length_val left.now) (optional fixed_field_length_val right.now) }
+    ensures { result ≡
+        same_field (optional fixed_field_length_val left.now) (optional fixed_field_length_val right.now) }
 {
     same_option!(left, right)
 }
@@ -119,14 +121,16 @@ fn same_invocation_field_length(
     left: &Option<InvocationFieldLength>,
     right: &Option<InvocationFieldLength>,
 ) -> bool
-    ensures { result ≡ same_field (optional invocation_field_length_val left.now) (optional invocation_field_length_val right.now) }
+    ensures { result ≡
+        same_field (optional invocation_field_length_val left.now) (optional invocation_field_length_val right.now) }
 {
     same_option!(left, right)
 }
 
 /// Whether two fields `counter_length` are equal.
 fn same_counter_length(left: &Option<CounterLength>, right: &Option<CounterLength>) -> bool
-    ensures { result ≡ same_field (optional counter_length_val left.now) (optional counter_length_val right.now) }
+    ensures { result ≡
+        same_field (optional counter_length_val left.now) (optional counter_length_val right.now) }
 {
     same_option!(left, right)
 }
@@ -136,14 +140,16 @@ fn same_initial_counter_value(
     left: &Option<InitialCounterValue>,
     right: &Option<InitialCounterValue>,
 ) -> bool
-    ensures { result ≡ same_field (optional initial_counter_value_val left.now) (optional initial_counter_value_val right.now) }
+    ensures { result ≡
+        same_field (optional initial_counter_value_val left.now) (optional initial_counter_value_val right.now) }
 {
     same_option!(left, right)
 }
 
 /// Whether the parameters are equal.
 fn same_parameters(left: &CryptographicParameters, right: &CryptographicParameters) -> bool
-    ensures { result ≡ same_val (cryptographic_parameters_val left.now) (cryptographic_parameters_val right.now) }
+    ensures { result ≡
+        same_val (cryptographic_parameters_val left.now) (cryptographic_parameters_val right.now) }
 {
     let same_1 = same_variants(&left.block_cipher_mode, &right.block_cipher_mode);
     let same_2 = same_variants(&left.padding_method, &right.padding_method);

@@ -20,7 +20,8 @@ use std::alloc::Global;
 
 /// A child of a custom structure, read by its type alone. `Unread` comes exactly where it is a structure itself.
 fn read_child(alloc: Global, child: ItemRef<'_>) -> Result<AttributeValue, ReadError>
-    ensures ok { IfOk result (λ x. read_plain attribute_values (item_tree child.entry) ≡ Some (attribute_value_val x)) }
+    ensures ok { IfOk result (λ x. read_plain attribute_values (item_tree child.entry) ≡
+        Some (attribute_value_val x)) }
     ensures unread { result ≡ Err ReadError.Unread → read_plain attribute_values (item_tree child.entry) ≡ None }
 {
     let outer = Outer::none();
@@ -47,8 +48,11 @@ fn read_child(alloc: Global, child: ItemRef<'_>) -> Result<AttributeValue, ReadE
 /// The members of a custom structure. `Unread` comes exactly where the item is no Structure or one of them is.
 #[tactic(auto, using(kmip_shape::proofs::Gathered::gathering))]
 fn read_values(alloc: Global, item: ItemRef<'_>) -> Result<Values, ReadError>
-    ensures ok { IfOk result (λ made. option_and_then (each (read_plain attribute_values)) (children_in (item_tree item.entry)) ≡ Some (vals_of made)) }
-    ensures unread { result ≡ Err ReadError.Unread → option_and_then (each (read_plain attribute_values)) (children_in (item_tree item.entry)) ≡ None }
+    ensures ok { IfOk result (λ made. option_and_then (each (read_plain attribute_values)) (children_in (item_tree item.entry)) ≡
+        Some (vals_of made)) }
+    ensures unread { result ≡ Err ReadError.Unread →
+        option_and_then (each (read_plain attribute_values)) (children_in (item_tree item.entry)) ≡
+        None }
 {
     let children = item.children().ok_or(ReadError::Unread)?;
     let mut items = Vec::new(alloc);
@@ -64,8 +68,11 @@ fn read_by_type(
     outer: Outer<'_>,
     item: ItemRef<'_>,
 ) -> Result<AttributeValue, ReadError>
-    ensures ok { IfOk result (λ x. read_case attribute_values attribute_values (type_key (item_tree item.entry)) (outer_of outer.entry) (item_tree item.entry) ≡ Some (attribute_value_val x)) }
-    ensures unread { result ≡ Err ReadError.Unread → read_case attribute_values attribute_values (type_key (item_tree item.entry)) (outer_of outer.entry) (item_tree item.entry) ≡ None }
+    ensures ok { IfOk result (λ x. read_case attribute_values attribute_values (type_key (item_tree item.entry)) (outer_of outer.entry) (item_tree item.entry) ≡
+        Some (attribute_value_val x)) }
+    ensures unread { result ≡ Err ReadError.Unread →
+        read_case attribute_values attribute_values (type_key (item_tree item.entry)) (outer_of outer.entry) (item_tree item.entry) ≡
+        None }
 {
     match item.kind() {
         Kind::Structure => Ok(AttributeValue::Structure(read_values(alloc, item)?)),
@@ -79,8 +86,10 @@ fn read_name(
     outer: Outer<'_>,
     item: ItemRef<'_>,
 ) -> Result<AttributeValue, ReadError>
-    ensures ok { IfOk result (λ x. option_map (Case 1) (read_of name (outer_of outer.entry) (item_tree item.entry)) ≡ Some (attribute_value_val x)) }
-    ensures unread { result ≡ Err ReadError.Unread → read_of name (outer_of outer.entry) (item_tree item.entry) ≡ None }
+    ensures ok { IfOk result (λ x. option_map (Case 1) (read_of name (outer_of outer.entry) (item_tree item.entry)) ≡
+        Some (attribute_value_val x)) }
+    ensures unread { result ≡ Err ReadError.Unread →
+        read_of name (outer_of outer.entry) (item_tree item.entry) ≡ None }
 {
     let fields![value, kind] = read_record::<NameRows>(alloc, outer, item)?;
     Ok(AttributeValue::Name(value, kind))
@@ -92,8 +101,10 @@ fn read_link(
     outer: Outer<'_>,
     item: ItemRef<'_>,
 ) -> Result<AttributeValue, ReadError>
-    ensures ok { IfOk result (λ x. option_map (Case 7) (read_of link (outer_of outer.entry) (item_tree item.entry)) ≡ Some (attribute_value_val x)) }
-    ensures unread { result ≡ Err ReadError.Unread → read_of link (outer_of outer.entry) (item_tree item.entry) ≡ None }
+    ensures ok { IfOk result (λ x. option_map (Case 7) (read_of link (outer_of outer.entry) (item_tree item.entry)) ≡
+        Some (attribute_value_val x)) }
+    ensures unread { result ≡ Err ReadError.Unread →
+        read_of link (outer_of outer.entry) (item_tree item.entry) ≡ None }
 {
     let fields![kind, identifier] = read_record::<LinkRows>(alloc, outer, item)?;
     Ok(AttributeValue::Link(kind, identifier))
@@ -105,8 +116,11 @@ fn read_information(
     outer: Outer<'_>,
     item: ItemRef<'_>,
 ) -> Result<AttributeValue, ReadError>
-    ensures ok { IfOk result (λ x. option_map (Case 8) (read_of application_specific_information (outer_of outer.entry) (item_tree item.entry)) ≡ Some (attribute_value_val x)) }
-    ensures unread { result ≡ Err ReadError.Unread → read_of application_specific_information (outer_of outer.entry) (item_tree item.entry) ≡ None }
+    ensures ok { IfOk result (λ x. option_map (Case 8) (read_of application_specific_information (outer_of outer.entry) (item_tree item.entry)) ≡
+        Some (attribute_value_val x)) }
+    ensures unread { result ≡ Err ReadError.Unread →
+        read_of application_specific_information (outer_of outer.entry) (item_tree item.entry) ≡
+        None }
 {
     let fields![namespace, data] = read_record::<InformationRows>(alloc, outer, item)?;
     Ok(AttributeValue::ApplicationSpecificInformation(namespace, data))

@@ -1,11 +1,11 @@
 //! Attribute values shown as text.
 
-ghost use Rattle.std.specs.Prelude.{◌≡◌, [], ◌∷◌, ◌++◌, false};
+ghost use Rattle.std.specs.Prelude.{◌≡◌, false};
 ghost use Rattle.kmip_shape.specs.Val.{vals_of, Case as case};
 ghost use Rattle.kmip_shape.specs.Shape.{NoCase};
-ghost use Rattle.kmip_shape.specs.Shown.{Grows, shown, list_shown};
+ghost use Rattle.kmip_shape.specs.Shown.{Grows, styled, list_styled, in_brackets};
 ghost use Rattle.kmip_types.specs.AttributeValues.{attribute_value, attribute_value_val};
-ghost use Rattle.kmip_types.specs.AttributesShown.{case_name, plain_shown, plain_text};
+ghost use Rattle.kmip_types.specs.AttributesShown.{case_name, plain_styled, plain_text};
 ghost use Rattle.kmip_types.specs.Parameters.{cryptographic_parameters_val};
 ghost use Rattle.kmip_types.specs.declared.attribute_value.AttributeValue.TheVariants.{Name, Link, ApplicationSpecificInformation, Structure};
 
@@ -18,7 +18,7 @@ use kmip_shape::{Enumeration, ShowItem, Sink, fields, show_record};
 /// Appends the members, with a comma after each but the last.
 #[cycle(show_attribute)]
 fn show_each(values: &Values, out: &mut Sink)
-    ensures { Grows out.old out.new (list_shown (vals_of values.now) NoCase attribute_value false) }
+    ensures { Grows out.old out.new (list_styled (vals_of values.now) NoCase attribute_value false) }
 {
     let mut after = false;
     let mut rest = values.as_slice();
@@ -33,11 +33,13 @@ fn show_each(values: &Values, out: &mut Sink)
 /// Appends a structure of the members.
 #[cycle(show_attribute)]
 fn show_structure(values: &Values, out: &mut Sink)
-    ensures { Grows out.old out.new (shown attribute_value (attribute_value_val (Structure values.now))) }
+    ensures { Grows out.old out.new (styled attribute_value (attribute_value_val (Structure values.now))) }
 {
-    out.put("Structure[");
+    out.open_case("Structure");
+    out.put("[");
     show_each(values, out);
     out.put("]");
+    out.close_case();
 }
 
 /// A value that is no record, as what appends it takes it.
@@ -80,7 +82,7 @@ fn name_of(value: &AttributeValue) -> &'static str
 
 /// The value of a variant that holds no record.
 fn piece_of(value: &AttributeValue) -> Piece<'_>
-    ensures { plain_text result ≡ plain_shown value.now }
+    ensures { plain_text result ≡ plain_styled value.now }
 {
     match value {
         AttributeValue::Name(_, _) => Piece::Word(""),
@@ -110,7 +112,7 @@ fn show_piece(piece: Piece<'_>, out: &mut Sink)
     ensures { Grows out.old out.new (plain_text piece.entry) }
 {
     match piece {
-        Piece::Word(word) => out.put(word),
+        Piece::Word(word) => out.put_word(word),
         Piece::Chars(text) => out.put_text(text),
         Piece::Octets(bytes) => out.put_bytes(bytes),
         Piece::Signed(number) => out.put_signed(number),
@@ -121,56 +123,59 @@ fn show_piece(piece: Piece<'_>, out: &mut Sink)
 
 /// Appends the name of a variant, and its value in round brackets.
 fn show_plain(value: &AttributeValue, out: &mut Sink)
-    ensures { Grows out.old out.new (case_name value.now ++ 40 ∷ (plain_shown value.now ++ 41 ∷ [])) }
+    ensures { Grows out.old out.new (in_brackets (case_name value.now) (plain_styled value.now)) }
 {
-    out.put(name_of(value));
-    out.put("(");
+    out.open_brackets(name_of(value));
     show_piece(piece_of(value), out);
-    out.put(")");
+    out.close_brackets();
 }
 
 /// Appends a Name.
 fn show_name(value: &NameValue, kind: &NameType, out: &mut Sink)
-    ensures { Grows out.old out.new (shown attribute_value (attribute_value_val (Name value.now kind.now))) }
+    ensures { Grows out.old out.new (styled attribute_value (attribute_value_val (Name value.now kind.now))) }
 {
-    out.put("Name");
+    out.open_case("Name");
     show_record::<NameRows>(
         fields![value, kind],
         fields!["name_value", "name_type"],
         out,
     );
+    out.close_case();
 }
 
 /// Appends a Link.
 fn show_link(kind: &LinkType, identifier: &LinkedObjectIdentifier, out: &mut Sink)
-    ensures { Grows out.old out.new (shown attribute_value (attribute_value_val (Link kind.now identifier.now))) }
+    ensures { Grows out.old out.new (styled attribute_value (attribute_value_val (Link kind.now identifier.now))) }
 {
-    out.put("Link");
+    out.open_case("Link");
     show_record::<LinkRows>(
         fields![kind, identifier],
         fields!["link_type", "linked_object_identifier"],
         out,
     );
+    out.close_case();
 }
 
 /// Appends Application Specific Information.
 fn show_information(namespace: &ApplicationNamespace, contents: &ApplicationData, out: &mut Sink)
-    ensures { Grows out.old out.new (shown attribute_value (attribute_value_val (ApplicationSpecificInformation namespace.now contents.now))) }
+    ensures { Grows out.old out.new (styled attribute_value (attribute_value_val (ApplicationSpecificInformation namespace.now contents.now))) }
 {
-    out.put("ApplicationSpecificInformation");
+    out.open_case("ApplicationSpecificInformation");
     show_record::<InformationRows>(
         fields![namespace, contents],
         fields!["application_namespace", "application_data"],
         out,
     );
+    out.close_case();
 }
 
 /// Appends Cryptographic Parameters.
 fn show_parameters(parameters: &CryptographicParameters, out: &mut Sink)
-    ensures { Grows out.old out.new (shown attribute_value (case 4 (cryptographic_parameters_val parameters.now))) }
+    ensures { Grows out.old out.new (styled attribute_value (case 4 (cryptographic_parameters_val parameters.now))) }
 {
-    out.put("CryptographicParameters");
+    out.open_case("CryptographicParameters");
     parameters.show_into(out);
+    out.close_case();
 }
 
 impl ShowItem for AttributeValue {

@@ -118,7 +118,8 @@ impl Values {
 
     /// Adds an item at the end. Where memory runs out, the list stays as it was and the item is dropped.
     pub fn push(&mut self, item: AttributeValue) -> Result<(), OutOfMemory>
-        ensures { self.new ≡ (if is_ok result then self.old ++ attribute_value_val item ∷ [] else self.old) }
+        ensures { self.new ≡
+            (if is_ok result then self.old ++ attribute_value_val item ∷ [] else self.old) }
     {
         match self.items.push(item) {
             Ok(()) => Ok(()),

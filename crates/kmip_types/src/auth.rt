@@ -4,7 +4,7 @@ ghost use Rattle.std.specs.Prelude.{◌≡◌};
 
 use kmip_wire::Text;
 
-/// What a client shows to be let in.
+/// The credential of a client: KMIP 1.0, 2.1.2.
 #[derive(Drop)]
 pub enum CredentialType {
     /// A username and a password: KMIP 1.0, 2.1.2.

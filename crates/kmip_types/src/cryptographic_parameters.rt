@@ -34,7 +34,7 @@ pub struct CryptographicParameters {
     pub padding_method: Option<PaddingMethod>,
     /// What makes a digest of the data.
     pub hashing_algorithm: Option<HashingAlgorithm>,
-    /// What a key is for, in the trade of payments.
+    /// The role of a key in payment systems: KMIP 1.0, 9.1.3.2.16.
     pub key_role_type: Option<KeyRoleType>,
     /// A signing algorithm with its digest (KMIP 1.2).
     pub digital_signature_algorithm: Option<DigitalSignatureAlgorithm>,

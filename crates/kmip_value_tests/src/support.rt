@@ -15,7 +15,7 @@ pub enum Under {
 }
 
 impl Under {
-    fn outer(self) -> Outer<'static> {
+    pub fn outer(self) -> Outer<'static> {
         match self {
             Under::Nothing => Outer {
                 number: None,

@@ -1,4 +1,19 @@
-//! The wire form of KMIP: items of a tag, a type, a length and a value (TTLV).
+//! The wire form of KMIP (KMIP 1.0, 9.1): items of a tag, a type, a length and a value, called TTLV.
+//!
+//! ```rust
+//! use kmip_wire::{ItemRef, Kind, Tag};
+//!
+//! // a batch count of 1
+//! let bytes = b"\x42\x00\x0D\x02\x00\x00\x00\x04\x00\x00\x00\x01\x00\x00\x00\x00";
+//! if let Some(item) = ItemRef::root(bytes) {
+//!     assert_eq!(rt; item.tag(), Tag::of(0x42000D));
+//!     assert!(rt; matches!(item.kind(), Kind::Integer));
+//!     assert_eq!(rt; item.int(), Some(1));
+//! }
+//! ```
+//!
+//! [`ItemRef::root`] checks the bytes once and then lends their parts; [`read_tree`] and [`write_tree`] read and write
+//! trees that own their parts; [`check`] and [`front_len`] take no memory.
 #![tactic(auto)]
 
 mod boxed;

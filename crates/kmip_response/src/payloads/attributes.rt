@@ -1,6 +1,7 @@
 //! Payloads that tell of attributes.
 
 ghost use Rattle.std.specs.Prelude.{◌≡◌};
+ghost use Rattle.kmip_tags.specs.Tags as tags;
 ghost use Rattle.kmip_response.specs.Tables.{get_attributes_payload, get_attribute_list_payload, attribute_edit_payload};
 ghost use Rattle.kmip_response.specs.Values.{get_attributes_payload_val, get_attribute_list_payload_val, attribute_edit_payload_val};
 ghost use Rattle.kmip_response.specs.Same.{get_attributes_payload_same, get_attribute_list_payload_same, attribute_edit_payload_same};
@@ -68,7 +69,7 @@ impl ReadItem for GetAttributesResponsePayload {
 }
 
 impl ReadRoot for GetAttributesResponsePayload {
-    ghost root_tag = { RESPONSE_PAYLOAD };
+    ghost root_tag = { tags.RESPONSE_PAYLOAD };
 
     fn root_tag() -> Tag {
         Tag::of(RESPONSE_PAYLOAD)
@@ -136,7 +137,7 @@ impl ReadItem for GetAttributeListResponsePayload {
 }
 
 impl ReadRoot for GetAttributeListResponsePayload {
-    ghost root_tag = { RESPONSE_PAYLOAD };
+    ghost root_tag = { tags.RESPONSE_PAYLOAD };
 
     fn root_tag() -> Tag {
         Tag::of(RESPONSE_PAYLOAD)
@@ -204,7 +205,7 @@ impl ReadItem for AttributeEditResponsePayload {
 }
 
 impl ReadRoot for AttributeEditResponsePayload {
-    ghost root_tag = { RESPONSE_PAYLOAD };
+    ghost root_tag = { tags.RESPONSE_PAYLOAD };
 
     fn root_tag() -> Tag {
         Tag::of(RESPONSE_PAYLOAD)

@@ -1,6 +1,7 @@
 //! Payloads of cryptographic operations.
 
 ghost use Rattle.std.specs.Prelude.{◌≡◌};
+ghost use Rattle.kmip_tags.specs.Tags as tags;
 ghost use Rattle.kmip_response.specs.Tables.{sign_payload, rng_retrieve_payload};
 ghost use Rattle.kmip_response.specs.Values.{sign_payload_val, rng_retrieve_payload_val};
 ghost use Rattle.kmip_response.specs.Same.{sign_payload_same, rng_retrieve_payload_same};
@@ -67,7 +68,7 @@ impl ReadItem for SignResponsePayload {
 }
 
 impl ReadRoot for SignResponsePayload {
-    ghost root_tag = { RESPONSE_PAYLOAD };
+    ghost root_tag = { tags.RESPONSE_PAYLOAD };
 
     fn root_tag() -> Tag {
         Tag::of(RESPONSE_PAYLOAD)
@@ -123,7 +124,7 @@ impl ReadItem for RNGRetrieveResponsePayload {
 }
 
 impl ReadRoot for RNGRetrieveResponsePayload {
-    ghost root_tag = { RESPONSE_PAYLOAD };
+    ghost root_tag = { tags.RESPONSE_PAYLOAD };
 
     fn root_tag() -> Tag {
         Tag::of(RESPONSE_PAYLOAD)

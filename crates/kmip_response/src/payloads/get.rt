@@ -1,6 +1,7 @@
 //! The payload that holds an object.
 
 ghost use Rattle.std.specs.Prelude.{◌≡◌};
+ghost use Rattle.kmip_tags.specs.Tags as tags;
 ghost use Rattle.kmip_response.specs.Tables.{get_payload};
 ghost use Rattle.kmip_response.specs.Values.{get_payload_val};
 ghost use Rattle.kmip_response.specs.Same.{get_payload_same};
@@ -74,7 +75,7 @@ impl ReadItem for GetResponsePayload {
 }
 
 impl ReadRoot for GetResponsePayload {
-    ghost root_tag = { RESPONSE_PAYLOAD };
+    ghost root_tag = { tags.RESPONSE_PAYLOAD };
 
     fn root_tag() -> Tag {
         Tag::of(RESPONSE_PAYLOAD)

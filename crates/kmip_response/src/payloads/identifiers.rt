@@ -1,6 +1,7 @@
 //! Payloads that tell of new objects, and of objects by their identifiers.
 
 ghost use Rattle.std.specs.Prelude.{◌≡◌};
+ghost use Rattle.kmip_tags.specs.Tags as tags;
 ghost use Rattle.kmip_response.specs.Tables.{create_payload, create_key_pair_payload, register_payload, locate_payload, unique_identifier_payload};
 ghost use Rattle.kmip_response.specs.Values.{create_payload_val, create_key_pair_payload_val, register_payload_val, locate_payload_val, unique_identifier_payload_val};
 ghost use Rattle.kmip_response.specs.Same.{create_payload_same, create_key_pair_payload_same, register_payload_same, locate_payload_same, unique_identifier_payload_same};
@@ -77,7 +78,7 @@ impl ReadItem for CreateResponsePayload {
 }
 
 impl ReadRoot for CreateResponsePayload {
-    ghost root_tag = { RESPONSE_PAYLOAD };
+    ghost root_tag = { tags.RESPONSE_PAYLOAD };
 
     fn root_tag() -> Tag {
         Tag::of(RESPONSE_PAYLOAD)
@@ -149,7 +150,7 @@ impl ReadItem for CreateKeyPairResponsePayload {
 }
 
 impl ReadRoot for CreateKeyPairResponsePayload {
-    ghost root_tag = { RESPONSE_PAYLOAD };
+    ghost root_tag = { tags.RESPONSE_PAYLOAD };
 
     fn root_tag() -> Tag {
         Tag::of(RESPONSE_PAYLOAD)
@@ -223,7 +224,7 @@ impl ReadItem for RegisterResponsePayload {
 }
 
 impl ReadRoot for RegisterResponsePayload {
-    ghost root_tag = { RESPONSE_PAYLOAD };
+    ghost root_tag = { tags.RESPONSE_PAYLOAD };
 
     fn root_tag() -> Tag {
         Tag::of(RESPONSE_PAYLOAD)
@@ -279,7 +280,7 @@ impl ReadItem for LocateResponsePayload {
 }
 
 impl ReadRoot for LocateResponsePayload {
-    ghost root_tag = { RESPONSE_PAYLOAD };
+    ghost root_tag = { tags.RESPONSE_PAYLOAD };
 
     fn root_tag() -> Tag {
         Tag::of(RESPONSE_PAYLOAD)
@@ -335,7 +336,7 @@ impl ReadItem for UniqueIdentifierResponsePayload {
 }
 
 impl ReadRoot for UniqueIdentifierResponsePayload {
-    ghost root_tag = { RESPONSE_PAYLOAD };
+    ghost root_tag = { tags.RESPONSE_PAYLOAD };
 
     fn root_tag() -> Tag {
         Tag::of(RESPONSE_PAYLOAD)

@@ -1,6 +1,7 @@
 //! Payloads that tell of the server.
 
 ghost use Rattle.std.specs.Prelude.{◌≡◌};
+ghost use Rattle.kmip_tags.specs.Tags as tags;
 ghost use Rattle.kmip_response.specs.Tables.{query_payload, discover_versions_payload};
 ghost use Rattle.kmip_response.specs.Values.{query_payload_val, discover_versions_payload_val};
 ghost use Rattle.kmip_response.specs.Same.{query_payload_same, discover_versions_payload_same};
@@ -67,7 +68,7 @@ impl ReadItem for QueryResponsePayload {
 }
 
 impl ReadRoot for QueryResponsePayload {
-    ghost root_tag = { RESPONSE_PAYLOAD };
+    ghost root_tag = { tags.RESPONSE_PAYLOAD };
 
     fn root_tag() -> Tag {
         Tag::of(RESPONSE_PAYLOAD)
@@ -127,7 +128,7 @@ impl ReadItem for DiscoverVersionsResponsePayload {
 }
 
 impl ReadRoot for DiscoverVersionsResponsePayload {
-    ghost root_tag = { RESPONSE_PAYLOAD };
+    ghost root_tag = { tags.RESPONSE_PAYLOAD };
 
     fn root_tag() -> Tag {
         Tag::of(RESPONSE_PAYLOAD)

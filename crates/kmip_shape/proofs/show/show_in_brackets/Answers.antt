@@ -1,5 +1,5 @@
-use Rattle.kmip_shape.proofs.Growth.{grown}
+use Rattle.kmip_shape.proofs.Growth.{brackets_grown}
 use Rattle.kmip_shape.proofs.show.show_in_brackets.Goals as goal
 
 pub returns : goal.returns
-returns g c = grown c.put.ensures (grown c.put-2.ensures (grown c.show_into.ensures c.put-3.ensures))
+returns g c = brackets_grown c.args.name.now c.open_brackets.ensures c.show_into.ensures c.close_brackets.ensures

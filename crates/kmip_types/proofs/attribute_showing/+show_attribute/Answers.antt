@@ -1,7 +1,7 @@
-use Rattle.std.proofs.Common.{subst, arith, ap, ◌-◌, ◌∷◌, ℕ, List, length, take, drop, map}
+use Rattle.std.proofs.Common.{arith, ap, ◌-◌, ◌∷◌, ℕ, List, length, take, drop, map}
 use Rattle.kmip_shape.specs.Val.{vals_of}
-use Rattle.kmip_shape.specs.Shown.{Grows}
-use Rattle.kmip_shape.proofs.Growth.{grown}
+use Rattle.std.specs.Prelude.{codes}
+use Rattle.kmip_shape.proofs.Growth.{grown, in_style, case_grown}
 use Rattle.kmip_types.specs.AttributeValues.{attribute_value_val, vals_weight}
 use Rattle.kmip_types.specs.declared.attribute_value.AttributeValue.{AttributeValue}
 use Rattle.kmip_types.proofs.AttributesShown.{plain_is, first_and_rest, members_step, members_done}
@@ -9,8 +9,8 @@ use Rattle.kmip_types.proofs.attribute_showing.+show_attribute.Goals as goal
 
 pub AttributeValueShowItem::show_into-returns-in_default : goal.AttributeValueShowItem::show_into-returns-in_default
 AttributeValueShowItem::show_into-returns-in_default t c =
-    subst (λ (z : List ℕ). Grows c.args.out.now c.show_plain.new.out z)
-    (plain_is c.args.self.now c.in_default.not-Name c.in_default.not-CryptographicParameters c.in_default.not-Link c.in_default.not-ApplicationSpecificInformation c.in_default.not-Structure)
+    in_style
+    (plain_is c.args.self.now c.in_default.not-Name c.in_default.not-CryptographicParameters c.in_default.not-Link c.in_default.not-ApplicationSpecificInformation c.in_default.not-Structure c.args.out.now.style)
     c.show_plain.ensures
 
 pub show_each-loop-rest-preserved : goal.show_each-loop-rest-preserved
@@ -27,4 +27,4 @@ pub show_each-returns : goal.show_each-returns
 show_each-returns t c = c.loop-rest.invariant.shows c.loop-rest.out (members_done c.loop-rest.rest.now c.loop-rest.after c.in_default.len_below)
 
 pub show_structure-returns : goal.show_structure-returns
-show_structure-returns t c = grown c.put.ensures (grown c.show_each.ensures c.put-2.ensures)
+show_structure-returns t c = case_grown (codes "Structure") c.open_case.ensures (grown c.put.ensures (grown c.show_each.ensures c.put-2.ensures)) c.close_case.ensures

@@ -1,7 +1,7 @@
 use Rattle.kmip_types.proofs.attribute_showing.show_piece.Goals as goal
 
 pub returns-in-Word : goal.returns-in-Word
-returns-in-Word c = rw c.in-Word.is c.put.ensures
+returns-in-Word c = rw c.in-Word.is c.put_word.ensures
 
 pub returns-in-Chars : goal.returns-in-Chars
 returns-in-Chars c = rw c.in-Chars.is c.put_text.ensures

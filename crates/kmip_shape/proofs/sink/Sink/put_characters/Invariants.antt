@@ -6,4 +6,4 @@ use Rattle.kmip_shape.proofs.sink.Sink.put_characters.Given as goal
 -- what shows the characters that are left shows all
 abbrev pub invariant-loop-ch : goal.invariant-loop-ch
 invariant-loop-ch l =
-    (new : Growing) → Grows l.self new (flat_map escaped (chars_rest l.ch-iterator)) → Grows l.fn.self new (flat_map escaped l.text)
+    (new : Growing) → Grows l.self new (λ o. flat_map (escaped o) (chars_rest l.ch-iterator)) → Grows l.fn.self new (λ o. flat_map (escaped o) l.text)

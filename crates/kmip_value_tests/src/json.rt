@@ -1,0 +1,156 @@
+use crate::support::Under::{self, Name, Nothing, Number};
+use kmip_codes::PaddingMethod;
+use kmip_keys::KeyMaterial;
+use kmip_shape::{ReadItem, ShowItem, Timestamp};
+use kmip_types::{AttributeValue, CryptographicParameters};
+use kmip_wire::{Blob, ItemRef, Text};
+use std::alloc::Global;
+use std::process::Abort;
+use std::test::Fail;
+
+/// An item in hex, and the JSON of its value.
+#[derive(Clone, Copy)]
+struct Case {
+    under: Under,
+    hex: &'static str,
+    json: &'static str,
+}
+
+/// Each item is shown as its JSON.
+fn are_json<T: ReadItem + ShowItem>(
+    rt: &impl Abort,
+    alloc: Global,
+    cases: &[Case],
+) -> Result<(), Fail> {
+    for case in cases {
+        let bytes = hex::decode(alloc, case.hex)?;
+        let item = ItemRef::root(bytes.as_slice()).ok_or("no item")?;
+        let value = T::read(alloc, case.under.outer(), item)?;
+        let mut text = Text::new(alloc);
+        value.show_json(alloc, &mut text)?;
+        assert_eq!(rt; text.as_str(), case.json);
+    }
+    Ok(())
+}
+
+const ATTRIBUTES: [Case; 9] = [
+    // 0B{55 "my key",54 e1}
+    Case {
+        under: Name("Name"),
+        hex: "42000B010000002042005507000000066D79206B6579000042005405000000040000000100000000",
+        json: r#"{"Name":{"name_value":"my key","name_type":"UninterpretedTextString"}}"#,
+    },
+    // 0B e2
+    Case {
+        under: Name("State"),
+        hex: "42000B05000000040000000200000000",
+        json: r#"{"State":"Active"}"#,
+    },
+    // 0B{11 e1,5F e8}
+    Case {
+        under: Name("Cryptographic Parameters"),
+        hex: "42000B01000000204200110500000004000000010000000042005F05000000040000000800000000",
+        json: r#"{"CryptographicParameters":{"block_cipher_mode":"CBC","padding_method":"PKCS1_v1_5"}}"#,
+    },
+    // 0B{0B i5,0B "a"}
+    Case {
+        under: Nothing,
+        hex: "42000B010000002042000B0200000004000000050000000042000B07000000016100000000000000",
+        json: r#"{"Structure":[{"Integer":5},{"TextString":"a"}]}"#,
+    },
+    // 0B{}
+    Case {
+        under: Name("Digest"),
+        hex: "42000B0100000000",
+        json: r#"{"Structure":[]}"#,
+    },
+    // 0B l-5
+    Case {
+        under: Name("x-a"),
+        hex: "42000B0300000008FFFFFFFFFFFFFFFB",
+        json: r#"{"LongInteger":-5}"#,
+    },
+    // 0B o1
+    Case {
+        under: Name("x-a"),
+        hex: "42000B06000000080000000000000001",
+        json: r#"{"Boolean":true}"#,
+    },
+    // 0B xAABB
+    Case {
+        under: Name("x-a"),
+        hex: "42000B0800000002AABB000000000000",
+        json: r#"{"ByteString":"AABB"}"#,
+    },
+    // 0B with a line feed, a quote and a backslash
+    Case {
+        under: Name("x-a"),
+        hex: "42000B0700000004610A225C00000000",
+        json: r#"{"TextString":"a\u000A\"\\"}"#,
+    },
+];
+
+#[test]
+fn attributes(rt: HostRuntime) -> Result<(), Fail> {
+    are_json::<AttributeValue>(&rt, rt.alloc(), &ATTRIBUTES)
+}
+
+const MATERIALS: [Case; 2] = [
+    // 43 xAA
+    Case {
+        under: Number(1),
+        hex: "4200430800000001AA00000000000000",
+        json: r#"{"Bytes":"AA"}"#,
+    },
+    // 43{3F xAABB}
+    Case {
+        under: Number(7),
+        hex: "420043010000001042003F0800000002AABB000000000000",
+        json: r#"{"TransparentSymmetricKey":{"key":"AABB"}}"#,
+    },
+];
+
+#[test]
+fn materials(rt: HostRuntime) -> Result<(), Fail> {
+    are_json::<KeyMaterial>(&rt, rt.alloc(), &MATERIALS)
+}
+
+/// The JSON of a value.
+fn json_of<T: ShowItem>(alloc: Global, value: &T) -> Result<Text, Fail> {
+    let mut out = Text::new(alloc);
+    value.show_json(alloc, &mut out)?;
+    Ok(out)
+}
+
+#[test]
+fn plain(rt: HostRuntime) -> Result<(), Fail> {
+    let alloc = rt.alloc();
+    let text = Text::of(alloc, "\0\"b\\c\n\u{1f}\u{7f}\u{e9}")?;
+    let expected = "\"\\u0000\\\"b\\\\c\\u000A\\u001F\\u007F\u{e9}\"";
+    assert_eq!(&rt; json_of(alloc, &text)?.as_str(), expected);
+    let bytes = Blob::of(alloc, &[0x0A, 0xFF])?;
+    assert_eq!(&rt; json_of(alloc, &bytes)?.as_str(), "\"0AFF\"");
+    let padded = CryptographicParameters::default().with_padding_method(PaddingMethod::OAEP);
+    assert_eq!(&rt;
+        json_of(alloc, &padded)?.as_str(),
+        "{\"padding_method\":\"OAEP\"}"
+    );
+    assert_eq!(&rt;
+        json_of(alloc, &CryptographicParameters::default())?.as_str(),
+        "{}"
+    );
+    assert_eq!(&rt;
+        json_of(alloc, &Timestamp(-1))?.as_str(),
+        "18446744073709551615"
+    );
+    Ok(())
+}
+
+#[test]
+fn after_other_text(rt: HostRuntime) -> Result<(), Fail> {
+    let alloc = rt.alloc();
+    let mut out = Text::of(alloc, "{\"answer\":")?;
+    Blob::of(alloc, b"")?.show_json(alloc, &mut out)?;
+    assert_eq!(&rt; out.as_str(), "{\"answer\":\"\"");
+    Ok(())
+}
