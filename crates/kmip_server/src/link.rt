@@ -54,6 +54,13 @@ impl<M: Maker> ServerLink<M> {
         }
     }
 
+    /// The server that answers. It takes no memory.
+    pub fn server(&self) -> &Server<M>
+        ensures { result.now ≡ self.now.server }
+    {
+        &self.server
+    }
+
     /// All that was sent.
     pub fn sent(&self) -> &[u8]
         ensures { result.now ≡ self.now.sent }
