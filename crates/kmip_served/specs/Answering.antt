@@ -91,3 +91,14 @@ ServesAlone call time objects new result =
 abbrev pub foretold : (Object → Bool) → Option Object → Answer
 foretold allows None = NotFound
 foretold allows (Some object) = cond (allows object) Done Denied
+
+-- the response, unless the store lacked memory for what it tells
+abbrev pub responded : Result (Unit {0}) StoreError → List ℕ → Result (List ℕ) WireError
+responded (Err errors.OutOfMemory) response = Err OutOfMemory
+responded _ response = Ok response
+
+-- of the response that tells of a pair and the one that refuses it, the one that the store's answer wants
+abbrev pub chosen : Result (List ℕ × List ℕ) StoreError → List ℕ → List ℕ → Result (List ℕ) WireError
+chosen (Ok pair) made refused = Ok made
+chosen (Err errors.CryptographicFailure) made refused = Ok refused
+chosen (Err _) made refused = Err OutOfMemory

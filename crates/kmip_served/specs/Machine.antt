@@ -1,6 +1,5 @@
--- A server that is fed bytes: the messages in them, and what serving these one after the other comes to.
-use Rattle.std.specs.Prelude.{◌≡◌, ℕ, ℤ, ◌+◌, ◌==◌, ◌&&◌, nat_le, Bool, List, [], ◌∷◌, ◌++◌, length, fold, Option, Some, None, if◌then◌else◌}
-use Rattle.kmip_wire.specs.Head.{head_length}
+-- What serving messages one after the other comes to.
+use Rattle.std.specs.Prelude.{ℕ, ℤ, List, [], ◌∷◌, ◌++◌, fold, Option, Some, None}
 use Rattle.kmip_response.specs.declared.message.ResponseMessage.{ResponseMessage}
 use Rattle.kmip_response_write.specs.Settled.{response_bytes}
 use Rattle.kmip_store.specs.declared.maker.Asked.{Asked}
@@ -8,28 +7,6 @@ use Rattle.kmip_store.specs.declared.maker.Made.{Made}
 use Rattle.kmip_store.specs.declared.object.Object.{Object}
 use Rattle.kmip_served.specs.Served.{Served, served, asks}
 use Rattle.kmip_served.specs.Answering.{listed}
-
--- whether bytes are a head and as many more as it tells, whatever its type (KMIP 1.0, 9.1.1)
-unfoldable pub is_message : List ℕ → Bool
-is_message b = nat_le 8 (length b) && (length b == 8 + head_length b)
-
--- bytes that were sent, as whole messages and the begun one
-pub record Split : Type 0 where
-  pub whole : List (List ℕ)
-  pub begun : List ℕ
-
--- one byte more
-abbrev pub took : Split → ℕ → Split
-took split byte =
-    if is_message (split.begun ++ byte ∷ [])
-    then record { whole = split.whole ++ (split.begun ++ byte ∷ []) ∷ []; begun = [] }
-    else record { whole = split.whole; begun = split.begun ++ byte ∷ [] }
-
-abbrev pub nothing_sent : Split
-nothing_sent = record { whole = []; begun = [] }
-
-unfoldable pub split : List ℕ → Split
-split sent = fold took nothing_sent sent
 
 -- what serving came to
 pub record Run : Type 0 where

@@ -3,9 +3,9 @@
 ghost use Rattle.std.specs.Prelude.{◌≡◌, not, ◌||◌, Some, None, Ok, Err, cond};
 ghost use Rattle.std.specs.Option.{option_map};
 ghost use Rattle.kmip_store.specs.Objects.{found, object_of, is_pre_active, is_active, is_destroyed};
-ghost use Rattle.kmip_store.specs.Steps.{Answer, Done, Denied};
+ghost use Rattle.kmip_store.specs.Steps.{Done, Denied};
 ghost use Rattle.kmip_store.specs.declared.call.Call.TheVariants as calls;
-ghost use Rattle.kmip_served.specs.Answering.{told, foretold, ServesAlone};
+ghost use Rattle.kmip_served.specs.Answering.{told, foretold, responded, ServesAlone};
 
 use crate::items::{activate_item, destroy_item, rename_item, revoke_item};
 use crate::stamp::Stamp;
@@ -69,9 +69,8 @@ fn renames(store: &Store, id: &str) -> Result<(), StoreError>
 }
 
 /// The response, unless the store lacked memory for what it tells.
-fn done_with(answer: Result<(), StoreError>, response: Blob) -> Result<Blob, WireError>
-    ensures told { (a : Answer) → told (λ _. Done) answer ≡ Some a → result ≡ Ok response }
-    ensures untold { told (λ _. Done) answer ≡ None → result ≡ Err WireError.OutOfMemory }
+fn respond(answer: Result<(), StoreError>, response: Blob) -> Result<Blob, WireError>
+    ensures { result ≡ responded answer response }
 {
     match answer {
         Err(StoreError::OutOfMemory) => Err(WireError::OutOfMemory),
@@ -86,7 +85,7 @@ pub fn activate(stamp: &Stamp, store: &mut Store, id: &Text) -> Result<Blob, Wir
 {
     let item = activate_item(stamp.alloc, id, activates(store, id.as_str()))?;
     match stamp.write(item) {
-        Ok(response) => done_with(store.activate_key(id.as_str()), response),
+        Ok(response) => respond(store.activate_key(id.as_str()), response),
         Err(error) => Err(error),
     }
 }
@@ -97,7 +96,7 @@ pub fn revoke(stamp: &Stamp, store: &mut Store, id: &Text) -> Result<Blob, WireE
 {
     let item = revoke_item(stamp.alloc, id, revokes(store, id.as_str()))?;
     match stamp.write(item) {
-        Ok(response) => done_with(store.revoke_key(id.as_str()), response),
+        Ok(response) => respond(store.revoke_key(id.as_str()), response),
         Err(error) => Err(error),
     }
 }
@@ -108,7 +107,7 @@ pub fn destroy(stamp: &Stamp, store: &mut Store, id: &Text) -> Result<Blob, Wire
 {
     let item = destroy_item(stamp.alloc, id, destroys(store, id.as_str()))?;
     match stamp.write(item) {
-        Ok(response) => done_with(store.destroy_key(id.as_str()), response),
+        Ok(response) => respond(store.destroy_key(id.as_str()), response),
         Err(error) => Err(error),
     }
 }
@@ -125,7 +124,7 @@ pub fn rename(
 {
     let item = rename_item(stamp.alloc, id, new_name, renames(store, id.as_str()))?;
     match stamp.write(item) {
-        Ok(response) => done_with(store.rename_key(id.as_str(), new_name.as_str()), response),
+        Ok(response) => respond(store.rename_key(id.as_str(), new_name.as_str()), response),
         Err(error) => Err(error),
     }
 }

@@ -3,7 +3,7 @@
 ghost use Rattle.std.specs.Prelude.{◌≡◌, ℤ, List, Option, Some};
 ghost use Rattle.kmip_request_read.specs.Matched.{IsMatched};
 ghost use Rattle.kmip_request_read.specs.Reading.{request_for};
-ghost use Rattle.kmip_response_write.specs.Settled.{IsSettled};
+ghost use Rattle.kmip_response_write.specs.Settled.{IsHeld, IsSettled};
 ghost use Rattle.kmip_store.specs.declared.call.Call.{Call};
 ghost use Rattle.kmip_store.specs.declared.maker.Made.{Made};
 ghost use Rattle.kmip_store.specs.declared.object.Object.{Object};
@@ -20,8 +20,10 @@ pub fn own_call()
     ensures { (call : Call) → call_of (request_for (request_of call)) ≡ Some call }
 {}
 
-/// The response to a helper's call is settled, so that its bytes are read as it.
+/// The response to a helper's call is settled, so that its bytes are read as it. The premise
+/// `IsHeld` holds of every message that Rust can hold.
 pub fn served_is_settled()
     ensures { (objects : List Object) (call : Call) (made : Option Made) (time : ℤ) →
+        IsHeld (served_call objects call made time).message →
         IsSettled (served_call objects call made time).message }
 {}

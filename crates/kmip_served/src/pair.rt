@@ -5,7 +5,7 @@ ghost use Rattle.kmip_store.specs.Makers.{MakerKeeps};
 ghost use Rattle.kmip_store.specs.Objects.{identifier};
 ghost use Rattle.kmip_store.specs.Steps.{Created, Failed};
 ghost use Rattle.kmip_store.specs.declared.call.Call.TheVariants.{CreateRsaKeyPair};
-ghost use Rattle.kmip_served.specs.Answering.{Serves, IsTold};
+ghost use Rattle.kmip_served.specs.Answering.{Serves, IsTold, chosen};
 ghost use Rattle.kmip_served.specs.Items.{item_for};
 
 use crate::items::{pair_item, refusal};
@@ -47,6 +47,21 @@ fn refused(stamp: &Stamp) -> Result<Blob, OutOfMemory>
     }
 }
 
+/// The response that the store's answer wants.
+fn choose(
+    answer: Result<(Text, Text), StoreError>,
+    created: Blob,
+    refused: Blob,
+) -> Result<Blob, WireError>
+    ensures { result ≡ chosen answer created refused }
+{
+    match answer {
+        Ok(_) => Ok(created),
+        Err(StoreError::CryptographicFailure) => Ok(refused),
+        Err(_) => Err(WireError::OutOfMemory),
+    }
+}
+
 /// Adds an RSA pair (KMIP 1.0, 4.2). The response that tells its identifiers, and the one that
 /// refuses it, are both made before the maker is asked.
 pub fn create<M: Maker>(
@@ -63,14 +78,11 @@ pub fn create<M: Maker>(
 {
     let created = created(stamp, store)?;
     let refused = refused(stamp)?;
-    match store.create_rsa_key_pair(
+    let answer = store.create_rsa_key_pair(
         maker,
         key_length,
         private_name.as_str(),
         public_name.as_str(),
-    ) {
-        Ok(_) => Ok(created),
-        Err(StoreError::CryptographicFailure) => Ok(refused),
-        Err(_) => Err(WireError::OutOfMemory),
-    }
+    );
+    choose(answer, created, refused)
 }

@@ -1,4 +1,4 @@
-use crate::{make_kmip_tag_map, name_of};
+use crate::{make_kmip_tag_map, name_of, tags};
 use kmip_wire::Tag;
 
 // Some lines of the table, at its ends, at the two names with two spaces, and on both sides of it.
@@ -33,4 +33,42 @@ fn tags_have_the_names_of_the_table(rt: HostRuntime) {
     assert_eq!(rt; tag.number(), 0x42_0124);
     assert_eq!(rt; name, "Replace Existing");
     assert!(rt; map.at(292).is_none());
+}
+
+// Constants and the names that KMIP's table gives their numbers, from each version of the table.
+const NAMED: [(u32, &str); 24] = [
+    (tags::ACTIVATION_DATE, "Activation Date"),
+    (tags::ATTRIBUTE, "Attribute"),
+    (tags::ATTRIBUTE_INDEX, "Attribute Index"),
+    (tags::ATTRIBUTE_NAME, "Attribute Name"),
+    (tags::ATTRIBUTE_VALUE, "Attribute Value"),
+    (tags::AUTHENTICATION, "Authentication"),
+    (tags::BATCH_COUNT, "Batch Count"),
+    (tags::BATCH_ITEM, "Batch Item"),
+    (tags::CRYPTOGRAPHIC_PARAMETERS, "Cryptographic Parameters"),
+    (tags::KEY_BLOCK, "Key Block"),
+    (tags::KEY_MATERIAL, "Key Material"),
+    (tags::OBJECT_TYPE, "Object Type"),
+    (tags::OPERATION, "Operation"),
+    (tags::PROTOCOL_VERSION, "Protocol Version"),
+    (tags::QUERY_FUNCTION, "Query Function"),
+    (tags::REQUEST_MESSAGE, "Request Message"),
+    (tags::RESPONSE_MESSAGE, "Response Message"),
+    (tags::RESULT_REASON, "Result Reason"),
+    (tags::UNIQUE_IDENTIFIER, "Unique Identifier"),
+    (tags::USERNAME, "Username"),
+    (tags::PASSWORD, "Password"),
+    (tags::SIGNATURE_DATA, "Signature Data"),
+    (tags::DATA_LENGTH, "Data Length"),
+    (tags::REPLACE_EXISTING, "Replace Existing"),
+];
+
+#[test]
+fn constants_have_the_names_of_the_table(rt: HostRuntime) {
+    for (number, name) in NAMED {
+        let Some(tag) = Tag::new(number) else {
+            panic!(rt; "no tag")
+        };
+        assert_eq!(rt; name_of(tag), Some(name));
+    }
 }
