@@ -1,10 +1,13 @@
 -- A link round a server, as a value, and what holds of each.
 use Rattle.std.specs.Prelude.{◌≡◌, ◌≢◌, ℕ, ℤ, pos, negsuc, ◌+◌, ◌*◌, ◌<◌, ◌≤◌, suc, List, [], ◌∷◌, ◌++◌, length, Bool, true, false, Option, Some, None, IsTrue, Result, Ok, Err, take}
 use Rattle.kmip_link.specs.State.{LinkState}
+use Rattle.kmip_link.specs.declared.link.LinkError.{LinkError}
+use Rattle.kmip_link.specs.declared.link.LinkError.TheVariants.{Fault, OutOfMemory}
+use Rattle.kmip_wire.specs.declared.error.WireError.TheVariants.{NoForm}
 use Rattle.kmip_store.specs.declared.object.Object.{Object}
 use Rattle.kmip_store.specs.declared.maker.Made.{Made}
 use Rattle.kmip_store.specs.Makers.{MakerState}
-use Rattle.kmip_served.specs.State.{ServerState}
+use Rattle.kmip_served.specs.State.{ServerState, Answers}
 use Rattle.kmip_server.specs.Split.{is_message, split}
 use Rattle.kmip_server.specs.Machine.{Run, fresh, serve, run_of}
 use Rattle.kmip_server.specs.Serving.{AreHeld}
@@ -109,6 +112,15 @@ pub record Holds {M : Type 0} (state : M → MakerState) (server : ServerState M
   pub begun_is : begun ≡ (split sent).begun
   pub serves : Serves server.time server.objects (state server.maker) ever sent
 
+-- the message that is kept after a refusal
+abbrev pub kept_in : Refusal → List ℕ
+kept_in (Refusal.NoForm message) = message.items
+kept_in Refusal.OutOfMemory = []
+
+abbrev pub is_memory : Refusal → Bool
+is_memory (Refusal.NoForm message) = false
+is_memory Refusal.OutOfMemory = true
+
 -- what it holds once the server was handed a message whose response has no wire form
 abbrev pub IsRefused : {M : Type 0} → (M → MakerState) → ServerState M → List ℕ → List ℕ → Result ℕ Refusal → Type 0
 IsRefused state server ever sent (Err (Refusal.NoForm message)) = IsCut server.time server.objects (state server.maker) ever sent message.items
@@ -121,3 +133,34 @@ pub record Accepted (bytes : List ℕ) (n : ℕ) (ever ever' sent sent' : List �
   pub sent_is : sent' ≡ sent ++ take n bytes
   pub more : List ℕ
   pub ever_is : ever' ≡ ever ++ more
+
+-- ---- one write
+
+-- What a link that was not faulted did with bytes: `server`, `ever` and `sent` are those before, and the next of each those after.
+pub data Did {M : Type 0} (state : M → MakerState) (server server' : ServerState M) (ever ever' sent sent' bytes : List ℕ) (result : Result ℕ Refusal) : Type 0 where
+  -- the begun message goes on
+  goes_on : (n : ℕ) → result ≡ Ok n → (split sent').whole ≡ (split sent).whole → server' ≡ server → ever' ≡ ever →
+      Did state server server' ever ever' sent sent' bytes result
+  -- it ends, and the server's response to it comes after what was readable
+  ends : (n : ℕ) (message response : List ℕ) → result ≡ Ok n → split sent' ≡ record { whole = (split sent).whole ++ message ∷ []; begun = [] } →
+      Answers state server server' message (Ok response) → ever' ≡ ever ++ response →
+      Did state server server' ever ever' sent sent' bytes result
+  -- it ends, and the response to it has no wire form
+  formless : (n : ℕ) (refusal : Refusal) → result ≡ Err refusal → is_message (kept_in refusal) ≡ true → kept_in refusal ≡ (split sent).begun ++ take n bytes →
+      Answers state server server' (kept_in refusal) (Err NoForm) → is_memory refusal ≡ false →
+      Did state server server' ever ever' sent sent' bytes result
+  no_memory : result ≡ Err Refusal.OutOfMemory → Did state server server' ever ever' sent sent' bytes result
+
+-- What a write did. It answers `Fault` exactly where the link is faulted already, and then the server isn't asked; and where it
+-- ends a message whose response has no wire form, which the link keeps.
+pub data WritesTo {M : Type 0} (state : M → MakerState) (before after : ServerLinkState M) (bytes : List ℕ) (result : Result ℕ LinkError) : Type 0 where
+  refused : 0 < before.faults → result ≡ Err Fault → after.server ≡ before.server → after.kept ≡ before.kept → WritesTo state before after bytes result
+  goes_on : (n : ℕ) → before.faults ≡ 0 → result ≡ Ok n → (split after.sent).whole ≡ (split before.sent).whole → after.server ≡ before.server → after.ever ≡ before.ever →
+      WritesTo state before after bytes result
+  ends : (n : ℕ) (message response : List ℕ) → before.faults ≡ 0 → result ≡ Ok n → split after.sent ≡ record { whole = (split before.sent).whole ++ message ∷ []; begun = [] } →
+      Answers state before.server after.server message (Ok response) → after.ever ≡ before.ever ++ response →
+      WritesTo state before after bytes result
+  formless : (n : ℕ) → before.faults ≡ 0 → result ≡ Err Fault → is_message after.kept ≡ true → after.kept ≡ (split before.sent).begun ++ take n bytes →
+      Answers state before.server after.server after.kept (Err NoForm) → WritesTo state before after bytes result
+  -- the link is starved from then on
+  no_memory : before.faults ≡ 0 → result ≡ Err OutOfMemory → after.starved ≡ true → after.faults ≡ 0 → WritesTo state before after bytes result

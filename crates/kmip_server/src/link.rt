@@ -1,8 +1,9 @@
 //! A link round a server of its own.
 ghost use Rattle.std.specs.Prelude.{◌≡◌, ◌<◌, ◌≤◌, ◌++◌, [], true, false, IsTrue, length, take, ◌≢◌, IfOk, OnErr, IsErrOf, ℕ, List};
+ghost use Rattle.kmip_link.specs.declared.link.LinkError.{LinkError};
 ghost use Rattle.kmip_link.specs.State.{Keeps, IsIdle, Reads, Writes, Rose};
 ghost use Rattle.kmip_store.specs.Makers.{MakerKeeps};
-ghost use Rattle.kmip_server.specs.Link.{ServerLinkState, server_link_state, IsKept, IsKnown, Holds, Accepted, IsRefused, IsUnused};
+ghost use Rattle.kmip_server.specs.Link.{ServerLinkState, server_link_state, IsKept, IsKnown, Holds, Accepted, IsRefused, IsUnused, Did, WritesTo};
 ghost use Rattle.kmip_server.specs.Split.{split};
 
 use crate::take::{grow_both, grown};
@@ -128,6 +129,7 @@ fn accept<M: Maker>(
     ensures ok { IfOk result (λ n. Accepted bytes.now n ever.old.items ever.new.items sent.old.items sent.new.items) }
     ensures held { IfOk result (λ n. IsTrue (M.state server.old.maker).tells → Holds M.state server.old ever.old.items sent.old.items begun.old.items → Holds M.state server.new ever.new.items sent.new.items begun.new.items) }
     ensures refused { IsTrue (M.state server.old.maker).tells → Holds M.state server.old ever.old.items sent.old.items begun.old.items → IsRefused M.state server.new ever.new.items sent.new.items result }
+    ensures did { begun.old.items ≡ (split sent.old.items).begun → Did M.state server.old server.new ever.old.items ever.new.items sent.old.items sent.new.items bytes.now result }
     ensures begun { IfOk result (λ n. begun.old.items ≡ (split sent.old.items).begun → begun.new.items ≡ (split sent.new.items).begun) }
     ensures err { OnErr result ((ever.new.items ≡ ever.old.items) × (sent.new.items ≡ sent.old.items) × (begun.new.items ≡ begun.old.items)) }
     ensures keeps { MakerKeeps (M.state server.old.maker) (M.state server.new.maker) }
@@ -161,7 +163,19 @@ impl<M: Maker> Link for ServerLink<M> {
         Ok(count)
     }
 
-    fn write(&mut self, bytes: &[u8]) -> Result<usize, LinkError> {
+    /// Takes bytes up to the end of the message that they are in, which the server answers at once.
+    ///
+    /// `Fault` comes exactly where the link is faulted already, and then the server isn't asked, or where the message
+    /// ends whose response has no wire form: the link keeps that message.
+    fn write(&mut self, bytes: &[u8]) -> Result<usize, LinkError>
+        ensures keeps { Keeps (server_link_state M.state self.old) (server_link_state M.state self.new) }
+        ensures bound { IfOk result (λ n. n ≤ length bytes.now) }
+        ensures some { IfOk result (λ n. 0 < length bytes.now → 0 < n) }
+        ensures moved { IfOk result (λ n. Writes (server_link_state M.state self.old) (server_link_state M.state self.new) (take n bytes.now)) }
+        ensures idle { OnErr result (IsIdle (server_link_state M.state self.old) (server_link_state M.state self.new)) }
+        ensures cause { IsErrOf result LinkError.Fault → Rose self.old.faults self.new.faults }
+        ensures answers { WritesTo M.state self.old self.new bytes.now result }
+    {
         if self.faults > 0 {
             self.faults = self.faults.saturating_add(1);
             return Err(LinkError::Fault);

@@ -1,7 +1,9 @@
-use Rattle.std.proofs.Common.{◌≡◌, ◌++◌, ◌-◌, length, take, ap, sym, ◌∙◌, arith, true, false, Ok, Err, [], refl}
+use Rattle.std.proofs.Common.{◌≡◌, ◌++◌, ◌-◌, length, take, ap, sym, subst, ◌∙◌, arith, true, false, Ok, Err, [], refl}
 use Rattle.std.proofs.lemmas.Grind.{common_steps}
 use Rattle.kmip_server.specs.Split.{Split, Takes}
-use Rattle.kmip_server.proofs.Accepts.{not_whole, is_whole, held_not_whole, held_whole, given_of, accepted_as, cut_whole, formless_of}
+use Rattle.kmip_server.proofs.Accepts.{not_whole, is_whole, held_not_whole, held_whole, given_of, accepted_as, cut_whole, formless_of, did_not_whole, did_whole, did_formless}
+use Rattle.kmip_served.specs.State.{Answers}
+use Rattle.kmip_server.specs.declared.link.Refusal.{Refusal}
 use Rattle.kmip_server.proofs.Splits.{append_none}
 use Rattle.kmip_server.proofs.link.accept.Goals as goal
 
@@ -44,3 +46,23 @@ returns-in-Err-NoForm-clause-refused g c tells held =
     let takes : Takes c.args.begun.now.items c.args.bytes.now c.in_ok-message.message.items c.in_ok-message.whole = rw (← c.deref.ensures.value) c.in_ok-message.ensures in
     cut_whole _ _ _ _ _ _ c.args.bytes.now c.in_ok-message.message.items _ takes c.if-not-whole.false c.answer.ensures.time
     (formless_of tells (rw c.deref-2.ensures.value at c.in-Err-NoForm.ensures.answers) (ap Err c.in-Err-NoForm.field-0-is)) held
+
+pub returns-then-not-whole-clause-did : goal.returns-then-not-whole-clause-did
+returns-then-not-whole-clause-did g c is =
+    let takes : Takes c.args.begun.now.items c.args.bytes.now c.in_ok-message.message.items c.in_ok-message.whole = rw (← c.deref.ensures.value) c.in_ok-message.ensures in
+    let sent : c.extend_from_slice.new.self.items ≡ c.args.sent.now.items ++ take (length c.in_ok-message.message.items - length c.args.begun.now.items) c.args.bytes.now = grind (arith, common_steps) in
+    did_not_whole _ _ _ _ _ _ _ _ _ _ takes c.if-not-whole.true sent is
+
+pub returns-in_ok-grow_both-in-Ok-clause-did : goal.returns-in_ok-grow_both-in-Ok-clause-did
+returns-in_ok-grow_both-in-Ok-clause-did g c is =
+    let takes : Takes c.args.begun.now.items c.args.bytes.now c.in_ok-message.message.items c.in_ok-message.whole = rw (← c.deref.ensures.value) c.in_ok-message.ensures in
+    let sent : c.grow_both.new.sent.items ≡ c.args.sent.now.items ++ take (length c.in_ok-message.message.items - length c.args.begun.now.items) c.args.bytes.now = grind (arith, common_steps) in
+    let ever : c.grow_both.new.ever.items ≡ c.args.ever.now.items ++ c.in-Ok.response = c.in_ok-grow_both-in-Ok.ensures.ever ∙ ap (λ x. c.args.ever.now.items ++ x) c.as_slice.ensures in
+    did_whole _ _ _ _ _ _ _ _ _ c.in_ok-message.message.items c.in-Ok.response _ _ takes c.if-not-whole.false sent is (rw c.deref-2.ensures.value at c.in-Ok.ensures.answers) ever
+
+pub returns-in-Err-NoForm-clause-did : goal.returns-in-Err-NoForm-clause-did
+returns-in-Err-NoForm-clause-did g c is =
+    let takes : Takes c.args.begun.now.items c.args.bytes.now c.in_ok-message.message.items c.in_ok-message.whole = rw (← c.deref.ensures.value) c.in_ok-message.ensures in
+    let answers : Answers g.M.Maker.state c.args.server.now c.answer.new.self c.in_ok-message.message.items (Err c.in-Err-NoForm.field-0) = rw c.deref-2.ensures.value at c.in-Err-NoForm.ensures.answers in
+    did_formless _ _ _ _ _ _ _ _ c.args.bytes.now c.in_ok-message.message.items _ (Refusal.NoForm c.in_ok-message.message) takes c.if-not-whole.false is refl refl
+    (subst (λ e. Answers g.M.Maker.state c.args.server.now c.answer.new.self c.in_ok-message.message.items (Err e)) c.in-Err-NoForm.field-0-is answers)
