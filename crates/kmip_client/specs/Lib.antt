@@ -8,8 +8,8 @@ pub mod Diagnostics
 pub mod Client
 pub mod Errors
 pub mod Calls
-pub mod Requests
 pub mod Lending
 pub mod Session
 pub mod Order
 pub mod Skeletons
+pub use Rattle.kmip_helpers.specs.Requests

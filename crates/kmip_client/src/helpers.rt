@@ -4,13 +4,13 @@ ghost use Rattle.kmip_response.specs.declared.payload.ResponsePayload.TheVariant
 ghost use Rattle.kmip_client.specs.Calls.{IsCall, Helped, Asked, projected, nothing_of, identifiers_of};
 ghost use Rattle.kmip_response.specs.Values.{response_payload_val};
 ghost use Rattle.kmip_client.specs.Outcome.{seen_by};
-ghost use Rattle.kmip_client.specs.Requests as requests;
+ghost use Rattle.kmip_helpers.specs.Requests as requests;
 ghost use Rattle.kmip_request.specs.Message.{operation_of};
 
 use crate::answered::Answered;
 use crate::client::Client;
 use crate::error::{Error, Result};
-use crate::requests::{
+use kmip_helpers::{
     activate_request, destroy_request, get_request, key_pair_request, query_request,
     rename_request, revoke_request, sign_request,
 };

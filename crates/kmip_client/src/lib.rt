@@ -26,7 +26,6 @@ mod exchange;
 mod helpers;
 mod laws;
 mod message;
-mod requests;
 mod room;
 mod session;
 mod transfer;
@@ -37,8 +36,4 @@ pub use error::{Error, Result};
 pub use kmip_request as request;
 pub use kmip_response as response;
 pub use laws::{diagnostics_of_sessions, messages_are_answered_in_order};
-pub use requests::{
-    activate_request, destroy_request, get_request, key_pair_request, query_request,
-    rename_request, revoke_request, sign_request,
-};
 pub use session::{Answers, Exchange, exchange_all};

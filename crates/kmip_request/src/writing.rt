@@ -223,6 +223,25 @@ pub fn write_request_into(
     write_empty(payload, authentication, out)
 }
 
+/// The canonical bytes of the request message round a payload and a credential that are lent.
+fn write_lent(
+    alloc: Global,
+    payload: &RequestPayload,
+    authentication: &Option<Authentication>,
+) -> Result<Blob, WireError>
+    ensures bytes { Writes result
+        (request_bytes payload.now (option_map credential_of authentication.now)) }
+    ensures ok { IfOk result (λ b.
+        request_bytes payload.now (option_map credential_of authentication.now) ≡ Some b) }
+    ensures no_form { IsErrOf result WireError.NoForm →
+        request_bytes payload.now (option_map credential_of authentication.now) ≡ None }
+    ensures never { IfErr result (λ e. e ≢ WireError.Malformed) }
+{
+    let mut out = Buffer::new(alloc);
+    write_empty(payload, authentication, &mut out)?;
+    Ok(out.into_blob())
+}
+
 /// What `to_vec` gives, for a credential that the caller keeps: it is lent, not copied.
 pub fn write_request(
     alloc: Global,
@@ -238,9 +257,7 @@ pub fn write_request(
     ensures never { IfErr result (λ e. e ≢ WireError.Malformed) }
     ensures kept { authentication.new ≡ authentication.old }
 {
-    let mut out = Buffer::new(alloc);
-    write_empty(&payload, &*authentication, &mut out)?;
-    Ok(out.into_blob())
+    write_lent(alloc, &payload, &*authentication)
 }
 
 /// The canonical bytes of the request message round `payload`: its version, the credential where

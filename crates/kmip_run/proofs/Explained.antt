@@ -5,7 +5,7 @@ use Rattle.std.proofs.lemmas.Str.{is_utf8-from_IsUtf8}
 use Rattle.kmip_diag.specs.Expansion.{expansion}
 use Rattle.kmip_run.specs.Script.{lines_of}
 use Rattle.kmip_run.specs.Transcript.{Transcript, only_text, bad_line, then_text, expanded, explained}
-use Rattle.kmip_run.proofs.Calls.{not_utf8}
+use Rattle.kmip_words.proofs.Calls.{not_utf8}
 use Rattle.kmip_run.proofs.Runs.{append_none, no_lines}
 
 pub expanded_utf8 : (line : List ℕ) → IsUtf8 line → expanded line ≡ expansion (Some 0x4200) line

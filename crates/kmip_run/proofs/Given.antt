@@ -1,49 +1,15 @@
--- Words of the command line that give a value.
-use Rattle.std.proofs.Common.{◌<◌, ◌==◌, bytes_eq, codes, ◌≡◌, ◌≤◌, ℕ, List, [], ◌∷◌, ◌++◌, length, drop, get_or, Option, Some, None, refl, ap, sym, ◌∙◌, arith, nat_eq, Bool, true, false, cond}
-use Rattle.std.specs.List.{starts_with}
-use Rattle.std.proofs.lemmas.Slice.Eq.{starts_is, bytes_eq-Decides}
-use Rattle.std.proofs.lemmas.Bool.Decides.{Decides-eqb}
-use Rattle.kmip_run.specs.Values.{number_of}
-use Rattle.kmip_run.specs.Commands.{Given, given, given_after, diag_of, replay_with, replay_of, explain_of, make_of, command_of}
+-- The command of the words, and its options.
+use Rattle.std.proofs.Common.{◌<◌, bytes_eq, codes, ◌≡◌, ◌≤◌, ℕ, List, [], ◌∷◌, length, drop, get_or, Option, Some, None, refl, ap, sym, ◌∙◌, arith, Bool, true, false, cond}
+use Rattle.std.proofs.lemmas.Slice.Eq.{bytes_eq-Decides}
+use Rattle.kmip_words.specs.Values.{number_of}
+use Rattle.kmip_words.specs.Options.{given, given_after}
+use Rattle.kmip_words.proofs.NamedValues.{first_and_rest}
+use Rattle.kmip_run.specs.Commands.{diag_of, replay_with, replay_of, explain_of, make_of, audit_of, command_of}
 use Rattle.kmip_run.specs.declared.command.Command.TheVariants.{Replay}
-
--- a list that is not empty
-pub first_and_rest : {A : Type 0} (items : List A) (d : A) → 1 ≤ length items → items ≡ get_or items 0 d ∷ drop 1 items
-first_and_rest [] d some = absurd (omega arith)
-first_and_rest (item ∷ items) d some = refl
-
-abbrev with_value : List ℕ → List (List ℕ) → Given
-with_value value rest = record { value = Some value; rest = rest }
-
-abbrev without_value : List (List ℕ) → Given
-without_value rest = record { value = None; rest = rest }
-
--- the first word gives the value
-given_here : (name word : List ℕ) (words : List (List ℕ)) (rest : List ℕ) → word ≡ name ++ rest → given name (word ∷ words) ≡ with_value (drop (length name) word) words
-given_here name word words rest is = rw ((starts_is Decides-eqb word name (starts_with nat_eq word name) refl).1 rest is) refl
-
--- the first word is another
-given_not : (name word : List ℕ) (words : List (List ℕ)) → ((rest : List ℕ) → word ≡ name ++ rest → ⊥) → given name (word ∷ words) ≡ without_value (word ∷ words)
-given_not name word words not =
-    elim (starts_with nat_eq word name) as (λ b. starts_with nat_eq word name ≡ b → cond b (with_value (drop (length name) word) words) (without_value (word ∷ words)) ≡ without_value (word ∷ words)) [
-      | true ↦ λ e. absurd (not (drop (length name) word) ((starts_is Decides-eqb word name (starts_with nat_eq word name) refl).0 e))
-      | false ↦ λ e. refl
-    ] refl
-
-pub given_first : (name word value : List ℕ) (words : List (List ℕ)) (n : ℕ) → 1 ≤ length words → word ≡ get_or words 0 word → n ≡ length name → word ≡ name ++ drop n word → value ≡ drop n word → given name words ≡ with_value value (drop 1 words)
-given_first name word value words n some at size is value_is =
-    ap (given name) (first_and_rest words word some ∙ ap (λ (w : List ℕ). w ∷ drop 1 words) (sym at))
-    ∙ given_here name word (drop 1 words) (drop n word) is
-    ∙ ap (λ (v : List ℕ). with_value v (drop 1 words)) (ap (λ (k : ℕ). drop k word) (sym size) ∙ sym value_is)
-
-pub given_other : (name word : List ℕ) (words : List (List ℕ)) → 1 ≤ length words → word ≡ get_or words 0 word → ((rest : List ℕ) → word ≡ name ++ rest → ⊥) → given name words ≡ without_value words
-given_other name word words some at not =
-    let whole : words ≡ word ∷ drop 1 words = first_and_rest words word some ∙ ap (λ (w : List ℕ). w ∷ drop 1 words) (sym at) in
-    ap (given name) whole ∙ given_not name word (drop 1 words) not ∙ ap without_value (sym whole)
 
 -- the command of words that are there
 command_of_first : (words : List (List ℕ)) (name : List ℕ) → 1 ≤ length words → name ≡ get_or words 0 name →
-    command_of words ≡ cond (bytes_eq name (codes "replay")) (replay_of (drop 1 words)) (cond (bytes_eq name (codes "explain")) (explain_of (drop 1 words)) (cond (bytes_eq name (codes "make")) (make_of (drop 1 words)) None))
+    command_of words ≡ cond (bytes_eq name (codes "replay")) (replay_of (drop 1 words)) (cond (bytes_eq name (codes "explain")) (explain_of (drop 1 words)) (cond (bytes_eq name (codes "make")) (make_of (drop 1 words)) (cond (bytes_eq name (codes "audit")) (audit_of (drop 1 words)) None)))
 unfolding command_of
 command_of_first words name some at = ap command_of (first_and_rest words name some ∙ ap (λ (w : List ℕ). w ∷ drop 1 words) (sym at))
 
@@ -67,9 +33,13 @@ pub command_of_make : (words : List (List ℕ)) (name : List ℕ) → 1 ≤ leng
 command_of_make words name some at not_replay not_explain is =
     command_of_first words name some at ∙ not_named name (codes "replay") _ _ not_replay ∙ not_named name (codes "explain") _ _ not_explain ∙ named name (codes "make") _ _ is
 
-pub command_of_other : (words : List (List ℕ)) (name : List ℕ) → 1 ≤ length words → name ≡ get_or words 0 name → (name ≡ codes "replay" → ⊥) → (name ≡ codes "explain" → ⊥) → (name ≡ codes "make" → ⊥) → command_of words ≡ None
-command_of_other words name some at not_replay not_explain not_make =
-    command_of_first words name some at ∙ not_named name (codes "replay") _ _ not_replay ∙ not_named name (codes "explain") _ _ not_explain ∙ not_named name (codes "make") _ _ not_make
+pub command_of_audit : (words : List (List ℕ)) (name : List ℕ) → 1 ≤ length words → name ≡ get_or words 0 name → (name ≡ codes "replay" → ⊥) → (name ≡ codes "explain" → ⊥) → (name ≡ codes "make" → ⊥) → name ≡ codes "audit" → command_of words ≡ audit_of (drop 1 words)
+command_of_audit words name some at not_replay not_explain not_make is =
+    command_of_first words name some at ∙ not_named name (codes "replay") _ _ not_replay ∙ not_named name (codes "explain") _ _ not_explain ∙ not_named name (codes "make") _ _ not_make ∙ named name (codes "audit") _ _ is
+
+pub command_of_other : (words : List (List ℕ)) (name : List ℕ) → 1 ≤ length words → name ≡ get_or words 0 name → (name ≡ codes "replay" → ⊥) → (name ≡ codes "explain" → ⊥) → (name ≡ codes "make" → ⊥) → (name ≡ codes "audit" → ⊥) → command_of words ≡ None
+command_of_other words name some at not_replay not_explain not_make not_audit =
+    command_of_first words name some at ∙ not_named name (codes "replay") _ _ not_replay ∙ not_named name (codes "explain") _ _ not_explain ∙ not_named name (codes "make") _ _ not_make ∙ not_named name (codes "audit") _ _ not_audit
 
 pub command_of_none : (words : List (List ℕ)) → length words < 1 → command_of words ≡ None
 unfolding command_of

@@ -1,14 +1,9 @@
-pub mod Calls
-pub mod Diagnostics
-pub mod Exchanges
+pub mod Audited
 pub mod Explained
 pub mod Given
 pub mod Lines
 pub mod Makes
-pub mod Moves
-pub mod Numbers
 pub mod Runs
-pub mod Texts
 pub mod Whole
 pub mod SentBytes
 pub mod Tellings

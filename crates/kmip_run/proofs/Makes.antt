@@ -11,11 +11,11 @@ use Rattle.kmip_request.specs.Message.{request_bytes, operation_of}
 use Rattle.kmip_client.specs.Client.{ClientState}
 use Rattle.kmip_client.specs.Message.{Message, Ended, Refused, Whole, message_at, message_by, taken_for}
 use Rattle.kmip_client.specs.Outcome.{Outcome, outcome_of}
-use Rattle.kmip_run.specs.Exchange.{Settings, settings_of, asked, Step, step, Answers}
+use Rattle.kmip_words.specs.Exchange.{Settings, settings_of, asked, Step, step, Answers}
 use Rattle.kmip_run.specs.Making.{next_of, made_of, Counts, no_counts, one_ok, one_error, then_made, made, made_text, MakesCall, Makes}
 use Rattle.kmip_run.specs.Transcript.{counted_transcript, Replays}
-use Rattle.kmip_run.specs.declared.call.Call.{Call}
-use Rattle.kmip_run.specs.declared.call.Recorded.{Recorded}
+use Rattle.kmip_words.specs.declared.call.Call.{Call}
+use Rattle.kmip_words.specs.declared.call.Recorded.{Recorded}
 use Rattle.kmip_run.proofs.Runs.{append_none}
 
 pub next_is : (x : ℕ) → (x * 6364136223846793005 % 2 ^ 64 + 1442695040888963407) % 2 ^ 64 ≡ next_of x

@@ -7,13 +7,17 @@ use Rattle.std.proofs.lemmas.List.Elements.{All-head, All-tail}
 use Rattle.kmip_link.specs.Plan.{MemoryState}
 use Rattle.kmip_link.specs.State.{SinkState}
 use Rattle.kmip_run.specs.Script.{lines_of}
-use Rattle.kmip_run.specs.Calls.{call_of}
+use Rattle.kmip_words.specs.Calls.{call_of}
 use Rattle.kmip_run.specs.Commands.{command_of}
-use Rattle.kmip_run.specs.Exchange.{Settings, settings_for, Step, step}
-use Rattle.kmip_run.specs.Streams.{WrotePart}
-use Rattle.kmip_run.specs.Transcript.{Transcript, only_text, status_after, replayed, expanded, explained, lines_transcript, most_script, reads_script, script_transcript, command_transcript, transcript, IsLineOf, IsOfGrammar, Replays}
+use Rattle.kmip_words.specs.Exchange.{Settings, Step, step}
+use Rattle.kmip_run.specs.Setup.{settings_for}
+use Rattle.kmip_words.specs.Streams.{WrotePart}
+use Rattle.kmip_run.specs.Transcript.{Transcript, only_text, status_after, replayed, expanded, explained, reported, audited, lines_transcript, most_script, reads_script, script_transcript, command_transcript, transcript, IsLineOf, AreLinesOf, IsOfGrammar, Replays}
+use Rattle.kmip_run.specs.Auditing.{captured_in, AreStreams}
+use Rattle.kmip_run.specs.declared.auditing.Captured.{Captured}
+use Rattle.kmip_run.specs.declared.auditing.Captured.TheVariants.{Streams, Bad}
 use Rattle.kmip_run.specs.declared.command.Command.{Command}
-use Rattle.kmip_run.specs.declared.command.Command.TheVariants.{Replay, Explain, Make}
+use Rattle.kmip_run.specs.declared.command.Command.TheVariants.{Replay, Explain, Make, Audit}
 use Rattle.kmip_run.proofs.Explained.{explained_line, explained_none, explained_alone}
 use Rattle.kmip_run.proofs.Runs.{append_none, replayed_call, replayed_none}
 
@@ -30,6 +34,7 @@ unfolding script_transcript most_script
 transcript_fits (Replay options) script fits = grind (arith, nat_tests)
 transcript_fits Explain script fits = grind (arith, nat_tests)
 transcript_fits (Make count) script fits = refl
+transcript_fits Audit script fits = grind (arith, nat_tests)
 
 -- a command that reads no script makes the same of each
 pub transcript_same : (command : Command) (script : List ℕ) → reads_script (Some command) ≡ false → script_transcript command script ≡ script_transcript command []
@@ -37,6 +42,7 @@ unfolding script_transcript
 transcript_same (Replay options) script unread = cc
 transcript_same Explain script unread = cc
 transcript_same (Make count) script unread = refl
+transcript_same Audit script unread = cc
 
 pub transcript_words : (words : List (List ℕ)) (script : List ℕ) → None ≡ command_of words → transcript words script ≡ only_text (codes "! words\n") 2
 unfolding transcript
@@ -108,22 +114,29 @@ explained_small (line ∷ lines) number good =
       | Some text ↦ λ e some. rw (explained_line line lines number text (sym e)) (explained_small lines (number + 1) (All-tail (λ l. IsSome (expanded l)) line lines good))
     ] refl (All-head (λ l. IsSome (expanded l)) line lines good)
 
-lines_small : (command : Command) (lines : List (List ℕ)) → (IsTrue (reads_script (Some command)) → All (IsLineOf (Some command)) lines) → (lines_transcript command lines).status < 2
-lines_small (Replay options) lines good = replayed_small (settings_for options) lines 1 0 [] (omega arith) (good refl)
-lines_small Explain lines good = explained_small lines 1 (good refl)
-lines_small (Make count) lines good = omega arith
+-- and two streams with the status 0
+reported_small : (captured : Captured) → AreStreams captured → (reported captured).status < 2
+reported_small (Streams sent received) good = omega arith
+reported_small (Bad number) good = absurd good
+
+lines_small : (command : Command) (lines : List (List ℕ)) → (IsTrue (reads_script (Some command)) → All (IsLineOf (Some command)) lines) → AreLinesOf (Some command) lines → (lines_transcript command lines).status < 2
+lines_small (Replay options) lines good together = replayed_small (settings_for options) lines 1 0 [] (omega arith) (good refl)
+lines_small Explain lines good together = explained_small lines 1 (good refl)
+lines_small (Make count) lines good together = omega arith
+lines_small Audit lines good together = reported_small (captured_in lines) together
 
 -- the script of a command, where it reads one and this is not too long
 lines_whole : (command : Command) (script : List ℕ) → (IsTrue (reads_script (Some command)) → length script ≤ 16777216) → script_transcript command script ≡ lines_transcript command (lines_of script)
 lines_whole (Replay options) script fits = transcript_fits (Replay options) script (fits refl)
 lines_whole Explain script fits = transcript_fits Explain script (fits refl)
+lines_whole Audit script fits = transcript_fits Audit script (fits refl)
 lines_whole (Make count) script fits = transcript_same (Make count) script refl ∙ transcript_fits (Make count) [] (omega arith)
 
 -- a script of the grammar ends with the status 0 or 1
 pub grammar_status : (words : List (List ℕ)) (script : List ℕ) (command : Command) → Some command ≡ command_of words → IsOfGrammar words script → (transcript words script).status < 2
 grammar_status words script command is good =
     let fits : IsTrue (reads_script (Some command)) → length script ≤ 16777216 = rw (sym is, most) at good.fits in
-    rw (transcript_command words script command is, lines_whole command script fits) (lines_small command (lines_of script) (rw (sym is) at good.lines_are))
+    rw (transcript_command words script command is, lines_whole command script fits) (lines_small command (lines_of script) (rw (sym is) at good.lines_are) (rw (sym is) at good.together))
 
 explained_now : (link : MemoryState) (lines : List (List ℕ)) (status : ℕ) (old new : List ℕ) → status ≡ (explained lines 1).status → new ≡ old ++ (explained lines 1).text → Replays (explained lines 1) link link status old new
 explained_now link lines status old new status_is text =
@@ -134,6 +147,21 @@ pub explains : {E : Type 0} (link : MemoryState) (lines : List (List ℕ)) (resu
     IfOk result (λ status. status ≡ (explained lines 1).status) → IfOk result (λ status. new ≡ old ++ (explained lines 1).text) → IfOk result (λ status. Replays (explained lines 1) link link status old new)
 explains link lines (Ok status) old new status_is text = explained_now link lines status old new status_is text
 explains link lines (Err error) old new status_is text = tt
+
+-- nothing is on the link
+reported_alone : (captured : Captured) → reported captured ≡ only_text (reported captured).text (reported captured).status
+reported_alone (Streams sent received) = refl
+reported_alone (Bad number) = refl
+
+audited_now : (link : MemoryState) (lines : List (List ℕ)) (status : ℕ) (old new : List ℕ) → status ≡ (audited lines).status → new ≡ old ++ (audited lines).text → Replays (audited lines) link link status old new
+audited_now link lines status old new status_is text =
+    rw (status_is, text, reported_alone (captured_in lines)) (text_alone link (audited lines).text (audited lines).status old)
+
+-- the report alone was written, and nothing is on the link
+pub audits : {E : Type 0} (link : MemoryState) (lines : List (List ℕ)) (result : Result ℕ E) (old new : List ℕ) →
+    IfOk result (λ status. status ≡ (audited lines).status) → IfOk result (λ status. new ≡ old ++ (audited lines).text) → IfOk result (λ status. Replays (audited lines) link link status old new)
+audits link lines (Ok status) old new status_is text = audited_now link lines status old new status_is text
+audits link lines (Err error) old new status_is text = tt
 
 -- the status that is left, where the writing did not end otherwise
 pub status_left : (result status : ℕ) → (result ≡ status) ⊎ ((result ≡ 4) ⊎ (result ≡ 5)) → result ≢ 4 → result ≢ 5 → result ≡ status

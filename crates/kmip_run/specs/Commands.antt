@@ -1,25 +1,9 @@
 -- What the words of the command line ask for.
-use Rattle.std.specs.Prelude.{ℕ, nat_eq, nat_lt, List, [], ◌∷◌, length, drop, Bool, true, false, Option, Some, None, if◌then◌else◌, codes, bytes_eq}
-use Rattle.std.specs.List.{starts_with}
-use Rattle.kmip_run.specs.Values.{number_of}
+use Rattle.std.specs.Prelude.{ℕ, nat_lt, List, [], ◌∷◌, Bool, true, false, Option, Some, None, if◌then◌else◌, codes, bytes_eq}
+use Rattle.kmip_words.specs.Values.{number_of}
+use Rattle.kmip_words.specs.Options.{Given, given, given_after}
 use Rattle.kmip_run.specs.declared.command.Command.{Command}
-use Rattle.kmip_run.specs.declared.command.Command.TheVariants.{Replay, Explain, Make}
-
--- the value that a first word gives to a name, and the words that are left after it
-pub record Given : Type 0 where
-  pub value : Option (List ℕ)
-  pub rest : List (List ℕ)
-
-abbrev pub given : List ℕ → List (List ℕ) → Given
-given name [] = record { value = None; rest = [] }
-given name (word ∷ words) =
-    if starts_with nat_eq word name then record { value = Some (drop (length name) word); rest = words }
-    else record { value = None; rest = word ∷ words }
-
--- a value is given only after another
-abbrev pub given_after : Option (List ℕ) → List ℕ → List (List ℕ) → Given
-given_after (Some before) name words = given name words
-given_after None name words = record { value = None; rest = words }
+use Rattle.kmip_run.specs.declared.command.Command.TheVariants.{Replay, Explain, Make, Audit}
 
 -- whether the last word is `diag`, where no other is left
 abbrev pub diag_of : List (List ℕ) → Option Bool
@@ -58,6 +42,11 @@ abbrev pub make_of : List (List ℕ) → Option Command
 make_of (count ∷ []) = make_number (number_of count)
 make_of words = None
 
+-- `audit` takes no more words
+abbrev pub audit_of : List (List ℕ) → Option Command
+audit_of [] = Some Audit
+audit_of words = None
+
 -- the command of the words after the program's name
 unfoldable pub command_of : List (List ℕ) → Option Command
 command_of [] = None
@@ -65,4 +54,5 @@ command_of (name ∷ words) =
     if bytes_eq name (codes "replay") then replay_of words
     else if bytes_eq name (codes "explain") then explain_of words
     else if bytes_eq name (codes "make") then make_of words
+    else if bytes_eq name (codes "audit") then audit_of words
     else None

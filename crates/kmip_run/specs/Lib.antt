@@ -1,12 +1,8 @@
 pub mod Script
-pub mod Words
-pub mod Values
-pub mod Calls
 pub mod Commands
-pub mod Raw
-pub mod Streams
-pub mod Exchange
+pub mod Setup
 pub mod Making
+pub mod Auditing
 pub mod Transcript
 pub mod Sent
 pub mod Told

@@ -15,10 +15,10 @@ use Rattle.kmip_link.specs.Plan.{MemoryState}
 use Rattle.kmip_request.specs.Message.{minor_of, operation_of}
 use Rattle.kmip_request.specs.declared.payload.RequestPayload.{RequestPayload}
 use Rattle.kmip_client.specs.Requests.{query_request, rng_request, activate_request, destroy_request}
-use Rattle.kmip_run.specs.Exchange.{Settings, or_empty, Step, step}
-use Rattle.kmip_run.specs.declared.call.Call.{Call}
-use Rattle.kmip_run.specs.declared.call.Call.TheVariants.{Query, Rng, Activate, Destroy}
-use Rattle.kmip_run.specs.declared.call.Recorded.{Recorded}
+use Rattle.kmip_words.specs.Exchange.{Settings, or_empty, Step, step}
+use Rattle.kmip_words.specs.declared.call.Call.{Call}
+use Rattle.kmip_words.specs.declared.call.Call.TheVariants.{Query, Rng, Activate, Destroy}
+use Rattle.kmip_words.specs.declared.call.Recorded.{Recorded}
 
 -- the number after this one
 unfoldable pub next_of : ℕ → ℕ

@@ -6,13 +6,19 @@ use Rattle.std.specs.Str.{is_utf8}
 use Rattle.hex.specs.Hex.{encode_upper}
 use Rattle.kmip_diag.specs.Expansion.{expansion}
 use Rattle.kmip_link.specs.Plan.{MemoryState}
+use Rattle.kmip_audit.specs.Report.{report_of}
+use Rattle.kmip_audit.specs.Printed.{report_text}
 use Rattle.kmip_run.specs.Script.{lines_of}
-use Rattle.kmip_run.specs.Calls.{call_of}
+use Rattle.kmip_run.specs.Auditing.{captured_in, AreStreams}
+use Rattle.kmip_words.specs.Calls.{call_of}
 use Rattle.kmip_run.specs.Commands.{command_of}
-use Rattle.kmip_run.specs.Exchange.{Settings, settings_for, Step, step}
+use Rattle.kmip_words.specs.Exchange.{Settings, Step, step}
+use Rattle.kmip_run.specs.Setup.{settings_for}
 use Rattle.kmip_run.specs.Making.{Counts, made, made_settings, made_text}
+use Rattle.kmip_run.specs.declared.auditing.Captured.{Captured}
+use Rattle.kmip_run.specs.declared.auditing.Captured.TheVariants.{Streams, Bad}
 use Rattle.kmip_run.specs.declared.command.Command.{Command}
-use Rattle.kmip_run.specs.declared.command.Command.TheVariants.{Replay, Explain, Make}
+use Rattle.kmip_run.specs.declared.command.Command.TheVariants.{Replay, Explain, Make, Audit}
 
 -- what is written, the status, and the bytes that are fed to the link, sent, and taken
 pub record Transcript : Type 0 where
@@ -75,6 +81,14 @@ explained (line ∷ lines) number = elim (expanded line) [
   | Some text ↦ then_text text (explained lines (number + 1))
 ]
 
+-- the report on two captured streams
+abbrev pub reported : Captured → Transcript
+reported (Streams sent received) = only_text (report_text (report_of sent received)) 0
+reported (Bad number) = bad_line number
+
+abbrev pub audited : List (List ℕ) → Transcript
+audited lines = reported (captured_in lines)
+
 -- the lines that count exchanges, and what is fed, sent and taken in these
 abbrev pub counted_transcript : ℕ → Counts → Transcript
 counted_transcript count c = record { text = made_text count c.ok c.errors (length c.sent) c.taken; status = 0; fed = c.fed; sent = c.sent; taken = c.taken }
@@ -88,12 +102,14 @@ abbrev pub lines_transcript : Command → List (List ℕ) → Transcript
 lines_transcript (Replay options) lines = replayed (settings_for options) lines 1 0 []
 lines_transcript Explain lines = explained lines 1
 lines_transcript (Make count) lines = made_transcript count
+lines_transcript Audit lines = audited lines
 
 -- The command reads a script.
 abbrev pub reads_script : Option Command → Bool
 reads_script (Some (Replay options)) = true
 reads_script (Some Explain) = true
 reads_script (Some (Make count)) = false
+reads_script (Some Audit) = true
 reads_script None = false
 
 -- the bytes of the longest script
@@ -120,19 +136,27 @@ abbrev pub makes_calls : Option Command → Bool
 makes_calls (Some (Replay options)) = true
 makes_calls (Some Explain) = false
 makes_calls (Some (Make count)) = true
+makes_calls (Some Audit) = false
 makes_calls None = false
 
--- The line is of the grammar of a command.
+-- The line is of the grammar of a command. Of the lines of `audit` it is said of all together.
 abbrev pub IsLineOf : Option Command → List ℕ → Type 0
 IsLineOf (Some (Replay options)) line = IsSome (call_of line)
 IsLineOf (Some Explain) line = IsSome (expanded line)
 IsLineOf (Some (Make count)) line = ⊥
+IsLineOf (Some Audit) line = Unit {0}
 IsLineOf None line = ⊥
+
+-- The lines together are of the grammar of a command: those of `audit` are two, each one word in hex.
+abbrev pub AreLinesOf : Option Command → List (List ℕ) → Type 0
+AreLinesOf (Some Audit) lines = AreStreams (captured_in lines)
+AreLinesOf command lines = Unit {0}
 
 -- The words are of the grammar, and, where they read a script, each line of it is, and it is not too long.
 pub record IsOfGrammar (words : List (List ℕ)) (script : List ℕ) : Type 0 where
   pub words_are : IsSome (command_of words)
   pub lines_are : IsTrue (reads_script (command_of words)) → All (IsLineOf (command_of words)) (lines_of script)
+  pub together : AreLinesOf (command_of words) (lines_of script)
   pub fits : IsTrue (reads_script (command_of words)) → length script ≤ most_script
 
 -- what a call did: to the link, and to the text

@@ -1,10 +1,10 @@
 //! What the words of the command line ask for.
 ghost use Rattle.std.specs.Prelude.{◌≡◌, ◌∷◌, [], map, option_map, IfOk, Some};
-ghost use Rattle.kmip_run.specs.Commands.{given, given_after, diag_of, replay_of, explain_of, make_of, command_of};
+ghost use Rattle.kmip_run.specs.Commands.{diag_of, replay_of, explain_of, make_of, audit_of, command_of};
 ghost use Rattle.kmip_run.specs.declared.command.Command.TheVariants.{Replay};
 
-use crate::values::number_of;
 use kmip_wire::{OutOfMemory, Text};
+use kmip_words::{copied, given, given_after, number_of};
 use std::alloc::Global;
 
 /// The most exchanges that `make` makes.
@@ -32,35 +32,8 @@ pub enum Command {
     Explain,
     /// `make N`: makes so many exchanges from a number, and counts. It reads no script.
     Make(u32),
-}
-
-/// The value that the first word gives to a name, as in `name=value`, and the words that are left after it.
-fn given<'a>(name: &str, words: &'a [Text]) -> (Option<&'a str>, &'a [Text])
-    ensures value { option_map (λ value. value.now) result.0 ≡ (given name.now words.now).value }
-    ensures rest { result.1.now ≡ (given name.now words.now).rest }
-{
-    match words {
-        [first, rest @ ..] => match first.as_str().strip_prefix(name) {
-            Some(value) => (Some(value), rest),
-            None => (None, words),
-        },
-        [] => (None, words),
-    }
-}
-
-/// The same, but only after another value.
-fn given_after<'a>(
-    before: Option<&str>,
-    name: &str,
-    words: &'a [Text],
-) -> (Option<&'a str>, &'a [Text])
-    ensures value { option_map (λ value. value.now) result.0 ≡ (given_after (option_map (λ value. value.now) before.entry) name.now words.now).value }
-    ensures rest { result.1.now ≡ (given_after (option_map (λ value. value.now) before.entry) name.now words.now).rest }
-{
-    match before {
-        Some(_) => given(name, words),
-        None => (None, words),
-    }
+    /// `audit`: reports on two captured streams, each one line of the script.
+    Audit,
 }
 
 /// Whether the last word is `diag`, where no other is left.
@@ -74,16 +47,6 @@ fn diag_of(words: &[Text]) -> Option<bool>
             _ => None,
         },
         _ => None,
-    }
-}
-
-/// A copy of a text that may be absent.
-fn copied(alloc: Global, text: Option<&str>) -> Result<Option<Text>, OutOfMemory>
-    ensures { IfOk result (λ copy. copy ≡ option_map (λ text. text.now) text.entry) }
-{
-    match text {
-        Some(text) => Ok(Some(Text::of(alloc, text)?)),
-        None => Ok(None),
     }
 }
 
@@ -154,6 +117,16 @@ fn make_of(words: &[Text]) -> Option<Command>
     }
 }
 
+/// `audit`, or none where more words follow.
+fn audit_of(words: &[Text]) -> Option<Command>
+    ensures { result ≡ audit_of words.now }
+{
+    match words {
+        [] => Some(Command::Audit),
+        _ => None,
+    }
+}
+
 /// The command of the words after the program's name, or none where they are not of the grammar.
 pub fn command_of(alloc: Global, words: &[Text]) -> Result<Option<Command>, OutOfMemory>
     ensures { IfOk result (λ command. command ≡ command_of words.now) }
@@ -165,6 +138,7 @@ pub fn command_of(alloc: Global, words: &[Text]) -> Result<Option<Command>, OutO
         "replay" => replay_of(alloc, options),
         "explain" => Ok(explain_of(options)),
         "make" => Ok(make_of(options)),
+        "audit" => Ok(audit_of(options)),
         _ => Ok(None),
     }
 }

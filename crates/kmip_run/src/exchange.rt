@@ -1,14 +1,14 @@
 //! A call over its recorded response, and what is written of it.
 ghost use Rattle.std.specs.Prelude.{◌≡◌, ◌++◌, ◌≤◌, drop, length, codes, option_map, IfOk, OnOk};
 ghost use Rattle.hex.specs.Hex.{encode_upper};
-ghost use Rattle.kmip_run.specs.Exchange.{settings_of, or_empty, told_lines, step};
+ghost use Rattle.kmip_words.specs.Exchange.{settings_of, or_empty, told_lines, step};
 ghost use Rattle.kmip_run.specs.Transcript.{RunsCall};
 
-use crate::answer::answer;
-use crate::call::Recorded;
 use kmip_client::Client;
 use kmip_link::MemoryLink;
+use kmip_shape::Style;
 use kmip_wire::{OutOfMemory, Text};
+use kmip_words::{Recorded, answer};
 use std::alloc::Global;
 
 /// Feeds a recorded response to the client's link.
@@ -104,9 +104,9 @@ pub fn exchange(
     feed(client, recorded.response.as_slice())?;
     let before = sent_len(client);
     let mut line = Text::new(alloc);
-    let failed = answer(alloc, client, recorded.call, &mut line)?;
+    let ending = answer(alloc, client, Style::Bare, recorded.call, &mut line)?;
     show_sent_from(alloc, client, before, output)?;
     show_diagnostics(client, diag, output)?;
     output.push_str(line.as_str())?;
-    Ok(failed)
+    Ok(ending.is_failure())
 }

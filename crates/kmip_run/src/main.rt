@@ -6,8 +6,7 @@
 //! were made and what they come to, and ends with a status from 0 to 6, as `program::run` says.
 #![tactic(auto)]
 
-mod answer;
-mod call;
+mod auditing;
 mod command;
 mod exchange;
 mod explain;
@@ -16,17 +15,12 @@ mod make;
 #[cfg(test)]
 mod make_tests;
 mod program;
-mod raw;
 mod replay;
 mod respond;
 mod script;
 mod setup;
-mod show;
-mod streams;
 #[cfg(test)]
 mod tests;
-mod values;
-mod words;
 
 use kmip_link::{MemoryLink, StdSink, StdSource};
 use kmip_wire::{List, OutOfMemory, Text};

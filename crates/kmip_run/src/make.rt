@@ -1,16 +1,16 @@
 //! Exchanges that are made from a number, and what they come to.
 ghost use Rattle.std.specs.Prelude.{◌≡◌, ◌+◌, ◌<◌, ◌++◌, ◌^◌, drop, length, IfOk, OnOk};
-ghost use Rattle.kmip_run.specs.Exchange.{settings_of, step};
+ghost use Rattle.kmip_words.specs.Exchange.{settings_of, step};
 ghost use Rattle.kmip_run.specs.Making.{next_of, one_ok, one_error, made, made_text, MakesCall, Makes};
 ghost use Rattle.kmip_run.specs.Transcript.{counted_transcript, Replays};
 
-use crate::answer::answer;
-use crate::call::Recorded;
 use crate::exchange::{feed, sent_len};
 use crate::respond::exchange_of;
 use kmip_client::Client;
 use kmip_link::MemoryLink;
+use kmip_shape::Style;
 use kmip_wire::{OutOfMemory, Text};
+use kmip_words::{Recorded, answer};
 use std::alloc::Global;
 
 /// How many answers were payloads and errors, and how many bytes were taken: a sum of lengths of lists in memory,
@@ -54,8 +54,8 @@ fn make_call(
     feed(client, recorded.response.as_slice())?;
     let before = left_len(client);
     line.clear();
-    let failed = answer(alloc, client, recorded.call, line)?;
-    Ok((failed, before - left_len(client)))
+    let ending = answer(alloc, client, Style::Bare, recorded.call, line)?;
+    Ok((ending.is_failure(), before - left_len(client)))
 }
 
 /// One exchange more.

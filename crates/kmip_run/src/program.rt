@@ -3,20 +3,21 @@ ghost use Rattle.std.specs.Prelude.{◌≡◌, ◌≢◌, ◌+◌, ◌<◌, ◌�
 ghost use Rattle.kmip_link.specs.State.{SourceKeeps, SinkKeeps, Rose, source_left};
 ghost use Rattle.kmip_run.specs.Script.{lines_of};
 ghost use Rattle.kmip_run.specs.Commands.{command_of};
-ghost use Rattle.kmip_run.specs.Exchange.{settings_for};
-ghost use Rattle.kmip_run.specs.Streams.{WrotePart};
+ghost use Rattle.kmip_run.specs.Setup.{settings_for};
+ghost use Rattle.kmip_words.specs.Streams.{WrotePart};
 ghost use Rattle.kmip_run.specs.Making.{made, made_settings};
 ghost use Rattle.kmip_run.specs.Transcript.{most_script, reads_script, read_by, makes_calls, replayed, counted_transcript, lines_transcript, script_transcript, transcript, IsOfGrammar, Replays};
 
+use crate::auditing::audit_script;
 use crate::command::{Command, Options, command_of};
 use crate::explain::explain;
 use crate::make::make;
 use crate::replay::replay;
 use crate::setup::client_of;
-use crate::streams::{read_up_to, write_out};
 use kmip_client::Client;
 use kmip_link::{LinkError, MemoryLink, Sink, Source};
 use kmip_wire::{List, OutOfMemory, Text};
+use kmip_words::{read_up_to, write_out};
 use std::alloc::Global;
 use std::mem;
 
@@ -109,6 +110,7 @@ fn perform(
         Command::Replay(options) => replay_on(alloc, options, script, link, output),
         Command::Explain => explain(alloc, script, output),
         Command::Make(count) => make_on(alloc, count, link, output),
+        Command::Audit => audit_script(alloc, script, output),
     }
 }
 
@@ -117,7 +119,7 @@ fn reads_script(command: &Command) -> bool
     ensures { result ≡ reads_script (Some command.now) }
 {
     match command {
-        Command::Replay(_) | Command::Explain => true,
+        Command::Replay(_) | Command::Explain | Command::Audit => true,
         Command::Make(_) => false,
     }
 }

@@ -1,15 +1,15 @@
 //! The lines of a script, one call after the other.
 ghost use Rattle.std.specs.Prelude.{◌≡◌, ◌<◌, drop, IfOk};
 ghost use Rattle.kmip_run.specs.Script.{lines_of};
-ghost use Rattle.kmip_run.specs.Exchange.{settings_of};
+ghost use Rattle.kmip_words.specs.Exchange.{settings_of};
 ghost use Rattle.kmip_run.specs.Transcript.{status_after, replayed, Replays};
 
-use crate::call::call_of;
 use crate::exchange::exchange;
 use crate::script::{first_line, show_bad_line};
 use kmip_client::Client;
 use kmip_link::MemoryLink;
 use kmip_wire::{OutOfMemory, Text};
+use kmip_words::call_of;
 use std::alloc::Global;
 
 /// The status after a call: 1 once some answer was an error.

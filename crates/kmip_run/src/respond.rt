@@ -2,10 +2,9 @@
 ghost use Rattle.std.specs.Prelude.{◌≡◌, ◌∷◌, [], ◌<◌, ◌^◌, replicate, IfOk};
 ghost use Rattle.kmip_wire.specs.Sees.{tree_of};
 ghost use Rattle.kmip_wire.specs.Bytes.{bytes};
-ghost use Rattle.kmip_run.specs.Exchange.{or_empty};
+ghost use Rattle.kmip_words.specs.Exchange.{or_empty};
 ghost use Rattle.kmip_run.specs.Making.{version_tree, head_tree, response_tree, operation_tree, done_trees, gone_trees, random_made, activated_made, queried_made, destroyed_made, made_of};
 
-use crate::call::{Call, Recorded};
 use itoa::Buffer;
 use kmip_enums::{Operation, ResultReason, ResultStatus};
 use kmip_shape::Enumeration;
@@ -15,6 +14,7 @@ use kmip_tags::tags::{
     RESULT_REASON, RESULT_STATUS, TIME_STAMP, UNIQUE_IDENTIFIER,
 };
 use kmip_wire::{Blob, Node, OutOfMemory, Tag, Text, Tree, Trees, WireError, write_tree};
+use kmip_words::{Call, Recorded};
 use std::alloc::Global;
 
 /// An item with this tag.

@@ -1,57 +1,22 @@
 //! A client with the settings of the words.
-ghost use Rattle.std.specs.Prelude.{◌≡◌, None, false};
-ghost use Rattle.kmip_client.specs.Client.{credential_for};
-ghost use Rattle.kmip_run.specs.Exchange.{settings_of, settings_for};
+ghost use Rattle.std.specs.Prelude.{◌≡◌};
+ghost use Rattle.kmip_words.specs.Exchange.{settings_of};
+ghost use Rattle.kmip_run.specs.Setup.{settings_for};
 
 use crate::command::Options;
-use kmip_client::{Client, ClientBuilder};
+use kmip_client::Client;
 use kmip_link::MemoryLink;
-use kmip_wire::{Config, Text};
-
-/// A builder with the credentials of the words.
-fn with_user(
-    builder: ClientBuilder<MemoryLink>,
-    user: Option<Text>,
-    password: Option<Text>,
-) -> ClientBuilder<MemoryLink>
-    requires username { builder.username ≡ None }
-    requires password { builder.password ≡ None }
-    ensures link { result.link ≡ builder.link }
-    ensures credential { credential_for result.username result.password ≡ credential_for user password }
-{
-    match user {
-        Some(user) => builder.with_credentials(user, password),
-        None => builder,
-    }
-}
-
-/// How responses are read, without diagnostics.
-fn limited(limit: Option<u32>) -> Config
-    ensures limit { result.max_bytes ≡ limit }
-    ensures buffered { result.has_buf ≡ false }
-{
-    match limit {
-        Some(limit) => Config::new().with_max_bytes(limit),
-        None => Config::new(),
-    }
-}
-
-/// How responses are read: their limit, and whether diagnostics are kept.
-fn config_of(limit: Option<u32>, diag: bool) -> Config
-    ensures limit { result.max_bytes ≡ limit }
-    ensures buffered { result.has_buf ≡ diag }
-{
-    let config = limited(limit);
-    if diag { config.with_read_buf() } else { config }
-}
 
 /// A client over this link, with the settings of the words.
 pub fn client_of(link: MemoryLink, options: Options) -> Client<MemoryLink>
     ensures link { result.link ≡ link }
     ensures settings { settings_of result ≡ settings_for options }
 {
-    let config = config_of(options.limit, options.diag);
-    with_user(ClientBuilder::new(link), options.user, options.password)
-        .with_reader_config(config)
-        .build()
+    kmip_words::client_of(
+        link,
+        options.user,
+        options.password,
+        options.limit,
+        options.diag,
+    )
 }

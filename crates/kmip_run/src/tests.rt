@@ -6,6 +6,7 @@ use std::alloc::Global;
 use std::process::Abort;
 use std::test::Fail;
 
+mod audit;
 mod hostile;
 mod raw;
 
@@ -732,6 +733,11 @@ fn diagnostics_are_shown(rt: HostRuntime) -> Result<(), Fail> {
 #[test]
 fn diagnostics_are_explained(rt: HostRuntime) -> Result<(), Fail> {
     rows_hold(&rt, rt.alloc(), EXPLAINED)
+}
+
+#[test]
+fn captured_traffic_is_reported(rt: HostRuntime) -> Result<(), Fail> {
+    rows_hold(&rt, rt.alloc(), audit::REPORTS)
 }
 
 #[test]

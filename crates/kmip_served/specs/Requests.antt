@@ -1,7 +1,7 @@
 -- Which helper's call a request is.
 use Rattle.std.specs.Prelude.{ℕ, zero, suc, ℤ, pos, Bool, true, false, List, [], Option, Some, None, if◌then◌else◌}
 use Rattle.std.specs.Option.{option_and_then}
-use Rattle.kmip_shape.specs.Val.{Val, Vals, Field, Number, Text, Bytes, Case, NoVal, AndVal}
+use Rattle.kmip_shape.specs.Val.{Val, Vals, Field, Fields, Number, Text, Bytes, Record, Case, One, Many, NoField, AndField, NoVal, AndVal}
 use Rattle.kmip_enums.specs.declared.operation.Operation.{Operation}
 use Rattle.kmip_enums.specs.declared.operation.Operation.TheVariants as operations
 use Rattle.kmip_types.specs.SameValues.{same_val}
@@ -9,8 +9,7 @@ use Rattle.kmip_request.specs.Message.{operation_of}
 use Rattle.kmip_request.specs.Values.{request_payload_val}
 use Rattle.kmip_request.specs.declared.payload.RequestPayload.{RequestPayload}
 use Rattle.kmip_request_read.specs.Reading.{Request}
-use Rattle.kmip_client.specs.Check.{field_at, one_of, many_of, text_in}
-use Rattle.kmip_client.specs.Requests.{query_request, key_pair_request, rng_request, sign_request, activate_request, revoke_request, destroy_request, rename_request, get_request}
+use Rattle.kmip_helpers.specs.Requests.{query_request, key_pair_request, rng_request, sign_request, activate_request, revoke_request, destroy_request, rename_request, get_request}
 use Rattle.kmip_store.specs.declared.call.Call.{Call}
 use Rattle.kmip_store.specs.declared.call.Call.TheVariants.{Query, CreateRsaKeyPair, RngRetrieve, Sign, ActivateKey, RevokeKey, DestroyKey, RenameKey, GetKey}
 
@@ -44,14 +43,32 @@ is_served _ = false
 
 -- ---- where the arguments of a helper stand in its payload; where one is missing, any other is said
 
--- the value in a case
-abbrev pub inside : Val → Val
-inside (Case n val) = val
-inside val = val
+abbrev pub field_in : ℕ → Fields → Option Field
+field_in n NoField = None
+field_in zero (AndField field fields) = Some field
+field_in (suc n) (AndField field fields) = field_in n fields
+
+-- a field of a record, also of one in a case
+abbrev pub field_at : ℕ → Val → Option Field
+field_at n (Record fields) = field_in n fields
+field_at n (Case m (Record fields)) = field_in n fields
+field_at n val = None
+
+abbrev pub one_of : Option Field → Option Val
+one_of (Some (One val)) = Some val
+one_of field = None
+
+abbrev pub many_of : Option Field → Vals
+many_of (Some (Many vals)) = vals
+many_of field = NoVal
 
 -- the one value of a field
 abbrev pub part : ℕ → Val → Option Val
-part n val = one_of (field_at n (inside val))
+part n val = one_of (field_at n val)
+
+abbrev pub text_in : Option Val → List ℕ
+text_in (Some (Text s)) = s
+text_in val = []
 
 abbrev pub number_in : Option Val → ℤ
 number_in (Some (Number z)) = z

@@ -5,7 +5,7 @@ ghost use Rattle.kmip_request_read.specs.Reading.{request_for};
 ghost use Rattle.kmip_served.specs.Picked.{id_text, value_name, value_number, first_name, second_number, length_in, private_name, public_name, picked};
 ghost use Rattle.kmip_served.specs.Requests as calls;
 
-use kmip_client::{
+use kmip_helpers::{
     activate_request, destroy_request, get_request, key_pair_request, query_request,
     rename_request, revoke_request, sign_request,
 };

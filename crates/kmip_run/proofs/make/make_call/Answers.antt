@@ -1,5 +1,5 @@
 use Rattle.std.proofs.Common.{sym}
-use Rattle.kmip_run.specs.Exchange.{settings_of}
+use Rattle.kmip_words.specs.Exchange.{settings_of}
 use Rattle.kmip_run.proofs.Makes.{makes_call}
 use Rattle.kmip_run.proofs.make.make_call.Goals as goal
 

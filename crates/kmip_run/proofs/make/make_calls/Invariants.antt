@@ -1,5 +1,5 @@
 use Rattle.std.proofs.Common.{◌≡◌, ◌+◌, ◌-◌, ◌*◌, ◌^◌, ◌≤◌, drop}
-use Rattle.kmip_run.specs.Exchange.{settings_of}
+use Rattle.kmip_words.specs.Exchange.{settings_of}
 use Rattle.kmip_run.specs.Making.{made}
 use Rattle.kmip_run.proofs.Makes.{SoMade}
 use Rattle.kmip_run.proofs.make.make_calls.Given as goal

@@ -1,6 +1,6 @@
 use Rattle.std.proofs.Common.{◌≡◌, ◌+◌, ◌++◌, drop, ◌∙◌, ap, sym, arith, refl, length}
 use Rattle.std.proofs.lemmas.Bool.Decides.{nat_tests}
-use Rattle.kmip_run.specs.Exchange.{Settings, settings_of}
+use Rattle.kmip_words.specs.Exchange.{Settings, settings_of}
 use Rattle.kmip_run.proofs.Runs.{nothing_yet, under, next_call, next_bad, no_more}
 use Rattle.kmip_run.proofs.replay.replay.Goals as goal
 

@@ -1,6 +1,6 @@
 use Rattle.std.proofs.Common.{◌≡◌, ◌+◌, ◌≤◌, ◌<◌, drop, length}
 use Rattle.kmip_run.specs.Script.{lines_of}
-use Rattle.kmip_run.specs.Exchange.{settings_of}
+use Rattle.kmip_words.specs.Exchange.{settings_of}
 use Rattle.kmip_run.specs.Transcript.{replayed}
 use Rattle.kmip_run.proofs.Runs.{SoFar}
 use Rattle.kmip_run.proofs.replay.replay.Given as goal

@@ -1,0 +1,38 @@
+-- What is told of exchanges, beside what a client answers.
+use Rattle.std.specs.Prelude.{◌≡◌, ◌↔◌, ℕ, List, [], ◌∷◌, map, take, Option, Result, Ok}
+use Rattle.kmip_shape.specs.Val.{Val}
+use Rattle.kmip_enums.specs.declared.operation.Operation.{Operation}
+use Rattle.kmip_types.specs.declared.auth.CredentialType.{CredentialType}
+use Rattle.kmip_request.specs.Held.{IsHeld}
+use Rattle.kmip_request.specs.Message.{operation_of}
+use Rattle.kmip_request.specs.declared.payload.RequestPayload.{RequestPayload}
+use Rattle.kmip_request_read.specs.Matched.{IsMatched}
+use Rattle.kmip_client.specs.Outcome.{Answer}
+use Rattle.kmip_client.specs.Session.{Turn, all_sent, all_taken}
+use Rattle.kmip_audit.specs.Report.{report_of}
+use Rattle.kmip_audit.specs.Skeletons.{outcomes_in}
+use Rattle.kmip_audit.specs.declared.outcomes.Outcome.{Outcome}
+use Rattle.kmip_audit.specs.declared.outcomes.Outcome.TheVariants.{Answered}
+use Rattle.kmip_audit.specs.declared.reports.End.TheVariants.{Whole}
+
+-- The outcome is that the operation was answered exactly where the answer is a payload.
+abbrev pub Agree : Operation → Outcome → Answer → Type 0
+Agree operation outcome answer = (outcome ≡ Answered operation) ↔ ((payload : Val) × (answer ≡ Ok payload))
+
+-- There is one outcome and one answer for each operation, and these agree at each place.
+abbrev pub AllAgree : List Operation → List Outcome → List Answer → Type 0
+AllAgree [] [] [] = Unit {0}
+AllAgree (operation ∷ operations) (outcome ∷ outcomes) (answer ∷ answers) =
+    Agree operation outcome answer × AllAgree operations outcomes answers
+AllAgree operations outcomes answers = ⊥
+
+-- Each request is matched, and what the types of Rust keep.
+abbrev pub AreMatched : List RequestPayload → Option CredentialType → Type 0
+AreMatched [] credential = Unit {0}
+AreMatched (payload ∷ payloads) credential = (IsHeld payload credential × IsMatched payload) × AreMatched payloads credential
+
+-- What the turns of these requests sent, and what they took of the bytes left, is reported as they were answered.
+pub record IsReported (payloads : List RequestPayload) (turns : List Turn) (rest : List ℕ) : Type 0 where
+  pub sent_end : (report_of (all_sent turns) (take (all_taken turns) rest)).sent_end ≡ Whole
+  pub received_end : (report_of (all_sent turns) (take (all_taken turns) rest)).received_end ≡ Whole
+  pub agree : AllAgree (map operation_of payloads) (outcomes_in (report_of (all_sent turns) (take (all_taken turns) rest))) (map (λ turn. turn.outcome.answer) turns)

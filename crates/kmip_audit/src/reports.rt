@@ -1,0 +1,49 @@
+//! What is reported of two streams.
+ghost use Rattle.std.specs.Prelude.{Some};
+ghost use Rattle.kmip_audit.specs.Printed.{end_text};
+
+use crate::outcomes::Outcome;
+use kmip_wire::{List, Text};
+use std::fmt::{self, Display, Formatter, Write};
+
+/// How a stream ends.
+#[derive(Clone, Copy, Debug, PartialEq, Eq, Drop)]
+pub enum End {
+    /// With its last frame, or it is empty.
+    Whole,
+    /// After so many bytes, in frames, follow bytes that begin no frame.
+    Torn(u64),
+}
+
+impl Display for End {
+    ghost output = { λ end. Some (end_text end) };
+
+    fn fmt<W: Write>(&self, f: &mut Formatter<W>) -> fmt::Result {
+        match self {
+            End::Whole => f.write_str("whole"),
+            End::Torn(at) => write!(f, "torn at {at}"),
+        }
+    }
+}
+
+/// One exchange: the frames at one place of the two streams.
+#[derive(Drop)]
+pub struct Entry {
+    /// The diagnostic of the request, under the prefix 0x4200, where the sent bytes have a frame at this place.
+    pub request: Option<Text>,
+    /// The diagnostic of the response, under the prefix 0x4200, where the received bytes have a frame at this place.
+    pub response: Option<Text>,
+    /// What the exchange came to.
+    pub outcome: Outcome,
+}
+
+/// What two captured streams tell.
+#[derive(Drop)]
+pub struct Report {
+    /// One for each place, as many as the longer side has frames.
+    pub entries: List<Entry>,
+    /// How the sent bytes end.
+    pub sent_end: End,
+    /// How the received bytes end.
+    pub received_end: End,
+}

@@ -1,0 +1,254 @@
+//! Streams in hex, and what is reported of them.
+use crate::{End, Report, audit};
+use kmip_wire::Text;
+use std::alloc::Global;
+use std::process::Abort;
+use std::test::Fail;
+
+/// Two streams in hex, and what is told of their frames and their ends.
+struct Row {
+    shows: &'static str,
+    sent: &'static str,
+    received: &'static str,
+    told: &'static str,
+}
+
+/// REQ2(25, C4 i16): a request for 16 random bytes.
+const REQUEST: &str =
+    "42007801000000704200770100000038420069010000002042006A0200000004000000010000000042006B0200000004000000020000000042000D0200000004000000010000000042000F010000002842005C0500000004000000250000000042007901000000104200C402000000040000001000000000";
+
+/// OK2(25, C2 xDEADBEEF): an answer to it.
+const RESPONSE: &str =
+    "42007B010000009042007A0100000048420069010000002042006A0200000004000000010000000042006B020000000400000002000000004200920900000008000000000000000142000D0200000004000000010000000042000F010000003842005C0500000004000000250000000042007F0500000004000000000000000042007C01000000104200C20800000004DEADBEEF00000000";
+
+/// Each outcome once, and those that fit where two do.
+const OUTCOMES: &[Row] = &[
+    Row {
+        shows: "a response without a request",
+        sent: "",
+        received: RESPONSE,
+        told: "no request >~ - <~ 7B[7A[69[6Ai6Bi]92d0Di]0F[5Ce25:7Fe0:7C[C2x]]]\nsent whole\nreceived whole\n",
+    },
+    Row {
+        shows: "a request that no client writes",
+        sent: "4200780100000000",
+        received: RESPONSE,
+        told: "unread request >~ 78[] <~ 7B[7A[69[6Ai6Bi]92d0Di]0F[5Ce25:7Fe0:7C[C2x]]]\nsent whole\nreceived whole\n",
+    },
+    Row {
+        shows: "that has no response",
+        sent: "4200780100000000",
+        received: "",
+        told: "unread request >~ 78[] <~ -\nsent whole\nreceived whole\n",
+    },
+    Row {
+        shows: "a request without a response",
+        sent: REQUEST,
+        received: "",
+        told: "no response >~ 78[77[69[6Ai6Bi]0Di]0F[5Ce25:79[C4i]]] <~ -\nsent whole\nreceived whole\n",
+    },
+    Row {
+        shows: "a response whose contents are no items",
+        sent: REQUEST,
+        received: "42007B0100000008FFFFFFFFFFFFFFFF",
+        told: "malformed response >~ 78[77[69[6Ai6Bi]0Di]0F[5Ce25:79[C4i]]] <~ 7B[!\nsent whole\nreceived whole\n",
+    },
+    Row {
+        shows: "an item that is no response message",
+        sent: REQUEST,
+        // 7C{}
+        received: "42007C0100000000",
+        told: "unread response >~ 78[77[69[6Ai6Bi]0Di]0F[5Ce25:79[C4i]]] <~ 7C[]\nsent whole\nreceived whole\n",
+    },
+    Row {
+        shows: "a batch count of 2",
+        sent: REQUEST,
+        // 7B{7A{..,0D i2},0F{..}}
+        received: "42007B010000009042007A0100000048420069010000002042006A0200000004000000010000000042006B020000000400000002000000004200920900000008000000000000000142000D0200000004000000020000000042000F010000003842005C0500000004000000250000000042007F0500000004000000000000000042007C01000000104200C20800000004DEADBEEF00000000",
+        told: "not one item >~ 78[77[69[6Ai6Bi]0Di]0F[5Ce25:79[C4i]]] <~ 7B[7A[69[6Ai6Bi]92d0Di]0F[5Ce25:7Fe0:7C[C2x]]]\nsent whole\nreceived whole\n",
+    },
+    Row {
+        shows: "two batch items",
+        sent: REQUEST,
+        // 7B{..,0F{..},0F{..}}
+        received: "42007B01000000D042007A0100000048420069010000002042006A0200000004000000010000000042006B020000000400000002000000004200920900000008000000000000000142000D0200000004000000010000000042000F010000003842005C0500000004000000250000000042007F0500000004000000000000000042007C01000000104200C20800000004DEADBEEF0000000042000F010000003842005C0500000004000000250000000042007F0500000004000000000000000042007C01000000104200C20800000004DEADBEEF00000000",
+        told: "not one item >~ 78[77[69[6Ai6Bi]0Di]0F[5Ce25:79[C4i]]] <~ 7B[7A[69[6Ai6Bi]92d0Di]0F[5Ce25:7Fe0:7C[C2x]]0F[5Ce25:7Fe0:7C[C2x]]]\nsent whole\nreceived whole\n",
+    },
+    Row {
+        shows: "a failure with its reason",
+        sent: REQUEST,
+        // 0F{5C e25,7F e1,7E e1,7D "secret"}
+        received: "42007B010000009842007A0100000048420069010000002042006A0200000004000000010000000042006B020000000400000002000000004200920900000008000000000000000142000D0200000004000000010000000042000F010000004042005C0500000004000000250000000042007F0500000004000000010000000042007E0500000004000000010000000042007D07000000067365637265740000",
+        told: "failed ItemNotFound >~ 78[77[69[6Ai6Bi]0Di]0F[5Ce25:79[C4i]]] <~ 7B[7A[69[6Ai6Bi]92d0Di]0F[5Ce25:7Fe1:7Ee1:7Dt]]\nsent whole\nreceived whole\n",
+    },
+    Row {
+        shows: "a failure with none, of another operation",
+        sent: REQUEST,
+        // 0F{5C e24,7F e1}
+        received: "42007B010000007842007A0100000048420069010000002042006A0200000004000000010000000042006B020000000400000002000000004200920900000008000000000000000142000D0200000004000000010000000042000F010000002042005C0500000004000000240000000042007F05000000040000000100000000",
+        told: "failed none >~ 78[77[69[6Ai6Bi]0Di]0F[5Ce25:79[C4i]]] <~ 7B[7A[69[6Ai6Bi]92d0Di]0F[5Ce24:7Fe1:]]\nsent whole\nreceived whole\n",
+    },
+    Row {
+        shows: "an operation that has not ended",
+        sent: REQUEST,
+        // 0F{5C e25,7F e2}
+        received: "42007B010000007842007A0100000048420069010000002042006A0200000004000000010000000042006B020000000400000002000000004200920900000008000000000000000142000D0200000004000000010000000042000F010000002042005C0500000004000000250000000042007F05000000040000000200000000",
+        told: "pending >~ 78[77[69[6Ai6Bi]0Di]0F[5Ce25:79[C4i]]] <~ 7B[7A[69[6Ai6Bi]92d0Di]0F[5Ce25:7Fe2:]]\nsent whole\nreceived whole\n",
+    },
+    Row {
+        shows: "one that was undone",
+        sent: REQUEST,
+        // 0F{5C e25,7F e3}
+        received: "42007B010000007842007A0100000048420069010000002042006A0200000004000000010000000042006B020000000400000002000000004200920900000008000000000000000142000D0200000004000000010000000042000F010000002042005C0500000004000000250000000042007F05000000040000000300000000",
+        told: "undone >~ 78[77[69[6Ai6Bi]0Di]0F[5Ce25:79[C4i]]] <~ 7B[7A[69[6Ai6Bi]92d0Di]0F[5Ce25:7Fe3:]]\nsent whole\nreceived whole\n",
+    },
+    Row {
+        shows: "another operation",
+        sent: REQUEST,
+        // 0F{5C e24,7F e0}
+        received: "42007B010000007842007A0100000048420069010000002042006A0200000004000000010000000042006B020000000400000002000000004200920900000008000000000000000142000D0200000004000000010000000042000F010000002042005C0500000004000000240000000042007F05000000040000000000000000",
+        told: "other operation MACVerify >~ 78[77[69[6Ai6Bi]0Di]0F[5Ce25:79[C4i]]] <~ 7B[7A[69[6Ai6Bi]92d0Di]0F[5Ce24:7Fe0:]]\nsent whole\nreceived whole\n",
+    },
+    Row {
+        shows: "no operation",
+        sent: REQUEST,
+        // 0F{7F e0}
+        received: "42007B010000006842007A0100000048420069010000002042006A0200000004000000010000000042006B020000000400000002000000004200920900000008000000000000000142000D0200000004000000010000000042000F010000001042007F05000000040000000000000000",
+        told: "other operation none >~ 78[77[69[6Ai6Bi]0Di]0F[5Ce25:79[C4i]]] <~ 7B[7A[69[6Ai6Bi]92d0Di]0F[7Fe0:]]\nsent whole\nreceived whole\n",
+    },
+    Row {
+        shows: "no payload",
+        sent: REQUEST,
+        // 0F{5C e25,7F e0}
+        received: "42007B010000007842007A0100000048420069010000002042006A0200000004000000010000000042006B020000000400000002000000004200920900000008000000000000000142000D0200000004000000010000000042000F010000002042005C0500000004000000250000000042007F05000000040000000000000000",
+        told: "no payload >~ 78[77[69[6Ai6Bi]0Di]0F[5Ce25:79[C4i]]] <~ 7B[7A[69[6Ai6Bi]92d0Di]0F[5Ce25:7Fe0:]]\nsent whole\nreceived whole\n",
+    },
+    Row {
+        shows: "a payload",
+        sent: REQUEST,
+        // 0F{5C e25,7F e0,7C{C2 xDEADBEEF}}
+        received: RESPONSE,
+        told: "answered RNGRetrieve >~ 78[77[69[6Ai6Bi]0Di]0F[5Ce25:79[C4i]]] <~ 7B[7A[69[6Ai6Bi]92d0Di]0F[5Ce25:7Fe0:7C[C2x]]]\nsent whole\nreceived whole\n",
+    },
+];
+
+/// Streams of several frames, and of none.
+const STREAMS: &[Row] = &[
+    Row {
+        shows: "one exchange",
+        sent: REQUEST,
+        received: RESPONSE,
+        told: "answered RNGRetrieve >~ 78[77[69[6Ai6Bi]0Di]0F[5Ce25:79[C4i]]] <~ 7B[7A[69[6Ai6Bi]92d0Di]0F[5Ce25:7Fe0:7C[C2x]]]\nsent whole\nreceived whole\n",
+    },
+    Row {
+        shows: "two requests, and a response that is followed by the first seven bytes of one",
+        sent: "42007801000000704200770100000038420069010000002042006A0200000004000000010000000042006B0200000004000000020000000042000D0200000004000000010000000042000F010000002842005C0500000004000000250000000042007901000000104200C40200000004000000100000000042007801000000704200770100000038420069010000002042006A0200000004000000010000000042006B0200000004000000020000000042000D0200000004000000010000000042000F010000002842005C0500000004000000250000000042007901000000104200C402000000040000001000000000",
+        received: "42007B010000009042007A0100000048420069010000002042006A0200000004000000010000000042006B020000000400000002000000004200920900000008000000000000000142000D0200000004000000010000000042000F010000003842005C0500000004000000250000000042007F0500000004000000000000000042007C01000000104200C20800000004DEADBEEF0000000042007B01000000",
+        told: "answered RNGRetrieve >~ 78[77[69[6Ai6Bi]0Di]0F[5Ce25:79[C4i]]] <~ 7B[7A[69[6Ai6Bi]92d0Di]0F[5Ce25:7Fe0:7C[C2x]]]\nno response >~ 78[77[69[6Ai6Bi]0Di]0F[5Ce25:79[C4i]]] <~ -\nsent whole\nreceived torn at 152\n",
+    },
+    Row {
+        shows: "two responses to one request",
+        sent: REQUEST,
+        received: "42007B010000009042007A0100000048420069010000002042006A0200000004000000010000000042006B020000000400000002000000004200920900000008000000000000000142000D0200000004000000010000000042000F010000003842005C0500000004000000250000000042007F0500000004000000000000000042007C01000000104200C20800000004DEADBEEF0000000042007B010000009042007A0100000048420069010000002042006A0200000004000000010000000042006B020000000400000002000000004200920900000008000000000000000142000D0200000004000000010000000042000F010000003842005C0500000004000000250000000042007F0500000004000000000000000042007C01000000104200C20800000004DEADBEEF00000000",
+        told: "answered RNGRetrieve >~ 78[77[69[6Ai6Bi]0Di]0F[5Ce25:79[C4i]]] <~ 7B[7A[69[6Ai6Bi]92d0Di]0F[5Ce25:7Fe0:7C[C2x]]]\nno request >~ - <~ 7B[7A[69[6Ai6Bi]92d0Di]0F[5Ce25:7Fe0:7C[C2x]]]\nsent whole\nreceived whole\n",
+    },
+    Row {
+        shows: "responses in the other order, each beside the request at its place",
+        // REQ2(25, C4 i16), REQ0(18, 94 "k1")
+        sent: "42007801000000704200770100000038420069010000002042006A0200000004000000010000000042006B0200000004000000020000000042000D0200000004000000010000000042000F010000002842005C0500000004000000250000000042007901000000104200C40200000004000000100000000042007801000000704200770100000038420069010000002042006A0200000004000000010000000042006B0200000004000000000000000042000D0200000004000000010000000042000F010000002842005C05000000040000001200000000420079010000001042009407000000026B31000000000000",
+        // OK0(18, 94 "k1"), OK2(25, C2 xDEADBEEF)
+        received: "42007B010000009042007A0100000048420069010000002042006A0200000004000000010000000042006B020000000400000000000000004200920900000008000000000000000142000D0200000004000000010000000042000F010000003842005C0500000004000000120000000042007F0500000004000000000000000042007C010000001042009407000000026B3100000000000042007B010000009042007A0100000048420069010000002042006A0200000004000000010000000042006B020000000400000002000000004200920900000008000000000000000142000D0200000004000000010000000042000F010000003842005C0500000004000000250000000042007F0500000004000000000000000042007C01000000104200C20800000004DEADBEEF00000000",
+        told: "other operation Activate >~ 78[77[69[6Ai6Bi]0Di]0F[5Ce25:79[C4i]]] <~ 7B[7A[69[6Ai6Bi]92d0Di]0F[5Ce12:7Fe0:7C[94t]]]\nother operation RNGRetrieve >~ 78[77[69[6Ai6Bi]0Di]0F[5Ce12:79[94t]]] <~ 7B[7A[69[6Ai6Bi]92d0Di]0F[5Ce25:7Fe0:7C[C2x]]]\nsent whole\nreceived whole\n",
+    },
+    Row {
+        shows: "nothing",
+        sent: "",
+        received: "",
+        told: "sent whole\nreceived whole\n",
+    },
+    Row {
+        shows: "an item that is no structure",
+        // 94 "k1", and 6A i1
+        sent: "42009407000000026B31000000000000",
+        received: "42007B010000009042007A0100000048420069010000002042006A0200000004000000010000000042006B020000000400000002000000004200920900000008000000000000000142000D0200000004000000010000000042000F010000003842005C0500000004000000250000000042007F0500000004000000000000000042007C01000000104200C20800000004DEADBEEF0000000042006A02000000040000000100000000",
+        told: "no request >~ - <~ 7B[7A[69[6Ai6Bi]92d0Di]0F[5Ce25:7Fe0:7C[C2x]]]\nsent torn at 0\nreceived torn at 152\n",
+    },
+];
+
+/// A text, and `-` where there is none.
+fn shown(text: &Option<Text>) -> &str {
+    match text {
+        Some(text) => text.as_str(),
+        None => "-",
+    }
+}
+
+/// The entries of a report, one a line, and its ends.
+fn lines(alloc: Global, report: &Report) -> Result<String, Fail> {
+    let mut text = String::new(alloc);
+    for entry in report.entries.as_slice() {
+        let request = shown(&entry.request);
+        let response = shown(&entry.response);
+        let line = format!(in alloc; "{} >~ {request} <~ {response}\n", entry.outcome)?;
+        text.push_str(line.as_str())?;
+    }
+    let ends = format!(in alloc;
+        "sent {}\nreceived {}\n",
+        report.sent_end, report.received_end
+    )?;
+    text.push_str(ends.as_str())?;
+    Ok(text)
+}
+
+/// Each pair of streams is reported as its row says.
+fn rows_hold(rt: &impl Abort, alloc: Global, rows: &[Row]) -> Result<(), Fail> {
+    for row in rows {
+        let sent = hex::decode(alloc, row.sent)?;
+        let received = hex::decode(alloc, row.received)?;
+        let report = audit(alloc, &sent, &received)?;
+        assert_eq!(rt; lines(alloc, &report)?.as_str(), row.told, "{}", row.shows);
+    }
+    Ok(())
+}
+
+#[test]
+fn each_outcome_is_told(rt: HostRuntime) -> Result<(), Fail> {
+    rows_hold(&rt, rt.alloc(), OUTCOMES)
+}
+
+#[test]
+fn streams_are_cut_into_frames(rt: HostRuntime) -> Result<(), Fail> {
+    rows_hold(&rt, rt.alloc(), STREAMS)
+}
+
+/// Both streams end within a second frame, of which so many bytes are there.
+fn ends_are_torn(
+    rt: &impl Abort,
+    alloc: Global,
+    sent: &[u8],
+    received: &[u8],
+    there: usize,
+) -> Result<(), Fail> {
+    let mut asked = vec![in alloc;]?;
+    asked.extend_from_slice(sent)?;
+    asked.extend_from_slice(&sent[..there])?;
+    let mut told = vec![in alloc;]?;
+    told.extend_from_slice(received)?;
+    told.extend_from_slice(&received[..there])?;
+    let report = audit(alloc, &asked, &told)?;
+    assert_eq!(rt; report.entries.len(), 1, "{there}");
+    assert_eq!(rt; report.sent_end, End::Torn(120), "{there}");
+    assert_eq!(rt; report.received_end, End::Torn(152), "{there}");
+    Ok(())
+}
+
+#[test]
+fn torn_ends_are_told(rt: HostRuntime) -> Result<(), Fail> {
+    let alloc = rt.alloc();
+    let sent = hex::decode(alloc, REQUEST)?;
+    let received = hex::decode(alloc, RESPONSE)?;
+    for there in [1, 2, 3, 4, 5, 6, 7, 8, 9, 119] {
+        ends_are_torn(&rt, alloc, &sent, &received, there)?;
+    }
+    Ok(())
+}

@@ -1,0 +1,95 @@
+//! One call over a sink and a source, and the line of its answer.
+ghost use Rattle.std.specs.Prelude.{◌≡◌, ◌++◌, [], cond, true, false, Some, IsSome, option_map, IfOk, OnOk};
+ghost use Rattle.kmip_words.specs.Exchange.{ending_of, loses_link, json_line, call_outcome};
+ghost use Rattle.kmip_words.specs.declared.ending.Ending.TheVariants as endings;
+ghost use Rattle.kmip_words.specs.declared.call.Call.{Call as TheCall};
+ghost use Rattle.kmip_words.specs.Calls.{typed_call};
+ghost use Rattle.kmip_call.specs.Exchange.{response_if, answer_err, Requests, Exchanges};
+
+use crate::wire::{TransferStop, transfer};
+use kmip_client::Error;
+use kmip_link::{Sink, Source};
+use kmip_shape::Style;
+use kmip_wire::{OutOfMemory, Text};
+use kmip_words::{Ending, Settings, answer_of, show_error, typed_call};
+use std::alloc::Global;
+
+/// How a call ended.
+#[derive(Clone, Copy)]
+pub struct CallEnd {
+    pub ending: Ending,
+    /// Whether the answer is what the bytes of the response say, and not that the sink or the source failed.
+    pub by_response: bool,
+}
+
+/// The answer that these bytes are to the call of these words.
+fn answer_by(
+    alloc: Global,
+    settings: &Settings,
+    words: &[Text],
+    response: &[u8],
+    line: &mut Text,
+) -> Result<CallEnd, OutOfMemory>
+    requires { IsSome (typed_call words.now) }
+    ensures line { (call : TheCall) → typed_call words.now ≡ Some call →
+        OnOk result (line.new ≡ line.old ++ json_line call (call_outcome settings.now call response.now).answer) }
+    ensures ending { (call : TheCall) → typed_call words.now ≡ Some call →
+        IfOk result (λ end. end.ending ≡ ending_of (call_outcome settings.now call response.now).answer) }
+    ensures by { IfOk result (λ end. end.by_response ≡ true) }
+{
+    let Some(call) = typed_call(alloc, words)? else {
+        unreachable!()
+    };
+    let ending = answer_of(alloc, settings, call, response, line)?;
+    Ok(CallEnd {
+        ending,
+        by_response: true,
+    })
+}
+
+/// The answer that the sink or the source failed.
+fn answer_failed(alloc: Global, error: Error, line: &mut Text) -> Result<CallEnd, OutOfMemory>
+    ensures line { OnOk result ((call : TheCall) → line.new ≡ line.old ++ json_line call (answer_err error)) }
+    ensures ending { IfOk result (λ end. end.ending ≡ cond (loses_link error) endings.Lost endings.Refused) }
+    ensures by { IfOk result (λ end. end.by_response ≡ false) }
+{
+    let ending = show_error(alloc, Style::Json, &error, line)?;
+    Ok(CallEnd {
+        ending,
+        by_response: false,
+    })
+}
+
+/// Makes the call of these words, whose request is given, none where it has no wire form: sends it, reads one message at
+/// most to `response`, which is empty, and adds the answer as a line of JSON.
+pub fn exchange<W: Sink, S: Source>(
+    alloc: Global,
+    settings: &Settings,
+    words: &[Text],
+    request: Option<Vec<u8>>,
+    wire: &mut W,
+    source: &mut S,
+    response: &mut Vec<u8>,
+    line: &mut Text,
+) -> Result<CallEnd, OutOfMemory>
+    requires response { response.old.items ≡ [] }
+    requires request { Requests settings.now words.now (option_map (λ r. r.items) request) }
+    ensures { IfOk result (λ end. Exchanges settings.now words.now (W.state wire.old) (W.state wire.new) (S.state source.old) (S.state source.new)
+        (response_if end.by_response response.new.items) line.old line.new end.ending) }
+{
+    let Some(request) = request else {
+        return answer_by(alloc, settings, words, response, line);
+    };
+    match transfer(alloc, settings.limit(), &request, wire, source, response) {
+        Ok(()) => answer_by(alloc, settings, words, response, line),
+        Err(TransferStop::WriteFault) => {
+            let text = Text::of(alloc, "link failed")?;
+            answer_failed(alloc, Error::RequestWriteError(text), line)
+        }
+        Err(TransferStop::ReadFault) => {
+            let text = Text::of(alloc, "link failed")?;
+            answer_failed(alloc, Error::ResponseReadError(text), line)
+        }
+        Err(TransferStop::OutOfMemory) => Err(OutOfMemory),
+    }
+}

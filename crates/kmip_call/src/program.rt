@@ -1,0 +1,165 @@
+//! The program.
+ghost use Rattle.std.specs.Prelude.{◌≡◌, ◌≢◌, ◌≤◌, ◌++◌, ◌⊎◌, [], option_map, None, IfOk, OnOk, IsErrOf, IsTrue, MatchOption};
+ghost use Rattle.kmip_link.specs.State.{Rose};
+ghost use Rattle.kmip_words.specs.Streams.{WrotePart};
+ghost use Rattle.kmip_call.specs.Exchange.{response_if, Requests};
+ghost use Rattle.kmip_call.specs.Record.{recorded};
+ghost use Rattle.kmip_call.specs.Program.{is_allowed, call_for, status_of, Makes, Ran};
+
+use crate::command::Order;
+use crate::exchange::{CallEnd, exchange};
+use crate::record::{is_recordable, write_record};
+use kmip_link::{LinkError, Sink, Source};
+use kmip_wire::{OutOfMemory, Text};
+use kmip_words::{Ending, request_of, typed_call, write_out};
+use std::alloc::Global;
+
+/// The status of a call that ended so.
+fn status_of(ending: Ending) -> u8
+    ensures { result ≡ status_of ending }
+{
+    match ending {
+        Ending::Answered => 0,
+        Ending::Refused => 1,
+        Ending::Lost => 3,
+    }
+}
+
+/// Whether the call may be made: where it is to be recorded, only if a script may hold it.
+fn is_allowed(alloc: Global, order: &Order) -> Result<bool, OutOfMemory>
+    ensures { IfOk result (λ allowed. allowed ≡ is_allowed order.now.file order.now.words) }
+{
+    match &order.file {
+        Some(_) => is_recordable(alloc, order.words.as_slice()),
+        None => Ok(true),
+    }
+}
+
+/// What a call sends, none where it has no wire form; none at all where its words are not of the grammar.
+fn request_for(alloc: Global, order: &Order) -> Result<Option<Option<Vec<u8>>>, OutOfMemory>
+    ensures { IfOk result (λ found. MatchOption found (call_for order.now ≡ None)
+        (λ request. (is_allowed order.now.file order.now.words ≡ true) × Requests order.now.settings order.now.words (option_map (λ r. r.items) request))) }
+{
+    if !is_allowed(alloc, order)? {
+        return Ok(None);
+    }
+    match typed_call(alloc, order.words.as_slice())? {
+        Some(call) => Ok(Some(request_of(alloc, &order.settings, call)?)),
+        None => Ok(None),
+    }
+}
+
+/// Makes a call: its response goes to `response` and the line of its answer to `line`, which are empty. None where the
+/// words are not of the grammar, and then nothing was sent or read.
+fn make_call<W: Sink, S: Source>(
+    alloc: Global,
+    order: &Order,
+    wire: &mut W,
+    source: &mut S,
+    response: &mut Vec<u8>,
+    line: &mut Text,
+) -> Result<Option<CallEnd>, OutOfMemory>
+    requires response { response.old.items ≡ [] }
+    requires line { line.old ≡ [] }
+    ensures none { IfOk result (λ end. end ≡ None → call_for order.now ≡ None) }
+    ensures wire { call_for order.now ≡ None → W.state wire.new ≡ W.state wire.old }
+    ensures source { call_for order.now ≡ None → S.state source.new ≡ S.state source.old }
+    ensures made { IfOk result (λ end. MatchOption end (Unit {0}) (λ it. Makes order.now (W.state wire.old) (W.state wire.new) (S.state source.old) (S.state source.new)
+        (response_if it.by_response response.new.items) line.new it.ending)) }
+{
+    let Some(request) = request_for(alloc, order)? else {
+        return Ok(None);
+    };
+    let end = exchange(
+        alloc,
+        &order.settings,
+        order.words.as_slice(),
+        request,
+        wire,
+        source,
+        response,
+        line,
+    )?;
+    Ok(Some(end))
+}
+
+/// Records the response of a call, where a file for it is given and the answer is what the response says.
+fn keep<F: Sink>(
+    alloc: Global,
+    order: &Order,
+    by_response: bool,
+    response: &[u8],
+    kept: &mut F,
+) -> Result<(), LinkError>
+    ensures ok { OnOk result (IsTrue (F.state kept.old).tells → (F.state kept.new).sent ≡ (F.state kept.old).sent ++ recorded order.now.file order.now.words (response_if by_response response.now)) }
+    ensures cause { IsErrOf result LinkError.Fault → Rose (F.state kept.old).faults (F.state kept.new).faults }
+{
+    match &order.file {
+        Some(_) if by_response => write_record(alloc, order.words.as_slice(), response, kept),
+        _ => Ok(()),
+    }
+}
+
+/// Records a call, writes the line of its answer, and answers the status.
+fn report<F: Sink, K: Sink>(
+    alloc: Global,
+    order: &Order,
+    end: CallEnd,
+    response: &[u8],
+    line: &str,
+    kept: &mut F,
+    told: &mut K,
+) -> u8
+    ensures status { (result ≡ status_of end.ending) ⊎ ((result ≡ 4) ⊎ (result ≡ 5)) }
+    ensures recorded { result ≢ 4 → result ≢ 5 → IsTrue (F.state kept.old).tells →
+        (F.state kept.new).sent ≡ (F.state kept.old).sent ++ recorded order.now.file order.now.words (response_if end.by_response response.now) }
+    ensures told { result ≢ 4 → result ≢ 5 → IsTrue (K.state told.old).tells → (K.state told.new).sent ≡ (K.state told.old).sent ++ line.now }
+    ensures part { IsTrue (K.state told.old).tells → WrotePart (K.state told.old) (K.state told.new) line.now }
+    ensures cause { result ≡ 4 → Rose (F.state kept.old).faults (F.state kept.new).faults ⊎ Rose (K.state told.old).faults (K.state told.new).faults }
+{
+    match keep(alloc, order, end.by_response, response, kept) {
+        Ok(()) => {}
+        Err(LinkError::Fault) => return 4,
+        Err(LinkError::OutOfMemory) => return 5,
+    }
+    match write_out(told, line.as_bytes()) {
+        Ok(()) => status_of(end.ending),
+        Err(LinkError::Fault) => 4,
+        Err(LinkError::OutOfMemory) => 5,
+    }
+}
+
+/// Makes a call and answers the program's status.
+///
+/// `wire` gets the request and `source` gives the response, `told` gets the answer as a line of JSON, and `kept` the
+/// record, where `record=FILE` asks for one.
+///
+/// 0: the call was answered. 1: it has an error for an answer, and the connection is good for the next call. 2: the words
+/// are not of the grammar, and nothing was sent, read or written. 3: the connection failed or ended, or gave bytes that
+/// are no message: close it. 4: the record or the answer could not be written; the exchange was made. 5: memory ran out.
+pub fn run<W: Sink, S: Source, F: Sink, K: Sink>(
+    alloc: Global,
+    order: &Order,
+    wire: &mut W,
+    source: &mut S,
+    kept: &mut F,
+    told: &mut K,
+) -> u8
+    ensures bound { result ≤ 5 }
+    ensures words { call_for order.now ≡ None → (result ≡ 2) ⊎ (result ≡ 5) }
+    ensures refused { result ≡ 2 → call_for order.now ≡ None }
+    ensures silent { call_for order.now ≡ None →
+        (W.state wire.new ≡ W.state wire.old) × (S.state source.new ≡ S.state source.old)
+        × (F.state kept.new ≡ F.state kept.old) × (K.state told.new ≡ K.state told.old) }
+    ensures ran { result ≢ 2 → result ≢ 5 →
+        Ran order.now (W.state wire.old) (W.state wire.new) (S.state source.old) (S.state source.new)
+        (F.state kept.old) (F.state kept.new) (K.state told.old) (K.state told.new) result }
+{
+    let mut response = Vec::new(alloc);
+    let mut line = Text::new(alloc);
+    match make_call(alloc, order, wire, source, &mut response, &mut line) {
+        Ok(Some(end)) => report(alloc, order, end, &response, line.as_str(), kept, told),
+        Ok(None) => 2,
+        Err(OutOfMemory) => 5,
+    }
+}

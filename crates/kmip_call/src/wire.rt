@@ -1,0 +1,91 @@
+//! A request to a sink, and one message from a source.
+ghost use Rattle.std.specs.Prelude.{◌≡◌, ◌++◌, ◌≤◌, [], length, take, IfOk, OnOk, IsErrOf, IsTrue};
+ghost use Rattle.kmip_link.specs.State.{SourceKeeps, SinkKeeps, Rose, source_left};
+ghost use Rattle.kmip_words.specs.Streams.{Gives, GivesPart, WrotePart};
+ghost use Rattle.kmip_call.specs.Wire.{taken_at, contents_of, IsOneAtMost};
+
+use kmip_link::{LinkError, Sink, Source};
+use kmip_wire::head;
+use kmip_words::{limited, read_up_to, write_out};
+use std::alloc::Global;
+
+/// Why a request was not sent, or no message was read.
+#[derive(Clone, Copy, Debug, PartialEq, Eq)]
+pub enum TransferStop {
+    /// The sink failed before it took the whole request, and nothing was read.
+    WriteFault,
+    /// The source failed. The request was sent.
+    ReadFault,
+    OutOfMemory,
+}
+
+/// How many bytes of contents the head of a message tells, where it is whole and not refused under the limit.
+fn contents_of(bytes: &[u8], limit: Option<u32>) -> Option<u32>
+    ensures { result ≡ contents_of bytes.now limit }
+{
+    let first = bytes.first_chunk::<8>()?;
+    match head(first, &limited(limit)) {
+        Ok(count) => Some(count),
+        Err(_) => None,
+    }
+}
+
+/// Reads one message to `response`, which is empty: the 8 bytes of its head, and then just the contents that this tells,
+/// unless it is refused. Where the source ends before, it is what there was.
+fn read_message<S: Source>(
+    alloc: Global,
+    source: &mut S,
+    limit: Option<u32>,
+    response: &mut Vec<u8>,
+) -> Result<(), LinkError>
+    requires { response.old.items ≡ [] }
+    ensures keeps { SourceKeeps (S.state source.old) (S.state source.new) }
+    ensures one { OnOk result (IsOneAtMost limit response.new.items) }
+    ensures taken { OnOk result (IsTrue (S.state source.old).tells →
+        Gives (S.state source.old) (S.state source.new) (taken_at (source_left (S.state source.old)) limit)
+        × (response.new.items ≡ take (taken_at (source_left (S.state source.old)) limit) (source_left (S.state source.old)))) }
+    ensures part { IsTrue (S.state source.old).tells → GivesPart (S.state source.old) (S.state source.new) (taken_at (source_left (S.state source.old)) limit) }
+    ensures cause { IsErrOf result LinkError.Fault → Rose (S.state source.old).faults (S.state source.new).faults }
+{
+    read_up_to(alloc, source, 8, response)?;
+    match contents_of(response, limit) {
+        Some(count) => read_up_to(alloc, source, count as usize, response),
+        None => Ok(()),
+    }
+}
+
+/// Sends a request, and reads what is sent back to `response`, which is empty: one message at most.
+pub fn transfer<W: Sink, S: Source>(
+    alloc: Global,
+    limit: Option<u32>,
+    request: &[u8],
+    wire: &mut W,
+    source: &mut S,
+    response: &mut Vec<u8>,
+) -> Result<(), TransferStop>
+    requires { response.old.items ≡ [] }
+    ensures sent { OnOk result (IsTrue (W.state wire.old).tells → (W.state wire.new).sent ≡ (W.state wire.old).sent ++ request.now) }
+    ensures one { OnOk result (IsOneAtMost limit response.new.items) }
+    ensures taken { OnOk result (IsTrue (S.state source.old).tells →
+        Gives (S.state source.old) (S.state source.new) (taken_at (source_left (S.state source.old)) limit)
+        × (response.new.items ≡ take (taken_at (source_left (S.state source.old)) limit) (source_left (S.state source.old)))) }
+    ensures write_fault { IsErrOf result TransferStop.WriteFault →
+        Rose (W.state wire.old).faults (W.state wire.new).faults
+        × (IsTrue (W.state wire.old).tells → WrotePart (W.state wire.old) (W.state wire.new) request.now)
+        × (S.state source.new ≡ S.state source.old) }
+    ensures read_fault { IsErrOf result TransferStop.ReadFault →
+        Rose (S.state source.old).faults (S.state source.new).faults
+        × (IsTrue (W.state wire.old).tells → (W.state wire.new).sent ≡ (W.state wire.old).sent ++ request.now)
+        × (IsTrue (S.state source.old).tells → GivesPart (S.state source.old) (S.state source.new) (taken_at (source_left (S.state source.old)) limit)) }
+{
+    match write_out(wire, request) {
+        Ok(()) => {}
+        Err(LinkError::Fault) => return Err(TransferStop::WriteFault),
+        Err(LinkError::OutOfMemory) => return Err(TransferStop::OutOfMemory),
+    }
+    match read_message(alloc, source, limit, response) {
+        Ok(()) => Ok(()),
+        Err(LinkError::Fault) => Err(TransferStop::ReadFault),
+        Err(LinkError::OutOfMemory) => Err(TransferStop::OutOfMemory),
+    }
+}

@@ -1,0 +1,158 @@
+//! The requests that the helpers make, each with memory of its own.
+ghost use Rattle.std.specs.Prelude.{◌≡◌, ◌∷◌, [], ℕ, List, None, Some, IfOk};
+ghost use Rattle.std.specs.Int.{cast_signed, w32};
+ghost use Rattle.kmip_enums.specs.declared.query_function.QueryFunction.TheVariants.{QueryOperations, QueryObjects, QueryServerInformation};
+ghost use Rattle.kmip_types.specs.UsageMask.{usage_bits};
+ghost use Rattle.kmip_helpers.specs.Requests as requests;
+
+use kmip_enums::{QueryFunction, RevocationReasonCode};
+use kmip_request::{
+    Attribute, CommonTemplateAttribute, PrivateKeyTemplateAttribute, PublicKeyTemplateAttribute,
+    RequestPayload, RevocationReason,
+};
+use kmip_types::{
+    CryptographicAlgorithm, CryptographicParameters, CryptographicUsageMask, Data, DataLength,
+    HashingAlgorithm, PaddingMethod, UniqueIdentifier,
+};
+use kmip_wire::{Blob, List, OutOfMemory, Text};
+use std::alloc::Global;
+
+/// Asks what the server can do, with which objects, and who it is.
+pub fn query_request(alloc: Global) -> Result<RequestPayload, OutOfMemory>
+    ensures { IfOk result (λ made. made ≡ requests.query_request) }
+{
+    let mut functions = List::new(alloc);
+    functions.push(QueryFunction::QueryOperations)?;
+    functions.push(QueryFunction::QueryObjects)?;
+    functions.push(QueryFunction::QueryServerInformation)?;
+    Ok(RequestPayload::Query(functions))
+}
+
+/// A list of two attributes.
+fn two(alloc: Global, first: Attribute, second: Attribute) -> Result<List<Attribute>, OutOfMemory>
+    ensures { IfOk result (λ made. made ≡ first ∷ second ∷ []) }
+{
+    let mut attributes = List::new(alloc);
+    attributes.push(first)?;
+    attributes.push(second)?;
+    Ok(attributes)
+}
+
+/// The attributes of both keys of an RSA pair.
+fn pair_attributes(alloc: Global, key_length: i32) -> Result<List<Attribute>, OutOfMemory>
+    ensures { IfOk result (λ made. made ≡ requests.pair_attributes key_length) }
+{
+    let algorithm = Attribute::CryptographicAlgorithm(alloc, CryptographicAlgorithm::RSA)?;
+    let length = Attribute::CryptographicLength(alloc, key_length)?;
+    two(alloc, algorithm, length)
+}
+
+/// The attributes of the key that signs.
+fn signing_attributes(alloc: Global, name: Text) -> Result<List<Attribute>, OutOfMemory>
+    ensures { IfOk result (λ made. made ≡ requests.key_attributes name 0x1) }
+{
+    let name = Attribute::Name(alloc, name)?;
+    let usage = Attribute::CryptographicUsageMask(alloc, CryptographicUsageMask::Sign)?;
+    two(alloc, name, usage)
+}
+
+/// The attributes of the key that verifies.
+fn verifying_attributes(alloc: Global, name: Text) -> Result<List<Attribute>, OutOfMemory>
+    ensures { IfOk result (λ made. made ≡ requests.key_attributes name 0x2) }
+{
+    let name = Attribute::Name(alloc, name)?;
+    let usage = Attribute::CryptographicUsageMask(alloc, CryptographicUsageMask::Verify)?;
+    two(alloc, name, usage)
+}
+
+/// Asks for an RSA pair.
+pub fn key_pair_request(
+    alloc: Global,
+    key_length: i32,
+    private_key_name: Text,
+    public_key_name: Text,
+) -> Result<RequestPayload, OutOfMemory>
+    ensures { IfOk result (λ made. made ≡
+        requests.key_pair_request key_length private_key_name public_key_name) }
+{
+    let both = pair_attributes(alloc, key_length)?;
+    let signing = signing_attributes(alloc, private_key_name)?;
+    let verifying = verifying_attributes(alloc, public_key_name)?;
+    Ok(RequestPayload::CreateKeyPair(
+        Some(CommonTemplateAttribute::unnamed(both)),
+        Some(PrivateKeyTemplateAttribute::unnamed(signing)),
+        Some(PublicKeyTemplateAttribute::unnamed(verifying)),
+    ))
+}
+
+/// RSA with PKCS #1 v1.5 padding, of the SHA-256 digest.
+fn signing_parameters() -> CryptographicParameters
+    ensures { result ≡ requests.signing_parameters }
+{
+    CryptographicParameters::default()
+        .with_padding_method(PaddingMethod::PKCS1_v1_5)
+        .with_hashing_algorithm(HashingAlgorithm::SHA256)
+        .with_cryptographic_algorithm(CryptographicAlgorithm::RSA)
+}
+
+/// The identifier of an object.
+fn identifier(alloc: Global, id: &str) -> Result<UniqueIdentifier, OutOfMemory>
+    ensures { IfOk result (λ made. made ≡ record { 0 = id.now }) }
+{
+    Ok(UniqueIdentifier(Text::of(alloc, id)?))
+}
+
+/// Asks for a signature of these bytes.
+pub fn sign_request(
+    alloc: Global,
+    private_key_id: &str,
+    in_bytes: &[u8],
+) -> Result<RequestPayload, OutOfMemory>
+    ensures { IfOk result (λ made. made ≡ requests.sign_request private_key_id.now in_bytes.now) }
+{
+    let id = identifier(alloc, private_key_id)?;
+    let data = Data(Blob::of(alloc, in_bytes)?);
+    Ok(RequestPayload::Sign(Some(id), Some(signing_parameters()), data))
+}
+
+/// Asks to make a key ready for use.
+pub fn activate_request(alloc: Global, id: &str) -> Result<RequestPayload, OutOfMemory>
+    ensures { IfOk result (λ made. made ≡ requests.activate_request id.now) }
+{
+    Ok(RequestPayload::Activate(Some(identifier(alloc, id)?)))
+}
+
+/// Asks to take a key out of use, since it is no longer needed.
+pub fn revoke_request(alloc: Global, id: &str) -> Result<RequestPayload, OutOfMemory>
+    ensures { IfOk result (λ made. made ≡ requests.revoke_request id.now) }
+{
+    let reason = RevocationReason(RevocationReasonCode::CessationOfOperation, None);
+    Ok(RequestPayload::Revoke(Some(identifier(alloc, id)?), reason, None))
+}
+
+/// Asks to destroy an object.
+pub fn destroy_request(alloc: Global, id: &str) -> Result<RequestPayload, OutOfMemory>
+    ensures { IfOk result (λ made. made ≡ requests.destroy_request id.now) }
+{
+    Ok(RequestPayload::Destroy(Some(identifier(alloc, id)?)))
+}
+
+/// Asks to give an object another name.
+pub fn rename_request(
+    alloc: Global,
+    id: &str,
+    new_name: Text,
+) -> Result<RequestPayload, OutOfMemory>
+    ensures { IfOk result (λ made. made ≡ requests.rename_request id.now new_name) }
+{
+    let id = identifier(alloc, id)?;
+    let name = Attribute::Name(alloc, new_name)?;
+    Ok(RequestPayload::ModifyAttribute(Some(id), name))
+}
+
+/// Asks for an object.
+pub fn get_request(alloc: Global, id: &str) -> Result<RequestPayload, OutOfMemory>
+    ensures { IfOk result (λ made. made ≡ requests.get_request id.now) }
+{
+    Ok(RequestPayload::Get(Some(identifier(alloc, id)?), None, None, None))
+}

@@ -1,0 +1,8 @@
+pub mod Calls
+pub mod Diagnostics
+pub mod Exchanges
+pub mod NamedValues
+pub mod Moves
+pub mod Numbers
+pub mod Offline
+pub mod Texts

@@ -1,0 +1,124 @@
+-- What words ask for: those of a line of a script, and those that are typed.
+use Rattle.std.specs.Prelude.{ℕ, ℤ, List, [], ◌∷◌, Option, Some, None, if◌then◌else◌, codes, bytes_eq}
+use Rattle.std.specs.Option.{option_map}
+use Rattle.std.specs.Str.{is_utf8}
+use Rattle.kmip_request_read.specs.Reading.{request_read}
+use Rattle.kmip_words.specs.Words.{words_of}
+use Rattle.kmip_words.specs.Values.{int_of, bytes_of, text_of}
+use Rattle.kmip_words.specs.declared.call.Call.{Call}
+use Rattle.kmip_words.specs.declared.call.Call.TheVariants.{Query, CreateRsa, Rng, Sign, Activate, Revoke, Destroy, Rename, Get, Raw, Locate, Attributes, CreateAes, Discover}
+use Rattle.kmip_words.specs.declared.call.Recorded.{Recorded}
+
+-- the call of one word: `query`
+abbrev pub call_of_one : List ℕ → Option Call
+call_of_one name = if bytes_eq name (codes "query") then Some Query else None
+
+abbrev pub rng_of : Option ℤ → Option Call
+rng_of (Some num_bytes) = Some (Rng num_bytes)
+rng_of None = None
+
+-- the calls of a key that take its identifier alone
+abbrev pub key_call : List ℕ → List ℕ → Option Call
+key_call name id =
+    if bytes_eq name (codes "activate") then Some (Activate id)
+    else if bytes_eq name (codes "revoke") then Some (Revoke id)
+    else if bytes_eq name (codes "destroy") then Some (Destroy id)
+    else if bytes_eq name (codes "get") then Some (Get id)
+    else None
+
+abbrev pub key_call_of : List ℕ → Option (List ℕ) → Option Call
+key_call_of name (Some id) = key_call name id
+key_call_of name None = None
+
+-- the request of these bytes, where the request reader reads them
+abbrev pub raw_of : Option (List ℕ) → Option Call
+raw_of (Some bytes) = option_map Raw (request_read bytes)
+raw_of None = None
+
+-- the calls of two words: `rng INT`, `raw HEX`, and `activate TEXT`, `revoke TEXT`, `destroy TEXT`, `get TEXT`
+abbrev pub call_of_two : List ℕ → List ℕ → Option Call
+call_of_two name word =
+    if bytes_eq name (codes "rng") then rng_of (int_of word)
+    else if bytes_eq name (codes "raw") then raw_of (bytes_of word)
+    else key_call_of name (text_of word)
+
+abbrev pub sign_of : Option (List ℕ) → Option (List ℕ) → Option Call
+sign_of (Some id) (Some bytes) = Some (Sign id bytes)
+sign_of id bytes = None
+
+abbrev pub rename_of : Option (List ℕ) → Option (List ℕ) → Option Call
+rename_of (Some id) (Some new_name) = Some (Rename id new_name)
+rename_of id new_name = None
+
+-- the calls of three words: `sign TEXT HEX` and `rename TEXT TEXT`
+abbrev pub call_of_three : List ℕ → List ℕ → List ℕ → Option Call
+call_of_three name id word =
+    if bytes_eq name (codes "sign") then sign_of (text_of id) (bytes_of word)
+    else if bytes_eq name (codes "rename") then rename_of (text_of id) (text_of word)
+    else None
+
+abbrev pub create_rsa_of : Option ℤ → Option (List ℕ) → Option (List ℕ) → Option Call
+create_rsa_of (Some key_length) (Some private_key_name) (Some public_key_name) = Some (CreateRsa key_length private_key_name public_key_name)
+create_rsa_of key_length private_key_name public_key_name = None
+
+-- the call of four words: `create-rsa INT TEXT TEXT`
+abbrev pub call_of_four : List ℕ → List ℕ → List ℕ → List ℕ → Option Call
+call_of_four name number first second = if bytes_eq name (codes "create-rsa") then create_rsa_of (int_of number) (text_of first) (text_of second) else None
+
+abbrev pub with_response : Option Call → Option (List ℕ) → Option Recorded
+with_response (Some call) (Some response) = Some (record { call = call; response = response })
+with_response call response = None
+
+-- the call of these words, by how many there are; the last is the response that was recorded for it
+abbrev pub call_of_words : List (List ℕ) → Option Recorded
+call_of_words (name ∷ response ∷ []) = with_response (call_of_one name) (bytes_of response)
+call_of_words (name ∷ first ∷ response ∷ []) = with_response (call_of_two name first) (bytes_of response)
+call_of_words (name ∷ first ∷ second ∷ response ∷ []) = with_response (call_of_three name first second) (bytes_of response)
+call_of_words (name ∷ first ∷ second ∷ third ∷ response ∷ []) = with_response (call_of_four name first second third) (bytes_of response)
+call_of_words words = None
+
+abbrev pub call_from : Option (List (List ℕ)) → Option Recorded
+call_from (Some words) = call_of_words words
+call_from None = None
+
+-- the call of a line, where the line is of the grammar
+unfoldable pub call_of : List ℕ → Option Recorded
+call_of line = if is_utf8 line then call_from (words_of line) else None
+
+-- The calls that are typed, with no response: those above, and four more.
+
+abbrev pub typed_of_one : List ℕ → Option Call
+typed_of_one name = if bytes_eq name (codes "discover") then Some Discover else call_of_one name
+
+abbrev pub locate_of : Option (List ℕ) → Option Call
+locate_of (Some name) = Some (Locate name)
+locate_of None = None
+
+abbrev pub attributes_of : Option (List ℕ) → Option Call
+attributes_of (Some id) = Some (Attributes id)
+attributes_of None = None
+
+-- `locate TEXT` and `attributes TEXT`
+abbrev pub typed_of_two : List ℕ → List ℕ → Option Call
+typed_of_two name word =
+    if bytes_eq name (codes "locate") then locate_of (text_of word)
+    else if bytes_eq name (codes "attributes") then attributes_of (text_of word)
+    else call_of_two name word
+
+abbrev pub create_aes_of : Option ℤ → Option (List ℕ) → Option Call
+create_aes_of (Some key_length) (Some name) = Some (CreateAes key_length name)
+create_aes_of key_length name = None
+
+-- `create-aes INT TEXT`
+abbrev pub typed_of_three : List ℕ → List ℕ → List ℕ → Option Call
+typed_of_three name first second =
+    if bytes_eq name (codes "create-aes") then create_aes_of (int_of first) (text_of second)
+    else call_of_three name first second
+
+-- the call of words that are typed
+abbrev pub typed_call : List (List ℕ) → Option Call
+typed_call (name ∷ []) = typed_of_one name
+typed_call (name ∷ first ∷ []) = typed_of_two name first
+typed_call (name ∷ first ∷ second ∷ []) = typed_of_three name first second
+typed_call (name ∷ first ∷ second ∷ third ∷ []) = call_of_four name first second third
+typed_call words = None

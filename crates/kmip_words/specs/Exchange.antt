@@ -1,0 +1,215 @@
+-- What a call of the client sends, takes and shows.
+use Rattle.std.specs.Prelude.{◌≡◌, ◌≢◌, ℕ, ◌+◌, List, [], ◌++◌, take, drop, Bool, true, false, cond, Option, Some, None, Result, Ok, Err, codes}
+use Rattle.kmip_link.specs.Plan.{MemoryState}
+use Rattle.kmip_shape.specs.Val.{Val, Text, Record, Case, AndField, NoField, One}
+use Rattle.kmip_shape.specs.Shape.{Shape}
+use Rattle.kmip_shape.specs.Shown.{styled, text_styled}
+use Rattle.kmip_shape.specs.declared.style.Style.{Style}
+use Rattle.kmip_shape.specs.declared.style.Style.TheVariants.{Bare, Json}
+use Rattle.kmip_diag.specs.Diagnostic.{diagnostic}
+use Rattle.kmip_enums.specs.declared.operation.Operation.{Operation}
+use Rattle.kmip_types.specs.declared.auth.CredentialType.{CredentialType}
+use Rattle.kmip_request.specs.Message.{request_bytes, operation_of}
+use Rattle.kmip_request.specs.declared.payload.RequestPayload.{RequestPayload}
+use Rattle.kmip_request_read.specs.Reading.{Request, message_bytes}
+use Rattle.kmip_response.specs.Tables.{response_payload, query_payload, rng_retrieve_payload, sign_payload, attribute_edit_payload, get_payload, locate_payload, get_attributes_payload, create_payload, discover_versions_payload}
+use Rattle.kmip_client.specs.Client.{ClientState}
+use Rattle.kmip_client.specs.Errors.{error_shown, text_of}
+use Rattle.kmip_client.specs.Outcome.{Answer, Outcome, outcome_of}
+use Rattle.kmip_client.specs.Requests.{query_request, key_pair_request, rng_request, sign_request, activate_request, revoke_request, destroy_request, rename_request, get_request}
+use Rattle.kmip_client.specs.declared.error.Error.{Error}
+use Rattle.kmip_client.specs.declared.error.Error.TheVariants.{ConfigurationError, SerializeError, RequestWriteError, ResponseReadError, DeserializeError, ServerError, InternalError, ItemNotFound, Unknown, OutOfMemory}
+use Rattle.kmip_words.specs.Requests.{locate_request, attributes_request, create_aes_request, discover_request}
+use Rattle.kmip_words.specs.declared.call.Call.{Call}
+use Rattle.kmip_words.specs.declared.call.Call.TheVariants.{Query, CreateRsa, Rng, Sign, Activate, Revoke, Destroy, Rename, Get, Raw, Locate, Attributes, CreateAes, Discover}
+use Rattle.kmip_words.specs.declared.ending.Ending.{Ending}
+use Rattle.kmip_words.specs.declared.ending.Ending.TheVariants.{Answered, Refused, Lost}
+
+-- what each call of a client goes by
+pub record Settings : Type 0 where
+  pub credential : Option CredentialType
+  -- the most bytes that a response may have, its head counted
+  pub limit : Option ℕ
+  -- whether diagnostics are kept
+  pub buffered : Bool
+
+abbrev pub settings_of : {T : Type 0} → ClientState T → Settings
+settings_of client = record { credential = client.credential; limit = client.limit; buffered = client.buffered }
+
+-- what a call asks for: its one canonical message, where it has one, and its operation
+pub record Asked : Type 0 where
+  pub message : Option (List ℕ)
+  pub operation : Operation
+
+abbrev pub asked_of : RequestPayload → Option CredentialType → Asked
+asked_of payload credential = record { message = request_bytes payload credential; operation = operation_of payload }
+
+-- the request that a line gives by its bytes; the credential is the client's, not theirs
+abbrev pub raw_asked : Request → Option CredentialType → Asked
+raw_asked request credential = record { message = message_bytes request credential; operation = request.operation }
+
+abbrev pub asked : Call → Option CredentialType → Asked
+asked Query = asked_of query_request
+asked (CreateRsa key_length private_key_name public_key_name) = asked_of (key_pair_request key_length private_key_name public_key_name)
+asked (Rng num_bytes) = asked_of (rng_request num_bytes)
+asked (Sign id bytes) = asked_of (sign_request id bytes)
+asked (Activate id) = asked_of (activate_request id)
+asked (Revoke id) = asked_of (revoke_request id)
+asked (Destroy id) = asked_of (destroy_request id)
+asked (Rename id new_name) = asked_of (rename_request id new_name)
+asked (Get id) = asked_of (get_request id)
+asked (Raw request) = raw_asked request
+asked (Locate name) = asked_of (locate_request name)
+asked (Attributes id) = asked_of (attributes_request id)
+asked (CreateAes key_length name) = asked_of (create_aes_request key_length name)
+asked Discover = asked_of discover_request
+
+-- two texts in round brackets, or the identifiers of the two keys of a pair as an object
+abbrev pub pair_styled : List ℕ → List ℕ → Style → List ℕ
+pair_styled first second Bare = codes "(" ++ (text_styled first Bare ++ (codes "," ++ (text_styled second Bare ++ codes ")")))
+pair_styled first second Json = codes "{\"private_key\":" ++ (text_styled first Json ++ (codes ",\"public_key\":" ++ (text_styled second Json ++ codes "}")))
+
+-- a payload of two texts, as a pair
+abbrev pub texts_styled : Val → Style → List ℕ
+texts_styled (Case n (Record (AndField (One (Text first)) (AndField (One (Text second)) NoField)))) style = pair_styled first second style
+texts_styled payload style = []
+
+-- what is told of a payload of no interest
+abbrev pub done_styled : Style → List ℕ
+done_styled Bare = codes "()"
+done_styled Json = codes "{}"
+
+-- a payload as its record, without the name of its operation
+abbrev pub record_styled : Shape → Val → Style → List ℕ
+record_styled shape (Case n payload) style = styled shape payload style
+record_styled shape payload style = styled shape payload style
+
+-- what is told of the payload that answers a call
+abbrev pub value_styled : Call → Val → Style → List ℕ
+value_styled Query payload = record_styled query_payload payload
+value_styled (CreateRsa key_length private_key_name public_key_name) payload = texts_styled payload
+value_styled (Rng num_bytes) payload = record_styled rng_retrieve_payload payload
+value_styled (Sign id bytes) payload = record_styled sign_payload payload
+value_styled (Activate id) payload = done_styled
+value_styled (Revoke id) payload = done_styled
+value_styled (Destroy id) payload = done_styled
+value_styled (Rename id new_name) payload = record_styled attribute_edit_payload payload
+value_styled (Get id) payload = record_styled get_payload payload
+value_styled (Raw request) payload = styled response_payload payload
+value_styled (Locate name) payload = record_styled locate_payload payload
+value_styled (Attributes id) payload = record_styled get_attributes_payload payload
+value_styled (CreateAes key_length name) payload = record_styled create_payload payload
+value_styled Discover payload = record_styled discover_versions_payload payload
+
+-- the name of an error's variant
+abbrev pub error_name : Error → List ℕ
+error_name (ConfigurationError text) = codes "ConfigurationError"
+error_name (SerializeError text) = codes "SerializeError"
+error_name (RequestWriteError text) = codes "RequestWriteError"
+error_name (ResponseReadError text) = codes "ResponseReadError"
+error_name (DeserializeError text) = codes "DeserializeError"
+error_name (ServerError text) = codes "ServerError"
+error_name (InternalError text) = codes "InternalError"
+error_name (ItemNotFound text) = codes "ItemNotFound"
+error_name (Unknown text) = codes "Unknown"
+error_name OutOfMemory = codes "OutOfMemory"
+
+-- the line of an error
+abbrev pub error_line : Error → Style → List ℕ
+error_line error Bare = codes "- " ++ (error_shown error ++ codes "\n")
+error_line error Json = codes "{\"error\":\"" ++ (error_name error ++ (codes "\",\"text\":" ++ (text_styled (text_of error) Json ++ codes "}\n")))
+
+-- the line of a value, given its text
+abbrev pub value_line : List ℕ → Style → List ℕ
+value_line value Bare = codes "= " ++ (value ++ codes "\n")
+value_line value Json = codes "{\"answer\":" ++ (value ++ codes "}\n")
+
+-- the line of an answer, where `value` gives the text of its value
+abbrev pub answer_line : {R : Type 0} → (R → List ℕ) → Style → Result R Error → List ℕ
+answer_line value style (Ok payload) = value_line (value payload) style
+answer_line value style (Err error) = error_line error style
+
+-- an answer as a line of JSON
+abbrev pub json_line : Call → Answer → List ℕ
+json_line call = answer_line (λ payload. value_styled call payload Json) Json
+
+abbrev pub is_error : {R : Type 0} → Result R Error → Bool
+is_error (Ok payload) = false
+is_error (Err error) = true
+
+-- After the error the link is of no more use: it failed, ended, or gave bytes that are no message.
+abbrev pub loses_link : Error → Bool
+loses_link (RequestWriteError text) = true
+loses_link (ResponseReadError text) = true
+loses_link (DeserializeError text) = true
+loses_link error = false
+
+-- how a call ended that has this answer
+abbrev pub ending_of : {R : Type 0} → Result R Error → Ending
+ending_of (Ok payload) = Answered
+ending_of (Err error) = cond (loses_link error) Lost Refused
+
+-- The call has an error for an answer.
+abbrev pub fails : Ending → Bool
+fails Answered = false
+fails Refused = true
+fails Lost = true
+
+abbrev pub or_empty : Option (List ℕ) → List ℕ
+or_empty (Some text) = text
+or_empty None = []
+
+-- the lines of a call's diagnostics, where they are kept: of its request and of its response
+abbrev pub told_lines : Bool → Option (List ℕ) → Option (List ℕ) → List ℕ
+told_lines true request response = codes ">~ " ++ (or_empty request ++ (codes "\n<~ " ++ (or_empty response ++ codes "\n")))
+told_lines false request response = []
+
+-- what a call sends and takes, the lines of its diagnostics and of its answer, whether this is an error, and how it ends
+pub record Step : Type 0 where
+  pub sent : List ℕ
+  pub taken : ℕ
+  pub told : List ℕ
+  pub shown : List ℕ
+  pub failed : Bool
+  pub ending : Ending
+
+-- the diagnostics are those of the bytes that were sent and that were taken
+abbrev pub step_of : (Val → List ℕ) → Style → Bool → List ℕ → Outcome → Step
+step_of value style buffered rest o = record {
+  sent = o.sent;
+  taken = o.taken;
+  told = told_lines buffered (Some (diagnostic (Some 0x4200) o.sent)) (Some (diagnostic (Some 0x4200) (take o.taken rest)));
+  shown = answer_line value style o.answer;
+  failed = is_error o.answer;
+  ending = ending_of o.answer;
+}
+
+-- the outcome of a call over these bytes left
+abbrev pub call_outcome : Settings → Call → List ℕ → Outcome
+call_outcome settings call rest = outcome_of (asked call settings.credential).message (asked call settings.credential).operation settings.limit rest
+
+-- what a call comes to over these bytes left, with its answer in this style
+abbrev pub step_in : Style → Settings → Call → List ℕ → Step
+step_in style settings call rest = step_of (λ payload. value_styled call payload style) style settings.buffered rest (call_outcome settings call rest)
+
+-- the same with the line of a script's answer
+abbrev pub step : Settings → Call → List ℕ → Step
+step = step_in Bare
+
+-- the line of an answer was added, which is not want of memory
+pub record Shows {R : Type 0} (value : R → List ℕ) (style : Style) (answer : Result R Error) (ending : Ending) (old new : List ℕ) : Type 0 where
+  pub shown : new ≡ old ++ answer_line value style answer
+  pub ending_is : ending ≡ ending_of answer
+  pub some : answer ≢ Err OutOfMemory
+
+-- what a call did to its client and its link, and the line that it added
+pub record Answers (s : Step) (before after : ClientState MemoryState) (ending : Ending) (old new : List ℕ) : Type 0 where
+  pub settings : settings_of after ≡ settings_of before
+  pub told : told_lines after.buffered after.request_text after.response_text ≡ s.told
+  pub shown : new ≡ old ++ s.shown
+  pub failed_is : fails ending ≡ s.failed
+  pub ending_is : ending ≡ s.ending
+  pub ever : after.link.ever ≡ before.link.ever
+  pub sent : after.link.sent ≡ before.link.sent ++ s.sent
+  pub pos : after.link.pos ≡ before.link.pos + s.taken
+  pub left : drop after.link.pos after.link.ever ≡ drop s.taken (drop before.link.pos before.link.ever)

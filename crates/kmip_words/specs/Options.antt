@@ -1,0 +1,19 @@
+-- Words of a command line that give a value to a name.
+use Rattle.std.specs.Prelude.{ℕ, nat_eq, List, [], ◌∷◌, length, drop, Option, Some, None, if◌then◌else◌}
+use Rattle.std.specs.List.{starts_with}
+
+-- the value that a first word gives to a name, and the words that are left after it
+pub record Given : Type 0 where
+  pub value : Option (List ℕ)
+  pub rest : List (List ℕ)
+
+abbrev pub given : List ℕ → List (List ℕ) → Given
+given name [] = record { value = None; rest = [] }
+given name (word ∷ words) =
+    if starts_with nat_eq word name then record { value = Some (drop (length name) word); rest = words }
+    else record { value = None; rest = word ∷ words }
+
+-- a value is given only after another
+abbrev pub given_after : Option (List ℕ) → List ℕ → List (List ℕ) → Given
+given_after (Some before) name words = given name words
+given_after None name words = record { value = None; rest = words }

@@ -1,0 +1,38 @@
+-- The requests of the calls that a client has no helper for.
+use Rattle.std.specs.Prelude.{ℕ, ℤ, pos, List, [], ◌∷◌, Some, None, codes}
+use Rattle.kmip_enums.specs.declared.object_type.ObjectType.TheVariants.{SymmetricKey}
+use Rattle.kmip_enums.specs.declared.name_type.NameType.TheVariants.{UninterpretedTextString}
+use Rattle.kmip_types.specs.TheCryptographicAlgorithm.{CryptographicAlgorithm}
+use Rattle.kmip_types.specs.declared.attribute_value.AttributeValue.TheVariants as values
+use Rattle.kmip_request.specs.Constructors.{attribute_of}
+use Rattle.kmip_request.specs.TheAttribute.{Attribute}
+use Rattle.kmip_request.specs.declared.payload.RequestPayload.{RequestPayload}
+
+-- a name that is an uninterpreted text (KMIP 1.0, 3.2)
+abbrev pub name_attribute : List ℕ → Attribute
+name_attribute name = attribute_of (codes "Name") (values.Name (record { 0 = name }) UninterpretedTextString)
+
+-- the objects with this name (KMIP 1.0, 4.8)
+abbrev pub locate_request : List ℕ → RequestPayload
+locate_request name = RequestPayload.Locate (name_attribute name ∷ [])
+
+-- all attributes of an object (KMIP 1.0, 4.11)
+abbrev pub attributes_request : List ℕ → RequestPayload
+attributes_request id = RequestPayload.GetAttributes (Some (record { 0 = id })) None
+
+-- the algorithm, the length in bits, the uses Encrypt and Decrypt, and the name of an AES key (KMIP 1.0, 3)
+abbrev pub aes_attributes : ℤ → List ℕ → List Attribute
+aes_attributes key_length name =
+    attribute_of (codes "Cryptographic Algorithm") (values.CryptographicAlgorithm CryptographicAlgorithm.AES)
+    ∷ attribute_of (codes "Cryptographic Length") (values.Integer key_length)
+    ∷ attribute_of (codes "Cryptographic Usage Mask") (values.Integer (pos 0xC))
+    ∷ name_attribute name
+    ∷ []
+
+-- an AES key (KMIP 1.0, 4.1)
+abbrev pub create_aes_request : ℤ → List ℕ → RequestPayload
+create_aes_request key_length name = RequestPayload.Create SymmetricKey (record { 0 = None; 1 = Some (aes_attributes key_length name) })
+
+-- which versions the server speaks, whichever they are (KMIP 1.1, 4.26)
+abbrev pub discover_request : RequestPayload
+discover_request = RequestPayload.DiscoverVersions []

@@ -1,0 +1,369 @@
+//! What words ask for: those of a line of a script, and those that are typed.
+ghost use Rattle.std.specs.Prelude.{◌≡◌, map, option_map, IfOk};
+ghost use Rattle.kmip_words.specs.Values.{int_of, bytes_of, text_of};
+ghost use Rattle.kmip_words.specs.Calls.{typed_of_one, locate_of, attributes_of, typed_of_two, create_aes_of, typed_of_three, typed_call, rng_of, raw_of, key_call, call_of_one, call_of_two, sign_of, rename_of, call_of_three, create_rsa_of, call_of_four, with_response, call_of_words, call_of};
+
+use crate::raw::RawRequest;
+use crate::values::{bytes_of, int_of, text_of};
+use crate::words::words_of;
+use kmip_wire::{Blob, OutOfMemory, Text};
+use std::alloc::Global;
+use std::str;
+
+/// A call of the client.
+#[derive(Drop)]
+pub enum Call {
+    /// `query`: what the server can do.
+    Query,
+    /// `create-rsa INT TEXT TEXT`: an RSA pair of so many bits, under the names of the private and the public key.
+    CreateRsa {
+        key_length: i32,
+        private_key_name: Text,
+        public_key_name: Text,
+    },
+    /// `rng INT`: random bytes, so many.
+    Rng {
+        num_bytes: i32,
+    },
+    /// `sign TEXT HEX`: a signature of these bytes by the key with this identifier.
+    Sign {
+        id: Text,
+        bytes: Blob,
+    },
+    /// `activate TEXT`: makes the key with this identifier active.
+    Activate {
+        id: Text,
+    },
+    /// `revoke TEXT`: takes it out of use.
+    Revoke {
+        id: Text,
+    },
+    /// `destroy TEXT`: destroys it.
+    Destroy {
+        id: Text,
+    },
+    /// `rename TEXT TEXT`: gives it another name.
+    Rename {
+        id: Text,
+        new_name: Text,
+    },
+    /// `get TEXT`: asks for the key itself.
+    Get {
+        id: Text,
+    },
+    /// `raw HEX`: the request of these bytes. The credential in them is not used.
+    Raw {
+        request: RawRequest,
+    },
+    /// `locate TEXT`: which objects have this name. No line of a script has it, nor the three below.
+    Locate {
+        name: Text,
+    },
+    /// `attributes TEXT`: all attributes of the object with this identifier.
+    Attributes {
+        id: Text,
+    },
+    /// `create-aes INT TEXT`: an AES key of so many bits to encrypt and decrypt with, under this name.
+    CreateAes {
+        key_length: i32,
+        name: Text,
+    },
+    /// `discover`: which versions of KMIP the server speaks.
+    Discover,
+}
+
+/// A call, and the response that was recorded for it.
+#[derive(Drop)]
+pub struct Recorded {
+    /// The call that was made.
+    pub call: Call,
+    /// The server's response, as it came.
+    pub response: Blob,
+}
+
+/// `query`.
+fn call_of_one(name: &str) -> Option<Call>
+    ensures { result ≡ call_of_one name.now }
+{
+    match name {
+        "query" => Some(Call::Query),
+        _ => None,
+    }
+}
+
+/// `rng INT`.
+fn rng_of(number: &str) -> Option<Call>
+    ensures { result ≡ rng_of (int_of number.now) }
+{
+    let num_bytes = int_of(number)?;
+    Some(Call::Rng { num_bytes })
+}
+
+/// The call with this name of the key with this identifier, where the key is all that it is about.
+fn key_call(name: &str, id: Text) -> Option<Call>
+    ensures { result ≡ key_call name.now id }
+{
+    match name {
+        "activate" => Some(Call::Activate { id }),
+        "revoke" => Some(Call::Revoke { id }),
+        "destroy" => Some(Call::Destroy { id }),
+        "get" => Some(Call::Get { id }),
+        _ => None,
+    }
+}
+
+/// `raw HEX`: the request of these bytes.
+fn raw_of(alloc: Global, bytes: &str) -> Result<Option<Call>, OutOfMemory>
+    ensures { IfOk result (λ call. call ≡ raw_of (bytes_of bytes.now)) }
+{
+    let Some(bytes) = bytes_of(alloc, bytes)? else {
+        return Ok(None);
+    };
+    match RawRequest::read(alloc, bytes)? {
+        Some(request) => Ok(Some(Call::Raw { request })),
+        None => Ok(None),
+    }
+}
+
+/// The calls of two words: `rng INT`, `raw HEX`, and `activate TEXT` and its like.
+fn call_of_two(alloc: Global, name: &str, word: &str) -> Result<Option<Call>, OutOfMemory>
+    ensures { IfOk result (λ call. call ≡ call_of_two name.now word.now) }
+{
+    if name == "rng" {
+        return Ok(rng_of(word));
+    }
+    if name == "raw" {
+        return raw_of(alloc, word);
+    }
+    match text_of(alloc, word)? {
+        Some(id) => Ok(key_call(name, id)),
+        None => Ok(None),
+    }
+}
+
+/// `sign TEXT HEX`.
+fn sign_of(alloc: Global, id: &str, bytes: &str) -> Result<Option<Call>, OutOfMemory>
+    ensures { IfOk result (λ call. call ≡ sign_of (text_of id.now) (bytes_of bytes.now)) }
+{
+    let Some(id) = text_of(alloc, id)? else {
+        return Ok(None);
+    };
+    let Some(bytes) = bytes_of(alloc, bytes)? else {
+        return Ok(None);
+    };
+    Ok(Some(Call::Sign { id, bytes }))
+}
+
+/// `rename TEXT TEXT`.
+fn rename_of(alloc: Global, id: &str, new_name: &str) -> Result<Option<Call>, OutOfMemory>
+    ensures { IfOk result (λ call. call ≡ rename_of (text_of id.now) (text_of new_name.now)) }
+{
+    let Some(id) = text_of(alloc, id)? else {
+        return Ok(None);
+    };
+    let Some(new_name) = text_of(alloc, new_name)? else {
+        return Ok(None);
+    };
+    Ok(Some(Call::Rename { id, new_name }))
+}
+
+/// The calls of three words.
+fn call_of_three(
+    alloc: Global,
+    name: &str,
+    id: &str,
+    word: &str,
+) -> Result<Option<Call>, OutOfMemory>
+    ensures { IfOk result (λ call. call ≡ call_of_three name.now id.now word.now) }
+{
+    match name {
+        "sign" => sign_of(alloc, id, word),
+        "rename" => rename_of(alloc, id, word),
+        _ => Ok(None),
+    }
+}
+
+/// `create-rsa INT TEXT TEXT`.
+fn create_rsa_of(
+    alloc: Global,
+    key_length: &str,
+    private_key_name: &str,
+    public_key_name: &str,
+) -> Result<Option<Call>, OutOfMemory>
+    ensures { IfOk result (λ call. call ≡ create_rsa_of (int_of key_length.now) (text_of private_key_name.now) (text_of public_key_name.now)) }
+{
+    let Some(key_length) = int_of(key_length) else {
+        return Ok(None);
+    };
+    let Some(private_key_name) = text_of(alloc, private_key_name)? else {
+        return Ok(None);
+    };
+    let Some(public_key_name) = text_of(alloc, public_key_name)? else {
+        return Ok(None);
+    };
+    Ok(Some(Call::CreateRsa {
+        key_length,
+        private_key_name,
+        public_key_name,
+    }))
+}
+
+/// The call of four words.
+fn call_of_four(
+    alloc: Global,
+    name: &str,
+    number: &str,
+    first: &str,
+    second: &str,
+) -> Result<Option<Call>, OutOfMemory>
+    ensures { IfOk result (λ call. call ≡ call_of_four name.now number.now first.now second.now) }
+{
+    match name {
+        "create-rsa" => create_rsa_of(alloc, number, first, second),
+        _ => Ok(None),
+    }
+}
+
+/// A call with its recorded response, where both are of the grammar.
+fn with_response(
+    alloc: Global,
+    call: Option<Call>,
+    response: &str,
+) -> Result<Option<Recorded>, OutOfMemory>
+    ensures { IfOk result (λ recorded. recorded ≡ with_response call (bytes_of response.now)) }
+{
+    let Some(call) = call else {
+        return Ok(None);
+    };
+    let Some(response) = bytes_of(alloc, response)? else {
+        return Ok(None);
+    };
+    Ok(Some(Recorded { call, response }))
+}
+
+/// The call of these words, the last of which is its response, or none where they are not of the grammar.
+fn call_of_words(alloc: Global, words: &[&str]) -> Result<Option<Recorded>, OutOfMemory>
+    ensures { IfOk result (λ recorded. recorded ≡ call_of_words (map (λ word. word.now) words.now)) }
+{
+    match words {
+        [name, response] => with_response(alloc, call_of_one(name), response),
+        [name, first, response] => {
+            with_response(alloc, call_of_two(alloc, name, first)?, response)
+        }
+        [name, first, second, response] => {
+            with_response(alloc, call_of_three(alloc, name, first, second)?, response)
+        }
+        [name, first, second, third, response] => {
+            with_response(
+                alloc,
+                call_of_four(alloc, name, first, second, third)?,
+                response,
+            )
+        }
+        _ => Ok(None),
+    }
+}
+
+/// The call of a line, or none where the line is not of the grammar.
+pub fn call_of(alloc: Global, line: &[u8]) -> Result<Option<Recorded>, OutOfMemory>
+    ensures { IfOk result (λ recorded. recorded ≡ call_of line.now) }
+{
+    let Ok(line) = str::from_utf8(line) else {
+        return Ok(None);
+    };
+    match words_of(alloc, line)? {
+        Some(words) => call_of_words(alloc, &words),
+        None => Ok(None),
+    }
+}
+
+/// `query` and `discover`.
+fn typed_of_one(name: &str) -> Option<Call>
+    ensures { result ≡ typed_of_one name.now }
+{
+    match name {
+        "discover" => Some(Call::Discover),
+        _ => call_of_one(name),
+    }
+}
+
+/// `locate TEXT`.
+fn locate_of(alloc: Global, name: &str) -> Result<Option<Call>, OutOfMemory>
+    ensures { IfOk result (λ call. call ≡ locate_of (text_of name.now)) }
+{
+    match text_of(alloc, name)? {
+        Some(name) => Ok(Some(Call::Locate { name })),
+        None => Ok(None),
+    }
+}
+
+/// `attributes TEXT`.
+fn attributes_of(alloc: Global, id: &str) -> Result<Option<Call>, OutOfMemory>
+    ensures { IfOk result (λ call. call ≡ attributes_of (text_of id.now)) }
+{
+    match text_of(alloc, id)? {
+        Some(id) => Ok(Some(Call::Attributes { id })),
+        None => Ok(None),
+    }
+}
+
+/// The typed calls of two words.
+fn typed_of_two(alloc: Global, name: &str, word: &str) -> Result<Option<Call>, OutOfMemory>
+    ensures { IfOk result (λ call. call ≡ typed_of_two name.now word.now) }
+{
+    match name {
+        "locate" => locate_of(alloc, word),
+        "attributes" => attributes_of(alloc, word),
+        _ => call_of_two(alloc, name, word),
+    }
+}
+
+/// `create-aes INT TEXT`.
+fn create_aes_of(alloc: Global, key_length: &str, name: &str) -> Result<Option<Call>, OutOfMemory>
+    ensures { IfOk result (λ call. call ≡ create_aes_of (int_of key_length.now) (text_of name.now)) }
+{
+    let Some(key_length) = int_of(key_length) else {
+        return Ok(None);
+    };
+    match text_of(alloc, name)? {
+        Some(name) => Ok(Some(Call::CreateAes { key_length, name })),
+        None => Ok(None),
+    }
+}
+
+/// The typed calls of three words.
+fn typed_of_three(
+    alloc: Global,
+    name: &str,
+    first: &str,
+    second: &str,
+) -> Result<Option<Call>, OutOfMemory>
+    ensures { IfOk result (λ call. call ≡ typed_of_three name.now first.now second.now) }
+{
+    match name {
+        "create-aes" => create_aes_of(alloc, first, second),
+        _ => call_of_three(alloc, name, first, second),
+    }
+}
+
+/// The call of words that are typed, with no response: those of a line of a script, `locate TEXT`, `attributes TEXT`,
+/// `create-aes INT TEXT` and `discover`. None where they are not of this grammar.
+pub fn typed_call(alloc: Global, words: &[Text]) -> Result<Option<Call>, OutOfMemory>
+    ensures { IfOk result (λ call. call ≡ typed_call words.now) }
+{
+    match words {
+        [name] => Ok(typed_of_one(name.as_str())),
+        [name, first] => typed_of_two(alloc, name.as_str(), first.as_str()),
+        [name, first, second] => {
+            typed_of_three(alloc, name.as_str(), first.as_str(), second.as_str())
+        }
+        [name, first, second, third] => call_of_four(
+            alloc,
+            name.as_str(),
+            first.as_str(),
+            second.as_str(),
+            third.as_str(),
+        ),
+        _ => Ok(None),
+    }
+}

@@ -1,0 +1,42 @@
+//! How a call ended.
+ghost use Rattle.std.specs.Prelude.{◌≡◌, cond};
+ghost use Rattle.kmip_words.specs.Exchange.{loses_link, fails};
+ghost use Rattle.kmip_words.specs.declared.ending.Ending.TheVariants as endings;
+
+use kmip_client::Error;
+
+/// How a call ended.
+#[derive(Clone, Copy, Debug, PartialEq, Eq, Drop)]
+pub enum Ending {
+    /// It was answered.
+    Answered,
+    /// It has an error for an answer, and its whole message was taken, or nothing was sent: the link is good for the
+    /// next call.
+    Refused,
+    /// The link failed or ended, or gave bytes that are no message: no call is to be made on it any more.
+    Lost,
+}
+
+impl Ending {
+    /// Whether the call has an error for an answer. It takes no memory.
+    pub fn is_failure(self) -> bool
+        ensures { result ≡ fails self }
+    {
+        match self {
+            Ending::Answered => false,
+            Ending::Refused | Ending::Lost => true,
+        }
+    }
+
+    /// How a call ended that has this error for an answer. It takes no memory.
+    pub fn of_error(error: &Error) -> Ending
+        ensures { result ≡ cond (loses_link error.now) endings.Lost endings.Refused }
+    {
+        match error {
+            Error::RequestWriteError(_)
+            | Error::ResponseReadError(_)
+            | Error::DeserializeError(_) => Ending::Lost,
+            _ => Ending::Refused,
+        }
+    }
+}

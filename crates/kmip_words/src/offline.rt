@@ -1,0 +1,120 @@
+//! Calls with no link: the bytes that a call sends, and what the bytes that come back answer.
+ghost use Rattle.std.specs.Prelude.{◌≡◌, ◌++◌, [], IfOk, OnOk, false, option_map};
+ghost use Rattle.kmip_client.specs.Client.{credential_for};
+ghost use Rattle.kmip_words.specs.Exchange.{Settings as TheSettings, settings_of, asked, ending_of, json_line, call_outcome};
+
+use crate::answers::answer;
+use crate::call::Call;
+use crate::ending::Ending;
+use crate::setup::client_of;
+use kmip_client::Client;
+use kmip_link::MemoryLink;
+use kmip_shape::Style;
+use kmip_wire::{OutOfMemory, Text, clone_optional};
+use std::alloc::Global;
+use std::marker::Model;
+
+/// What calls go by: who makes them, and how long a response may be.
+#[derive(Drop)]
+pub struct Settings {
+    user: Option<Text>,
+    password: Option<Text>,
+    limit: Option<u32>,
+}
+
+impl Model for Settings {
+    ghost use Rattle.std.specs.Prelude.{false};
+    ghost use Rattle.kmip_client.specs.Client.{credential_for};
+    ghost use Rattle.kmip_words.specs.Exchange.{Settings as TheSettings};
+
+    ghost Value = { TheSettings };
+
+    ghost view = { λ s. record { credential = credential_for s.user s.password; limit = s.limit; buffered = false } };
+}
+
+impl Settings {
+    /// Calls by a user with a password, who are named in each request where both are given; `limit` is the most bytes
+    /// that a response may have, its head counted. It takes no memory.
+    pub fn new(user: Option<Text>, password: Option<Text>, limit: Option<u32>) -> Settings
+        ensures { result ≡ record { credential = credential_for user password; limit = limit; buffered = false } }
+    {
+        Settings {
+            user,
+            password,
+            limit,
+        }
+    }
+
+    /// The most bytes that a response may have. It takes no memory.
+    pub fn limit(&self) -> Option<u32>
+        ensures { result ≡ self.now.limit }
+    {
+        self.limit
+    }
+
+    /// A client over this link.
+    fn client(&self, alloc: Global, link: MemoryLink) -> Result<Client<MemoryLink>, OutOfMemory>
+        ensures link { IfOk result (λ client. client.link ≡ link) }
+        ensures settings { IfOk result (λ client. settings_of client ≡ self.now) }
+    {
+        let user = clone_optional(&self.user, alloc)?;
+        let password = clone_optional(&self.password, alloc)?;
+        Ok(client_of(link, user, password, self.limit, false))
+    }
+}
+
+/// A link that has these bytes to read, and to which nothing was sent.
+fn link_over(alloc: Global, response: &[u8]) -> Result<MemoryLink, OutOfMemory>
+    ensures ever { IfOk result (λ link. link.ever ≡ response.now) }
+    ensures pos { IfOk result (λ link. link.pos ≡ 0) }
+    ensures sent { IfOk result (λ link. link.sent ≡ []) }
+{
+    let mut link = MemoryLink::new(alloc);
+    match link.feed(response) {
+        Ok(()) => Ok(link),
+        Err(_) => Err(OutOfMemory),
+    }
+}
+
+/// What was sent to a client's link, as bytes of their own.
+fn sent_by(alloc: Global, client: &mut Client<MemoryLink>) -> Result<Vec<u8>, OutOfMemory>
+    ensures { IfOk result (λ sent. sent.items ≡ client.old.link.sent) }
+{
+    let mut sent = Vec::new(alloc);
+    sent.extend_from_slice(client.inner().sent())?;
+    Ok(sent)
+}
+
+/// The bytes that a call sends: its one canonical message, and none where it has no wire form.
+pub fn request_of(
+    alloc: Global,
+    settings: &Settings,
+    call: Call,
+) -> Result<Option<Vec<u8>>, OutOfMemory>
+    ensures { IfOk result (λ request. option_map (λ r. r.items) request ≡ (asked call settings.now.credential).message) }
+{
+    let mut client = settings.client(alloc, link_over(alloc, &[])?)?;
+    let mut line = Text::new(alloc);
+    match answer(alloc, &mut client, Style::Json, call, &mut line)? {
+        // a request that was sent found the link at its end
+        Ending::Lost => Ok(Some(sent_by(alloc, &mut client)?)),
+        Ending::Answered | Ending::Refused => Ok(None),
+    }
+}
+
+/// Adds what these bytes answer to a call as a line of JSON, and says how the call ended: `{"answer":..}` with the
+/// payload, or `{"error":"ItemNotFound","text":".."}` with the name of the error's variant and its text. It is the
+/// answer that a client gives over a link that has these bytes left, and looks at no byte past the first message.
+pub fn answer_of(
+    alloc: Global,
+    settings: &Settings,
+    call: Call,
+    response: &[u8],
+    line: &mut Text,
+) -> Result<Ending, OutOfMemory>
+    ensures line { OnOk result (line.new ≡ line.old ++ json_line call (call_outcome settings.now call response.now).answer) }
+    ensures ending { IfOk result (λ ending. ending ≡ ending_of (call_outcome settings.now call response.now).answer) }
+{
+    let mut client = settings.client(alloc, link_over(alloc, response)?)?;
+    answer(alloc, &mut client, Style::Json, call, line)
+}

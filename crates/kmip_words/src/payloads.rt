@@ -1,0 +1,65 @@
+//! The payload of one operation, out of an answer that holds that of any.
+ghost use Rattle.std.specs.Prelude.{◌≡◌, IfOk};
+ghost use Rattle.kmip_enums.specs.declared.operation.Operation.{Operation as TheOperation};
+ghost use Rattle.kmip_response.specs.Values.{response_payload_val};
+ghost use Rattle.kmip_response.specs.declared.payload.ResponsePayload.TheVariants as payloads;
+ghost use Rattle.kmip_client.specs.Client.{IsOfOperation};
+ghost use Rattle.kmip_client.specs.Outcome.{seen, seen_by};
+
+use kmip_client::Error;
+use kmip_response::{
+    CreateResponsePayload, DiscoverVersionsResponsePayload, GetAttributesResponsePayload,
+    LocateResponsePayload, ResponsePayload,
+};
+
+/// That of Locate.
+pub fn located(answer: Result<ResponsePayload, Error>) -> Result<LocateResponsePayload, Error>
+    requires { IfOk answer (λ payload. IsOfOperation TheOperation.Locate (response_payload_val payload)) }
+    ensures { seen_by (λ payload. response_payload_val (payloads.Locate payload)) result ≡ seen answer }
+{
+    match answer {
+        Ok(ResponsePayload::Locate(payload)) => Ok(payload),
+        Ok(_) => unreachable!(),
+        Err(error) => Err(error),
+    }
+}
+
+/// That of Get Attributes.
+pub fn attributes(
+    answer: Result<ResponsePayload, Error>,
+) -> Result<GetAttributesResponsePayload, Error>
+    requires { IfOk answer (λ payload. IsOfOperation TheOperation.GetAttributes (response_payload_val payload)) }
+    ensures { seen_by (λ payload. response_payload_val (payloads.GetAttributes payload)) result ≡ seen answer }
+{
+    match answer {
+        Ok(ResponsePayload::GetAttributes(payload)) => Ok(payload),
+        Ok(_) => unreachable!(),
+        Err(error) => Err(error),
+    }
+}
+
+/// That of Create.
+pub fn created(answer: Result<ResponsePayload, Error>) -> Result<CreateResponsePayload, Error>
+    requires { IfOk answer (λ payload. IsOfOperation TheOperation.Create (response_payload_val payload)) }
+    ensures { seen_by (λ payload. response_payload_val (payloads.Create payload)) result ≡ seen answer }
+{
+    match answer {
+        Ok(ResponsePayload::Create(payload)) => Ok(payload),
+        Ok(_) => unreachable!(),
+        Err(error) => Err(error),
+    }
+}
+
+/// That of Discover Versions.
+pub fn discovered(
+    answer: Result<ResponsePayload, Error>,
+) -> Result<DiscoverVersionsResponsePayload, Error>
+    requires { IfOk answer (λ payload. IsOfOperation TheOperation.DiscoverVersions (response_payload_val payload)) }
+    ensures { seen_by (λ payload. response_payload_val (payloads.DiscoverVersions payload)) result ≡ seen answer }
+{
+    match answer {
+        Ok(ResponsePayload::DiscoverVersions(payload)) => Ok(payload),
+        Ok(_) => unreachable!(),
+        Err(error) => Err(error),
+    }
+}

@@ -1,0 +1,63 @@
+//! A client with the settings of a program's words.
+ghost use Rattle.std.specs.Prelude.{◌≡◌, None, false};
+ghost use Rattle.kmip_client.specs.Client.{credential_for};
+ghost use Rattle.kmip_words.specs.Exchange.{settings_of};
+
+use kmip_client::{Client, ClientBuilder};
+use kmip_link::MemoryLink;
+use kmip_wire::{Config, Text};
+
+/// A builder with these credentials.
+fn with_user(
+    builder: ClientBuilder<MemoryLink>,
+    user: Option<Text>,
+    password: Option<Text>,
+) -> ClientBuilder<MemoryLink>
+    requires username { builder.username ≡ None }
+    requires password { builder.password ≡ None }
+    ensures link { result.link ≡ builder.link }
+    ensures credential { credential_for result.username result.password ≡ credential_for user password }
+{
+    match user {
+        Some(user) => builder.with_credentials(user, password),
+        None => builder,
+    }
+}
+
+/// How responses are read, without diagnostics: the most bytes that one may have, its head counted. It takes no memory.
+pub fn limited(limit: Option<u32>) -> Config
+    ensures limit { result.max_bytes ≡ limit }
+    ensures buffered { result.has_buf ≡ false }
+{
+    match limit {
+        Some(limit) => Config::new().with_max_bytes(limit),
+        None => Config::new(),
+    }
+}
+
+/// How responses are read: their limit, and whether diagnostics are kept.
+fn config_of(limit: Option<u32>, diag: bool) -> Config
+    ensures limit { result.max_bytes ≡ limit }
+    ensures buffered { result.has_buf ≡ diag }
+{
+    let config = limited(limit);
+    if diag { config.with_read_buf() } else { config }
+}
+
+/// A client over this link. It sends a credential where there are a user and a password, takes no response of more
+/// bytes than the limit, and keeps diagnostics where `diag` says so. It takes no memory.
+pub fn client_of(
+    link: MemoryLink,
+    user: Option<Text>,
+    password: Option<Text>,
+    limit: Option<u32>,
+    diag: bool,
+) -> Client<MemoryLink>
+    ensures link { result.link ≡ link }
+    ensures settings { settings_of result ≡ record { credential = credential_for user password; limit = limit; buffered = diag } }
+{
+    let config = config_of(limit, diag);
+    with_user(ClientBuilder::new(link), user, password)
+        .with_reader_config(config)
+        .build()
+}

@@ -1,0 +1,249 @@
+//! The line of an answer, in a style.
+ghost use Rattle.std.specs.Prelude.{◌≡◌, ◌≢◌, ◌++◌, codes, cond, IfOk, OnOk};
+ghost use Rattle.kmip_shape.specs.Shown.{styled, text_styled};
+ghost use Rattle.kmip_shape.specs.declared.style.Style.TheVariants.{Bare, Json};
+ghost use Rattle.kmip_words.specs.Exchange.{pair_styled, done_styled, error_name, error_line, value_line, loses_link, Shows};
+ghost use Rattle.kmip_words.specs.declared.ending.Ending.TheVariants as endings;
+
+use crate::ending::Ending;
+use kmip_client::Error;
+use kmip_shape::{ShowItem, Style};
+use kmip_wire::{OutOfMemory, Text};
+use std::alloc::Global;
+
+/// The name of an error's variant.
+fn error_name(error: &Error) -> &'static str
+    ensures { result.now ≡ error_name error.now }
+{
+    match error {
+        Error::ConfigurationError(_) => "ConfigurationError",
+        Error::SerializeError(_) => "SerializeError",
+        Error::RequestWriteError(_) => "RequestWriteError",
+        Error::ResponseReadError(_) => "ResponseReadError",
+        Error::DeserializeError(_) => "DeserializeError",
+        Error::ServerError(_) => "ServerError",
+        Error::InternalError(_) => "InternalError",
+        Error::ItemNotFound(_) => "ItemNotFound",
+        Error::Unknown(_) => "Unknown",
+        Error::OutOfMemory => "OutOfMemory",
+    }
+}
+
+/// Adds a value in a style.
+fn push_styled<P: ShowItem>(
+    alloc: Global,
+    style: Style,
+    value: &P,
+    line: &mut Text,
+) -> Result<(), OutOfMemory>
+    ensures { OnOk result (line.new ≡ line.old ++ styled P.shape (P.val value.now) style) }
+{
+    match style {
+        Style::Bare => value.show(alloc, line),
+        Style::Json => value.show_json(alloc, line),
+    }
+}
+
+/// Adds a text in a style, with its quotes.
+fn push_text(alloc: Global, style: Style, text: &Text, line: &mut Text) -> Result<(), OutOfMemory>
+    ensures { OnOk result (line.new ≡ line.old ++ text_styled text.now style) }
+{
+    push_styled(alloc, style, text, line)
+}
+
+/// Adds a text as a JSON string.
+fn push_string(alloc: Global, text: &str, line: &mut Text) -> Result<(), OutOfMemory>
+    ensures { OnOk result (line.new ≡ line.old ++ text_styled text.now Json) }
+{
+    let text = Text::of(alloc, text)?;
+    push_text(alloc, Style::Json, &text, line)
+}
+
+/// Adds `- ` and the error as a line.
+#[tactic(auto, using(std::proofs::lemmas::List::append_assoc))]
+fn push_bare_error(error: &Error, line: &mut Text) -> Result<(), OutOfMemory>
+    ensures { OnOk result (line.new ≡ line.old ++ error_line error.now Bare) }
+{
+    line.push_str("- ")?;
+    line.push_str(error.kind())?;
+    line.push_str(error.text())?;
+    line.push_str("\n")
+}
+
+/// Adds the error as a line of JSON.
+#[tactic(auto, using(std::proofs::lemmas::List::append_assoc))]
+fn push_json_error(alloc: Global, error: &Error, line: &mut Text) -> Result<(), OutOfMemory>
+    ensures { OnOk result (line.new ≡ line.old ++ error_line error.now Json) }
+{
+    line.push_str("{\"error\":\"")?;
+    line.push_str(error_name(error))?;
+    line.push_str("\",\"text\":")?;
+    push_string(alloc, error.text(), line)?;
+    line.push_str("}\n")
+}
+
+/// Adds the error as a line, which is not want of memory, and says how the call ended.
+pub fn show_error(
+    alloc: Global,
+    style: Style,
+    error: &Error,
+    line: &mut Text,
+) -> Result<Ending, OutOfMemory>
+    ensures shown { OnOk result (line.new ≡ line.old ++ error_line error.now style) }
+    ensures ending { IfOk result (λ ending. ending ≡ cond (loses_link error.now) endings.Lost endings.Refused) }
+    ensures memory { OnOk result (error.now ≢ Error.OutOfMemory) }
+{
+    if matches!(error, Error::OutOfMemory) {
+        return Err(OutOfMemory);
+    }
+    match style {
+        Style::Bare => push_bare_error(error, line)?,
+        Style::Json => push_json_error(alloc, error, line)?,
+    }
+    Ok(Ending::of_error(error))
+}
+
+/// What stands before a value in its line.
+fn opening(style: Style) -> &'static str {
+    match style {
+        Style::Bare => "= ",
+        Style::Json => "{\"answer\":",
+    }
+}
+
+/// What stands after it.
+fn closing(style: Style) -> &'static str {
+    match style {
+        Style::Bare => "\n",
+        Style::Json => "}\n",
+    }
+}
+
+/// Adds a payload as a line.
+#[tactic(auto, using(std::proofs::lemmas::List::append_assoc))]
+fn push_payload<P: ShowItem>(
+    alloc: Global,
+    style: Style,
+    payload: &P,
+    line: &mut Text,
+) -> Result<(), OutOfMemory>
+    ensures { OnOk result (line.new ≡ line.old ++ value_line (styled P.shape (P.val payload.now) style) style) }
+{
+    line.push_str(opening(style))?;
+    push_styled(alloc, style, payload, line)?;
+    line.push_str(closing(style))
+}
+
+/// Adds the payload or the error as a line, and says how the call ended.
+pub fn show<P: ShowItem + Drop>(
+    alloc: Global,
+    style: Style,
+    answer: Result<P, Error>,
+    line: &mut Text,
+) -> Result<Ending, OutOfMemory>
+    ensures { IfOk result (λ ending. Shows (λ payload. styled P.shape (P.val payload) style) style answer ending line.old line.new) }
+{
+    match answer {
+        Ok(payload) => {
+            push_payload(alloc, style, &payload, line)?;
+            Ok(Ending::Answered)
+        }
+        Err(error) => show_error(alloc, style, &error, line),
+    }
+}
+
+/// The line where there is nothing to tell but that it was done.
+fn done_line(style: Style) -> &'static str
+    ensures { result.now ≡ value_line (done_styled style) style }
+{
+    match style {
+        Style::Bare => "= ()\n",
+        Style::Json => "{\"answer\":{}}\n",
+    }
+}
+
+/// The same where there is nothing to tell but that it was done.
+pub fn show_done(
+    alloc: Global,
+    style: Style,
+    answer: Result<(), Error>,
+    line: &mut Text,
+) -> Result<Ending, OutOfMemory>
+    ensures { IfOk result (λ ending. Shows (λ done. done_styled style) style answer ending line.old line.new) }
+{
+    match answer {
+        Ok(()) => {
+            line.push_str(done_line(style))?;
+            Ok(Ending::Answered)
+        }
+        Err(error) => show_error(alloc, style, &error, line),
+    }
+}
+
+/// Adds two identifiers as a line, in round brackets.
+#[tactic(auto, using(std::proofs::lemmas::List::append_assoc))]
+fn push_bare_pair(
+    alloc: Global,
+    first: &Text,
+    second: &Text,
+    line: &mut Text,
+) -> Result<(), OutOfMemory>
+    ensures { OnOk result (line.new ≡ line.old ++ value_line (pair_styled first.now second.now Bare) Bare) }
+{
+    line.push_str("= (")?;
+    push_text(alloc, Style::Bare, first, line)?;
+    line.push_str(",")?;
+    push_text(alloc, Style::Bare, second, line)?;
+    line.push_str(")\n")
+}
+
+/// Adds the identifiers of a private and a public key as a line of JSON.
+#[tactic(auto, using(std::proofs::lemmas::List::append_assoc))]
+fn push_json_pair(
+    alloc: Global,
+    first: &Text,
+    second: &Text,
+    line: &mut Text,
+) -> Result<(), OutOfMemory>
+    ensures { OnOk result (line.new ≡ line.old ++ value_line (pair_styled first.now second.now Json) Json) }
+{
+    line.push_str("{\"answer\":{\"private_key\":")?;
+    push_text(alloc, Style::Json, first, line)?;
+    line.push_str(",\"public_key\":")?;
+    push_text(alloc, Style::Json, second, line)?;
+    line.push_str("}}\n")
+}
+
+/// Adds two identifiers as a line.
+fn push_pair(
+    alloc: Global,
+    style: Style,
+    first: &Text,
+    second: &Text,
+    line: &mut Text,
+) -> Result<(), OutOfMemory>
+    ensures { OnOk result (line.new ≡ line.old ++ value_line (pair_styled first.now second.now style) style) }
+{
+    match style {
+        Style::Bare => push_bare_pair(alloc, first, second, line),
+        Style::Json => push_json_pair(alloc, first, second, line),
+    }
+}
+
+/// The same of the identifiers of a private and a public key.
+pub fn show_pair(
+    alloc: Global,
+    style: Style,
+    answer: Result<(Text, Text), Error>,
+    line: &mut Text,
+) -> Result<Ending, OutOfMemory>
+    ensures { IfOk result (λ ending. Shows (λ pair. pair_styled pair.0 pair.1 style) style answer ending line.old line.new) }
+{
+    match answer {
+        Ok((first, second)) => {
+            push_pair(alloc, style, &first, &second, line)?;
+            Ok(Ending::Answered)
+        }
+        Err(error) => show_error(alloc, style, &error, line),
+    }
+}
