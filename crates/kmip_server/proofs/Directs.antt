@@ -44,7 +44,7 @@ use Rattle.kmip_server.specs.declared.answers.CallAnswer.{CallAnswer}
 -- what the crates below promise
 pub record Laws : Type 0 where
   pub own : (call : Call) → call_of (request_for (request_of call)) ≡ Some call
-  pub settled : (objects : List Object) (call : Call) (made : Option Made) (t : ℤ) → IsSettled (served_call objects call made t).message
+  pub settled : (objects : List Object) (call : Call) (made : Option Made) (t : ℤ) → IsHeldResponse (served_call objects call made t).message → IsSettled (served_call objects call made t).message
   pub back : AreReadBack
 
 -- ---- a helper's request is that helper's call
@@ -166,7 +166,7 @@ own_next laws settings objects given askeds call fits held =
     let m : ResponseMessage = (served_call objects call made t).message in
     let formed : response_bytes (served objects b (first_for (asks objects b) given) t).message ≡ Some r = ap (λ (s : Served). response_bytes s.message) is_served_so ∙ fits.formed in
     let holds : IsHeldResponse m = subst (λ (s : Served). IsHeldResponse s.message) is_served_so (held.holds b r fits.valid formed) in
-    let back : ReadsBack m r = reads_back laws.back m r holds (laws.settled objects call made t) fits.formed in
+    let back : ReadsBack m r = reads_back laws.back m r holds (laws.settled objects call made t holds) fits.formed in
     let turn = turn_with settings call (Some b) r in
     let message : m ≡ message_with t (item_for call (step objects call made).answer) = served_call_message objects call made t in
     let answered : turn.outcome.answer ≡ check_response (call_operation call) (response_message_val (message_with t (item_for call (step objects call made).answer))) =

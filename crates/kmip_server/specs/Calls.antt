@@ -11,8 +11,10 @@ use Rattle.kmip_client.specs.declared.error.Error.{Error}
 use Rattle.kmip_client.specs.declared.error.Error.TheVariants.{OutOfMemory}
 use Rattle.kmip_store.specs.declared.call.Call.{Call}
 use Rattle.kmip_served.specs.Requests.{request_of}
-use Rattle.kmip_server.specs.Joined.{Settings, no_val, helped, CallTold}
-use Rattle.kmip_server.specs.Link.{ServerLinkState}
+use Rattle.kmip_store.specs.Makers.{MakerState}
+use Rattle.kmip_server.specs.Joined.{Settings, Between, Expected, no_val, helped, CallTold, expected, finish}
+use Rattle.kmip_server.specs.Came.{between}
+use Rattle.kmip_server.specs.Link.{ServerLinkState, server_link_state}
 use Rattle.kmip_server.specs.declared.answers.Answered.{Answered}
 use Rattle.kmip_server.specs.declared.answers.Answered.TheVariants as answered
 use Rattle.kmip_server.specs.declared.answers.CallAnswer.{CallAnswer}
@@ -41,3 +43,14 @@ pub data IsAsked {T : Type 0} (state : T → LinkState) (call : Call) (before af
 
 abbrev pub settings_of : {M : Type 0} → ClientState (ServerLinkState M) → Settings
 settings_of client = record { credential = client.credential; limit = client.limit; buffered = client.buffered; time = client.link.server.time }
+
+-- what stands before the calls that left the link so, with the maker's answers as they stand in the end
+abbrev pub before_all : {M : Type 0} → (M → MakerState) → ClientState (ServerLinkState M) → ServerLinkState M → Between
+before_all state client after = between client.link.server.time (state after.server.maker).given (server_link_state state client.link)
+
+-- what is to come of the calls, and what they leave
+abbrev pub expected_of : {M : Type 0} → (M → MakerState) → ClientState (ServerLinkState M) → ServerLinkState M → List Call → List Expected
+expected_of state client after calls = expected (settings_of client) (before_all state client after) calls
+
+abbrev pub finish_of : {M : Type 0} → (M → MakerState) → ClientState (ServerLinkState M) → ServerLinkState M → List Call → Between
+finish_of state client after calls = finish (settings_of client) (before_all state client after) calls
