@@ -12,8 +12,8 @@ use Rattle.kmip_request.specs.Tables.{authentication, credential_values}
 use Rattle.kmip_request.specs.Values.{authentication_val, credential_value_val}
 
 texts_in : (kind : CredentialType) (value : CredentialValue) → fits_in (credential_value_val value) NoCase (Choice OfNumber credential_values) → AreTexts (Some (credential_of (record { 0 = record { 0 = kind; 1 = value } })))
-texts_in kind (UsernameAndPassword username None) fits = (fits.1.0, tt)
-texts_in kind (UsernameAndPassword username (Some password)) fits = (fits.1.0, fits.1.1.1.0)
+texts_in kind (UsernameAndPassword username None) fits = (fits.1, tt)
+texts_in kind (UsernameAndPassword username (Some password)) fits = (fits.1, fits.2.1)
 
 pub texts_known : (a : Authentication) → Fits authentication (authentication_val a) → AreTexts (Some (credential_of a))
-texts_known a fits = texts_in (a.0).0 (a.0).1 fits.1.0.1.1.1.0
+texts_known a fits = texts_in (a.0).0 (a.0).1 fits.1.2.1
