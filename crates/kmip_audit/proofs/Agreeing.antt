@@ -1,5 +1,5 @@
 -- A message is told as answered exactly where a client answers a payload.
-use Rattle.std.proofs.Common.{◌≡◌, ◌↔◌, ℕ, pos, refl, List, Option, Some, None, Bool, true, false, not, cond, Result, Ok, Err}
+use Rattle.std.proofs.Common.{ℕ, pos, refl, List, Option, Some, None, Bool, true, false, not, cond, Err}
 use Rattle.kmip_wire.specs.Tree.{Tree}
 use Rattle.kmip_wire.specs.Reading.{item_of}
 use Rattle.kmip_shape.specs.Val.{Val, Vals, NoVal, AndVal}
@@ -13,8 +13,7 @@ use Rattle.kmip_response.specs.Tables.{response_message}
 use Rattle.kmip_client.specs.declared.error.Error.{Error}
 use Rattle.kmip_client.specs.Check.{field_at, one_of, is_number, batch_count, batch_items, has_status, has_operation, payload_answer, check_item, check_items, check_response}
 use Rattle.kmip_client.specs.Outcome.{response_tag, value_answer, tree_answer, read_answer}
-use Rattle.kmip_audit.specs.declared.outcomes.Outcome.{Outcome}
-use Rattle.kmip_audit.specs.declared.outcomes.Outcome.TheVariants.{NotOne, Failed, Pending, Undone, OtherOperation, NoPayload, Answered}
+use Rattle.kmip_audit.specs.declared.outcomes.Outcome.TheVariants.{Failed, Pending, Undone, OtherOperation}
 use Rattle.kmip_audit.specs.Outcomes.{payload_outcome, item_outcome, items_outcome, message_outcome, value_outcome, tree_outcome, response_outcome}
 use Rattle.kmip_audit.specs.Agreement.{Agree}
 

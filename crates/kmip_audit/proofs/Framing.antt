@@ -1,5 +1,5 @@
 -- The frame at the front, and the frames behind it.
-use Rattle.std.proofs.Common.{◌≡◌, ℕ, zero, suc, ◌+◌, ◌<◌, ◌≤◌, List, [], ◌∷◌, ◌++◌, length, take, drop, refl, ◌∙◌, ap, sym, subst, arith, Option, Some, None, Bool, true, false, cond, Result, Ok, Err}
+use Rattle.std.proofs.Common.{◌≡◌, ℕ, zero, suc, ◌+◌, ◌<◌, ◌≤◌, List, [], ◌∷◌, ◌++◌, length, take, drop, refl, ◌∙◌, ap, sym, arith, Option, Some, None, Bool, true, false, cond, Result, Ok, Err}
 use Rattle.std.specs.Prelude.{nat_lt, ◌==◌}
 use Rattle.std.proofs.lemmas.List.{length-take-le, length-drop, length-append, take-append-drop, take-append-le}
 use Rattle.std.proofs.lemmas.Bool.Decides.{nat_tests}
@@ -9,7 +9,7 @@ use Rattle.kmip_wire.specs.Parses.{joined_texts}
 use Rattle.kmip_wire.specs.declared.error.HeadError.{HeadError}
 use Rattle.kmip_client.specs.Message.{Message, Ended, Refused, Whole, message_at}
 use Rattle.kmip_client.proofs.Messages.{message_short, message_refused, message_cut, message_whole}
-use Rattle.kmip_audit.specs.Frames.{frame_of, front_frame, after_frame, Frames, then_frames, frames_by, frames}
+use Rattle.kmip_audit.specs.Frames.{frame_of, front_frame, after_frame, then_frames, frames_by, frames}
 
 -- ---- the frame at the front, by what its head says
 

@@ -6,7 +6,7 @@ use Rattle.kmip_audit.specs.Report.{are_none, entry_of, entries_of, end_of, repo
 use Rattle.kmip_audit.specs.declared.reports.Entry.{Entry}
 use Rattle.kmip_audit.specs.declared.reports.End.{End}
 use Rattle.kmip_audit.specs.declared.reports.Report.{Report}
-use Rattle.kmip_audit.proofs.Framing.{Falls, falls, frames_none, frames_some}
+use Rattle.kmip_audit.proofs.Framing.{falls, frames_none, frames_some}
 
 -- what is told so far, and what is left of both streams, come to the whole
 pub record SoFar (sent received asked told : List ℕ) (entries : List Entry) : Type 0 where

@@ -1,11 +1,11 @@
 -- What a session over whole messages sent and took, and what is reported of it.
-use Rattle.std.proofs.Common.{◌≡◌, ◌↔◌, ℕ, ◌+◌, ◌<◌, ◌≤◌, ◌^◌, Bool, true, false, cond, List, [], ◌∷◌, ◌++◌, length, take, drop, map, refl, ◌∙◌, ap, sym, subst, arith, Option, Some, None, Ok, Err}
+use Rattle.std.proofs.Common.{◌≡◌, ℕ, ◌+◌, ◌≤◌, ◌^◌, Bool, true, false, cond, List, [], ◌∷◌, ◌++◌, length, take, drop, map, refl, ◌∙◌, ap, sym, subst, arith, Option, Some, None, Ok}
 use Rattle.std.specs.Prelude.{IsSome, nat_lt}
 use Rattle.std.specs.Option.{option_map, option_and_then}
 use Rattle.std.proofs.Math.Seq.{take-add}
 use Rattle.std.proofs.lemmas.List.{get_or-take}
 use Rattle.kmip_tags.specs.Tags.{BATCH_ITEM, OPERATION, REQUEST_MESSAGE, REQUEST_PAYLOAD}
-use Rattle.kmip_wire.specs.Tree.{Tree, Trees, scalar, structure, trees_of, enumeration}
+use Rattle.kmip_wire.specs.Tree.{Tree, scalar, structure, trees_of, enumeration}
 use Rattle.kmip_wire.specs.Head.{head_code, head_length}
 use Rattle.kmip_wire.specs.Heads.{head_says}
 use Rattle.kmip_wire.specs.Bytes.{bytes, all_bytes, framed, item_bytes}
@@ -29,8 +29,8 @@ use Rattle.kmip_client.specs.Order.{AreServed, answers_to}
 use Rattle.kmip_client.proofs.Said.{OfMessages, message_says}
 use Rattle.kmip_client.proofs.Orders.{in_order}
 use Rattle.kmip_audit.specs.Frames.{front_frame, Frames, frames}
-use Rattle.kmip_audit.specs.Outcomes.{response_outcome, request_outcome}
-use Rattle.kmip_audit.specs.Report.{entries_of, end_of, report_of}
+use Rattle.kmip_audit.specs.Outcomes.{request_outcome}
+use Rattle.kmip_audit.specs.Report.{entries_of, end_of}
 use Rattle.kmip_audit.specs.Agreement.{Agree, AllAgree, AreMatched, IsReported}
 use Rattle.kmip_audit.specs.declared.outcomes.Outcome.{Outcome as Came}
 use Rattle.kmip_audit.specs.declared.reports.Entry.{Entry}

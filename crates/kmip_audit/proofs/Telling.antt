@@ -1,5 +1,5 @@
 -- What equal reports tell of their frames.
-use Rattle.std.proofs.Common.{◌≡◌, ◌↔◌, ℕ, zero, suc, ◌+◌, ◌-◌, ◌<◌, ◌≤◌, List, [], ◌∷◌, length, take, drop, map, refl, ◌∙◌, ap, sym, subst, arith, Option, Some, None}
+use Rattle.std.proofs.Common.{◌≡◌, ◌↔◌, ℕ, zero, suc, ◌+◌, ◌-◌, ◌≤◌, List, [], ◌∷◌, length, drop, map, refl, ◌∙◌, ap, sym, subst, arith, Option, Some, None}
 use Rattle.std.specs.Option.{option_map}
 use Rattle.std.proofs.lemmas.List.{length-drop, get_or-drop}
 use Rattle.kmip_wire.specs.Tree.{Tree}
@@ -7,15 +7,15 @@ use Rattle.kmip_wire.specs.Bytes.{AreBytes}
 use Rattle.kmip_wire.specs.Parses.{Parses, IsLevel, AreTexts}
 use Rattle.kmip_wire.specs.Reading.{item_of}
 use Rattle.kmip_wire.proofs.Ranges.{bytes_take}
-use Rattle.kmip_diag.specs.Skeleton.{Skeleton, skeleton}
+use Rattle.kmip_diag.specs.Skeleton.{skeleton}
 use Rattle.kmip_diag.specs.Diagnostic.{diagnostic}
-use Rattle.kmip_audit.specs.Frames.{front_frame, Frames, frames}
+use Rattle.kmip_audit.specs.Frames.{front_frame, frames}
 use Rattle.kmip_audit.specs.Report.{entry_of, entries_of, report_of}
-use Rattle.kmip_audit.specs.Skeletons.{AllParse, skeletons_of, frame_skeletons, outcomes_in, AreAlike}
+use Rattle.kmip_audit.specs.Skeletons.{AllParse, skeletons_of, frame_skeletons, AreAlike}
 use Rattle.kmip_audit.specs.declared.outcomes.Outcome.{Outcome}
 use Rattle.kmip_audit.specs.declared.reports.Entry.{Entry}
 use Rattle.kmip_audit.specs.declared.reports.Report.{Report}
-use Rattle.kmip_audit.proofs.Framing.{Falls, falls, front_short, frames_none, frames_some}
+use Rattle.kmip_audit.proofs.Framing.{falls, front_short, frames_none, frames_some}
 use Rattle.kmip_audit.proofs.Pairing.{same_report}
 
 -- ---- the laws that this stands on

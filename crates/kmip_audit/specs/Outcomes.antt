@@ -1,5 +1,5 @@
 -- What an exchange came to, by its request and its response.
-use Rattle.std.specs.Prelude.{ℕ, ℤ, pos, List, Option, Some, None, Bool, true, false, not, if◌then◌else◌}
+use Rattle.std.specs.Prelude.{ℕ, pos, List, Option, Some, None, Bool, true, not, if◌then◌else◌}
 use Rattle.kmip_wire.specs.Tree.{Tree}
 use Rattle.kmip_wire.specs.Reading.{item_of}
 use Rattle.kmip_shape.specs.Val.{Val, Vals, Number, NoVal, AndVal}

@@ -2,7 +2,7 @@
 use Rattle.std.specs.Prelude.{ℕ, ◌-◌, ◌==◌, Bool, true, false, List, [], ◌∷◌, length, Option, Some, None, if◌then◌else◌}
 use Rattle.std.specs.Option.{option_map}
 use Rattle.kmip_diag.specs.Diagnostic.{diagnostic}
-use Rattle.kmip_audit.specs.Frames.{Frames, frames}
+use Rattle.kmip_audit.specs.Frames.{frames}
 use Rattle.kmip_audit.specs.Outcomes.{outcome_of}
 use Rattle.kmip_audit.specs.declared.reports.End.{End}
 use Rattle.kmip_audit.specs.declared.reports.End.TheVariants.{Whole, Torn}

@@ -221,6 +221,16 @@ fn streams_are_cut_into_frames(rt: HostRuntime) -> Result<(), Fail> {
     rows_hold(&rt, rt.alloc(), STREAMS)
 }
 
+/// A frame, and as many bytes of the same frame as are said to be there.
+fn torn(alloc: Global, frame: &[u8], there: usize) -> Result<Vec<u8>, Fail> {
+    let mut stream = Vec::new(alloc);
+    stream.extend_from_slice(frame)?;
+    for byte in frame.iter().take(there) {
+        stream.push(*byte)?;
+    }
+    Ok(stream)
+}
+
 /// Both streams end within a second frame, of which so many bytes are there.
 fn ends_are_torn(
     rt: &impl Abort,
@@ -229,12 +239,8 @@ fn ends_are_torn(
     received: &[u8],
     there: usize,
 ) -> Result<(), Fail> {
-    let mut asked = vec![in alloc;]?;
-    asked.extend_from_slice(sent)?;
-    asked.extend_from_slice(&sent[..there])?;
-    let mut told = vec![in alloc;]?;
-    told.extend_from_slice(received)?;
-    told.extend_from_slice(&received[..there])?;
+    let asked = torn(alloc, sent, there)?;
+    let told = torn(alloc, received, there)?;
     let report = audit(alloc, &asked, &told)?;
     assert_eq!(rt; report.entries.len(), 1, "{there}");
     assert_eq!(rt; report.sent_end, End::Torn(120), "{there}");

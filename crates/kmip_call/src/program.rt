@@ -1,5 +1,5 @@
 //! The program.
-ghost use Rattle.std.specs.Prelude.{◌≡◌, ◌≢◌, ◌≤◌, ◌++◌, ◌⊎◌, [], option_map, None, IfOk, OnOk, IsErrOf, IsTrue, MatchOption};
+ghost use Rattle.std.specs.Prelude.{◌≡◌, ◌≢◌, ◌≤◌, ◌++◌, ◌⊎◌, [], option_map, true, None, IfOk, OnOk, IsErrOf, IsTrue, MatchOption};
 ghost use Rattle.kmip_link.specs.State.{Rose};
 ghost use Rattle.kmip_words.specs.Streams.{WrotePart};
 ghost use Rattle.kmip_call.specs.Exchange.{response_if, Requests};

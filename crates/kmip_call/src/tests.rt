@@ -2,9 +2,15 @@
 //! KMIP 1.0, 9.1, and the lines by hand.
 use crate::command::{Command, command_of};
 use crate::program::run;
-use kmip_link::{MemorySink, MemorySource};
-use kmip_wire::{List, Text};
-use kmip_words::read_up_to;
+use kmip_client::Error;
+use kmip_enums::Operation;
+use kmip_link::{MemoryLink, MemorySink, MemorySource};
+use kmip_shape::Style;
+use kmip_wire::{Blob, List, Text};
+use kmip_words::{
+    Ending, RawRequest, Settings, answer, answer_of, call_of, client_of, copied, read_up_to,
+    request_of, show_error, typed_call, words_of, write_out,
+};
 use std::alloc::Global;
 use std::process::Abort;
 use std::test::Fail;
@@ -543,5 +549,64 @@ fn help_and_version_are_words_alone(rt: HostRuntime) -> Result<(), Fail> {
             Some(Command::Make(_))
         )
     );
+    Ok(())
+}
+
+/// The lines of the random bytes in JSON and bare, and of an error.
+const LINES: &str =
+    "{\"answer\":{\"random_bytes\":\"DEADBEEF\"}}\n= {random_bytes=x\"DEADBEEF\"}\n- Server error: no\n";
+
+/// The calls of the library, each made once.
+#[test]
+fn the_library_is_called(rt: HostRuntime) -> Result<(), Fail> {
+    let alloc = rt.alloc();
+    assert!(rt; matches!(words_of(alloc, "rng 16")?, Some(words) if words.len() == 2));
+    assert!(rt; call_of(alloc, b"rng 16 -".as_slice())?.is_some());
+    assert!(rt; matches!(copied(alloc, Some("a"))?, Some(copy) if copy.as_str() == "a"));
+    let words = list_of(alloc, &["rng", "16"])?;
+    let settings = Settings::new(None, None, None);
+    let rng = hex::decode(alloc, RNG)?;
+    let random = hex::decode(alloc, RANDOM)?;
+    let mut line = Text::new(alloc);
+    if let Some(call) = typed_call(alloc, words.as_slice())? {
+        let sent = request_of(alloc, &settings, call)?;
+        assert!(rt; matches!(sent, Some(sent) if sent == rng));
+    }
+    if let Some(call) = typed_call(alloc, words.as_slice())? {
+        let ending = answer_of(alloc, &settings, call, &random, &mut line)?;
+        assert!(rt; matches!(ending, Ending::Answered));
+    }
+    if let Some(call) = typed_call(alloc, words.as_slice())? {
+        let mut link = MemoryLink::new(alloc);
+        link.feed(&random)?;
+        let mut client = client_of(link, None, None, None, false);
+        let ending = answer(alloc, &mut client, Style::Bare, call, &mut line)?;
+        assert!(rt; matches!(ending, Ending::Answered));
+    }
+    let error = Error::ServerError(Text::of(alloc, "no")?);
+    assert!(rt;
+        matches!(
+            show_error(alloc, Style::Bare, &error, &mut line)?,
+            Ending::Refused
+        )
+    );
+    assert_eq!(rt; line.as_str(), LINES);
+    let mut sink = MemorySink::new(alloc, &[])?;
+    write_out(&mut sink, b"a".as_slice())?;
+    assert_eq!(rt; sink.written(), b"a".as_slice());
+    Ok(())
+}
+
+/// A request that was given by its bytes.
+#[test]
+fn a_request_is_read(rt: HostRuntime) -> Result<(), Fail> {
+    let bytes = hex::decode(rt.alloc(), RNG)?;
+    match RawRequest::read(rt.alloc(), Blob::of_vec(bytes))? {
+        Some(request) => {
+            let payload = request.payload(rt.alloc())?;
+            assert!(rt; payload.operation() == Operation::RNGRetrieve);
+        }
+        None => assert!(rt; false),
+    }
     Ok(())
 }

@@ -1,5 +1,5 @@
 //! One call of a client, with its diagnostics.
-ghost use Rattle.std.specs.Prelude.{◌≡◌, ◌⊎◌, ◌-◌, take, false, None, Ok, Err};
+ghost use Rattle.std.specs.Prelude.{◌≡◌, ◌⊎◌, ◌-◌, take, true, false, None, Some, Ok, Err};
 ghost use Rattle.std.specs.Prelude.{IfOk, IsTrue, option_map};
 ghost use Rattle.kmip_link.specs.State.{Keeps};
 ghost use Rattle.kmip_shape.specs.Val.{Val};
@@ -38,16 +38,26 @@ pub struct Diagnostics {
     pub response: Option<Text>,
 }
 
+/// The diagnostic of these bytes.
+#[inline(never)]
+fn diagnostic_of(alloc: Global, bytes: &[u8]) -> Result<Text, OutOfMemory>
+    ensures { IfOk result (λ text. Some text ≡ diagnostic_for true bytes.now) }
+{
+    let mut printer = PrettyPrinter::new();
+    printer.with_tag_prefix(0x4200);
+    printer.to_diag_string(alloc, bytes)
+}
+
 /// The diagnostic of these bytes, where the buffer is on.
+#[inline(always)]
 fn diagnostic_for(alloc: Global, config: &Config, bytes: &[u8]) -> Result<Option<Text>, OutOfMemory>
     ensures { IfOk result (λ text. text ≡ diagnostic_for config.now.has_buf bytes.now) }
 {
-    if !config.has_buf() {
-        return Ok(None);
+    if config.has_buf() {
+        Ok(Some(diagnostic_of(alloc, bytes)?))
+    } else {
+        Ok(None)
     }
-    let mut printer = PrettyPrinter::new();
-    printer.with_tag_prefix(0x4200);
-    Ok(Some(printer.to_diag_string(alloc, bytes)?))
 }
 
 /// Whether a response was read, wholly or in part.

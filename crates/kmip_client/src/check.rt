@@ -104,14 +104,14 @@ fn payload_of(alloc: Global, payload: Option<ResponsePayload>) -> Result<Respons
     }
 }
 
-/// What a batch item answers.
+/// What a batch item answers, whose payload is taken out of it.
 #[tactic(auto, unfolding(crate::specs::Check::check_item))]
 fn check_item(
     alloc: Global,
     operation: Operation,
-    item: BatchItem,
+    item: &mut BatchItem,
 ) -> Result<ResponsePayload, Error>
-    ensures { Gives (check_item operation (batch_item_val item)) (seen result) }
+    ensures { Gives (check_item operation (batch_item_val item.old)) (seen result) }
 {
     match item.result_status {
         ResultStatus::OperationFailed => {
@@ -127,7 +127,7 @@ fn check_item(
         }
         ResultStatus::Success => {
             if is_of(item.operation, operation) {
-                payload_of(alloc, item.payload)
+                payload_of(alloc, item.payload.take())
             } else {
                 mismatch(alloc, item.operation, operation)
             }
@@ -162,7 +162,7 @@ pub fn check_message(
         return not_single(alloc, count);
     }
     let mut items = batch_items.into_vec();
-    match items.pop() {
+    match items.first_mut() {
         Some(item) => check_item(alloc, operation, item),
         None => not_single(alloc, count),
     }

@@ -11,7 +11,8 @@ use Rattle.kmip_request.specs.Message.{request_bytes, operation_of}
 use Rattle.kmip_client.specs.Client.{ClientState}
 use Rattle.kmip_client.specs.Message.{Message, Ended, Refused, Whole, message_at, message_by, taken_for}
 use Rattle.kmip_client.specs.Outcome.{Outcome, outcome_of}
-use Rattle.kmip_words.specs.Exchange.{Settings, settings_of, asked, Step, step, Answers}
+use Rattle.kmip_words.specs.Exchange.{Settings, settings_of, asked, fails, Step, step, Answers}
+use Rattle.kmip_words.specs.declared.ending.Ending.{Ending}
 use Rattle.kmip_run.specs.Making.{next_of, made_of, Counts, no_counts, one_ok, one_error, then_made, made, made_text, MakesCall, Makes}
 use Rattle.kmip_run.specs.Transcript.{counted_transcript, Replays}
 use Rattle.kmip_words.specs.declared.call.Call.{Call}
@@ -46,20 +47,21 @@ step_within : (settings : Settings) (call : Call) (rest : List ℕ) → (step se
 step_within settings call rest = outcome_within (asked call settings.credential).message (asked call settings.credential).operation settings.limit rest
 
 -- a call was fed its response, and made
-pub makes_call : (before fed_to after : ClientState MemoryState) {failed : Bool} {old new : List ℕ} (settings : Settings) (it : Recorded) (left_before left_after : ℕ) →
+pub makes_call : (before fed_to after : ClientState MemoryState) {ending : Ending} {old new : List ℕ} (settings : Settings) (it : Recorded) (failed : Bool) (left_before left_after : ℕ) →
+    failed ≡ fails ending →
     settings ≡ settings_of fed_to →
     fed_to.link ≡ record before.link { ever = before.link.ever ++ it.response } →
     drop fed_to.link.pos fed_to.link.ever ≡ drop before.link.pos before.link.ever ++ it.response →
     left_before ≡ length (drop fed_to.link.pos fed_to.link.ever) → left_after ≡ length (drop after.link.pos after.link.ever) →
-    Answers (step (settings_of fed_to) it.call (drop fed_to.link.pos fed_to.link.ever)) fed_to after failed old new →
+    Answers (step (settings_of fed_to) it.call (drop fed_to.link.pos fed_to.link.ever)) fed_to after ending old new →
     MakesCall (step settings it.call (drop before.link.pos before.link.ever ++ it.response)) it.response before.link after.link failed (left_before - left_after)
-makes_call before fed_to after {failed = failed} {old = old} {new = new} settings it left_before left_after same link left before_is after_is answers =
+makes_call before fed_to after {ending = ending} {old = old} {new = new} settings it failed left_before left_after fails_is same link left before_is after_is answers =
     let rest : List ℕ = drop before.link.pos before.link.ever ++ it.response in
     let s : Step = step settings it.call rest in
-    let did : Answers s fed_to after failed old new = rw (same, sym left) answers in
+    let did : Answers s fed_to after ending old new = rw (same, sym left) answers in
     let ended : length (drop after.link.pos after.link.ever) ≡ length rest - s.taken = ap length did.left ∙ ap (λ (l : List ℕ). length (drop s.taken l)) left ∙ length-drop s.taken rest in
     record {
-      failed_is = did.failed_is;
+      failed_is = fails_is ∙ did.failed_is;
       taken_is = omega (arith, before_is, after_is, ended, ap length left, step_within settings it.call rest);
       ever = did.ever ∙ ap (λ (m : MemoryState). m.ever) link;
       sent = did.sent ∙ ap (λ (m : MemoryState). m.sent ++ s.sent) link;

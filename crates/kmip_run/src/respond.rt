@@ -32,30 +32,31 @@ fn item(tag: u32, node: Node) -> Tree
 fn one(alloc: Global, item: Tree) -> Result<Trees, OutOfMemory>
     ensures { IfOk result (λ items. items ≡ item ∷ []) }
 {
-    let mut items = Trees::new(alloc);
-    items.push(item)?;
-    Ok(items)
+    Ok(Trees::of_vec(vec![in alloc; item]?))
 }
 
 /// The version 1 of KMIP with this minor number.
 fn version(alloc: Global, minor: i32) -> Result<Tree, OutOfMemory>
     ensures { IfOk result (λ tree. tree ≡ version_tree minor) }
 {
-    let mut items = Trees::new(alloc);
-    items.push(item(PROTOCOL_VERSION_MAJOR, Node::Integer(1)))?;
-    items.push(item(PROTOCOL_VERSION_MINOR, Node::Integer(minor)))?;
-    Ok(item(PROTOCOL_VERSION, Node::Structure(items)))
+    let items = vec![in alloc;
+        item(PROTOCOL_VERSION_MAJOR, Node::Integer(1)),
+        item(PROTOCOL_VERSION_MINOR, Node::Integer(minor)),
+    ]?;
+    Ok(item(PROTOCOL_VERSION, Node::Structure(Trees::of_vec(items))))
 }
 
 /// The header of a response: its version, the time stamp 1, and that it has one batch item.
 fn head(alloc: Global, minor: i32) -> Result<Tree, OutOfMemory>
     ensures { IfOk result (λ tree. tree ≡ head_tree minor) }
 {
-    let mut items = Trees::new(alloc);
-    items.push(version(alloc, minor)?)?;
-    items.push(item(TIME_STAMP, Node::DateTime(1)))?;
-    items.push(item(BATCH_COUNT, Node::Integer(1)))?;
-    Ok(item(RESPONSE_HEADER, Node::Structure(items)))
+    let version = version(alloc, minor)?;
+    let items = vec![in alloc;
+        version,
+        item(TIME_STAMP, Node::DateTime(1)),
+        item(BATCH_COUNT, Node::Integer(1)),
+    ]?;
+    Ok(item(RESPONSE_HEADER, Node::Structure(Trees::of_vec(items))))
 }
 
 /// The canonical bytes of a tree, which has such.
@@ -73,10 +74,12 @@ fn written(alloc: Global, tree: &Tree) -> Result<Blob, OutOfMemory>
 fn response(alloc: Global, minor: i32, fields: Trees) -> Result<Blob, OutOfMemory>
     ensures { IfOk result (λ response. response ≡ or_empty (bytes (response_tree minor fields))) }
 {
-    let mut items = Trees::new(alloc);
-    items.push(head(alloc, minor)?)?;
-    items.push(item(BATCH_ITEM, Node::Structure(fields)))?;
-    written(alloc, &item(RESPONSE_MESSAGE, Node::Structure(items)))
+    let head = head(alloc, minor)?;
+    let items = vec![in alloc; head, item(BATCH_ITEM, Node::Structure(fields))]?;
+    written(
+        alloc,
+        &item(RESPONSE_MESSAGE, Node::Structure(Trees::of_vec(items))),
+    )
 }
 
 /// The item of an operation.
@@ -90,32 +93,35 @@ fn operation_item(operation: Operation) -> Tree
 fn done(alloc: Global, operation: Operation, payload: Trees) -> Result<Trees, OutOfMemory>
     ensures { IfOk result (λ fields. fields ≡ operation_tree operation ∷ done_trees payload) }
 {
-    let mut fields = Trees::new(alloc);
-    fields.push(operation_item(operation))?;
-    fields.push(item(
-        RESULT_STATUS,
-        Node::Enumeration(ResultStatus::Success.number()),
-    ))?;
-    fields.push(item(RESPONSE_PAYLOAD, Node::Structure(payload)))?;
-    Ok(fields)
+    let fields = vec![in alloc;
+        operation_item(operation),
+        item(
+            RESULT_STATUS,
+            Node::Enumeration(ResultStatus::Success.number()),
+        ),
+        item(RESPONSE_PAYLOAD, Node::Structure(payload)),
+    ]?;
+    Ok(Trees::of_vec(fields))
 }
 
 /// The fields of a batch item of an operation that found no such object.
 fn gone(alloc: Global, operation: Operation) -> Result<Trees, OutOfMemory>
     ensures { IfOk result (λ fields. fields ≡ operation_tree operation ∷ gone_trees) }
 {
-    let mut fields = Trees::new(alloc);
-    fields.push(operation_item(operation))?;
-    fields.push(item(
-        RESULT_STATUS,
-        Node::Enumeration(ResultStatus::OperationFailed.number()),
-    ))?;
-    fields.push(item(
-        RESULT_REASON,
-        Node::Enumeration(ResultReason::ItemNotFound.number()),
-    ))?;
-    fields.push(item(RESULT_MESSAGE, Node::TextString(Text::of(alloc, "gone")?)))?;
-    Ok(fields)
+    let message = Text::of(alloc, "gone")?;
+    let fields = vec![in alloc;
+        operation_item(operation),
+        item(
+            RESULT_STATUS,
+            Node::Enumeration(ResultStatus::OperationFailed.number()),
+        ),
+        item(
+            RESULT_REASON,
+            Node::Enumeration(ResultReason::ItemNotFound.number()),
+        ),
+        item(RESULT_MESSAGE, Node::TextString(message)),
+    ]?;
+    Ok(Trees::of_vec(fields))
 }
 
 /// `rng` of so many bytes, each of which is this one.
@@ -150,9 +156,11 @@ fn activated(alloc: Global, id: &str) -> Result<Recorded, OutOfMemory>
 fn queried(alloc: Global) -> Result<Recorded, OutOfMemory>
     ensures { IfOk result (λ made. made ≡ queried_made) }
 {
-    let mut payload = Trees::new(alloc);
-    payload.push(operation_item(Operation::Create))?;
-    payload.push(operation_item(Operation::Query))?;
+    let payload = vec![in alloc;
+        operation_item(Operation::Create),
+        operation_item(Operation::Query),
+    ]?;
+    let payload = Trees::of_vec(payload);
     let response = response(alloc, 2, done(alloc, Operation::Query, payload)?)?;
     Ok(Recorded {
         call: Call::Query,

@@ -1,7 +1,7 @@
 pub mod Writing
 pub mod Answering
-pub mod Keys
+pub mod Foretold
 pub mod Pairs
-pub mod Calls
+pub mod Requested
 pub mod Matched
 pub mod Settled

@@ -8,16 +8,18 @@
 //!     let response = server.answer(request)?;
 #![tactic(auto)]
 
-mod call_of;
 mod calls;
 mod items;
 mod keys;
 mod laws;
+mod own;
 mod pair;
+mod picking;
 mod server;
 mod stamp;
 
-pub use call_of::{call_of, request_of};
 pub use kmip_store::Call;
 pub use laws::{helper_is_matched, own_call, served_is_settled};
+pub use own::{call_known, is_request_of};
+pub use picking::{call_of, request_of};
 pub use server::Server;

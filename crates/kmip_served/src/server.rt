@@ -8,8 +8,8 @@ ghost use Rattle.kmip_served.specs.Requests.{is_served};
 ghost use Rattle.kmip_served.specs.Served.{served, served_request, asks, asks_request};
 ghost use Rattle.kmip_served.specs.State.{ServerState, Answers};
 
-use crate::call_of::call_of;
 use crate::calls::answer_call;
+use crate::picking::call_of;
 use crate::stamp::Stamp;
 use kmip_enums::{Operation, ResultReason};
 use kmip_request::RequestPayload;

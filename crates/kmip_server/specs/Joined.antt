@@ -1,6 +1,6 @@
 -- Calls of a client over a server: what each comes to.
 use Rattle.std.specs.Prelude.{◌≡◌, ℕ, ℤ, ◌<◌, Bool, true, false, List, [], ◌∷◌, ◌++◌, length, take, drop, Option, Some, None, if◌then◌else◌, Ok, Err, codes}
-use Rattle.kmip_shape.specs.Val.{Val, Record, NoField}
+use Rattle.kmip_shape.specs.Val.{Val, Record, Case, NoField}
 use Rattle.kmip_request.specs.Message.{request_bytes, operation_of}
 use Rattle.kmip_request_read.specs.Reading.{request_read, request_for}
 use Rattle.kmip_response_write.specs.Settled.{response_bytes, IsHeld as IsHeldResponse}
@@ -18,7 +18,7 @@ use Rattle.kmip_store.specs.declared.maker.Asked.{Asked}
 use Rattle.kmip_store.specs.declared.maker.Made.{Made}
 use Rattle.kmip_served.specs.Answering.{listed}
 use Rattle.kmip_served.specs.Served.{Served, served, asks}
-use Rattle.kmip_served.specs.Requests.{request_of, inside}
+use Rattle.kmip_served.specs.Requests.{request_of}
 use Rattle.kmip_server.specs.Machine.{first_for, rest_for}
 
 -- the settings of a client, and the time of its server
@@ -39,6 +39,11 @@ pub record Between : Type 0 where
 -- what is no answer of interest
 abbrev pub no_val : Val
 no_val = Record NoField
+
+-- the value in a case
+abbrev pub inside : Val → Val
+inside (Case n val) = val
+inside val = val
 
 -- what a helper returns of a payload: both identifiers of a pair, nothing, or the payload
 abbrev pub part_for : Call → Val → Val

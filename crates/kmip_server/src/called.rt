@@ -12,9 +12,8 @@ use crate::answers::{Answered, CallAnswer};
 use crate::ask::ask;
 use crate::link::ServerLink;
 use kmip_client::{Client, Error, Result};
-use kmip_request_read::{RequestReadError, from_slice, request_is_message, request_is_read};
-use kmip_served::{helper_is_matched, request_of};
-use kmip_shape::Item;
+use kmip_request_read::{request_is_message, request_is_read};
+use kmip_served::{call_known, helper_is_matched, is_request_of};
 use kmip_store::{Call, Maker};
 use kmip_wire::{Blob, OutOfMemory, Text};
 use std::alloc::Global;
@@ -71,24 +70,6 @@ fn left_by<M: Maker>(client: &mut Client<ServerLink<M>>) -> Left
         Left::Faulted
     } else {
         Left::Open
-    }
-}
-
-/// Whether bytes are the request of this call.
-fn is_request_of(
-    alloc: Global,
-    call: &Call,
-    bytes: &[u8],
-) -> std::result::Result<bool, OutOfMemory>
-    ensures { IfOk result (λ is. is ≡ true → IsRequestOf call.now bytes.now) }
-{
-    match from_slice(alloc, bytes) {
-        Ok((payload, _)) => {
-            let own = request_of(alloc, call)?;
-            Ok(payload == own)
-        }
-        Err(RequestReadError::OutOfMemory) => Err(OutOfMemory),
-        Err(RequestReadError::Malformed | RequestReadError::NotCanonical) => Ok(false),
     }
 }
 
@@ -198,8 +179,7 @@ fn reads_back<T>(
     request_is_read();
     helper_is_matched();
     client.known();
-    request_of(alloc, call)?.known();
-    Ok(())
+    call_known(alloc, call)
 }
 
 /// One call, and whether it was the last.

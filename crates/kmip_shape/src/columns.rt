@@ -292,11 +292,10 @@ pub(crate) fn push_item<T: ReadItem>(
         gathered (read_of T.shape (outer_of outer.entry)) (map T.val items.old.items)
         (item_tree child.entry ∷ xs) ≡ None }
 {
-    let value = T::read(alloc, outer, child)?;
     if items.is_empty() {
         items.reserve_exact(1)?;
     }
-    items.push(value)?;
+    items.push(T::read(alloc, outer, child)?)?;
     Ok(())
 }
 

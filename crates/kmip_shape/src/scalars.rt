@@ -14,6 +14,7 @@ pub const SCALAR_LEN: u64 = 16;
 
 /// Appends the head of a structure of so many bytes.
 #[tactic(auto, unfolding(crate::specs::Writes::structure_head))]
+#[inline(always)]
 pub fn put_structure(tag: Tag, len: u32, out: &mut Buffer)
     requires { 8 ≤ out.old.spare }
     ensures { Appends out.old out.new (structure_head tag len) 8 }
@@ -22,6 +23,7 @@ pub fn put_structure(tag: Tag, len: u32, out: &mut Buffer)
 }
 
 /// Appends an Integer.
+#[inline(always)]
 pub fn put_integer(tag: Tag, value: i32, out: &mut Buffer)
     requires { leaf_size (integer value) ≤ out.old.spare }
     ensures { Appends out.old out.new (leaf_text tag (integer value)) (leaf_size (integer value)) }
@@ -49,6 +51,7 @@ pub fn put_big_integer(tag: Tag, value: &[u8], out: &mut Buffer)
 }
 
 /// Appends an Enumeration.
+#[inline(always)]
 pub fn put_enumeration(tag: Tag, value: u32, out: &mut Buffer)
     requires { leaf_size (enumeration value) ≤ out.old.spare }
     ensures { Appends out.old out.new (leaf_text tag (enumeration value))

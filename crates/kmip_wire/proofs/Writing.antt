@@ -1,10 +1,11 @@
 -- The bytes of trees in order, one tree at a time, and their lengths.
-use Rattle.std.proofs.Common.{◌≡◌, ℕ, zero, suc, ◌+◌, ◌*◌, ◌%◌, ◌<◌, ◌≤◌, ◌^◌, ◌&&◌, Bool, true, false, cond, ltb, List, [], ◌∷◌, ◌++◌, length, take, drop, get_or, replicate, Option, Some, None, refl, sym, ap, subst, ◌∙◌, arith, append_assoc, length-append}
+use Rattle.std.proofs.Common.{◌≡◌, ℕ, zero, suc, ◌+◌, ◌-◌, ◌*◌, ◌%◌, ◌<◌, ◌≤◌, ◌^◌, ◌&&◌, Bool, true, false, cond, ltb, List, [], ◌∷◌, ◌++◌, length, take, drop, get_or, replicate, Option, Some, None, refl, sym, ap, subst, ◌∙◌, arith, append_assoc, length-append}
 use Rattle.std.specs.Option.{option_map}
 use Rattle.std.proofs.lemmas.Bool.{ltb-true, lt-ltb}
 use Rattle.std.proofs.lemmas.Option.{cond_some, same_Some, none-some}
 use Rattle.std.proofs.lemmas.Grind.{take_at_read}
 use Rattle.std.proofs.lemmas.List.{take_all, length-replicate}
+use Rattle.std.proofs.Math.Seq.{take-append-add, drop-append-add}
 use Rattle.kmip_wire.specs.Tree.{Tree, Trees, Scalar, trees_of, scalar, structure, none, more}
 use Rattle.kmip_wire.specs.declared.tree.Node.{Node}
 use Rattle.kmip_wire.specs.declared.tree.Node.TheVariants as nodes
@@ -304,11 +305,6 @@ fits tag ts n h =
     let f = fits_at tag (all_bytes ts) n h in
     record { value = f.0; all = f.1; short = f.2; even = all_even ts f.0 f.1; room = f.3 }
 
--- its head tells the length of its value
-pub fits_length : (tag : ℕ) (ts : Trees) (n len : ℕ) → (f : Fits tag ts n) → Some len ≡ option_map length (fitting (all_bytes ts)) → len ≡ length f.value
-fits_length tag ts n len f e =
-    same_Some len (length f.value) (e ∙ ap (λ o. option_map length (fitting o)) f.all ∙ ap (option_map length) (always (ltb (length f.value) (2 ^ 32)) f.value (lt-ltb (length f.value) (2 ^ 32) f.short)))
-
 no_pads : (n : ℕ) → n % 8 ≡ 0 → pads n ≡ 0
 no_pads n e = omega arith
 
@@ -326,19 +322,38 @@ none_to_come b [] (suc k) le e = sym (same_Some [] b e)
 none_to_come b (t ∷ ts) zero le e = absurd (omega arith)
 none_to_come b (t ∷ ts) (suc k) le e = none_to_come b ts k (omega arith) e
 
-pub structure_written : (ts : List Tree) (tag k len : ℕ) (old start now : Room) → HasRoom (bytes (structure tag (trees_of ts))) old.spare → Some len ≡ option_map length (fitting (all_bytes (trees_of ts)))
-    → Appends old start (head_bytes tag 1 len) 8 → length ts ≤ k → Rest ts k start now → Writes (bytes (structure tag (trees_of ts))) old now
-structure_written ts tag k len old start now h e head le r =
+-- once all were put, they are the value
+pub all_put : (ts : List Tree) (tag n k : ℕ) (start now : Room) → (f : Fits tag (trees_of ts) n) → length ts ≤ k → Rest ts k start now → (front : List ℕ) × (front ≡ f.value) × Appends start now front (length front)
+all_put ts tag n k start now f le r =
+    (r.front, sym (append_nil r.front) ∙ ap (λ x. r.front ++ x) (sym (none_to_come r.back ts k le r.to_come)) ∙ same_Some (r.front ++ r.back) f.value (r.all ∙ f.all), r.written)
+
+-- the place of the length in a head
+set_head : (a front : List ℕ) (tag code n len : ℕ) →
+    take (length a + 4) (a ++ (head_bytes tag code n ++ front)) ++ (to_be_bytes w32 len ++ drop (length a + 8) (a ++ (head_bytes tag code n ++ front)))
+    ≡ a ++ (head_bytes tag code len ++ front)
+set_head a front tag code n len =
+    let whole : List ℕ = head_bytes tag code n ++ front in
+    ap (λ x. x ++ (to_be_bytes w32 len ++ drop (length a + 8) (a ++ whole))) (take-append-add a whole 4)
+    ∙ ap (λ y. (a ++ take 4 whole) ++ (to_be_bytes w32 len ++ y)) (drop-append-add a whole 8)
+    ∙ append_assoc a (take 4 whole) (to_be_bytes w32 len ++ drop 8 whole)
+
+pub structure_set : (ts : List Tree) (tag k len : ℕ) (old start now new : Room) → HasRoom (bytes (structure tag (trees_of ts))) old.spare
+    → Appends old start (head_bytes tag 1 0) 8 → length ts ≤ k → Rest ts k start now → len ≡ length now.bytes - length old.bytes - 8
+    → new.bytes ≡ take (length old.bytes + 4) now.bytes ++ (to_be_bytes w32 len ++ drop (length old.bytes + 8) now.bytes) → new.spare ≡ now.spare
+    → Writes (bytes (structure tag (trees_of ts))) old new
+structure_set ts tag k len old start now new h head le r e set spare =
     let f = fits tag (trees_of ts) old.spare h in
-    let same : r.front ≡ f.value =
-    sym (append_nil r.front) ∙ ap (λ x. r.front ++ x) (sym (none_to_come r.back ts k le r.to_come)) ∙ same_Some (r.front ++ r.back) f.value (r.all ∙ f.all) in
-    let long : len ≡ length f.value = fits_length tag (trees_of ts) old.spare len f e in
-    let text : item_bytes tag 1 f.value ≡ head_bytes tag 1 len ++ r.front =
-    item_of_items tag f.value f.even ∙ ap (λ n. head_bytes tag 1 n ++ f.value) (sym long) ∙ ap (λ x. head_bytes tag 1 len ++ x) (sym same) in
-    let all : Appends old now (item_bytes tag 1 f.value) (length (item_bytes tag 1 f.value)) =
+    let p = all_put ts tag old.spare k start now f le r in
+    let whole : now.bytes ≡ old.bytes ++ (head_bytes tag 1 0 ++ p.0) = p.2.bytes ∙ ap (λ x. x ++ p.0) head.bytes ∙ append_assoc old.bytes (head_bytes tag 1 0) p.0 in
+    let long : len ≡ length f.value =
+    omega (arith, e, ap length head.bytes, length-append old.bytes (head_bytes tag 1 0), ap length p.2.bytes, length-append start.bytes p.0, ap length p.1) in
+    let text : item_bytes tag 1 f.value ≡ head_bytes tag 1 len ++ p.0 =
+    item_of_items tag f.value f.even ∙ ap (λ n. head_bytes tag 1 n ++ f.value) (sym long) ∙ ap (λ x. head_bytes tag 1 len ++ x) (sym p.1) in
+    let all : Appends old new (item_bytes tag 1 f.value) (length (item_bytes tag 1 f.value)) =
     record {
-      bytes = r.written.bytes ∙ ap (λ x. x ++ r.front) head.bytes ∙ append_assoc old.bytes (head_bytes tag 1 len) r.front ∙ ap (λ x. old.bytes ++ x) (sym text);
-      spare = omega (arith, r.written.spare, head.spare, ap length same, item_bytes-length tag 1 f.value, no_pads (length f.value) f.even);
+      bytes = set ∙ ap (λ x. take (length old.bytes + 4) x ++ (to_be_bytes w32 len ++ drop (length old.bytes + 8) x)) whole
+          ∙ set_head old.bytes p.0 tag 1 0 len ∙ ap (λ x. old.bytes ++ x) (sym text);
+      spare = omega (arith, spare, p.2.spare, head.spare, ap length p.1, item_bytes-length tag 1 f.value, no_pads (length f.value) f.even);
     } in
-    let P : Option (List ℕ) → Type 0 = λ o. Writes (framed tag o) old now in
-    subst P (sym f.all) (writes_if (ltb (length f.value) (2 ^ 32)) (item_bytes tag 1 f.value) old now all)
+    let P : Option (List ℕ) → Type 0 = λ o. Writes (framed tag o) old new in
+    subst P (sym f.all) (writes_if (ltb (length f.value) (2 ^ 32)) (item_bytes tag 1 f.value) old new all)

@@ -1,5 +1,5 @@
 // The buffer that writers write into, seen as its bytes and its spare room.
-ghost use Rattle.std.specs.Prelude.{◌≡◌, ◌+◌, ◌≤◌, ◌<◌, ◌^◌, [], length, replicate, OnOk, OnErr};
+ghost use Rattle.std.specs.Prelude.{◌≡◌, ◌++◌, take, drop, ◌+◌, ◌≤◌, ◌<◌, ◌^◌, [], length, replicate, OnOk, OnErr};
 ghost use Rattle.std.specs.Int.{w32, w64, to_be_bytes};
 ghost use Rattle.kmip_wire.specs.Kinds.{code_of};
 ghost use Rattle.kmip_wire.specs.Head.{pads};
@@ -129,6 +129,7 @@ impl Buffer {
     }
 
     /// Appends the head of an item, which is 8 bytes.
+    #[inline(always)]
     pub fn put_head(&mut self, tag: Tag, kind: Kind, len: u32)
         requires { 8 ≤ self.old.spare }
         ensures { Appends self.old self.new (head_bytes tag (code_of kind) len) 8 }
@@ -147,8 +148,25 @@ impl Buffer {
         ]);
     }
 
+    /// How many bytes it has.
+    pub fn len(&self) -> usize
+        ensures { result ≡ length self.now.bytes }
+    {
+        self.bytes.len()
+    }
+
+    /// Writes another length into the head that begins at a place.
+    pub(crate) fn set_length(&mut self, at: usize, len: u32)
+        requires { at + 8 ≤ length self.old.bytes }
+        ensures bytes { self.new.bytes ≡ take (at + 4) self.old.bytes ++ (to_be_bytes w32 len ++ drop (at + 8) self.old.bytes) }
+        ensures spare { self.new.spare ≡ self.old.spare }
+    {
+        self.bytes[at + 4..at + 8].copy_from_slice(&len.to_be_bytes());
+    }
+
     /// Appends an item of a value of four bytes, in one piece.
     #[tactic(auto, using(std::proofs::lemmas::List::append_assoc), unfolding(crate::specs::Bytes::item_bytes))]
+    #[inline(always)]
     pub fn put_four(&mut self, tag: Tag, kind: Kind, value: u32)
         requires { 16 ≤ self.old.spare }
         ensures { Appends self.old self.new (item_bytes tag (code_of kind) (to_be_bytes w32 value)) 16 }
@@ -177,6 +195,7 @@ impl Buffer {
 
     /// Appends an item of a value of eight bytes, in one piece.
     #[tactic(auto, using(std::proofs::lemmas::List::append_assoc), unfolding(crate::specs::Bytes::item_bytes))]
+    #[inline(always)]
     pub fn put_eight(&mut self, tag: Tag, kind: Kind, value: u64)
         requires { 16 ≤ self.old.spare }
         ensures { Appends self.old self.new (item_bytes tag (code_of kind) (to_be_bytes w64 value)) 16 }

@@ -101,6 +101,13 @@ impl Trees {
         }
     }
 
+    /// The items of a vector, in order.
+    pub fn of_vec(items: Vec<Tree>) -> Trees
+        ensures { result ≡ items.items }
+    {
+        Trees { items }
+    }
+
     /// Adds an item at the end. Where memory runs out, the list stays as it was and the item is dropped.
     pub fn push(&mut self, item: Tree) -> Result<(), OutOfMemory>
         ensures { self.new ≡ (if is_ok result then self.old ++ item ∷ [] else self.old) }

@@ -97,13 +97,13 @@ fn put_structure(tag: Tag, items: &[Tree], out: &mut Buffer)
     requires { HasRoom (bytes (structure tag (trees_of items.now))) out.old.spare }
     ensures { WritesInto (bytes (structure tag (trees_of items.now))) out.old out.new }
 {
-    let Some(len) = contents_len(items) else {
-        unreachable!()
-    };
-    out.put_head(tag, Kind::Structure, len as u32);
+    let start = out.len();
+    out.put_head(tag, Kind::Structure, 0);
     for item in items {
         put_tree(item, out);
     }
+    let len = out.len() - start - 8;
+    out.set_length(start, len as u32);
 }
 
 /// The canonical bytes of the tree.

@@ -4,5 +4,5 @@ pub mod Exchanges
 pub mod NamedValues
 pub mod Moves
 pub mod Numbers
-pub mod Offline
+pub mod EmptyLink
 pub mod Texts

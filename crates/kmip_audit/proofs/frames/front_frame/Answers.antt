@@ -1,4 +1,4 @@
-use Rattle.std.proofs.Common.{◌≡◌, ℕ, ◌≤◌, ◌<◌, ◌+◌, length, take, sym, ◌∙◌, ap, arith, Option, Some, None, Ok, Err}
+use Rattle.std.proofs.Common.{◌≡◌, take, sym, ◌∙◌, ap, arith, None, Ok, Err}
 use Rattle.kmip_wire.specs.Heads.{head_says}
 use Rattle.kmip_audit.proofs.Framing.{front_short, front_refused, front_torn, front_whole}
 use Rattle.kmip_audit.proofs.frames.front_frame.Goals as goal

@@ -1,9 +1,9 @@
-use Rattle.std.proofs.Common.{refl, sym, ap, ◌∙◌, arith, rules}
+use Rattle.std.proofs.Common.{refl, sym, ap, ◌∙◌, arith, rules, ℕ, ◌+◌, ◌-◌, ◌++◌, take, drop}
 use Rattle.std.specs.Int.{w32, w64, to_be_bytes, cast_unsigned}
 use Rattle.std.proofs.lemmas.Int.{to_z-of_z}
 use Rattle.kmip_wire.specs.Tree.{trees_of, integer, long_integer, big_integer, enumeration, boolean, text_string, byte_string, date_time, interval}
 use Rattle.kmip_wire.specs.Sees.{tree_of}
-use Rattle.kmip_wire.proofs.Writing.{put_room, put_done, four_room, four_done, eight_room, eight_done, truth_byte, fits, rest_start, rest_first, rest_next, structure_written, child_smaller}
+use Rattle.kmip_wire.proofs.Writing.{put_room, put_done, four_room, four_done, eight_room, eight_done, truth_byte, fits, rest_start, rest_first, rest_next, structure_set, child_smaller}
 use Rattle.kmip_wire.proofs.write.+write.Goals as goal
 
 pub put_tree-put_four-requires : goal.put_tree-put_four-requires
@@ -89,4 +89,8 @@ put_structure-loop-item-preserved t c =
 
 pub put_structure-returns : goal.put_structure-returns
 put_structure-returns t c =
-    structure_written c.args.items.now c.args.tag c.loop-item.item-index c.in-Some.len c.args.out.now c.put_head.new.self c.loop-item.out c.requires c.in-Some.ensures c.put_head.ensures c.loop-item-test.false c.loop-item.invariant
+    let len : ℕ = c.len.result - c.len-start.result - 8 in
+    structure_set c.args.items.now c.args.tag c.loop-item.item-index len c.args.out.now c.put_head.new.self c.loop-item.out c.set_length.new.self c.requires c.put_head.ensures c.loop-item-test.false c.loop-item.invariant
+    (omega (arith, c.len.ensures, c.len-start.ensures))
+    (c.set_length.ensures.bytes ∙ ap (λ s. take (s + 4) c.loop-item.out.bytes ++ (to_be_bytes w32 len ++ drop (s + 8) c.loop-item.out.bytes)) c.len-start.ensures)
+    c.set_length.ensures.spare

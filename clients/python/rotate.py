@@ -1,0 +1,39 @@
+#!/usr/bin/env python3
+"""Key rotation: a new RSA pair is made, made active and tried; it takes over the name of the old private key, which is
+then revoked and destroyed. It writes the new private key's identifier.
+
+    LIBKMIP=./libkmip.so rotate.py HOST PORT CERTIFICATE KEY AUTHORITY OLD-PRIVATE-KEY NAME
+"""
+import sys
+
+from metsuwan import Client, KmipError
+
+
+def rotate(kmip: Client, old: str, name: str) -> str:
+    """Each step is done only after the one before it was answered."""
+    new = kmip.create_rsa_key_pair(2048, name + ', new', name + ', public').private_key
+    kmip.activate(new)
+    kmip.sign(new, b'hello')
+    kmip.rename(old, name + ', old')
+    kmip.rename(new, name)
+    kmip.revoke(old)
+    kmip.destroy(old)
+    return new
+
+
+def main() -> int:
+    if len(sys.argv) != 8:
+        print('usage: rotate.py HOST PORT CERTIFICATE KEY AUTHORITY OLD-PRIVATE-KEY NAME', file=sys.stderr)
+        return 2
+    host, port, cert, key, ca, old, name = sys.argv[1:]
+    try:
+        with Client(host, int(port), cert=cert, key=key, ca=ca) as kmip:
+            print(rotate(kmip, old, name))
+    except (KmipError, OSError) as error:
+        print('%s: %s' % (getattr(error, 'kind', type(error).__name__), error), file=sys.stderr)
+        return 1
+    return 0
+
+
+if __name__ == '__main__':
+    sys.exit(main())

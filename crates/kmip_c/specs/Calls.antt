@@ -1,0 +1,51 @@
+-- Calls as C makes them: a line of words, and a credential of bytes.
+use Rattle.std.specs.Prelude.{◌≡◌, ℕ, ℤ, pos, Bool, true, false, ◌&&◌, List, Option, Some, None, if◌then◌else◌}
+use Rattle.std.specs.Str.{is_utf8}
+use Rattle.kmip_client.specs.Client.{credential_for}
+use Rattle.kmip_client.specs.Outcome.{Answer}
+use Rattle.kmip_words.specs.Words.{words_of}
+use Rattle.kmip_words.specs.Calls.{typed_call}
+use Rattle.kmip_words.specs.Exchange.{Settings, asked, call_outcome, ending_of, json_line}
+use Rattle.kmip_words.specs.declared.call.Call.{Call}
+use Rattle.kmip_words.specs.declared.ending.Ending.{Ending}
+use Rattle.kmip_words.specs.declared.ending.Ending.TheVariants.{Answered, Refused, Lost}
+use Rattle.kmip_c.specs.Codes.{IsTold, grammar, no_form}
+
+abbrev pub call_from : Option (List (List ℕ)) → Option Call
+call_from (Some words) = typed_call words
+call_from None = None
+
+-- the call of a line, where the line is of the grammar
+abbrev pub call_of : List ℕ → Option Call
+call_of line = if is_utf8 line then call_from (words_of line) else None
+
+-- what calls go by that have no credential, and no limit: how long a response may be was asked of its head
+abbrev pub plain : Settings
+plain = record { credential = None; limit = None; buffered = false }
+
+-- what calls go by that have a credential or none; none where they are to have one, and it is no text
+abbrev pub settings_of : Bool → List ℕ → List ℕ → Option Settings
+settings_of false user password = Some plain
+settings_of true user password =
+    if is_utf8 user && is_utf8 password then Some (record { credential = credential_for (Some user) (Some password); limit = None; buffered = false }) else None
+
+-- what is told of a request, memory aside: its bytes, or that it has no form, or that what was given is not of the grammar
+abbrev pub IsRequested : Option Settings → Option Call → List ℕ → ℤ → List ℕ → Type 0
+IsRequested (Some settings) (Some call) before result after = IsTold (asked call settings.credential).message no_form before result after
+IsRequested settings call before result after = (result ≡ grammar) × (after ≡ before)
+
+-- 0, 1 and 3
+abbrev pub status_of : Ending → ℤ
+status_of Answered = pos 0
+status_of Refused = pos 1
+status_of Lost = pos 3
+
+-- the answer of a client that sent the call and has these bytes to read
+abbrev pub answer_to : Call → List ℕ → Answer
+answer_to call response = (call_outcome plain call response).answer
+
+-- what is told of a response, memory aside: how the call ended, and the line of its answer; or that the call is not of the grammar
+abbrev pub IsAnswered : Option Call → List ℕ → ℤ → List ℕ → ℤ → List ℕ → Type 0
+IsAnswered (Some call) response status before length after =
+    (status ≡ status_of (ending_of (answer_to call response))) × IsTold (Some (json_line call (answer_to call response))) (pos 0) before length after
+IsAnswered None response status before length after = (status ≡ pos 2) × IsTold None (pos 0) before length after

@@ -1,0 +1,44 @@
+//! What a response answers to a call of C's bytes.
+ghost use Rattle.std.specs.Prelude.{◌≡◌, IfOk, MatchOption, None, Some};
+ghost use Rattle.kmip_words.specs.declared.call.Call.{Call as TheCall};
+ghost use Rattle.kmip_words.specs.Exchange.{ending_of, json_line};
+ghost use Rattle.kmip_c.specs.Calls.{call_of, answer_to, status_of};
+
+use crate::call::call_of;
+use kmip_wire::{OutOfMemory, Text};
+use kmip_words::{Ending, Settings, answer_of};
+use std::alloc::Global;
+
+/// How a call ended, and the line of its answer.
+#[derive(Drop)]
+pub struct AnswerLine {
+    pub ending: Ending,
+    pub line: Text,
+}
+
+/// The status of a call that ended so.
+pub fn status_of(ending: Ending) -> i32
+    ensures { result ≡ status_of ending }
+{
+    match ending {
+        Ending::Answered => 0,
+        Ending::Refused => 1,
+        Ending::Lost => 3,
+    }
+}
+
+/// How a call ended that has this response, and its line. None where the call is not of the grammar.
+pub fn told(alloc: Global, call: &[u8], response: &[u8]) -> Result<Option<AnswerLine>, OutOfMemory>
+    ensures grammar { IfOk result (λ told. call_of call.now ≡ None → told ≡ None) }
+    ensures told { (c : TheCall) → call_of call.now ≡ Some c → IfOk result (λ told. MatchOption told ⊥
+        (λ t. (t.ending ≡ ending_of (answer_to c response.now)) ×
+        (t.line ≡ json_line c (answer_to c response.now)))) }
+{
+    let Some(call) = call_of(alloc, call)? else {
+        return Ok(None);
+    };
+    let settings = Settings::new(None, None, None);
+    let mut line = Text::new(alloc);
+    let ending = answer_of(alloc, &settings, call, response, &mut line)?;
+    Ok(Some(AnswerLine { ending, line }))
+}

@@ -1,0 +1,14 @@
+//! Lengths as snprintf tells them.
+ghost use Rattle.std.specs.Prelude.{◌≡◌, pos, length};
+ghost use Rattle.kmip_c.specs.Codes.{written};
+
+/// Copies the bytes to the front of the room, where they fit, and gives how many they are.
+pub fn copy_out(bytes: &[u8], room: &mut [u8]) -> i64
+    ensures len { result ≡ pos (length bytes.now) }
+    ensures room { room.new ≡ written bytes.now room.old }
+{
+    if bytes.len() <= room.len() {
+        room[..bytes.len()].copy_from_slice(bytes);
+    }
+    bytes.len() as i64
+}

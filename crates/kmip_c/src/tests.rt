@@ -1,0 +1,101 @@
+//! The calls as a caller makes them, on a response that was written by hand.
+use crate::{kmip_answer, kmip_contents_len, kmip_request, kmip_value};
+use std::alloc::Global;
+
+/// A response to a request for random bytes.
+const RESPONSE: [u8; 152] = [
+    0x42, 0x00, 0x7B, 0x01, 0x00, 0x00, 0x00, 0x90, 0x42, 0x00, 0x7A, 0x01, 0x00, 0x00, 0x00, 0x48,
+    0x42, 0x00, 0x69, 0x01, 0x00, 0x00, 0x00, 0x20, 0x42, 0x00, 0x6A, 0x02, 0x00, 0x00, 0x00, 0x04,
+    0x00, 0x00, 0x00, 0x01, 0x00, 0x00, 0x00, 0x00, 0x42, 0x00, 0x6B, 0x02, 0x00, 0x00, 0x00, 0x04,
+    0x00, 0x00, 0x00, 0x02, 0x00, 0x00, 0x00, 0x00, 0x42, 0x00, 0x92, 0x09, 0x00, 0x00, 0x00, 0x08,
+    0x00, 0x00, 0x00, 0x00, 0x00, 0x00, 0x00, 0x01, 0x42, 0x00, 0x0D, 0x02, 0x00, 0x00, 0x00, 0x04,
+    0x00, 0x00, 0x00, 0x01, 0x00, 0x00, 0x00, 0x00, 0x42, 0x00, 0x0F, 0x01, 0x00, 0x00, 0x00, 0x38,
+    0x42, 0x00, 0x5C, 0x05, 0x00, 0x00, 0x00, 0x04, 0x00, 0x00, 0x00, 0x25, 0x00, 0x00, 0x00, 0x00,
+    0x42, 0x00, 0x7F, 0x05, 0x00, 0x00, 0x00, 0x04, 0x00, 0x00, 0x00, 0x00, 0x00, 0x00, 0x00, 0x00,
+    0x42, 0x00, 0x7C, 0x01, 0x00, 0x00, 0x00, 0x10, 0x42, 0x00, 0xC2, 0x08, 0x00, 0x00, 0x00, 0x04,
+    0xDE, 0xAD, 0xBE, 0xEF, 0x00, 0x00, 0x00, 0x00,
+];
+
+/// The line of its answer.
+const LINE: &str = "{\"answer\":{\"random_bytes\":\"DEADBEEF\"}}\n";
+
+#[test]
+fn a_request_is_written_where_it_fits(rt: HostRuntime) {
+    let alloc: Global = rt.alloc();
+    let mut into = [7u8; 122];
+    assert!(rt; kmip_request(alloc, b"rng 16", false, b"", b"", &mut into) == 120);
+    assert!(rt; &into[..4] == [0x42, 0x00, 0x78, 0x01].as_slice());
+    assert!(rt; &into[119..] == [0, 7, 7].as_slice());
+    let mut short = [7u8; 119];
+    assert!(rt; kmip_request(alloc, b"rng 16", false, b"", b"", &mut short) == 120);
+    assert!(rt; short[0] == 7);
+    assert!(rt; kmip_request(alloc, b"discover", false, b"", b"", &mut into) > 0);
+}
+
+#[test]
+fn a_credential_is_sent_where_one_is_given(rt: HostRuntime) {
+    let alloc: Global = rt.alloc();
+    let mut into = [0u8; 400];
+    let length = kmip_request(alloc, b"rng 16", true, b"alice", b"secret", &mut into);
+    assert!(rt; length > 120);
+    assert!(rt; into.windows(6).any(|it| it == b"secret".as_slice()));
+    assert!(rt; kmip_request(alloc, b"rng 16", false, &[255], &[255], &mut into) == 120);
+    assert!(rt; kmip_request(alloc, b"rng 16", true, &[255], b"p", &mut into) == -2);
+    assert!(rt; kmip_request(alloc, b"rng 16", true, b"u", &[255], &mut into) == -2);
+}
+
+#[test]
+fn a_call_that_is_none_has_no_request(rt: HostRuntime) {
+    let alloc: Global = rt.alloc();
+    let mut into = [7u8; 8];
+    assert!(rt; kmip_request(alloc, b"rng", false, b"", b"", &mut into) == -2);
+    assert!(rt; kmip_request(alloc, b"rng  16", false, b"", b"", &mut into) == -2);
+    assert!(rt; kmip_request(alloc, &[255], false, b"", b"", &mut into) == -2);
+    assert!(rt; into == [7u8; 8]);
+}
+
+#[test]
+fn a_response_is_answered(rt: HostRuntime) {
+    let alloc: Global = rt.alloc();
+    let mut line = [7u8; 100];
+    let mut length = 0;
+    assert!(rt; kmip_answer(alloc, b"rng 16", &RESPONSE, &mut line, &mut length) == 0);
+    assert!(rt; length == 39);
+    assert!(rt; &line[..39] == LINE.as_bytes());
+    assert!(rt; line[39] == 7);
+    assert!(rt; kmip_answer(alloc, b"query", &RESPONSE, &mut line, &mut length) == 1);
+    assert!(rt; kmip_answer(alloc, b"rng 16", &RESPONSE[..151], &mut line, &mut length) == 3);
+    assert!(rt; kmip_answer(alloc, b"rng", &RESPONSE, &mut line, &mut length) == 2);
+    assert!(rt; length == 0);
+}
+
+#[test]
+fn a_head_tells_how_many_bytes_follow(rt: HostRuntime) {
+    assert!(rt; kmip_contents_len(&RESPONSE[..8], 0) == 144);
+    assert!(rt; kmip_contents_len(&RESPONSE[..8], 152) == 144);
+    assert!(rt; kmip_contents_len(&RESPONSE[..8], 151) == -4);
+    assert!(rt; kmip_contents_len(&RESPONSE[16..24], 0) == 32);
+    assert!(rt; kmip_contents_len(&RESPONSE[24..32], 0) == -3);
+    assert!(rt; kmip_contents_len(&RESPONSE[..7], 0) == -2);
+    assert!(rt; kmip_contents_len(&RESPONSE[..9], 0) == -2);
+}
+
+#[test]
+fn a_value_is_found_by_its_tag(rt: HostRuntime) {
+    let mut into = [7u8; 8];
+    assert!(rt; kmip_value(&RESPONSE, 0x4200C2, 0, &mut into) == 4);
+    assert!(rt; into == [0xDE, 0xAD, 0xBE, 0xEF, 7, 7, 7, 7]);
+    assert!(rt; kmip_value(&RESPONSE, 0x420069, 0, &mut into) == 32);
+    assert!(rt; into == [0xDE, 0xAD, 0xBE, 0xEF, 7, 7, 7, 7]);
+    assert!(rt; kmip_value(&RESPONSE, 0x42005C, 0, &mut into) == 4);
+    assert!(rt; into == [0, 0, 0, 0x25, 7, 7, 7, 7]);
+}
+
+#[test]
+fn a_value_that_is_not_there_is_not_found(rt: HostRuntime) {
+    let mut into = [7u8; 8];
+    assert!(rt; kmip_value(&RESPONSE, 0x4200C2, 1, &mut into) == -3);
+    assert!(rt; kmip_value(&RESPONSE, 0x420066, 0, &mut into) == -3);
+    assert!(rt; kmip_value(&RESPONSE[..151], 0x4200C2, 0, &mut into) == -3);
+    assert!(rt; into == [7u8; 8]);
+}
