@@ -3,6 +3,7 @@ pub mod Messages
 pub mod Exchanges
 pub mod Checks
 pub mod Headlines
+pub mod Texts
 pub mod Variants
 pub mod Helped
 pub mod Sessions

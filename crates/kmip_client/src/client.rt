@@ -2,6 +2,7 @@
 ghost use Rattle.std.specs.Prelude.{◌≡◌, ◌+◌, ◌<◌, None, Some, IfOk, IsTrue, [], option_map, take, ◌-◌, false};
 ghost use Rattle.kmip_link.specs.State.{Keeps};
 ghost use Rattle.kmip_request.specs.Message.{request_bytes, operation_of, credential_of};
+ghost use Rattle.kmip_request.specs.Held.{AreTexts};
 ghost use Rattle.kmip_shape.specs.Val.{Val};
 ghost use Rattle.kmip_response.specs.Values.{response_payload_val};
 ghost use Rattle.kmip_client.specs.Client.{ClientState, loses_connection, lacks_memory, counted, IsOfOperation};
@@ -17,6 +18,7 @@ use crate::room::Room;
 use kmip_link::Link;
 use kmip_request::{Authentication, RequestPayload};
 use kmip_response::ResponsePayload;
+use kmip_shape::Item;
 use kmip_wire::{Config, OutOfMemory, Text, clone_optional};
 use std::alloc::Global;
 use std::marker::Model;
@@ -86,6 +88,17 @@ impl<T> Client<T> {
         match &self.diagnostics.response {
             Some(text) => Some(text.as_str()),
             None => None,
+        }
+    }
+
+    /// What holds of each client: the texts of its credential are UTF-8. It does nothing.
+    #[tactic(auto, using(crate::proofs::Texts::texts_known))]
+    pub fn known(&self)
+        ensures { AreTexts self.now.credential }
+    {
+        match &self.settings.authentication {
+            Some(authentication) => authentication.known(),
+            None => {}
         }
     }
 

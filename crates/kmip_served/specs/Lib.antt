@@ -3,5 +3,4 @@ pub mod Picked
 pub mod Items
 pub mod Served
 pub mod Answering
-pub mod Machine
 pub mod State

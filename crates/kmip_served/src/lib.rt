@@ -12,6 +12,7 @@ mod calls;
 mod items;
 mod keys;
 mod laws;
+mod own;
 mod pair;
 mod picking;
 mod server;
@@ -19,5 +20,6 @@ mod stamp;
 
 pub use kmip_store::Call;
 pub use laws::{helper_is_matched, own_call, served_is_settled};
+pub use own::{call_known, is_request_of};
 pub use picking::{call_of, request_of};
 pub use server::Server;

@@ -1,19 +1,16 @@
--- What serving messages one after the other comes to.
-use Rattle.std.specs.Prelude.{ℕ, ℤ, List, [], ◌∷◌, ◌++◌, fold, Option, Some, None}
-use Rattle.kmip_response.specs.declared.message.ResponseMessage.{ResponseMessage}
+-- A server that is fed bytes: the messages in them, and what serving these one after the other comes to.
+use Rattle.std.specs.Prelude.{◌≡◌, ℕ, ℤ, List, [], ◌∷◌, ◌++◌, fold, Option, Some, None}
 use Rattle.kmip_response_write.specs.Settled.{response_bytes}
+use Rattle.kmip_store.specs.declared.object.Object.{Object}
 use Rattle.kmip_store.specs.declared.maker.Asked.{Asked}
 use Rattle.kmip_store.specs.declared.maker.Made.{Made}
-use Rattle.kmip_store.specs.declared.object.Object.{Object}
-use Rattle.kmip_served.specs.Served.{Served, served, asks}
 use Rattle.kmip_served.specs.Answering.{listed}
+use Rattle.kmip_served.specs.Served.{Served, served, asks}
 
 -- what serving came to
 pub record Run : Type 0 where
   pub objects : List Object
-  -- the responses in order
-  pub told : List ResponseMessage
-  -- their bytes one after the other, none once a response has no wire form
+  -- the responses one after the other, none once a response has no wire form
   pub ever : Option (List ℕ)
   -- the questions to the maker
   pub asked : List Asked
@@ -37,18 +34,16 @@ then_bytes ever bytes = None
 -- one message more
 unfoldable pub serve : ℤ → Run → List ℕ → Run
 serve time run b =
-    let question = asks run.objects b in
-    let s = served run.objects b (first_for question run.given) time in
+    let s = served run.objects b (first_for (asks run.objects b) run.given) time in
     record {
       objects = s.objects;
-      told = run.told ++ s.message ∷ [];
       ever = then_bytes run.ever (response_bytes s.message);
-      asked = run.asked ++ listed question;
-      given = rest_for question run.given;
+      asked = run.asked ++ listed (asks run.objects b);
+      given = rest_for (asks run.objects b) run.given;
     }
 
 abbrev pub fresh : List Made → Run
-fresh given = record { objects = []; told = []; ever = Some []; asked = []; given = given }
+fresh given = record { objects = []; ever = Some []; asked = []; given = given }
 
 -- serving these messages with these answers of the maker, from an empty store
 unfoldable pub run_of : ℤ → List Made → List (List ℕ) → Run
