@@ -21,8 +21,8 @@ returns-in-Answered c =
     (ap (λ (m : MemoryState). m.pos) c.in_ok-client.ensures.link ∙ c.in_ok-link_over.ensures.pos)
     c.in_ok-answer.ensures (λ lost. not_lost.0 (sym c.in-Answered.is ∙ lost))
 
-pub returns-in-Refused : goal.returns-in-Refused
-returns-in-Refused c =
+pub returns : goal.returns
+returns c =
     none_is c.in_ok-client.client c.answer.new.client c.args.settings.now c.args.call c.in_ok-answer.field-0 c.new-line.result c.answer.new.line
     c.in_ok-client.ensures.settings
     (ap (λ (m : MemoryState). m.ever) c.in_ok-client.ensures.link ∙ c.in_ok-link_over.ensures.ever)
