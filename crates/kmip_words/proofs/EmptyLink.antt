@@ -1,10 +1,14 @@
--- What was sent over a link that has nothing to read.
-use Rattle.std.proofs.Common.{◌≡◌, ℕ, List, [], refl, ◌∙◌, ap, arith, Option, Some, None}
+-- A call over a link that holds all that is to be read.
+use Rattle.std.proofs.Common.{◌≡◌, ℕ, List, [], ◌++◌, drop, refl, ◌∙◌, ap, sym, arith, Option, Some, None, Result, Ok, Err, IfOk, OnOk}
+use Rattle.kmip_shape.specs.declared.style.Style.TheVariants.{Json}
+use Rattle.kmip_link.specs.Plan.{MemoryState}
 use Rattle.kmip_enums.specs.declared.operation.Operation.{Operation}
+use Rattle.kmip_client.specs.Client.{ClientState}
 use Rattle.kmip_client.specs.Message.{Message}
 use Rattle.kmip_client.specs.Outcome.{outcome_of, answer_of}
 use Rattle.kmip_client.proofs.Messages.{message_short}
-use Rattle.kmip_words.specs.Exchange.{ending_of}
+use Rattle.kmip_words.specs.Exchange.{Settings, settings_of, asked, ending_of, json_line, call_outcome, step_in, Answers}
+use Rattle.kmip_words.specs.declared.call.Call.{Call}
 use Rattle.kmip_words.specs.declared.ending.Ending.{Ending}
 use Rattle.kmip_words.specs.declared.ending.Ending.TheVariants.{Lost}
 
@@ -19,3 +23,39 @@ pub none_by_kept : (message : Option (List ℕ)) (operation : Operation) (limit 
     None ≡ message
 none_by_kept None operation limit ending is kept = refl
 none_by_kept (Some message) operation limit ending is kept = absurd (kept (is ∙ ap (λ (here : Message). ending_of (answer_of operation here)) (message_short [] limit (omega arith))))
+
+left_is : (link : MemoryState) (bytes : List ℕ) → link.ever ≡ bytes → link.pos ≡ 0 → drop link.pos link.ever ≡ bytes
+left_is link bytes ever pos = rw (pos, ever) refl
+
+-- the line of the answer
+pub line_of : {E : Type 0} (result : Result Ending E) (before after : ClientState MemoryState) (settings : Settings) (call : Call) (response old new : List ℕ) →
+    settings_of before ≡ settings → before.link.ever ≡ response → before.link.pos ≡ 0 →
+    IfOk result (λ ending. Answers (step_in Json (settings_of before) call (drop before.link.pos before.link.ever)) before after ending old new) →
+    OnOk result (new ≡ old ++ json_line call (call_outcome settings call response).answer)
+line_of (Ok ending) before after settings call response old new same ever pos did =
+    did.shown
+    ∙ ap (λ (l : List ℕ). old ++ json_line call (call_outcome (settings_of before) call l).answer) (left_is before.link response ever pos)
+    ∙ ap (λ (s : Settings). old ++ json_line call (call_outcome s call response).answer) same
+line_of (Err error) before after settings call response old new same ever pos did = tt
+
+-- the request that was sent
+pub sent_is : (before after : ClientState MemoryState) (settings : Settings) (call : Call) (ending : Ending) (old new sent : List ℕ) →
+    settings_of before ≡ settings → before.link.sent ≡ [] →
+    Answers (step_in Json (settings_of before) call (drop before.link.pos before.link.ever)) before after ending old new → ending ≡ Lost → sent ≡ after.link.sent →
+    Some sent ≡ (asked call settings.credential).message
+sent_is before after settings call ending old new sent same none did lost sent_all =
+    let rest : List ℕ = drop before.link.pos before.link.ever in
+    let by : Some (call_outcome (settings_of before) call rest).sent ≡ (asked call (settings_of before).credential).message =
+    sent_by_lost (asked call (settings_of before).credential).message (asked call (settings_of before).credential).operation (settings_of before).limit rest (sym lost ∙ did.ending_is) in
+    let bytes : sent ≡ (call_outcome (settings_of before) call rest).sent = sent_all ∙ did.sent ∙ ap (λ (l : List ℕ). l ++ (call_outcome (settings_of before) call rest).sent) none in
+    ap (λ (l : List ℕ). Some l) bytes ∙ by ∙ ap (λ (s : Settings). (asked call s.credential).message) same
+
+-- none was sent
+pub none_is : (before after : ClientState MemoryState) (settings : Settings) (call : Call) (ending : Ending) (old new : List ℕ) →
+    settings_of before ≡ settings → before.link.ever ≡ [] → before.link.pos ≡ 0 →
+    Answers (step_in Json (settings_of before) call (drop before.link.pos before.link.ever)) before after ending old new → (ending ≡ Lost → ⊥) →
+    None ≡ (asked call settings.credential).message
+none_is before after settings call ending old new same ever pos did kept =
+    let at_end : ending ≡ ending_of (call_outcome (settings_of before) call []).answer = did.ending_is ∙ ap (λ (l : List ℕ). ending_of (call_outcome (settings_of before) call l).answer) (left_is before.link [] ever pos) in
+    none_by_kept (asked call (settings_of before).credential).message (asked call (settings_of before).credential).operation (settings_of before).limit ending at_end kept
+    ∙ ap (λ (s : Settings). (asked call s.credential).message) same

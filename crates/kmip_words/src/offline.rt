@@ -98,7 +98,8 @@ pub fn request_of(
     match answer(alloc, &mut client, Style::Json, call, &mut line)? {
         // a request that was sent found the link at its end
         Ending::Lost => Ok(Some(sent_by(alloc, &mut client)?)),
-        Ending::Answered | Ending::Refused => Ok(None),
+        Ending::Answered => Ok(None),
+        Ending::Refused => Ok(None),
     }
 }
 

@@ -29,26 +29,14 @@ fn error_name(error: &Error) -> &'static str
     }
 }
 
-/// Adds a value in a style.
-fn push_styled<P: ShowItem>(
-    alloc: Global,
-    style: Style,
-    value: &P,
-    line: &mut Text,
-) -> Result<(), OutOfMemory>
-    ensures { OnOk result (line.new ≡ line.old ++ styled P.shape (P.val value.now) style) }
-{
-    match style {
-        Style::Bare => value.show(alloc, line),
-        Style::Json => value.show_json(alloc, line),
-    }
-}
-
 /// Adds a text in a style, with its quotes.
 fn push_text(alloc: Global, style: Style, text: &Text, line: &mut Text) -> Result<(), OutOfMemory>
     ensures { OnOk result (line.new ≡ line.old ++ text_styled text.now style) }
 {
-    push_styled(alloc, style, text, line)
+    match style {
+        Style::Bare => text.show(alloc, line),
+        Style::Json => text.show_json(alloc, line),
+    }
 }
 
 /// Adds a text as a JSON string.
@@ -103,24 +91,35 @@ pub fn show_error(
     Ok(Ending::of_error(error))
 }
 
-/// What stands before a value in its line.
-fn opening(style: Style) -> &'static str {
-    match style {
-        Style::Bare => "= ",
-        Style::Json => "{\"answer\":",
-    }
+/// Adds `= ` and a payload as a line.
+#[tactic(auto, using(std::proofs::lemmas::List::append_assoc))]
+fn push_bare_payload<P: ShowItem>(
+    alloc: Global,
+    payload: &P,
+    line: &mut Text,
+) -> Result<(), OutOfMemory>
+    ensures { OnOk result (line.new ≡ line.old ++ value_line (styled P.shape (P.val payload.now) Bare) Bare) }
+{
+    line.push_str("= ")?;
+    payload.show(alloc, line)?;
+    line.push_str("\n")
 }
 
-/// What stands after it.
-fn closing(style: Style) -> &'static str {
-    match style {
-        Style::Bare => "\n",
-        Style::Json => "}\n",
-    }
+/// Adds a payload as a line of JSON.
+#[tactic(auto, using(std::proofs::lemmas::List::append_assoc))]
+fn push_json_payload<P: ShowItem>(
+    alloc: Global,
+    payload: &P,
+    line: &mut Text,
+) -> Result<(), OutOfMemory>
+    ensures { OnOk result (line.new ≡ line.old ++ value_line (styled P.shape (P.val payload.now) Json) Json) }
+{
+    line.push_str("{\"answer\":")?;
+    payload.show_json(alloc, line)?;
+    line.push_str("}\n")
 }
 
 /// Adds a payload as a line.
-#[tactic(auto, using(std::proofs::lemmas::List::append_assoc))]
 fn push_payload<P: ShowItem>(
     alloc: Global,
     style: Style,
@@ -129,9 +128,10 @@ fn push_payload<P: ShowItem>(
 ) -> Result<(), OutOfMemory>
     ensures { OnOk result (line.new ≡ line.old ++ value_line (styled P.shape (P.val payload.now) style) style) }
 {
-    line.push_str(opening(style))?;
-    push_styled(alloc, style, payload, line)?;
-    line.push_str(closing(style))
+    match style {
+        Style::Bare => push_bare_payload(alloc, payload, line),
+        Style::Json => push_json_payload(alloc, payload, line),
+    }
 }
 
 /// Adds the payload or the error as a line, and says how the call ended.
@@ -207,11 +207,13 @@ fn push_json_pair(
 ) -> Result<(), OutOfMemory>
     ensures { OnOk result (line.new ≡ line.old ++ value_line (pair_styled first.now second.now Json) Json) }
 {
-    line.push_str("{\"answer\":{\"private_key\":")?;
+    line.push_str("{\"answer\":")?;
+    line.push_str("{\"private_key\":")?;
     push_text(alloc, Style::Json, first, line)?;
     line.push_str(",\"public_key\":")?;
     push_text(alloc, Style::Json, second, line)?;
-    line.push_str("}}\n")
+    line.push_str("}")?;
+    line.push_str("}\n")
 }
 
 /// Adds two identifiers as a line.
