@@ -105,7 +105,7 @@ serve_framed law t (w ∷ ws) run n so_far e h =
     let on : (x : List ℕ) → (serve t run w).ever ≡ Some x → Framed (suc n) x =
     λ x is.
     let both = both_of run.ever (response_to t run w) x (sym (serve_ever t run w) ∙ is) in
-    rw both.all_is (framed_on n both.first both.second (so_far both.first both.ever_is) (law _ both.second both.bytes_is)) in
+    rw both.all_is (framed_on n both.first both.second (so_far both.first both.ever_is) (law (served run.objects w (first_for (asks run.objects w) run.given) t).message both.second both.bytes_is)) in
     let z : n + length (w ∷ ws) ≡ suc n + length ws = omega arith in
     rw z (serve_framed law t ws (serve t run w) (suc n) on e h)
 

@@ -47,12 +47,18 @@ contents_are tag (Some v) b even h = go (nat_lt (length v) (2 ^ 32)) refl h
     go true e k = subst IsStructure (some_same _ _ k) (item_is tag v (ltb-true (length v) (2 ^ 32) e) even)
     go false e k = none_some _ k
 
-structure_is : (tag : ℕ) (o : Option (List Tree)) (b : List ℕ) → option_and_then bytes (structure_of tag o) ≡ Some b → IsStructure b
-structure_is tag None b h = none_some _ h
-structure_is tag (Some ts) b h = contents_are tag (all_bytes (trees_of ts)) b (trees_aligned (trees_of ts)) h
+some_bytes : (o : Option Tree) (b : List ℕ) → option_and_then bytes o ≡ Some b → (t : Tree) × (o ≡ Some t) × (bytes t ≡ Some b)
+some_bytes None b h = none_some _ h
+some_bytes (Some t) b h = (t, refl, h)
+
+structure_is : (o : Option (List Tree)) (tag : ℕ) (t : Tree) (b : List ℕ) → structure_of tag o ≡ Some t → bytes t ≡ Some b → IsStructure b
+structure_is None tag t b e h = none_some _ e
+structure_is (Some ts) tag t b e h = contents_are tag (all_bytes (trees_of ts)) b (trees_aligned (trees_of ts)) (ap bytes (some_same _ _ e) ∙ h)
 
 response_is : (m : ResponseMessage) (b : List ℕ) → response_bytes m ≡ Some b → IsStructure b
-response_is m b h = structure_is 0x42007B _ b h
+response_is m b h =
+    let s = some_bytes (response_tree m) b h in
+    structure_is _ 0x42007B s.0 b s.1 s.2
 
 pub response_is_message : (m : ResponseMessage) (b : List ℕ) → response_bytes m ≡ Some b → IsMessage b
 response_is_message m b h = (response_is m b h).message
@@ -64,10 +70,6 @@ table_in_range = refl
 
 table_depth : depth response_message ≤ 64
 table_depth = omega arith
-
-some_bytes : (o : Option Tree) (b : List ℕ) → option_and_then bytes o ≡ Some b → (t : Tree) × (o ≡ Some t) × (bytes t ≡ Some b)
-some_bytes None b h = none_some _ h
-some_bytes (Some t) b h = (t, refl, h)
 
 -- the tree that a response's bytes are written of, as which they parse
 written : (m : ResponseMessage) (b : List ℕ) → IsHeld m → response_bytes m ≡ Some b → (t : Tree) × (response_tree m ≡ Some t) × Parses t 1 b

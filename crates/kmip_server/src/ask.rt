@@ -34,7 +34,7 @@ fn pair(answer: Result<(Text, Text)>) -> Result<Answered>
     }
 }
 
-fn query(answer: Result<QueryResponsePayload>) -> Result<Answered>
+fn queried(answer: Result<QueryResponsePayload>) -> Result<Answered>
     ensures { result ≡ projected answered.Query answer }
 {
     match answer {
@@ -112,7 +112,7 @@ pub fn ask<T: Link>(alloc: Global, client: &mut Client<T>, call: &Call) -> Resul
     ensures { IsAsked T.state call.now client.old client.new result }
 {
     match call {
-        Call::Query => query(client.query(alloc)),
+        Call::Query => queried(client.query(alloc)),
         Call::CreateRsaKeyPair(key_length, private_name, public_name) => {
             let bits = *key_length;
             create(alloc, client, bits, private_name, public_name)

@@ -10,8 +10,8 @@ use Rattle.kmip_server.proofs.ask.ask.Goals as goal
 
 pub returns-in-Query : goal.returns-in-Query
 returns-in-Query g c =
-    rw (c.in-Query.is, c.query.ensures)
-    (asked_of Call.Query payloads.Query (λ payload. payload) answered.Query c.query-2.result (λ p. refl) c.query-2.ensures)
+    rw (c.in-Query.is, c.queried.ensures)
+    (asked_of Call.Query payloads.Query (λ payload. payload) answered.Query c.query.result (λ p. refl) c.query.ensures)
 
 pub returns-in-CreateRsaKeyPair : goal.returns-in-CreateRsaKeyPair
 returns-in-CreateRsaKeyPair g c =
