@@ -153,6 +153,15 @@ fn answer_bytes<M: Maker>(
     match from_slice(stamp.alloc, request) {
         Ok((payload, _)) => answer_request(stamp, store, maker, &payload),
         Err(RequestReadError::OutOfMemory) => Err(WireError::OutOfMemory),
-        Err(_) => stamp.refuse(None, ResultReason::InvalidMessage, "invalid message"),
+        Err(RequestReadError::Malformed) => stamp.refuse(
+            None,
+            ResultReason::InvalidMessage,
+            "invalid message",
+        ),
+        Err(RequestReadError::NotCanonical) => stamp.refuse(
+            None,
+            ResultReason::InvalidMessage,
+            "invalid message",
+        ),
     }
 }

@@ -1,3 +1,5 @@
+use Rattle.std.proofs.Common.{w32, rules, SFits}
+use Rattle.std.proofs.lemmas.Int.{to_z-of_z}
 use Rattle.kmip_served.proofs.calls.answer_call.Goals as goal
 
 pub returns-in-Query-clause-answers : goal.returns-in-Query-clause-answers
@@ -20,3 +22,13 @@ returns-in-GetKey-clause-answers g c = rw c.in-GetKey.is (c.get.ensures (g.M.Mak
 
 pub returns-in-Sign-clause-answers : goal.returns-in-Sign-clause-answers
 returns-in-Sign-clause-answers g c = rw c.in-Sign.is c.sign.ensures.answers
+
+pub returns-in-RngRetrieve-clause-answers : goal.returns-in-RngRetrieve-clause-answers
+returns-in-RngRetrieve-clause-answers g c =
+    let fits : SFits w32 c.in-RngRetrieve.num_bytes.now = search rules in
+    rw c.in-RngRetrieve.is (rw (to_z-of_z w32 c.in-RngRetrieve.num_bytes.now fits) at c.retrieve.ensures.answers)
+
+pub returns-in-CreateRsaKeyPair-clause-answers : goal.returns-in-CreateRsaKeyPair-clause-answers
+returns-in-CreateRsaKeyPair-clause-answers g c =
+    let fits : SFits w32 c.in-CreateRsaKeyPair.key_length.now = search rules in
+    rw c.in-CreateRsaKeyPair.is (rw (to_z-of_z w32 c.in-CreateRsaKeyPair.key_length.now fits) at c.create.ensures.answers)
