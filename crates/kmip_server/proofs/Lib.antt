@@ -11,4 +11,5 @@ pub mod Accepts
 pub mod Opened
 pub mod Cuts
 pub mod Going
+pub mod ReadBack
 pub mod Ones

@@ -81,10 +81,13 @@ same_between o o' g g' a a' r r' p q k s = rw (p, q, k, s) refl
 -- the response to the request of a call was a message that Rust can hold
 held_next : (settings : Settings) (call : Call) (b : List ℕ) (t : ℤ) (given : List Made) (link : LinkState) → t ≡ settings.time → request_bytes (request_of call) settings.credential ≡ Some b →
     IsReadBack call settings.credential → IsHeldTo t (run_of t given (split link.sent).whole) b → IsHeldNext settings (between t given link) call
-held_next settings call b t given link time valid reads one = record { reads = reads; holds = λ request response valid' formed.
-    let same : b ≡ request = let e : Some b ≡ Some request = sym valid ∙ valid' in cc in
-    let one' : IsHeldTo settings.time (run_of t given (split link.sent).whole) request = subst (λ x. IsHeldTo x (run_of t given (split link.sent).whole) request) time (subst (IsHeldTo t (run_of t given (split link.sent).whole)) same one) in
-    one' response formed; }
+held_next settings call b t given link time valid reads one = record {
+  reads = reads;
+  holds = λ request response valid' formed.
+      let same : b ≡ request = let e : Some b ≡ Some request = sym valid ∙ valid' in cc in
+      let one' : IsHeldTo settings.time (run_of t given (split link.sent).whole) request = subst (λ x. IsHeldTo x (run_of t given (split link.sent).whole) request) time (subst (IsHeldTo t (run_of t given (split link.sent).whole)) same one) in
+      one' response formed;
+}
 
 -- a call with a valid request
 pub valid_call : AreMessages → (settings : Settings) (call : Call) (before after : LinkState) (b : List ℕ) → request_bytes (request_of call) settings.credential ≡ Some b → IsMessage b → IsReadBack call settings.credential →

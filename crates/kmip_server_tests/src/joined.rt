@@ -69,7 +69,10 @@ fn other_calls(rt: HostRuntime) -> Result<(), Fail> {
     let request = first.req_diag.as_ref().ok_or("no diagnostic")?;
     assert_eq!(rt; request.as_str(), "78[77[69[6Ai6Bi]0Di]0F[5Ce25:79[C4i]]]");
     let response = first.res_diag.as_ref().ok_or("no diagnostic")?;
-    assert_eq!(rt; response.as_str(), "7B[7A[69[6Ai6Bi]92d0Di]0F[5Ce25:7Fe0:7C[C2x]]]");
+    assert_eq!(rt;
+        response.as_str(),
+        "7B[7A[69[6Ai6Bi]92d0Di]0F[5Ce25:7Fe0:7C[C2x]]]"
+    );
     Ok(())
 }
 
