@@ -36,10 +36,10 @@ got_nothing : (objects : List Object) (id : List ℕ) (answer : Answer) (item : 
     item ≡ item_for (GetKey id) (step objects (GetKey id) None).answer
 got_nothing objects id answer item s h = sym (some_same (item_for (GetKey id) answer) item h) ∙ ap (item_for (GetKey id)) (sym (ap (λ (x : Stepped). x.answer) s))
 
-pub get_refused : {T : Type 0} {answer : T → Answer} (objects : List Object) (id id' : List ℕ) (error : StoreError) (result : Result BatchItem OutOfMemory) → id' ≡ id → Steps answer objects (GetKey id') objects (Err error) →
+pub get_refused : {T : Type 0} (answer : T → Answer) (objects : List Object) (id id' : List ℕ) (error : StoreError) (result : Result BatchItem OutOfMemory) → id' ≡ id → Steps answer objects (GetKey id') objects (Err error) →
     IfOk result (λ item. (c : Call) → call_operation c ≡ operations.Get → option_map (item_for c) (refusal_of error) ≡ Some item) → IfOk result (λ item. item ≡ item_for (GetKey id) (step objects (GetKey id) None).answer)
-get_refused objects id id' errors.ItemNotFound (Ok item) same s h = got_nothing objects id Answer.NotFound item (subst (λ i. step objects (GetKey i) None ≡ record { objects = objects; answer = Answer.NotFound }) same s) (h (GetKey id) refl)
-get_refused objects id id' errors.PermissionDenied (Ok item) same s h = got_nothing objects id Answer.Denied item (subst (λ i. step objects (GetKey i) None ≡ record { objects = objects; answer = Answer.Denied }) same s) (h (GetKey id) refl)
-get_refused objects id id' errors.CryptographicFailure (Ok item) same s h = absurd s
-get_refused objects id id' errors.OutOfMemory (Ok item) same s h = none_some _ (h (GetKey id) refl)
-get_refused objects id id' error (Err e) same s h = h
+get_refused answer objects id id' errors.ItemNotFound (Ok item) same s h = got_nothing objects id Answer.NotFound item (subst (λ i. step objects (GetKey i) None ≡ record { objects = objects; answer = Answer.NotFound }) same s) (h (GetKey id) refl)
+get_refused answer objects id id' errors.PermissionDenied (Ok item) same s h = got_nothing objects id Answer.Denied item (subst (λ i. step objects (GetKey i) None ≡ record { objects = objects; answer = Answer.Denied }) same s) (h (GetKey id) refl)
+get_refused answer objects id id' errors.CryptographicFailure (Ok item) same s h = absurd s
+get_refused answer objects id id' errors.OutOfMemory (Ok item) same s h = none_some _ (h (GetKey id) refl)
+get_refused answer objects id id' error (Err e) same s h = h

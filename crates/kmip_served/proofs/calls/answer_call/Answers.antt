@@ -25,10 +25,10 @@ returns-in-Sign-clause-answers g c = rw c.in-Sign.is c.sign.ensures.answers
 
 pub returns-in-RngRetrieve-clause-answers : goal.returns-in-RngRetrieve-clause-answers
 returns-in-RngRetrieve-clause-answers g c =
-    let fits : SFits w32 c.in-RngRetrieve.num_bytes.now = search rules in
-    rw c.in-RngRetrieve.is (rw (to_z-of_z w32 c.in-RngRetrieve.num_bytes.now fits) at c.retrieve.ensures.answers)
+    let fits : SFits w32 c.in-RngRetrieve.num_bytes = search rules in
+    rw c.in-RngRetrieve.is (rw (to_z-of_z w32 c.in-RngRetrieve.num_bytes fits) at c.retrieve.ensures.answers)
 
 pub returns-in-CreateRsaKeyPair-clause-answers : goal.returns-in-CreateRsaKeyPair-clause-answers
 returns-in-CreateRsaKeyPair-clause-answers g c =
-    let fits : SFits w32 c.in-CreateRsaKeyPair.key_length.now = search rules in
-    rw c.in-CreateRsaKeyPair.is (rw (to_z-of_z w32 c.in-CreateRsaKeyPair.key_length.now fits) at c.create.ensures.answers)
+    let fits : SFits w32 c.in-CreateRsaKeyPair.key_length = search rules in
+    rw c.in-CreateRsaKeyPair.is (rw (to_z-of_z w32 c.in-CreateRsaKeyPair.key_length fits) at c.create.ensures.answers)
