@@ -19,38 +19,62 @@ const RESPONSE: [u8; 152] = [
 /// The line of its answer.
 const LINE: &str = "{\"answer\":{\"random_bytes\":\"DEADBEEF\"}}\n";
 
+/// `kmip_request` with no clause, as are the three below, so that a test's proof looks into no definition.
+fn request(
+    alloc: Global,
+    call: &[u8],
+    has_credential: bool,
+    user: &[u8],
+    password: &[u8],
+    into: &mut [u8],
+) -> i64 {
+    kmip_request(alloc, call, has_credential, user, password, into)
+}
+
+fn contents_len(bytes: &[u8], limit: u32) -> i64 {
+    kmip_contents_len(bytes, limit)
+}
+
+fn answer(alloc: Global, call: &[u8], response: &[u8], into: &mut [u8], length: &mut i64) -> i32 {
+    kmip_answer(alloc, call, response, into, length)
+}
+
+fn value(response: &[u8], tag: u32, index: usize, into: &mut [u8]) -> i64 {
+    kmip_value(response, tag, index, into)
+}
+
 #[test]
 fn a_request_is_written_where_it_fits(rt: HostRuntime) {
     let alloc: Global = rt.alloc();
     let mut into = [7u8; 122];
-    assert!(rt; kmip_request(alloc, b"rng 16", false, b"", b"", &mut into) == 120);
+    assert!(rt; request(alloc, b"rng 16", false, b"", b"", &mut into) == 120);
     assert!(rt; &into[..4] == [0x42, 0x00, 0x78, 0x01].as_slice());
     assert!(rt; &into[119..] == [0, 7, 7].as_slice());
     let mut short = [7u8; 119];
-    assert!(rt; kmip_request(alloc, b"rng 16", false, b"", b"", &mut short) == 120);
+    assert!(rt; request(alloc, b"rng 16", false, b"", b"", &mut short) == 120);
     assert!(rt; short[0] == 7);
-    assert!(rt; kmip_request(alloc, b"discover", false, b"", b"", &mut into) > 0);
+    assert!(rt; request(alloc, b"discover", false, b"", b"", &mut into) > 0);
 }
 
 #[test]
 fn a_credential_is_sent_where_one_is_given(rt: HostRuntime) {
     let alloc: Global = rt.alloc();
     let mut into = [0u8; 400];
-    let length = kmip_request(alloc, b"rng 16", true, b"alice", b"secret", &mut into);
+    let length = request(alloc, b"rng 16", true, b"alice", b"secret", &mut into);
     assert!(rt; length > 120);
     assert!(rt; into.windows(6).any(|it| it == b"secret".as_slice()));
-    assert!(rt; kmip_request(alloc, b"rng 16", false, &[255], &[255], &mut into) == 120);
-    assert!(rt; kmip_request(alloc, b"rng 16", true, &[255], b"p", &mut into) == -2);
-    assert!(rt; kmip_request(alloc, b"rng 16", true, b"u", &[255], &mut into) == -2);
+    assert!(rt; request(alloc, b"rng 16", false, &[255], &[255], &mut into) == 120);
+    assert!(rt; request(alloc, b"rng 16", true, &[255], b"p", &mut into) == -2);
+    assert!(rt; request(alloc, b"rng 16", true, b"u", &[255], &mut into) == -2);
 }
 
 #[test]
 fn a_call_that_is_none_has_no_request(rt: HostRuntime) {
     let alloc: Global = rt.alloc();
     let mut into = [7u8; 8];
-    assert!(rt; kmip_request(alloc, b"rng", false, b"", b"", &mut into) == -2);
-    assert!(rt; kmip_request(alloc, b"rng  16", false, b"", b"", &mut into) == -2);
-    assert!(rt; kmip_request(alloc, &[255], false, b"", b"", &mut into) == -2);
+    assert!(rt; request(alloc, b"rng", false, b"", b"", &mut into) == -2);
+    assert!(rt; request(alloc, b"rng  16", false, b"", b"", &mut into) == -2);
+    assert!(rt; request(alloc, &[255], false, b"", b"", &mut into) == -2);
     assert!(rt; into == [7u8; 8]);
 }
 
@@ -59,43 +83,43 @@ fn a_response_is_answered(rt: HostRuntime) {
     let alloc: Global = rt.alloc();
     let mut line = [7u8; 100];
     let mut length = 0;
-    assert!(rt; kmip_answer(alloc, b"rng 16", &RESPONSE, &mut line, &mut length) == 0);
+    assert!(rt; answer(alloc, b"rng 16", &RESPONSE, &mut line, &mut length) == 0);
     assert!(rt; length == 39);
-    assert!(rt; &line[..39] == LINE.as_bytes());
+    assert!(rt; line.as_slice().starts_with(LINE.as_bytes()));
     assert!(rt; line[39] == 7);
-    assert!(rt; kmip_answer(alloc, b"query", &RESPONSE, &mut line, &mut length) == 1);
-    assert!(rt; kmip_answer(alloc, b"rng 16", &RESPONSE[..151], &mut line, &mut length) == 3);
-    assert!(rt; kmip_answer(alloc, b"rng", &RESPONSE, &mut line, &mut length) == 2);
+    assert!(rt; answer(alloc, b"query", &RESPONSE, &mut line, &mut length) == 1);
+    assert!(rt; answer(alloc, b"rng 16", &RESPONSE[..151], &mut line, &mut length) == 3);
+    assert!(rt; answer(alloc, b"rng", &RESPONSE, &mut line, &mut length) == 2);
     assert!(rt; length == 0);
 }
 
 #[test]
 fn a_head_tells_how_many_bytes_follow(rt: HostRuntime) {
-    assert!(rt; kmip_contents_len(&RESPONSE[..8], 0) == 144);
-    assert!(rt; kmip_contents_len(&RESPONSE[..8], 152) == 144);
-    assert!(rt; kmip_contents_len(&RESPONSE[..8], 151) == -4);
-    assert!(rt; kmip_contents_len(&RESPONSE[16..24], 0) == 32);
-    assert!(rt; kmip_contents_len(&RESPONSE[24..32], 0) == -3);
-    assert!(rt; kmip_contents_len(&RESPONSE[..7], 0) == -2);
-    assert!(rt; kmip_contents_len(&RESPONSE[..9], 0) == -2);
+    assert!(rt; contents_len(&RESPONSE[..8], 0) == 144);
+    assert!(rt; contents_len(&RESPONSE[..8], 152) == 144);
+    assert!(rt; contents_len(&RESPONSE[..8], 151) == -4);
+    assert!(rt; contents_len(&RESPONSE[16..24], 0) == 32);
+    assert!(rt; contents_len(&RESPONSE[24..32], 0) == -3);
+    assert!(rt; contents_len(&RESPONSE[..7], 0) == -2);
+    assert!(rt; contents_len(&RESPONSE[..9], 0) == -2);
 }
 
 #[test]
 fn a_value_is_found_by_its_tag(rt: HostRuntime) {
     let mut into = [7u8; 8];
-    assert!(rt; kmip_value(&RESPONSE, 0x4200C2, 0, &mut into) == 4);
+    assert!(rt; value(&RESPONSE, 0x4200C2, 0, &mut into) == 4);
     assert!(rt; into == [0xDE, 0xAD, 0xBE, 0xEF, 7, 7, 7, 7]);
-    assert!(rt; kmip_value(&RESPONSE, 0x420069, 0, &mut into) == 32);
+    assert!(rt; value(&RESPONSE, 0x420069, 0, &mut into) == 32);
     assert!(rt; into == [0xDE, 0xAD, 0xBE, 0xEF, 7, 7, 7, 7]);
-    assert!(rt; kmip_value(&RESPONSE, 0x42005C, 0, &mut into) == 4);
+    assert!(rt; value(&RESPONSE, 0x42005C, 0, &mut into) == 4);
     assert!(rt; into == [0, 0, 0, 0x25, 7, 7, 7, 7]);
 }
 
 #[test]
 fn a_value_that_is_not_there_is_not_found(rt: HostRuntime) {
     let mut into = [7u8; 8];
-    assert!(rt; kmip_value(&RESPONSE, 0x4200C2, 1, &mut into) == -3);
-    assert!(rt; kmip_value(&RESPONSE, 0x420066, 0, &mut into) == -3);
-    assert!(rt; kmip_value(&RESPONSE[..151], 0x4200C2, 0, &mut into) == -3);
+    assert!(rt; value(&RESPONSE, 0x4200C2, 1, &mut into) == -3);
+    assert!(rt; value(&RESPONSE, 0x420066, 0, &mut into) == -3);
+    assert!(rt; value(&RESPONSE[..151], 0x4200C2, 0, &mut into) == -3);
     assert!(rt; into == [7u8; 8]);
 }
