@@ -1,9 +1,10 @@
-//! The program `kmip_run`: it replays calls of a KMIP client over recorded responses, explains diagnostics, and makes
-//! exchanges from a number.
+//! The program `kmip_run`: it replays calls of a KMIP client over recorded responses, explains diagnostics, reports on
+//! captured traffic, and makes exchanges from a number.
 //!
-//! Its words say what to do, and its standard input is the script, of one call or one diagnostic a line; `make` reads
-//! none. It writes what each call sent and what it answered, or what each diagnostic shows, or how many exchanges
-//! were made and what they come to, and ends with a status from 0 to 6, as `program::run` says.
+//! Its words say what to do, and its standard input is the script, of one call or one diagnostic a line, or of two lines
+//! of captured bytes; `make` reads none. It writes what each call sent and returned, or what each diagnostic shows, or
+//! what each captured exchange came to, or how many exchanges were made and what they come to, and ends with a status
+//! from 0 to 6, as `program::run` says.
 #![tactic(auto)]
 
 mod auditing;
