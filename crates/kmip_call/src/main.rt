@@ -10,8 +10,6 @@ mod command;
 mod exchange;
 mod program;
 mod record;
-#[cfg(test)]
-mod tests;
 mod wire;
 
 use command::{Command, Order, command_of};
