@@ -1,7 +1,7 @@
 //! The fields of a record by its rows: known, written and shown, each in one call.
 //!
 //! A record's rows are one type, for reading as for these calls, as `Row<One<AttributeName,
-//! 0x42000A>, ..>`. Its fields are lent as nested pairs in the order of the rows: `(&self.name,
+//! ATTRIBUTE_NAME>, ..>`. Its fields are lent as nested pairs in the order of the rows: `(&self.name,
 //! (&self.index, ()))`.
 //!
 //! `FieldRows`, `WriteRows` and `ShowRows` each name what lends the fields and what they are, with
