@@ -84,7 +84,7 @@ fn given_password(rt: &HostRuntime) -> Result<Option<Text>, OutOfMemory> {
     }
 }
 
-/// Writes a text on standard output, and answers the status.
+/// Writes a text on standard output, and returns the status.
 fn say(rt: &HostRuntime, text: &str) -> u8 {
     let mut sink = StdSink::new(rt.stdout());
     match kmip_words::write_out(&mut sink, text.as_bytes()) {

@@ -100,7 +100,7 @@ fn keep<F: Sink>(
     }
 }
 
-/// Records a call, writes the line of its answer, and answers the status.
+/// Records a call, writes the line of its answer, and returns the status.
 fn report<F: Sink, K: Sink>(
     alloc: Global,
     order: &Order,

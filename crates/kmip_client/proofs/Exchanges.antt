@@ -176,7 +176,7 @@ short_anyway (read_failed is rose n within moves) = reading_cut refl n within mo
 short_anyway (sending_cut is n within moves) = sending_cut refl n within moves
 short_anyway (reading_cut is n within moves) = reading_cut refl n within moves
 
--- an answer with its diagnostic, or want of memory in its place
+-- an answer with its diagnostic, or out of memory in its place
 abbrev pub IsKept : Answer → Answer → Type 0
 IsKept answer kept = (kept ≡ answer) ⊎ (kept ≡ Err OutOfMemory)
 

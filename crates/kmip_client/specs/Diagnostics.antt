@@ -14,7 +14,7 @@ abbrev pub diagnostic_of : Bool → Option (List ℕ) → Option (List ℕ)
 diagnostic_of buffered None = None
 diagnostic_of buffered (Some bytes) = diagnostic_for buffered bytes
 
--- The text is the diagnostic of the request, or none after want of memory.
+-- The text is the diagnostic of the request, or none after memory ran out.
 abbrev pub IsRequestText : Bool → Option (List ℕ) → Answer → Option (List ℕ) → Type 0
 IsRequestText buffered request (Err OutOfMemory) text = (text ≡ None) ⊎ (text ≡ diagnostic_of buffered request)
 IsRequestText buffered request answer text = text ≡ diagnostic_of buffered request

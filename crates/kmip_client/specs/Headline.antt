@@ -1,4 +1,4 @@
--- The promise of one exchange, link faults and want of memory aside.
+-- The promise of one exchange, link faults and lack of memory aside.
 use Rattle.std.specs.Prelude.{◌≡◌, ◌≢◌, ℕ, ◌+◌, ◌-◌, ◌^◌, ◌<◌, List, ◌++◌, length, Option, Some, Ok, Err}
 use Rattle.kmip_wire.specs.Tree.{Tree}
 use Rattle.kmip_wire.specs.Parses.{Parses}
@@ -36,7 +36,7 @@ pub record IsAnswered (request : List ℕ) (operation : Operation) (limit : Opti
   -- and it does so wherever one stood next
   pub whenever : (m : List ℕ) (payload : Val) → IsValidResponse operation limit (left_for before after) m payload → answer ≡ Ok payload
 
--- For a valid request, no fault and no want of memory, that is what it did.
+-- For a valid request, no fault and no lack of memory, that is what it did.
 abbrev pub Headline : Option (List ℕ) → Operation → Option ℕ → LinkState → LinkState → Answer → Type 0
 Headline request operation limit before after answer = (bytes : List ℕ) → request ≡ Some bytes → IsSound before after → answer ≢ Err OutOfMemory →
     IsAnswered bytes operation limit before after answer

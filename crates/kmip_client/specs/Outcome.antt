@@ -118,7 +118,7 @@ pub record FailsReading {T : Type 0} (state : T → LinkState) (request : Option
 abbrev pub reading_failed : Answer
 reading_failed = Err (ResponseReadError (codes "link failed"))
 
--- this answer, or want of memory
+-- this answer, or out of memory
 abbrev pub Gives : Answer → Answer → Type 0
 Gives expected (Err OutOfMemory) = Unit {0}
 Gives expected answer = answer ≡ expected

@@ -70,7 +70,7 @@ fn is_read<P: Drop>(answer: &Result<P, Error>) -> bool
     }
 }
 
-/// Keeps a diagnostic beside an answer, in whose place want of memory comes where it was not made.
+/// Keeps a diagnostic beside an answer, or `OutOfMemory` in its place where it was not made.
 fn keep<P: Drop>(
     answer: Result<P, Error>,
     made: Result<Option<Text>, OutOfMemory>,

@@ -23,7 +23,7 @@ use kmip_wire::{Config, OutOfMemory, Text, clone_optional};
 use std::alloc::Global;
 use std::marker::Model;
 
-/// Sends requests over a link, and answers what the responses say.
+/// Sends requests over a link, and returns what the responses say.
 #[derive(Drop)]
 pub struct Client<T> {
     link: T,
@@ -129,11 +129,11 @@ impl<T: Link> Client<T> {
         &mut self.link
     }
 
-    /// Sends a request, and answers what its response says.
+    /// Sends a request, and returns what its response says.
     ///
     /// It sends the one canonical message of the request, with the credential where the client has one, reads the
-    /// 8 bytes of a head and then exactly the contents that the head tells. Link faults and want of memory aside,
-    /// it answers a payload exactly where the bytes left begin with a valid response to the request, of which it
+    /// 8 bytes of a head and then exactly the contents that the head tells. Link faults and lack of memory aside,
+    /// it returns a payload exactly where the bytes left begin with a valid response to the request, of which it
     /// then took every byte and no other. Both diagnostics are those of this call. Its errors are:
     ///
     /// - `SerializeError`: the request has no wire form. Nothing was sent or taken.

@@ -1,4 +1,4 @@
-//! Why a client has no answer.
+//! Why a call of a client has no payload.
 ghost use Rattle.std.specs.Prelude.{◌≡◌, Some};
 ghost use Rattle.kmip_client.specs.Client.{is_connection_error};
 ghost use Rattle.kmip_client.specs.Errors.{kind_shown, text_of, error_shown};
@@ -11,10 +11,10 @@ use std::fmt::{self, Display, Formatter, Write};
 /// What a client's call gives.
 pub type Result<T> = std::result::Result<T, Error>;
 
-/// Why a client has no answer.
+/// Why a call of a client has no payload.
 #[derive(Debug, PartialEq, Eq, Drop)]
 pub enum Error {
-    /// No call answers this.
+    /// No call returns this.
     ConfigurationError(Text),
     /// The request has no wire form. Nothing was sent or taken.
     SerializeError(Text),
@@ -30,7 +30,7 @@ pub enum Error {
     InternalError(Text),
     /// The server refused the request, since it has no such object.
     ItemNotFound(Text),
-    /// No call answers this.
+    /// No call returns this.
     Unknown(Text),
     /// Memory ran out. A part of the request may have been sent, and a part of the response taken.
     OutOfMemory,

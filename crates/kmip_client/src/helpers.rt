@@ -34,7 +34,7 @@ impl<T: Link> Client<T> {
     }
 
     /// Asks for an RSA pair of that many bits, the private key to sign with and the public key to verify with, and
-    /// answers the identifiers of the private key and the public key: KMIP 1.0, 4.2.
+    /// returns the identifiers of the private key and the public key: KMIP 1.0, 4.2.
     pub fn create_rsa_key_pair(
         &mut self,
         alloc: Global,
@@ -48,7 +48,7 @@ impl<T: Link> Client<T> {
         identifiers(self.ask(alloc, request))
     }
 
-    /// Asks for that many random bytes, and answers those that the server gave: KMIP 1.2, 4.35.
+    /// Asks for that many random bytes, and returns those that the server gave: KMIP 1.2, 4.35.
     pub fn rng_retrieve(
         &mut self,
         alloc: Global,

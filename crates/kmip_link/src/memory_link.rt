@@ -46,7 +46,7 @@ impl MemoryLink {
         }
     }
 
-    /// Adds bytes to the end of those to read. Its only error is want of memory, which changes nothing.
+    /// Adds bytes to the end of those to read. Its only error is that memory ran out, which changes nothing.
     pub fn feed(&mut self, bytes: &[u8]) -> Result<(), LinkError>
         ensures ok { OnOk result (self.new ≡ record self.old { ever = self.old.ever ++ bytes.now }) }
         ensures left { OnOk result (drop self.new.pos self.new.ever ≡
@@ -73,7 +73,7 @@ impl MemoryLink {
     }
 
     /// Plans the sizes of the calls from now on, over and over, in bytes; the next call is number 0.
-    /// An empty list ends the plan. Its only error is want of memory, which changes nothing.
+    /// An empty list ends the plan. Its only error is that memory ran out, which changes nothing.
     pub fn plan_pieces(&mut self, sizes: &[usize]) -> Result<(), LinkError>
         ensures ok { OnOk result (self.new ≡ record self.old { sizes = sizes.now; place = 0 }) }
         ensures starts { OnOk result (IsCall self.new 0) }
@@ -141,7 +141,7 @@ impl Link for MemoryLink {
         Ok(count)
     }
 
-    /// Takes the smaller of the planned size and the piece. Its only error is want of memory, which changes nothing.
+    /// Takes the smaller of the planned size and the piece. Its only error is that memory ran out, which changes nothing.
     fn write(&mut self, bytes: &[u8]) -> Result<usize, LinkError>
         ensures keeps { Keeps (memory_state self.old) (memory_state self.new) }
         ensures bound { IfOk result (λ n. n ≤ length bytes.now) }

@@ -28,7 +28,7 @@ impl Model for MemorySource {
 }
 
 impl MemorySource {
-    /// A source of these bytes. Its only error is want of memory.
+    /// A source of these bytes. Its only error is that memory ran out.
     pub fn new(alloc: Global, bytes: &[u8], failing: &[u64]) -> Result<MemorySource, LinkError>
         ensures ok { IfOk result (λ it. it ≡
             record { ever = bytes.now; pos = 0; failing = failing.now; number = 0; faults = 0 }) }
@@ -98,7 +98,7 @@ impl Model for MemorySink {
 }
 
 impl MemorySink {
-    /// A sink that was sent nothing. Its only error is want of memory.
+    /// A sink that was sent nothing. Its only error is that memory ran out.
     pub fn new(alloc: Global, failing: &[u64]) -> Result<MemorySink, LinkError>
         ensures ok { IfOk result (λ it. it ≡
             record { sent = []; failing = failing.now; number = 0; faults = 0 }) }

@@ -29,7 +29,7 @@ impl PlannedLink {
     ghost use Rattle.std.specs.Borrow.{sem};
     ghost use Rattle.kmip_link.specs.Lending.{lends_memory};
 
-    /// Puts the plan of failures over a link. Its only error is want of memory.
+    /// Puts the plan of failures over a link. Its only error is that memory ran out.
     pub fn new(alloc: Global, link: MemoryLink, failing: &[u64]) -> Result<PlannedLink, LinkError>
         ensures ok { IfOk result (λ it. it ≡
             record { link = link; failing = failing.now; number = 0; faults = 0 }) }

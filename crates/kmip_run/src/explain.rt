@@ -28,7 +28,7 @@ fn expanded(
     }
 }
 
-/// Adds the expansions of the lines, up to a line that is no diagnostic, and answers the status.
+/// Adds the expansions of the lines, up to a line that is no diagnostic, and returns the status.
 pub fn explain(alloc: Global, script: &[u8], output: &mut Text) -> Result<u8, OutOfMemory>
     ensures bound { IfOk result (λ status. status < 3) }
     ensures status { IfOk result (λ status. status ≡ (explained (lines_of script.now) 1).status) }

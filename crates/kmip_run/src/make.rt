@@ -127,7 +127,7 @@ fn show_tally(
     output.push_str(text.as_str())
 }
 
-/// Makes so many exchanges, adds what they come to as five lines, and answers the status.
+/// Makes so many exchanges, adds what they come to as five lines, and returns the status.
 pub fn make(
     alloc: Global,
     client: &mut Client<MemoryLink>,

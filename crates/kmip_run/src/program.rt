@@ -24,7 +24,7 @@ use std::mem;
 /// The longest script, in bytes.
 const MAX_SCRIPT: usize = 16_777_216;
 
-/// Writes the whole text, and answers the status, or that of a failed write.
+/// Writes the whole text, and returns the status, or that of a failed write.
 fn finish<K: Sink>(sink: &mut K, text: &str, status: u8) -> u8
     requires { status < 3 }
     ensures keeps { SinkKeeps (K.state sink.old) (K.state sink.new) }
@@ -93,7 +93,7 @@ fn make_on(
     status
 }
 
-/// Does what a command asks for with the whole script, and answers the status.
+/// Does what a command asks for with the whole script, and returns the status.
 fn perform(
     alloc: Global,
     command: Command,
@@ -124,7 +124,7 @@ fn reads_script(command: &Command) -> bool
     }
 }
 
-/// Does what a command asks for that reads no script, and answers the status.
+/// Does what a command asks for that reads no script, and returns the status.
 fn run_alone<K: Sink>(alloc: Global, command: Command, sink: &mut K, link: &mut MemoryLink) -> u8
     requires unread { reads_script (Some command) ≡ false }
     requires empty { drop link.old.pos link.old.ever ≡ [] }
@@ -145,7 +145,7 @@ fn run_alone<K: Sink>(alloc: Global, command: Command, sink: &mut K, link: &mut 
     }
 }
 
-/// Reads the whole script, does with it what the command asks for, and answers the status.
+/// Reads the whole script, does with it what the command asks for, and returns the status.
 fn run_script<S: Source, K: Sink>(
     alloc: Global,
     command: Command,
@@ -187,7 +187,7 @@ fn run_script<S: Source, K: Sink>(
     }
 }
 
-/// Runs the program on the words after its name, and answers its status.
+/// Runs the program on the words after its name, and returns its status.
 ///
 /// 0: each line was answered, or explained, or the exchanges were made. 1: some line answered an error. 2: the words,
 /// or a line, are not of the grammar. 3: the source failed, and nothing is written. 4: the sink failed, and a first

@@ -20,7 +20,7 @@ fn status_after(status: u8, failed: bool) -> u8
     if failed { 1 } else { status }
 }
 
-/// Makes the calls of the lines, up to a line that is not of the grammar, and answers the status. `diag` says
+/// Makes the calls of the lines, up to a line that is not of the grammar, and returns the status. `diag` says
 /// whether the client keeps diagnostics.
 pub fn replay(
     alloc: Global,

@@ -1,7 +1,7 @@
 //! Tests that stand on several crates, and nothing else.
 //!
 //! Each public call that takes memory is made once with ample memory: that it comes to its end is no clause's matter,
-//! since want of memory is free. They stand here and not in the crates that have the calls, since a crate with tests
+//! since running out of memory is always allowed. They stand here and not in the crates that have the calls, since a crate with tests
 //! is proved twice.
 #![tactic(auto)]
 

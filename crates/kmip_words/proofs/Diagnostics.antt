@@ -25,7 +25,7 @@ message_read operation Message.Ended = refl
 message_read operation (Message.Refused error) = refl
 message_read operation (Message.Whole m) = message_says shows_reading operation m
 
--- the texts that a client keeps after an answer that is not want of memory
+-- the texts that a client keeps after an answer that is not out of memory
 
 request_kept : (buffered : Bool) (request : Option (List ℕ)) (answer : Answer) (text : Option (List ℕ)) → answer ≢ Err OutOfMemory → IsRequestText buffered request answer text → text ≡ diagnostic_of buffered request
 request_kept buffered request (Ok payload) text some is = is

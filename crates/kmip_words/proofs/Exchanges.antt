@@ -22,7 +22,7 @@ use Rattle.kmip_words.specs.declared.call.Call.{Call}
 use Rattle.kmip_words.specs.declared.call.Call.TheVariants.{Raw}
 use Rattle.kmip_words.proofs.Diagnostics.{told_of}
 
--- over a link in memory each answer but want of memory is the outcome's
+-- over a link in memory each answer but out of memory is the outcome's
 finished : (o : Outcome) (before after : MemoryState) (answer : Answer) → Exchanged o (memory_state before) (memory_state after) answer → answer ≢ Err OutOfMemory →
     (answer ≡ o.answer) × Moves (memory_state before) (memory_state after) o.sent o.taken
 finished o before after answer (Exchanged.completed is moves) some = (is, moves)

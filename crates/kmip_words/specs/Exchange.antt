@@ -196,7 +196,7 @@ step_in style settings call rest = step_of (λ payload. value_styled call payloa
 abbrev pub step : Settings → Call → List ℕ → Step
 step = step_in Bare
 
--- the line of an answer was added, which is not want of memory
+-- the line of an answer was added, which is not out of memory
 pub record Shows {R : Type 0} (value : R → List ℕ) (style : Style) (answer : Result R Error) (ending : Ending) (old new : List ℕ) : Type 0 where
   pub shown : new ≡ old ++ answer_line value style answer
   pub ending_is : ending ≡ ending_of answer

@@ -93,7 +93,7 @@ fn raw(
     }
 }
 
-/// Sends a request that no helper of the client makes, and answers what its response says.
+/// Sends a request that no helper of the client makes, and returns what its response says.
 fn requested(
     alloc: Global,
     client: &mut Client<MemoryLink>,

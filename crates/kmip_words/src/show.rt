@@ -70,7 +70,7 @@ fn push_json_error(alloc: Global, error: &Error, line: &mut Text) -> Result<(), 
     line.push_str("}\n")
 }
 
-/// Adds the error as a line, which is not want of memory, and says how the call ended.
+/// Adds the error as a line, which is not `OutOfMemory`, and says how the call ended.
 pub fn show_error(
     alloc: Global,
     style: Style,

@@ -18,7 +18,7 @@ use kmip_types::{AttributeName, UniqueIdentifier};
 use kmip_wire::{ItemRef, List, OutOfMemory, Tag, TryClone, clone_optional};
 use std::alloc::Global;
 
-/// What Get Attributes answers: KMIP 1.0, 4.11.
+/// The response payload of Get Attributes: KMIP 1.0, 4.11.
 #[derive(PartialEq, Eq, Drop)]
 pub struct GetAttributesResponsePayload {
     /// The identifier of the object.
@@ -86,7 +86,7 @@ impl ShowItem for GetAttributesResponsePayload {
     }
 }
 
-/// What Get Attribute List answers: KMIP 1.0, 4.12.
+/// The response payload of Get Attribute List: KMIP 1.0, 4.12.
 #[derive(PartialEq, Eq, Drop)]
 pub struct GetAttributeListResponsePayload {
     /// The identifier of the object.
@@ -154,7 +154,7 @@ impl ShowItem for GetAttributeListResponsePayload {
     }
 }
 
-/// What Add Attribute, Modify Attribute and Delete Attribute answer: KMIP 1.0, 4.13 to 4.15.
+/// The response payload of Add Attribute, Modify Attribute and Delete Attribute: KMIP 1.0, 4.13 to 4.15.
 #[derive(PartialEq, Eq, Drop)]
 pub struct AttributeEditResponsePayload {
     /// The identifier of the object.
@@ -222,11 +222,11 @@ impl ShowItem for AttributeEditResponsePayload {
     }
 }
 
-/// What Add Attribute answers: KMIP 1.0, 4.13.
+/// The response payload of Add Attribute: KMIP 1.0, 4.13.
 pub type AddAttributeResponsePayload = AttributeEditResponsePayload;
 
-/// What Modify Attribute answers: KMIP 1.0, 4.14.
+/// The response payload of Modify Attribute: KMIP 1.0, 4.14.
 pub type ModifyAttributeResponsePayload = AttributeEditResponsePayload;
 
-/// What Delete Attribute answers: KMIP 1.0, 4.15.
+/// The response payload of Delete Attribute: KMIP 1.0, 4.15.
 pub type DeleteAttributeResponsePayload = AttributeEditResponsePayload;

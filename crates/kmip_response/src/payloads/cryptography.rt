@@ -17,7 +17,7 @@ use kmip_types::UniqueIdentifier;
 use kmip_wire::{Blob, ItemRef, OutOfMemory, Tag, TryClone};
 use std::alloc::Global;
 
-/// What Sign answers: KMIP 1.2, 4.31.
+/// The response payload of Sign: KMIP 1.2, 4.31.
 #[derive(PartialEq, Eq, Drop)]
 pub struct SignResponsePayload {
     /// The identifier of the object.
@@ -85,7 +85,7 @@ impl ShowItem for SignResponsePayload {
     }
 }
 
-/// What RNG Retrieve answers: KMIP 1.2, 4.35.
+/// The response payload of RNG Retrieve: KMIP 1.2, 4.35.
 #[derive(PartialEq, Eq, Drop)]
 pub struct RNGRetrieveResponsePayload {
     /// The random bytes; a server may give another number than was asked for.

@@ -19,7 +19,7 @@ use kmip_types::UniqueIdentifier;
 use kmip_wire::{ItemRef, OutOfMemory, Tag, TryClone};
 use std::alloc::Global;
 
-/// What Get answers: KMIP 1.0, 4.10.
+/// The response payload of Get: KMIP 1.0, 4.10.
 #[derive(PartialEq, Eq, Drop)]
 pub struct GetResponsePayload {
     /// The type of the object.

@@ -22,7 +22,7 @@ use kmip_types::UniqueIdentifier;
 use kmip_wire::{ItemRef, List, OutOfMemory, Tag, TryClone, clone_optional};
 use std::alloc::Global;
 
-/// What Create answers: KMIP 1.0, 4.1.
+/// The response payload of Create: KMIP 1.0, 4.1.
 #[derive(PartialEq, Eq, Drop)]
 pub struct CreateResponsePayload {
     /// The type of the object.
@@ -99,7 +99,7 @@ impl ShowItem for CreateResponsePayload {
     }
 }
 
-/// What Create Key Pair answers: KMIP 1.0, 4.2.
+/// The response payload of Create Key Pair: KMIP 1.0, 4.2.
 #[derive(PartialEq, Eq, Drop)]
 pub struct CreateKeyPairResponsePayload {
     /// The identifier of the private key.
@@ -173,7 +173,7 @@ impl ShowItem for CreateKeyPairResponsePayload {
     }
 }
 
-/// What Register answers: KMIP 1.0, 4.3.
+/// The response payload of Register: KMIP 1.0, 4.3.
 #[derive(PartialEq, Eq, Drop)]
 pub struct RegisterResponsePayload {
     /// The identifier of the object.
@@ -241,7 +241,7 @@ impl ShowItem for RegisterResponsePayload {
     }
 }
 
-/// What Locate answers: the objects that have all the attributes: KMIP 1.0, 4.8.
+/// The response payload of Locate: the objects that have all the attributes: KMIP 1.0, 4.8.
 #[derive(PartialEq, Eq, Drop)]
 pub struct LocateResponsePayload {
     /// The identifiers of all objects found, none where there is none.
@@ -353,11 +353,11 @@ impl ShowItem for UniqueIdentifierResponsePayload {
     }
 }
 
-/// What Activate answers: KMIP 1.0, 4.18.
+/// The response payload of Activate: KMIP 1.0, 4.18.
 pub type ActivateResponsePayload = UniqueIdentifierResponsePayload;
 
-/// What Revoke answers: KMIP 1.0, 4.19.
+/// The response payload of Revoke: KMIP 1.0, 4.19.
 pub type RevokeResponsePayload = UniqueIdentifierResponsePayload;
 
-/// What Destroy answers: KMIP 1.0, 4.20.
+/// The response payload of Destroy: KMIP 1.0, 4.20.
 pub type DestroyResponsePayload = UniqueIdentifierResponsePayload;

@@ -89,7 +89,7 @@ impl ShowItem for QueryResponsePayload {
     }
 }
 
-/// What Discover Versions answers: KMIP 1.1, 4.26.
+/// The response payload of Discover Versions: KMIP 1.1, 4.26.
 #[derive(PartialEq, Eq, Drop)]
 pub struct DiscoverVersionsResponsePayload {
     /// The versions that both sides know, the one that the server likes best first.

@@ -11,7 +11,7 @@ use kmip_wire::{List, Text};
 #[derive(Clone, Copy, PartialEq, Eq, Default, Drop)]
 pub struct ServerInformation;
 
-/// What Query answers: KMIP 1.0, 4.24.
+/// The response payload of Query: KMIP 1.0, 4.24.
 #[derive(PartialEq, Eq, Drop)]
 pub struct QueryResponsePayload {
     /// The operations that the server supports, where that was asked for.
