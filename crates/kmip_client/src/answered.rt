@@ -65,7 +65,8 @@ impl Answered for ResponsePayload {
 impl Answered for CreateKeyPairResponsePayload {
     ghost Answers = { λ operation. operation ≡ TheOperation.CreateKeyPair };
 
-    ghost val = { λ operation payload. Case (operation_line operation).number (create_key_pair_payload_val payload) };
+    ghost val = { λ operation payload.
+        Case (operation_line operation).number (create_key_pair_payload_val payload) };
 
     fn of(_operation: Operation, payload: ResponsePayload) -> CreateKeyPairResponsePayload {
         match payload {
@@ -78,7 +79,8 @@ impl Answered for CreateKeyPairResponsePayload {
 impl Answered for GetResponsePayload {
     ghost Answers = { λ operation. operation ≡ TheOperation.Get };
 
-    ghost val = { λ operation payload. Case (operation_line operation).number (get_payload_val payload) };
+    ghost val = { λ operation payload.
+        Case (operation_line operation).number (get_payload_val payload) };
 
     fn of(_operation: Operation, payload: ResponsePayload) -> GetResponsePayload {
         match payload {
@@ -92,7 +94,8 @@ impl Answered for AttributeEditResponsePayload {
     ghost Answers = { λ operation. (operation ≡ TheOperation.AddAttribute) ⊎
         ((operation ≡ TheOperation.ModifyAttribute) ⊎ (operation ≡ TheOperation.DeleteAttribute)) };
 
-    ghost val = { λ operation payload. Case (operation_line operation).number (attribute_edit_payload_val payload) };
+    ghost val = { λ operation payload.
+        Case (operation_line operation).number (attribute_edit_payload_val payload) };
 
     fn of(_operation: Operation, payload: ResponsePayload) -> AttributeEditResponsePayload {
         match payload {
@@ -108,7 +111,8 @@ impl Answered for UniqueIdentifierResponsePayload {
     ghost Answers = { λ operation. (operation ≡ TheOperation.Activate) ⊎
         ((operation ≡ TheOperation.Revoke) ⊎ (operation ≡ TheOperation.Destroy)) };
 
-    ghost val = { λ operation payload. Case (operation_line operation).number (unique_identifier_payload_val payload) };
+    ghost val = { λ operation payload.
+        Case (operation_line operation).number (unique_identifier_payload_val payload) };
 
     fn of(_operation: Operation, payload: ResponsePayload) -> UniqueIdentifierResponsePayload {
         match payload {
@@ -123,7 +127,8 @@ impl Answered for UniqueIdentifierResponsePayload {
 impl Answered for QueryResponsePayload {
     ghost Answers = { λ operation. operation ≡ TheOperation.Query };
 
-    ghost val = { λ operation payload. Case (operation_line operation).number (query_payload_val payload) };
+    ghost val = { λ operation payload.
+        Case (operation_line operation).number (query_payload_val payload) };
 
     fn of(_operation: Operation, payload: ResponsePayload) -> QueryResponsePayload {
         match payload {
@@ -136,7 +141,8 @@ impl Answered for QueryResponsePayload {
 impl Answered for SignResponsePayload {
     ghost Answers = { λ operation. operation ≡ TheOperation.Sign };
 
-    ghost val = { λ operation payload. Case (operation_line operation).number (sign_payload_val payload) };
+    ghost val = { λ operation payload.
+        Case (operation_line operation).number (sign_payload_val payload) };
 
     fn of(_operation: Operation, payload: ResponsePayload) -> SignResponsePayload {
         match payload {
@@ -149,7 +155,8 @@ impl Answered for SignResponsePayload {
 impl Answered for RNGRetrieveResponsePayload {
     ghost Answers = { λ operation. operation ≡ TheOperation.RNGRetrieve };
 
-    ghost val = { λ operation payload. Case (operation_line operation).number (rng_retrieve_payload_val payload) };
+    ghost val = { λ operation payload.
+        Case (operation_line operation).number (rng_retrieve_payload_val payload) };
 
     fn of(_operation: Operation, payload: ResponsePayload) -> RNGRetrieveResponsePayload {
         match payload {

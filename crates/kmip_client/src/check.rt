@@ -22,7 +22,8 @@ use std::alloc::Global;
 /// Whether a batch item names this operation.
 fn is_of(answered: Option<Operation>, asked: Operation) -> bool
     ensures { result ≡
-        is_number (pos (operation_line asked).number) (one_of (optional (enumeration_val operation_line) answered)) }
+        is_number (pos (operation_line asked).number)
+        (one_of (optional (enumeration_val operation_line) answered)) }
 {
     match answered {
         Some(answered) => answered.number() == asked.number(),
@@ -33,7 +34,8 @@ fn is_of(answered: Option<Operation>, asked: Operation) -> bool
 /// Whether an object was not found.
 fn is_not_found(reason: Option<ResultReason>) -> bool
     ensures { result ≡
-        is_number (pos (result_reason_line ResultReason.ItemNotFound).number) (one_of (optional (enumeration_val result_reason_line) reason)) }
+        is_number (pos (result_reason_line ResultReason.ItemNotFound).number)
+        (one_of (optional (enumeration_val result_reason_line) reason)) }
 {
     match reason {
         Some(reason) => reason.number() == ResultReason::ItemNotFound.number(),
@@ -56,7 +58,9 @@ fn failure(
     reason: Option<ResultReason>,
     message: &Option<Text>,
 ) -> Result<ResponsePayload, Error>
-    ensures { Gives (failure operation (one_of (optional (enumeration_val result_reason_line) reason)) (one_of (optional text_val message.now))) (seen result) }
+    ensures { Gives (failure operation
+        (one_of (optional (enumeration_val result_reason_line) reason))
+        (one_of (optional text_val message.now))) (seen result) }
 {
     let message = match message {
         Some(message) => message.as_str(),
@@ -76,7 +80,9 @@ fn mismatch(
     answered: Option<Operation>,
     asked: Operation,
 ) -> Result<ResponsePayload, Error>
-    ensures { Gives (Err (InternalError (mismatch_text asked (operation_shown (one_of (optional (enumeration_val operation_line) answered)))))) (seen result) }
+    ensures { Gives (Err (InternalError
+        (mismatch_text asked (operation_shown
+        (one_of (optional (enumeration_val operation_line) answered)))))) (seen result) }
 {
     let text = match answered {
         Some(answered) => {
@@ -93,7 +99,8 @@ fn mismatch(
 
 /// The payload of a batch item, where there is one.
 fn payload_of(alloc: Global, payload: Option<ResponsePayload>) -> Result<ResponsePayload, Error>
-    ensures { Gives (payload_answer (one_of (optional response_payload_val payload))) (seen result) }
+    ensures { Gives (payload_answer (one_of (optional response_payload_val payload)))
+        (seen result) }
 {
     match payload {
         Some(payload) => Ok(payload),

@@ -36,7 +36,11 @@ pub struct Client<T> {
 impl<T> Model for Client<T> {
     ghost Value = { ClientState T };
 
-    ghost view = { λ c. record { link = c.link; credential = option_map credential_of c.settings.authentication; limit = c.settings.config.max_bytes; buffered = c.settings.config.has_buf; errors = c.errors; request_text = c.diagnostics.request; response_text = c.diagnostics.response } };
+    ghost view = { λ c. record { link = c.link;
+        credential = option_map credential_of c.settings.authentication;
+        limit = c.settings.config.max_bytes; buffered = c.settings.config.has_buf;
+        errors = c.errors; request_text = c.diagnostics.request;
+        response_text = c.diagnostics.response } };
 }
 
 impl<T> Client<T> {
@@ -47,7 +51,9 @@ impl<T> Client<T> {
         config: Config,
     ) -> Client<T>
         ensures { result ≡
-            record { link = link; credential = option_map credential_of authentication; limit = config.max_bytes; buffered = config.has_buf; errors = 0; request_text = None; response_text = None } }
+            record { link = link; credential = option_map credential_of authentication;
+            limit = config.max_bytes; buffered = config.has_buf; errors = 0; request_text = None;
+            response_text = None } }
     {
         Client {
             link,
@@ -153,22 +159,32 @@ impl<T: Link> Client<T> {
         payload: RequestPayload,
     ) -> Result<ResponsePayload, Error>
         ensures exchange { IsTrue (T.state self.old.link).tells →
-            Exchanged (outcome payload self.old.credential self.old.limit (left_for (T.state self.old.link) (T.state self.new.link)))
+            Exchanged (outcome payload self.old.credential self.old.limit
+            (left_for (T.state self.old.link) (T.state self.new.link)))
             (T.state self.old.link) (T.state self.new.link) (seen result) }
-        ensures caused { Caused (request_bytes payload self.old.credential) (operation_of payload) self.old.limit
+        ensures caused { Caused (request_bytes payload self.old.credential) (operation_of payload)
+            self.old.limit
             (T.state self.old.link).faults (T.state self.new.link).faults (seen result) }
         ensures reading { IsTrue (T.state self.old.link).tells → seen result ≡ reading_failed →
-            FailsReading T.state (request_bytes payload self.old.credential) self.old.link self.new.link }
+            FailsReading T.state (request_bytes payload self.old.credential) self.old.link
+            self.new.link }
         ensures headline { IsTrue (T.state self.old.link).tells →
-            Headline (request_bytes payload self.old.credential) (operation_of payload) self.old.limit (T.state self.old.link) (T.state self.new.link) (seen result) }
-        ensures variant { IfOk result (λ answer. IsOfOperation (operation_of payload) (response_payload_val answer)) }
+            Headline (request_bytes payload self.old.credential) (operation_of payload)
+            self.old.limit (T.state self.old.link) (T.state self.new.link) (seen result) }
+        ensures variant { IfOk result
+            (λ answer. IsOfOperation (operation_of payload) (response_payload_val answer)) }
         ensures keeps { Keeps (T.state self.old.link) (T.state self.new.link) }
-        ensures settings { (self.new.credential ≡ self.old.credential) × (self.new.limit ≡ self.old.limit) ×
+        ensures settings { (self.new.credential ≡ self.old.credential) ×
+            (self.new.limit ≡ self.old.limit) ×
             (self.new.buffered ≡ self.old.buffered) }
         ensures count { self.new.errors ≡ counted self.old.errors (loses_connection (seen result)) }
-        ensures request_text { IsRequestText self.old.buffered (request_bytes payload self.old.credential) (seen result) self.new.request_text }
+        ensures request_text { IsRequestText self.old.buffered
+            (request_bytes payload self.old.credential) (seen result) self.new.request_text }
         ensures response_text { IsTrue (T.state self.old.link).tells →
-            IsResponseText self.old.buffered (take ((T.state self.new.link).pos - (T.state self.old.link).pos) (left_for (T.state self.old.link) (T.state self.new.link))) (seen result) self.new.response_text }
+            IsResponseText self.old.buffered
+            (take ((T.state self.new.link).pos - (T.state self.old.link).pos)
+            (left_for (T.state self.old.link) (T.state self.new.link))) (seen result)
+            self.new.response_text }
         ensures quiet { self.old.buffered ≡ false → self.new.response_text ≡ None }
     {
         self.request(alloc, &payload)
@@ -181,8 +197,11 @@ impl<T: Link> Client<T> {
         payload: &RequestPayload,
     ) -> Result<P, Error>
         requires { P.Answers (operation_of payload.now) }
-        ensures call { IsCall T.state payload.now self.old self.new (seen_by (P.val (operation_of payload.now)) result) }
-        ensures variant { IfOk result (λ answer. IsOfOperation (operation_of payload.now) (P.val (operation_of payload.now) answer)) }
+        ensures call { IsCall T.state payload.now self.old self.new
+            (seen_by (P.val (operation_of payload.now)) result) }
+        ensures variant { IfOk result
+            (λ answer. IsOfOperation (operation_of payload.now)
+            (P.val (operation_of payload.now) answer)) }
     {
         self.diagnostics = Diagnostics {
             request: None,

@@ -25,7 +25,8 @@ pub fn serialize(
     authentication: &Option<Authentication>,
     out: &mut Buffer,
 ) -> Result<(), Error>
-    ensures ok { OnOk result (request_bytes payload.now (option_map credential_of authentication.now) ≡
+    ensures ok { OnOk result (request_bytes payload.now
+        (option_map credential_of authentication.now) ≡
         Some out.new.bytes) }
     ensures err { IfErr result (λ e. ((e ≡ SerializeError (codes "request has no wire form")) ×
         (request_bytes payload.now (option_map credential_of authentication.now) ≡ None)) ⊎
@@ -68,13 +69,19 @@ pub fn exchange<L: Link, P: Answered>(
     requires empty { taken.old.items ≡ [] }
     ensures keeps { Keeps (L.state link.old) (L.state link.new) }
     ensures exchange { IsTrue (L.state link.old).tells →
-        Exchanged (outcome_of (Some request.now) operation config.now.max_bytes (left_for (L.state link.old) (L.state link.new))) (L.state link.old) (L.state link.new) (seen_by (P.val operation) result) }
-    ensures caused { Caused (Some request.now) operation config.now.max_bytes (L.state link.old).faults (L.state link.new).faults (seen_by (P.val operation) result) }
-    ensures reading { IsTrue (L.state link.old).tells → seen_by (P.val operation) result ≡ reading_failed →
+        Exchanged (outcome_of (Some request.now) operation config.now.max_bytes
+        (left_for (L.state link.old) (L.state link.new))) (L.state link.old) (L.state link.new)
+        (seen_by (P.val operation) result) }
+    ensures caused { Caused (Some request.now) operation config.now.max_bytes
+        (L.state link.old).faults (L.state link.new).faults (seen_by (P.val operation) result) }
+    ensures reading { IsTrue (L.state link.old).tells →
+        seen_by (P.val operation) result ≡ reading_failed →
         FailsReading L.state (Some request.now) link.old link.new }
-    ensures bytes { IsTrue (L.state link.old).tells → lacks_memory (seen_by (P.val operation) result) ≡ false →
+    ensures bytes { IsTrue (L.state link.old).tells →
+        lacks_memory (seen_by (P.val operation) result) ≡ false →
         taken.new.items ≡
-        take ((L.state link.new).pos - (L.state link.old).pos) (left_for (L.state link.old) (L.state link.new)) }
+        take ((L.state link.new).pos - (L.state link.old).pos)
+        (left_for (L.state link.old) (L.state link.new)) }
 {
     match send(alloc, link, request) {
         Ok(()) => {}

@@ -28,7 +28,8 @@ use std::alloc::Global;
 impl<T: Link> Client<T> {
     /// Asks what the server can do, with which objects, and who it is: KMIP 1.0, 4.24.
     pub fn query(&mut self, alloc: Global) -> Result<QueryResponsePayload>
-        ensures { Helped T.state requests.query_request payloads.Query (λ payload. payload) self.old self.new result }
+        ensures { Helped T.state requests.query_request payloads.Query (λ payload. payload) self.old
+            self.new result }
     {
         self.ask(alloc, query_request(alloc))
     }
@@ -42,7 +43,8 @@ impl<T: Link> Client<T> {
         private_key_name: Text,
         public_key_name: Text,
     ) -> Result<(Text, Text)>
-        ensures { Helped T.state (requests.key_pair_request key_length private_key_name public_key_name) payloads.CreateKeyPair identifiers_of self.old self.new result }
+        ensures { Helped T.state (requests.key_pair_request key_length private_key_name
+            public_key_name) payloads.CreateKeyPair identifiers_of self.old self.new result }
     {
         let request = key_pair_request(alloc, key_length, private_key_name, public_key_name);
         identifiers(self.ask(alloc, request))
@@ -54,7 +56,8 @@ impl<T: Link> Client<T> {
         alloc: Global,
         num_bytes: i32,
     ) -> Result<RNGRetrieveResponsePayload>
-        ensures { IsCall T.state (requests.rng_request num_bytes) self.old self.new (seen_by (λ payload. response_payload_val (payloads.RNGRetrieve payload)) result) }
+        ensures { IsCall T.state (requests.rng_request num_bytes) self.old self.new
+            (seen_by (λ payload. response_payload_val (payloads.RNGRetrieve payload)) result) }
     {
         self.request(alloc, &RequestPayload::RNGRetrieve(DataLength(num_bytes)))
     }
@@ -66,28 +69,32 @@ impl<T: Link> Client<T> {
         private_key_id: &str,
         in_bytes: &[u8],
     ) -> Result<SignResponsePayload>
-        ensures { Helped T.state (requests.sign_request private_key_id.now in_bytes.now) payloads.Sign (λ payload. payload) self.old self.new result }
+        ensures { Helped T.state (requests.sign_request private_key_id.now in_bytes.now)
+            payloads.Sign (λ payload. payload) self.old self.new result }
     {
         self.ask(alloc, sign_request(alloc, private_key_id, in_bytes))
     }
 
     /// Makes a key ready for use: KMIP 1.0, 4.18.
     pub fn activate_key(&mut self, alloc: Global, private_key_id: &str) -> Result<()>
-        ensures { Helped T.state (requests.activate_request private_key_id.now) payloads.Activate nothing_of self.old self.new result }
+        ensures { Helped T.state (requests.activate_request private_key_id.now) payloads.Activate
+            nothing_of self.old self.new result }
     {
         done(self.ask(alloc, activate_request(alloc, private_key_id)))
     }
 
     /// Takes a key out of use, since it is no longer needed: KMIP 1.0, 4.19.
     pub fn revoke_key(&mut self, alloc: Global, private_key_id: &str) -> Result<()>
-        ensures { Helped T.state (requests.revoke_request private_key_id.now) payloads.Revoke nothing_of self.old self.new result }
+        ensures { Helped T.state (requests.revoke_request private_key_id.now) payloads.Revoke
+            nothing_of self.old self.new result }
     {
         done(self.ask(alloc, revoke_request(alloc, private_key_id)))
     }
 
     /// Destroys a key: KMIP 1.0, 4.20.
     pub fn destroy_key(&mut self, alloc: Global, key_id: &str) -> Result<()>
-        ensures { Helped T.state (requests.destroy_request key_id.now) payloads.Destroy nothing_of self.old self.new result }
+        ensures { Helped T.state (requests.destroy_request key_id.now) payloads.Destroy nothing_of
+            self.old self.new result }
     {
         done(self.ask(alloc, destroy_request(alloc, key_id)))
     }
@@ -99,14 +106,16 @@ impl<T: Link> Client<T> {
         key_id: &str,
         new_name: Text,
     ) -> Result<ModifyAttributeResponsePayload>
-        ensures { Helped T.state (requests.rename_request key_id.now new_name) payloads.ModifyAttribute (λ payload. payload) self.old self.new result }
+        ensures { Helped T.state (requests.rename_request key_id.now new_name)
+            payloads.ModifyAttribute (λ payload. payload) self.old self.new result }
     {
         self.ask(alloc, rename_request(alloc, key_id, new_name))
     }
 
     /// Asks for a key: KMIP 1.0, 4.10.
     pub fn get_key(&mut self, alloc: Global, key_id: &str) -> Result<GetResponsePayload>
-        ensures { Helped T.state (requests.get_request key_id.now) payloads.Get (λ payload. payload) self.old self.new result }
+        ensures { Helped T.state (requests.get_request key_id.now) payloads.Get (λ payload. payload)
+            self.old self.new result }
     {
         self.ask(alloc, get_request(alloc, key_id))
     }

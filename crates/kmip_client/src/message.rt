@@ -60,7 +60,8 @@ pub fn read_message<L: Link>(
     requires { taken.old.items ≡ [] }
     ensures keeps { Keeps (L.state link.old) (L.state link.new) }
     ensures reads { IsTrue (L.state link.old).tells →
-        ReadsMessage (L.state link.old) (L.state link.new) config.now.max_bytes taken.new.items result }
+        ReadsMessage (L.state link.old) (L.state link.new) config.now.max_bytes taken.new.items
+        result }
     ensures read { IsRead config.now.max_bytes taken.new.items result }
     ensures fault { IsErrOf result MessageStop.Fault →
         Rose (L.state link.old).faults (L.state link.new).faults }

@@ -41,16 +41,24 @@ pub fn exchange_all<T: Link>(
 ) -> Result<Answers>
     ensures session { IfOk result (λ answers. IsTrue (T.state client.old.link).tells →
         (T.state client.new.link).ever ≡ (T.state client.old.link).ever →
-        Ran client.old.buffered (session payloads client.old.credential client.old.limit (left (T.state client.old.link)))
-        (T.state client.old.link) (T.state client.new.link) (map (exchange_told response_payload_val) answers)) }
-    ensures stops { IfOk result (λ answers. Stops payloads (map (exchange_told response_payload_val) answers)) }
-    ensures calls { IfOk result (λ answers. Calls T.state payloads client.old (map (exchange_told response_payload_val) answers) client.new) }
+        Ran client.old.buffered (session payloads client.old.credential client.old.limit
+        (left (T.state client.old.link)))
+        (T.state client.old.link) (T.state client.new.link)
+        (map (exchange_told response_payload_val) answers)) }
+    ensures stops { IfOk result (λ answers.
+        Stops payloads (map (exchange_told response_payload_val) answers)) }
+    ensures calls { IfOk result (λ answers.
+        Calls T.state payloads client.old (map (exchange_told response_payload_val) answers)
+        client.new) }
     ensures cut { OnErr result (CutOff T.state payloads client.old client.new) }
     ensures texts { IfOk result (λ answers. held_texts client.new ≡
         last_texts (held_texts client.old) (map (exchange_told response_payload_val) answers)) }
-    ensures requests { IfOk result (λ answers. AreRequestTexts client.old.buffered client.old.credential payloads (map (exchange_told response_payload_val) answers)) }
+    ensures requests { IfOk result (λ answers.
+        AreRequestTexts client.old.buffered client.old.credential payloads
+        (map (exchange_told response_payload_val) answers)) }
     ensures keeps { Keeps (T.state client.old.link) (T.state client.new.link) }
-    ensures settings { (client.new.credential ≡ client.old.credential) × (client.new.limit ≡ client.old.limit) ×
+    ensures settings { (client.new.credential ≡ client.old.credential) ×
+        (client.new.limit ≡ client.old.limit) ×
         (client.new.buffered ≡ client.old.buffered) }
     ensures count { IfOk result (λ answers. client.new.errors ≡
         counted client.old.errors (ends_lost (map (exchange_told response_payload_val) answers))) }
@@ -67,16 +75,22 @@ fn exchanges<T: Link, P: AnsweredByAny>(
 ) -> Result<List<Exchange<P>>>
     ensures session { IfOk result (λ answers. IsTrue (T.state client.old.link).tells →
         (T.state client.new.link).ever ≡ (T.state client.old.link).ever →
-        Ran client.old.buffered (session payloads.items client.old.credential client.old.limit (left (T.state client.old.link)))
+        Ran client.old.buffered (session payloads.items client.old.credential client.old.limit
+        (left (T.state client.old.link)))
         (T.state client.old.link) (T.state client.new.link) (map (exchange_told P.whole) answers)) }
-    ensures stops { IfOk result (λ answers. Stops payloads.items (map (exchange_told P.whole) answers)) }
-    ensures calls { IfOk result (λ answers. Calls T.state payloads.items client.old (map (exchange_told P.whole) answers) client.new) }
+    ensures stops { IfOk result (λ answers.
+        Stops payloads.items (map (exchange_told P.whole) answers)) }
+    ensures calls { IfOk result (λ answers.
+        Calls T.state payloads.items client.old (map (exchange_told P.whole) answers) client.new) }
     ensures cut { OnErr result (CutOff T.state payloads.items client.old client.new) }
     ensures texts { IfOk result (λ answers. held_texts client.new ≡
         last_texts (held_texts client.old) (map (exchange_told P.whole) answers)) }
-    ensures requests { IfOk result (λ answers. AreRequestTexts client.old.buffered client.old.credential payloads.items (map (exchange_told P.whole) answers)) }
+    ensures requests { IfOk result (λ answers.
+        AreRequestTexts client.old.buffered client.old.credential payloads.items
+        (map (exchange_told P.whole) answers)) }
     ensures keeps { Keeps (T.state client.old.link) (T.state client.new.link) }
-    ensures settings { (client.new.credential ≡ client.old.credential) × (client.new.limit ≡ client.old.limit) ×
+    ensures settings { (client.new.credential ≡ client.old.credential) ×
+        (client.new.limit ≡ client.old.limit) ×
         (client.new.buffered ≡ client.old.buffered) }
     ensures count { IfOk result (λ answers. client.new.errors ≡
         counted client.old.errors (ends_lost (map (exchange_told P.whole) answers))) }
@@ -105,7 +119,8 @@ fn told<T, P: Drop>(
     answer: Result<P>,
 ) -> std::result::Result<Exchange<P>, OutOfMemory>
     ensures { IfOk result (λ exchange. exchange ≡
-        record { answer = answer; req_diag = client.now.request_text; res_diag = client.now.response_text }) }
+        record { answer = answer; req_diag = client.now.request_text;
+        res_diag = client.now.response_text }) }
 {
     Ok(Exchange {
         answer,

@@ -50,7 +50,8 @@ pub fn write_all<L: Link>(link: &mut L, bytes: &[u8]) -> Result<(), LinkError>
         Writes (L.state link.old) (L.state link.new) bytes.now) }
     ensures err { OnErr result (IsTrue (L.state link.old).tells →
         WritesPart (L.state link.old) (L.state link.new) bytes.now) }
-    ensures cause { IsErrOf result LinkError.Fault → Rose (L.state link.old).faults (L.state link.new).faults }
+    ensures cause { IsErrOf result LinkError.Fault →
+        Rose (L.state link.old).faults (L.state link.new).faults }
 {
     let mut done = 0;
     while done < bytes.len() {
@@ -64,18 +65,21 @@ fn read_piece<L: Link>(link: &mut L, room: usize, taken: &mut Vec<u8>) -> Result
     requires some { 0 < room }
     requires small { room ≤ 65536 }
     ensures keeps { Keeps (L.state link.old) (L.state link.new) }
-    ensures some { IfOk result (λ n. (0 < n) × (n ≤ room) × (vec_len taken.new ≡ vec_len taken.old + n)) }
+    ensures some { IfOk result (λ n. (0 < n) × (n ≤ room) ×
+        (vec_len taken.new ≡ vec_len taken.old + n)) }
     ensures ok { IfOk result (λ n. IsTrue (L.state link.old).tells →
         Takes (L.state link.old) (L.state link.new) n
         × (taken.new.items ≡ taken.old.items ++ take n (left (L.state link.old)))) }
     ensures ended { IsErrOf result ReadStop.Ended → IsTrue (L.state link.old).tells →
         (left (L.state link.old) ≡ []) × Takes (L.state link.old) (L.state link.new) 0 }
-    ensures fault { IsErrOf result ReadStop.Fault → Rose (L.state link.old).faults (L.state link.new).faults }
+    ensures fault { IsErrOf result ReadStop.Fault →
+        Rose (L.state link.old).faults (L.state link.new).faults }
     ensures idle { IsErrOf result ReadStop.Fault → IsTrue (L.state link.old).tells →
         Takes (L.state link.old) (L.state link.new) 0 }
     ensures err { OnErr result (taken.new.items ≡ taken.old.items) }
     ensures kept { take (length taken.old.items) taken.new.items ≡ taken.old.items }
-    ensures part { IsTrue (L.state link.old).tells → TakesPart (L.state link.old) (L.state link.new) room }
+    ensures part { IsTrue (L.state link.old).tells →
+        TakesPart (L.state link.old) (L.state link.new) room }
 {
     let len = taken.len();
     taken.resize(len + room, 0)?;
@@ -106,11 +110,13 @@ pub fn read_more<L: Link>(link: &mut L, count: usize, taken: &mut Vec<u8>) -> Re
         (length (left (L.state link.old)) < count)
         × Takes (L.state link.old) (L.state link.new) (length (left (L.state link.old)))
         × (taken.new.items ≡ taken.old.items ++ left (L.state link.old)) }
-    ensures fault { IsErrOf result ReadStop.Fault → Rose (L.state link.old).faults (L.state link.new).faults }
+    ensures fault { IsErrOf result ReadStop.Fault →
+        Rose (L.state link.old).faults (L.state link.new).faults }
     ensures broken { IsErrOf result ReadStop.Fault → IsTrue (L.state link.old).tells →
         (n : ℕ) × (n < count) × Takes (L.state link.old) (L.state link.new) n
         × (taken.new.items ≡ taken.old.items ++ take n (left (L.state link.old))) }
-    ensures part { IsTrue (L.state link.old).tells → TakesPart (L.state link.old) (L.state link.new) count }
+    ensures part { IsTrue (L.state link.old).tells →
+        TakesPart (L.state link.old) (L.state link.new) count }
 {
     let mut done = 0;
     while done < count {

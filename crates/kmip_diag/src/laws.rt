@@ -40,7 +40,8 @@ pub fn diagnostics_tell_skeletons()
     ensures trees { (prefix : Option ℕ) (t u : Tree) (b c : List ℕ) → HasRanges t → HasRanges u →
         Parses t 1 b → Parses u 1 c →
         (diagnostic prefix b ≡ diagnostic prefix c) ↔ (skeleton t ≡ skeleton u) }
-    ensures bytes { (prefix : Option ℕ) (t u : Tree) (b c : List ℕ) → AreBytes b → AreBytes c → Parses t 1 b →
+    ensures bytes { (prefix : Option ℕ) (t u : Tree) (b c : List ℕ) → AreBytes b → AreBytes c →
+        Parses t 1 b →
         Parses u 1 c → (diagnostic prefix b ≡ diagnostic prefix c) ↔ (skeleton t ≡ skeleton u) }
 {
     parsed_ranges();

@@ -25,7 +25,8 @@ pub struct MemoryLink {
 impl Model for MemoryLink {
     ghost Value = { MemoryState };
 
-    ghost view = { λ m. record { ever = m.ever.items; pos = m.pos; sent = m.sent.items; sizes = m.sizes.items; place = m.place } };
+    ghost view = { λ m. record { ever = m.ever.items; pos = m.pos; sent = m.sent.items;
+        sizes = m.sizes.items; place = m.place } };
 
     ghost invariant = { λ m. (m.pos ≤ length m.ever.items) × ((length m.sizes.items ≡ 0) ⊎
         (m.place < length m.sizes.items)) };
@@ -48,7 +49,8 @@ impl MemoryLink {
 
     /// Adds bytes to the end of those to read. Its only error is that memory ran out, which changes nothing.
     pub fn feed(&mut self, bytes: &[u8]) -> Result<(), LinkError>
-        ensures ok { OnOk result (self.new ≡ record self.old { ever = self.old.ever ++ bytes.now }) }
+        ensures ok { OnOk result (self.new ≡
+            record self.old { ever = self.old.ever ++ bytes.now }) }
         ensures left { OnOk result (drop self.new.pos self.new.ever ≡
             drop self.old.pos self.old.ever ++ bytes.now) }
         ensures err { OnErr result (self.new ≡ self.old) }
@@ -130,7 +132,9 @@ impl Link for MemoryLink {
         ensures cause { IsErrOf result LinkError.Fault →
             Rose (memory_state self.old).faults (memory_state self.new).faults }
         ensures succeeds { IsOk result }
-        ensures size { IfOk result (λ n. HasSize self.old (min (length into.old) (length (left (memory_state self.old)))) n) }
+        ensures size { IfOk result
+            (λ n. HasSize self.old (min (length into.old) (length (left (memory_state self.old))))
+            n) }
         ensures counts { CountsCall self.old self.new }
     {
         let most = into.len().min(self.ever.len() - self.pos);

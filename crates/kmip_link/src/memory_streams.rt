@@ -22,7 +22,8 @@ pub struct MemorySource {
 impl Model for MemorySource {
     ghost Value = { SourceMemory };
 
-    ghost view = { λ s. record { ever = s.ever.items; pos = s.pos; failing = s.failing.items; number = s.number; faults = s.faults } };
+    ghost view = { λ s. record { ever = s.ever.items; pos = s.pos; failing = s.failing.items;
+        number = s.number; faults = s.faults } };
 
     ghost invariant = { λ s. s.pos ≤ length s.ever.items };
 }
@@ -55,7 +56,8 @@ impl Source for MemorySource {
     fn read(&mut self, into: &mut [u8]) -> Result<usize, LinkError>
         ensures keeps { SourceKeeps (source_state self.old) (source_state self.new) }
         ensures bound { IfOk result (λ n. n ≤ length into.new) }
-        ensures moved { IfOk result (λ n. SourceReads (source_state self.old) (source_state self.new) into.new n) }
+        ensures moved { IfOk result
+            (λ n. SourceReads (source_state self.old) (source_state self.new) into.new n) }
         ensures idle { OnErr result (SourceIsIdle (source_state self.old) (source_state self.new)) }
         ensures cause { IsErrOf result LinkError.Fault → Rose self.old.faults self.new.faults }
         ensures fails { IsErrOf result LinkError.Fault ↔ Contains self.old.failing self.old.number }
@@ -94,7 +96,8 @@ pub struct MemorySink {
 impl Model for MemorySink {
     ghost Value = { SinkMemory };
 
-    ghost view = { λ s. record { sent = s.sent.items; failing = s.failing.items; number = s.number; faults = s.faults } };
+    ghost view = { λ s. record { sent = s.sent.items; failing = s.failing.items; number = s.number;
+        faults = s.faults } };
 }
 
 impl MemorySink {

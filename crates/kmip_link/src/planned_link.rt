@@ -22,7 +22,8 @@ pub struct PlannedLink {
 impl Model for PlannedLink {
     ghost Value = { PlannedState };
 
-    ghost view = { λ p. record { link = p.link; failing = p.failing.items; number = p.number; faults = p.faults } };
+    ghost view = { λ p. record { link = p.link; failing = p.failing.items; number = p.number;
+        faults = p.faults } };
 }
 
 impl PlannedLink {
@@ -57,7 +58,8 @@ impl PlannedLink {
     fn begin(&mut self) -> Result<(), LinkError>
         ensures ok { OnOk result (self.new ≡ record self.old { number = counted self.old.number }) }
         ensures err { OnErr result (self.new ≡
-            record self.old { number = counted self.old.number; faults = counted self.old.faults }) }
+            record self.old { number = counted self.old.number;
+            faults = counted self.old.faults }) }
         ensures fails { IsErrOf result LinkError.Fault ↔ Contains self.old.failing self.old.number }
         ensures cause { IfErr result (λ e. e ≡ LinkError.Fault) }
         ensures later { self.old.faults ≤ self.new.faults }
@@ -80,13 +82,16 @@ impl Link for PlannedLink {
     fn read(&mut self, into: &mut [u8]) -> Result<usize, LinkError>
         ensures keeps { Keeps (planned_state self.old) (planned_state self.new) }
         ensures bound { IfOk result (λ n. n ≤ length into.new) }
-        ensures moved { IfOk result (λ n. Reads (planned_state self.old) (planned_state self.new) into.new n) }
+        ensures moved { IfOk result (λ n. Reads (planned_state self.old) (planned_state self.new)
+            into.new n) }
         ensures idle { OnErr result (IsIdle (planned_state self.old) (planned_state self.new)) }
         ensures cause { IsErrOf result LinkError.Fault → Rose self.old.faults self.new.faults }
         ensures fails { IsErrOf result LinkError.Fault ↔ Contains self.old.failing self.old.number }
         ensures other { IfErr result (λ e. e ≡ LinkError.Fault) }
         ensures below { OnErr result (self.new.link ≡ self.old.link) }
-        ensures size { IfOk result (λ n. HasSize self.old.link (min (length into.old) (length (left (memory_state self.old.link)))) n) }
+        ensures size { IfOk result
+            (λ n. HasSize self.old.link
+            (min (length into.old) (length (left (memory_state self.old.link)))) n) }
         ensures counts { OnOk result (CountsCall self.old.link self.new.link) }
         ensures number { self.new.number ≡ counted self.old.number }
         ensures steady { OnOk result (self.new.faults ≡ self.old.faults) }
@@ -102,7 +107,8 @@ impl Link for PlannedLink {
         ensures keeps { Keeps (planned_state self.old) (planned_state self.new) }
         ensures bound { IfOk result (λ n. n ≤ length bytes.now) }
         ensures some { IfOk result (λ n. 0 < length bytes.now → 0 < n) }
-        ensures moved { IfOk result (λ n. Writes (planned_state self.old) (planned_state self.new) (take n bytes.now)) }
+        ensures moved { IfOk result (λ n. Writes (planned_state self.old) (planned_state self.new)
+            (take n bytes.now)) }
         ensures idle { OnErr result (IsIdle (planned_state self.old) (planned_state self.new)) }
         ensures cause { IsErrOf result LinkError.Fault → Rose self.old.faults self.new.faults }
         ensures fails { IsErrOf result LinkError.Fault ↔ Contains self.old.failing self.old.number }

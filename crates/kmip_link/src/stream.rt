@@ -104,10 +104,12 @@ impl<R: Read> Source for StdSource<R> {
 
     /// Reads once from the reader.
     fn read(&mut self, into: &mut [u8]) -> Result<usize, LinkError>
-        ensures keeps { SourceKeeps (silent_source self.old.faults) (silent_source self.new.faults) }
+        ensures keeps { SourceKeeps (silent_source self.old.faults)
+            (silent_source self.new.faults) }
         ensures bound { IfOk result (λ n. n ≤ length into.new) }
         ensures moved { IfOk result (λ n. IsTrue (silent_source self.old.faults).tells →
-            SourceReads (silent_source self.old.faults) (silent_source self.new.faults) into.new n) }
+            SourceReads (silent_source self.old.faults) (silent_source self.new.faults) into.new
+            n) }
         ensures idle { OnErr result (IsTrue (silent_source self.old.faults).tells →
             SourceIsIdle (silent_source self.old.faults) (silent_source self.new.faults)) }
         ensures cause { IsErrOf result LinkError.Fault → Rose self.old.faults self.new.faults }

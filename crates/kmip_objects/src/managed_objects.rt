@@ -35,20 +35,34 @@ pub struct ManagedObjects<'a> {
 impl<'a> Column<'a> for ManagedObjects<'a> {
     type Out = ManagedObject;
 
-    ghost row_above = { λ rest. AndRow [] ByCase Required Chosen (Choice OfNumber managed_objects) rest };
+    ghost row_above = { λ rest. AndRow [] ByCase Required Chosen (Choice OfNumber managed_objects)
+        rest };
 
-    ghost reads = { λ o c xs. option_and_then (λ n. case_field managed_objects managed_objects c n xs) c.number };
+    ghost reads = { λ o c xs.
+        option_and_then (λ n. case_field managed_objects managed_objects c n xs) c.number };
 
     ghost resume = { λ s o c xs. option_and_then (λ n.
-        if among n (1 ∷ []) then resume_only (λ x. option_map (case_of 1) (read_in certificate managed_objects c x)) s.certificate.several (option_map item_tree s.certificate.item) (filter (has_tag tags.CERTIFICATE) xs)
-        else if among n (2 ∷ []) then resume_only (λ x. option_map (case_of 2) (read_in symmetric_key managed_objects c x)) s.symmetric_key.several (option_map item_tree s.symmetric_key.item) (filter (has_tag tags.SYMMETRIC_KEY) xs)
-        else if among n (3 ∷ []) then resume_only (λ x. option_map (case_of 3) (read_in public_key managed_objects c x)) s.public_key.several (option_map item_tree s.public_key.item) (filter (has_tag tags.PUBLIC_KEY) xs)
-        else if among n (4 ∷ []) then resume_only (λ x. option_map (case_of 4) (read_in private_key managed_objects c x)) s.private_key.several (option_map item_tree s.private_key.item) (filter (has_tag tags.PRIVATE_KEY) xs)
+        if among n (1 ∷ []) then resume_only
+        (λ x. option_map (case_of 1) (read_in certificate managed_objects c x))
+        s.certificate.several (option_map item_tree s.certificate.item)
+        (filter (has_tag tags.CERTIFICATE) xs)
+        else if among n (2 ∷ []) then resume_only
+        (λ x. option_map (case_of 2) (read_in symmetric_key managed_objects c x))
+        s.symmetric_key.several (option_map item_tree s.symmetric_key.item)
+        (filter (has_tag tags.SYMMETRIC_KEY) xs)
+        else if among n (3 ∷ []) then resume_only
+        (λ x. option_map (case_of 3) (read_in public_key managed_objects c x)) s.public_key.several
+        (option_map item_tree s.public_key.item) (filter (has_tag tags.PUBLIC_KEY) xs)
+        else if among n (4 ∷ []) then resume_only
+        (λ x. option_map (case_of 4) (read_in private_key managed_objects c x))
+        s.private_key.several (option_map item_tree s.private_key.item)
+        (filter (has_tag tags.PRIVATE_KEY) xs)
         else None) c.number };
 
     ghost shows = { λ x. one (managed_object_val x) };
 
-    ghost row_reads = { λ rest o c xs. ap (λ f. with_field f (λ _. read_rows rest o c xs)) (case_field_law managed_objects c xs) };
+    ghost row_reads = { λ rest o c xs. ap (λ f. with_field f (λ _. read_rows rest o c xs))
+        (case_field_law managed_objects c xs) };
 
     fn new(_alloc: Global) -> Self {
         ManagedObjects {

@@ -10,9 +10,12 @@ ghost use Rattle.kmip_request.specs.Tables.{root_tables, all_stand};
 /// Two valid requests whose trees differ have different bytes, and neither message's bytes begin the other's.
 /// The premises hold of every payload and credential that Rust can hold.
 pub fn distinct_requests()
-    ensures equal { (p q : RequestPayload) (c d : Option CredentialType) (b : List ℕ) → IsHeld p c → IsHeld q d →
-        request_bytes p c ≡ Some b → request_bytes q d ≡ Some b → request_tree p c ≡ request_tree q d }
-    ensures apart { (p q : RequestPayload) (c d : Option CredentialType) (b rest : List ℕ) → IsHeld p c → IsHeld q d →
+    ensures equal { (p q : RequestPayload) (c d : Option CredentialType) (b : List ℕ) → IsHeld p c →
+        IsHeld q d →
+        request_bytes p c ≡ Some b → request_bytes q d ≡ Some b →
+        request_tree p c ≡ request_tree q d }
+    ensures apart { (p q : RequestPayload) (c d : Option CredentialType) (b rest : List ℕ) →
+        IsHeld p c → IsHeld q d →
         request_bytes p c ≡ Some b → request_bytes q d ≡ Some (b ++ rest) → rest ≡ [] }
 {}
 

@@ -65,7 +65,8 @@ fn write_item<P: WriteItem>(operation: &Operation, payload: &P, out: &mut Buffer
     requires room { size_of (batch_item_of P.shape)
         (lent_item_val operation.now (P.val payload.now)) ≤ out.old.spare }
     ensures { Appends out.old out.new
-        (text_of (batch_item_of P.shape) BATCH_ITEM (lent_item_val operation.now (P.val payload.now)))
+        (text_of (batch_item_of P.shape) BATCH_ITEM
+        (lent_item_val operation.now (P.val payload.now)))
         (size_of (batch_item_of P.shape) (lent_item_val operation.now (P.val payload.now))) }
 {
     write_record::<BatchItemRows<'_, P>>(
@@ -187,7 +188,8 @@ fn write_empty(
     out: &mut Buffer,
 ) -> Result<(), WireError>
     requires { out.old.bytes ≡ [] }
-    ensures ok { OnOk result (request_bytes payload.now (option_map credential_of authentication.now)
+    ensures ok { OnOk result (request_bytes payload.now
+        (option_map credential_of authentication.now)
         ≡ Some out.new.bytes) }
     ensures no_form { IsErrOf result WireError.NoForm →
         request_bytes payload.now (option_map credential_of authentication.now) ≡ None }
@@ -212,7 +214,8 @@ pub fn write_request_into(
     authentication: &Option<Authentication>,
     out: &mut Buffer,
 ) -> Result<(), WireError>
-    ensures ok { OnOk result (request_bytes payload.now (option_map credential_of authentication.now)
+    ensures ok { OnOk result (request_bytes payload.now
+        (option_map credential_of authentication.now)
         ≡ Some out.new.bytes) }
     ensures no_form { IsErrOf result WireError.NoForm →
         request_bytes payload.now (option_map credential_of authentication.now) ≡ None }

@@ -42,7 +42,8 @@ impl Attribute {
     /// A name that is an uninterpreted text: KMIP 1.0, 3.2.
     pub fn Name(alloc: Global, value: Text) -> Result<Attribute, OutOfMemory>
         ensures { IfOk result (λ made. made ≡
-            attribute_of (codes "Name") (values.Name (record { 0 = value }) name_types.UninterpretedTextString)) }
+            attribute_of (codes "Name")
+            (values.Name (record { 0 = value }) name_types.UninterpretedTextString)) }
     {
         attribute(
             alloc,
@@ -104,7 +105,8 @@ impl Attribute {
         cryptographic_parameters: CryptographicParameters,
     ) -> Result<Attribute, OutOfMemory>
         ensures { IfOk result (λ made. made ≡
-            attribute_of (codes "Cryptographic Parameters") (values.CryptographicParameters cryptographic_parameters)) }
+            attribute_of (codes "Cryptographic Parameters")
+            (values.CryptographicParameters cryptographic_parameters)) }
     {
         attribute(
             alloc,
@@ -131,7 +133,8 @@ impl Attribute {
         value: CryptographicUsageMask,
     ) -> Result<Attribute, OutOfMemory>
         ensures { IfOk result (λ made. made ≡
-            attribute_of (codes "Cryptographic Usage Mask") (values.Integer (cast_signed w32 (usage_bits value)))) }
+            attribute_of (codes "Cryptographic Usage Mask")
+            (values.Integer (cast_signed w32 (usage_bits value)))) }
     {
         attribute(
             alloc,
@@ -180,7 +183,8 @@ impl Attribute {
         application_data: ApplicationData,
     ) -> Result<Attribute, OutOfMemory>
         ensures { IfOk result (λ made. made ≡
-            attribute_of (codes "Application Specific Information") (values.ApplicationSpecificInformation application_namespace application_data)) }
+            attribute_of (codes "Application Specific Information")
+            (values.ApplicationSpecificInformation application_namespace application_data)) }
     {
         attribute(
             alloc,

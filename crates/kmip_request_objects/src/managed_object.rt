@@ -267,7 +267,8 @@ impl ReadItem for ManagedObject {
 }
 
 impl OfTag for ManagedObject {
-    ghost tags = { numbers.SYMMETRIC_KEY ∷ numbers.PUBLIC_KEY ∷ numbers.PRIVATE_KEY ∷ numbers.TEMPLATE ∷ [] };
+    ghost tags = { numbers.SYMMETRIC_KEY ∷ numbers.PUBLIC_KEY ∷ numbers.PRIVATE_KEY ∷
+        numbers.TEMPLATE ∷ [] };
 
     fn has_case(tag: Tag) -> bool {
         matches!(

@@ -28,7 +28,8 @@ pub fn same_message()
 
 /// The bytes of a matched request are read as it.
 pub fn request_is_read()
-    ensures { (p : RequestPayload) (c : Option CredentialType) (b : List ℕ) → IsHeld p c → IsMatched p →
+    ensures { (p : RequestPayload) (c : Option CredentialType) (b : List ℕ) → IsHeld p c →
+        IsMatched p →
         request_bytes p c ≡ Some b → request_read b ≡ Some (request_for p) }
 {}
 
@@ -44,7 +45,8 @@ pub fn read_request_is_matched()
 pub fn request_parses()
     ensures parses { (p : RequestPayload) (c : Option CredentialType) (b : List ℕ) → IsHeld p c →
         request_bytes p c ≡ Some b → (t : Tree) × Parses t 1 b }
-    ensures ranges { (p : RequestPayload) (c : Option CredentialType) (b : List ℕ) (t : Tree) → IsHeld p c →
+    ensures ranges { (p : RequestPayload) (c : Option CredentialType) (b : List ℕ) (t : Tree) →
+        IsHeld p c →
         request_bytes p c ≡ Some b → Parses t 1 b → HasRanges t }
 {}
 

@@ -40,7 +40,8 @@ fn read_canonical<T: ReadRoot + WriteItem>(
     item: ItemRef<'_>,
     bytes: &[u8],
 ) -> Result<T, RequestReadError>
-    ensures ok { IfOk result (λ x. IsCanonical T.shape T.root_tag (item_tree item.entry) bytes.now (T.val x)) }
+    ensures ok { IfOk result (λ x. IsCanonical T.shape T.root_tag (item_tree item.entry) bytes.now
+        (T.val x)) }
     ensures not_canonical { result ≡ Err RequestReadError.NotCanonical → (val : Val) →
         IsWrittenAs T.shape T.root_tag (item_tree item.entry) bytes.now val → ⊥ }
     ensures never { IfErr result (λ e. e ≢ RequestReadError.Malformed) }
@@ -128,12 +129,16 @@ pub fn from_slice(
     bytes: &[u8],
 ) -> Result<(RequestPayload, Option<auth::CredentialType>), RequestReadError>
     ensures ok { IfOk result (λ r. IsMatched r.0 × (request_bytes r.0 r.1 ≡ Some bytes.now)) }
-    ensures malformed { result ≡ Err RequestReadError.Malformed ↔ ((tree : Tree) → Parses tree 1 bytes.now → ⊥) }
-    ensures not_canonical { result ≡ Err RequestReadError.NotCanonical → (p : Payload) (c : Option CredentialType) →
+    ensures malformed { result ≡ Err RequestReadError.Malformed ↔
+        ((tree : Tree) → Parses tree 1 bytes.now → ⊥) }
+    ensures not_canonical { result ≡ Err RequestReadError.NotCanonical →
+        (p : Payload) (c : Option CredentialType) →
         IsHeld p c → IsMatched p → request_bytes p c ≡ Some bytes.now → ⊥ }
-    ensures item { result ≡ Err RequestReadError.NotCanonical → (tree : Tree) × Parses tree 1 bytes.now }
+    ensures item { result ≡ Err RequestReadError.NotCanonical → (tree : Tree) ×
+        Parses tree 1 bytes.now }
     ensures value { IfOk result (λ r. request_read bytes.now ≡ Some (request_for r.0)) }
-    ensures unread { (result ≡ Err RequestReadError.Malformed) ⊎ (result ≡ Err RequestReadError.NotCanonical) →
+    ensures unread { (result ≡ Err RequestReadError.Malformed) ⊎
+        (result ≡ Err RequestReadError.NotCanonical) →
         request_read bytes.now ≡ None }
     ensures back { (p : Payload) (c : Option CredentialType) → IsHeld p c → IsMatched p →
         request_bytes p c ≡ Some bytes.now → IfOk result (λ r. (r.0 ≡ p) × (r.1 ≡ c)) }

@@ -23,9 +23,12 @@ pub enum ResponseError {
 
 /// Reads the item at the front of the bytes. Bytes after it are not looked at.
 pub fn from_slice<T: ReadRoot>(alloc: Global, bytes: &[u8]) -> Result<T, ResponseError>
-    ensures ok { IfOk result (λ x. option_and_then (root_read T.shape T.root_tag) (front_structure bytes.now) ≡ Some (T.val x)) }
+    ensures ok { IfOk result (λ x.
+        option_and_then (root_read T.shape T.root_tag) (front_structure bytes.now) ≡
+        Some (T.val x)) }
     ensures malformed { result ≡ Err ResponseError.Malformed ↔ (front_structure bytes.now ≡ None) }
-    ensures unread { result ≡ Err ResponseError.Unread → option_and_then (root_read T.shape T.root_tag) (front_structure bytes.now) ≡ None }
+    ensures unread { result ≡ Err ResponseError.Unread →
+        option_and_then (root_read T.shape T.root_tag) (front_structure bytes.now) ≡ None }
 {
     let Some((item, _rest)) = split_front(bytes, 1) else {
         return Err(ResponseError::Malformed);

@@ -70,7 +70,8 @@ macro_rules! same_option {
 /// Whether two variants that may be absent are equal.
 fn same_variants<T: Enumeration>(left: &Option<T>, right: &Option<T>) -> bool
     ensures { result ≡
-        same_field (optional (enumeration_val T.line) left.now) (optional (enumeration_val T.line) right.now) }
+        same_field (optional (enumeration_val T.line) left.now)
+        (optional (enumeration_val T.line) right.now) }
 {
     match left {
         Some(left) => match right {
@@ -86,21 +87,24 @@ fn same_variants<T: Enumeration>(left: &Option<T>, right: &Option<T>) -> bool
 
 /// Whether two fields `random_iv` are equal.
 fn same_random_iv(left: &Option<RandomIV>, right: &Option<RandomIV>) -> bool
-    ensures { result ≡ same_field (optional random_iv_val left.now) (optional random_iv_val right.now) }
+    ensures { result ≡ same_field (optional random_iv_val left.now)
+        (optional random_iv_val right.now) }
 {
     same_option!(left, right)
 }
 
 /// Whether two fields `iv_length` are equal.
 fn same_iv_length(left: &Option<IVLength>, right: &Option<IVLength>) -> bool
-    ensures { result ≡ same_field (optional iv_length_val left.now) (optional iv_length_val right.now) }
+    ensures { result ≡ same_field (optional iv_length_val left.now)
+        (optional iv_length_val right.now) }
 {
     same_option!(left, right)
 }
 
 /// Whether two fields `tag_length` are equal.
 fn same_tag_length(left: &Option<TagLength>, right: &Option<TagLength>) -> bool
-    ensures { result ≡ same_field (optional tag_length_val left.now) (optional tag_length_val right.now) }
+    ensures { result ≡ same_field (optional tag_length_val left.now)
+        (optional tag_length_val right.now) }
 {
     same_option!(left, right)
 }
@@ -111,7 +115,8 @@ fn same_fixed_field_length(
     right: &Option<FixedFieldLength>,
 ) -> bool
     ensures { result ≡
-        same_field (optional fixed_field_length_val left.now) (optional fixed_field_length_val right.now) }
+        same_field (optional fixed_field_length_val left.now)
+        (optional fixed_field_length_val right.now) }
 {
     same_option!(left, right)
 }
@@ -122,7 +127,8 @@ fn same_invocation_field_length(
     right: &Option<InvocationFieldLength>,
 ) -> bool
     ensures { result ≡
-        same_field (optional invocation_field_length_val left.now) (optional invocation_field_length_val right.now) }
+        same_field (optional invocation_field_length_val left.now)
+        (optional invocation_field_length_val right.now) }
 {
     same_option!(left, right)
 }
@@ -141,7 +147,8 @@ fn same_initial_counter_value(
     right: &Option<InitialCounterValue>,
 ) -> bool
     ensures { result ≡
-        same_field (optional initial_counter_value_val left.now) (optional initial_counter_value_val right.now) }
+        same_field (optional initial_counter_value_val left.now)
+        (optional initial_counter_value_val right.now) }
 {
     same_option!(left, right)
 }

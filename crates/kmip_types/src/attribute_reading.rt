@@ -22,7 +22,8 @@ use std::alloc::Global;
 fn read_child(alloc: Global, child: ItemRef<'_>) -> Result<AttributeValue, ReadError>
     ensures ok { IfOk result (λ x. read_plain attribute_values (item_tree child.entry) ≡
         Some (attribute_value_val x)) }
-    ensures unread { result ≡ Err ReadError.Unread → read_plain attribute_values (item_tree child.entry) ≡ None }
+    ensures unread { result ≡ Err ReadError.Unread →
+        read_plain attribute_values (item_tree child.entry) ≡ None }
 {
     let outer = Outer::none();
     match child.kind() {
@@ -48,7 +49,8 @@ fn read_child(alloc: Global, child: ItemRef<'_>) -> Result<AttributeValue, ReadE
 /// The members of a custom structure. `Unread` comes exactly where the item is no Structure or one of them is.
 #[tactic(auto, using(kmip_shape::proofs::Gathered::gathering))]
 fn read_values(alloc: Global, item: ItemRef<'_>) -> Result<Values, ReadError>
-    ensures ok { IfOk result (λ made. option_and_then (each (read_plain attribute_values)) (children_in (item_tree item.entry)) ≡
+    ensures ok { IfOk result (λ made. option_and_then (each (read_plain attribute_values))
+        (children_in (item_tree item.entry)) ≡
         Some (vals_of made)) }
     ensures unread { result ≡ Err ReadError.Unread →
         option_and_then (each (read_plain attribute_values)) (children_in (item_tree item.entry)) ≡
@@ -68,10 +70,13 @@ fn read_by_type(
     outer: Outer<'_>,
     item: ItemRef<'_>,
 ) -> Result<AttributeValue, ReadError>
-    ensures ok { IfOk result (λ x. read_case attribute_values attribute_values (type_key (item_tree item.entry)) (outer_of outer.entry) (item_tree item.entry) ≡
+    ensures ok { IfOk result (λ x.
+        read_case attribute_values attribute_values (type_key (item_tree item.entry))
+        (outer_of outer.entry) (item_tree item.entry) ≡
         Some (attribute_value_val x)) }
     ensures unread { result ≡ Err ReadError.Unread →
-        read_case attribute_values attribute_values (type_key (item_tree item.entry)) (outer_of outer.entry) (item_tree item.entry) ≡
+        read_case attribute_values attribute_values (type_key (item_tree item.entry))
+        (outer_of outer.entry) (item_tree item.entry) ≡
         None }
 {
     match item.kind() {
@@ -86,7 +91,8 @@ fn read_name(
     outer: Outer<'_>,
     item: ItemRef<'_>,
 ) -> Result<AttributeValue, ReadError>
-    ensures ok { IfOk result (λ x. option_map (Case 1) (read_of name (outer_of outer.entry) (item_tree item.entry)) ≡
+    ensures ok { IfOk result (λ x.
+        option_map (Case 1) (read_of name (outer_of outer.entry) (item_tree item.entry)) ≡
         Some (attribute_value_val x)) }
     ensures unread { result ≡ Err ReadError.Unread →
         read_of name (outer_of outer.entry) (item_tree item.entry) ≡ None }
@@ -101,7 +107,8 @@ fn read_link(
     outer: Outer<'_>,
     item: ItemRef<'_>,
 ) -> Result<AttributeValue, ReadError>
-    ensures ok { IfOk result (λ x. option_map (Case 7) (read_of link (outer_of outer.entry) (item_tree item.entry)) ≡
+    ensures ok { IfOk result (λ x.
+        option_map (Case 7) (read_of link (outer_of outer.entry) (item_tree item.entry)) ≡
         Some (attribute_value_val x)) }
     ensures unread { result ≡ Err ReadError.Unread →
         read_of link (outer_of outer.entry) (item_tree item.entry) ≡ None }
@@ -116,7 +123,9 @@ fn read_information(
     outer: Outer<'_>,
     item: ItemRef<'_>,
 ) -> Result<AttributeValue, ReadError>
-    ensures ok { IfOk result (λ x. option_map (Case 8) (read_of application_specific_information (outer_of outer.entry) (item_tree item.entry)) ≡
+    ensures ok { IfOk result (λ x.
+        option_map (Case 8) (read_of application_specific_information (outer_of outer.entry)
+        (item_tree item.entry)) ≡
         Some (attribute_value_val x)) }
     ensures unread { result ≡ Err ReadError.Unread →
         read_of application_specific_information (outer_of outer.entry) (item_tree item.entry) ≡

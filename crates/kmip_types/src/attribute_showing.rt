@@ -18,7 +18,8 @@ use kmip_shape::{Enumeration, ShowItem, Sink, fields, show_record};
 /// Appends the members, with a comma after each but the last.
 #[cycle(show_attribute)]
 fn show_each(values: &Values, out: &mut Sink)
-    ensures { Grows out.old out.new (list_styled (vals_of values.now) NoCase attribute_value false) }
+    ensures { Grows out.old out.new
+        (list_styled (vals_of values.now) NoCase attribute_value false) }
 {
     let mut after = false;
     let mut rest = values.as_slice();
@@ -33,7 +34,8 @@ fn show_each(values: &Values, out: &mut Sink)
 /// Appends a structure of the members.
 #[cycle(show_attribute)]
 fn show_structure(values: &Values, out: &mut Sink)
-    ensures { Grows out.old out.new (styled attribute_value (attribute_value_val (Structure values.now))) }
+    ensures { Grows out.old out.new
+        (styled attribute_value (attribute_value_val (Structure values.now))) }
 {
     out.open_case("Structure");
     out.put("[");
@@ -132,7 +134,8 @@ fn show_plain(value: &AttributeValue, out: &mut Sink)
 
 /// Appends a Name.
 fn show_name(value: &NameValue, kind: &NameType, out: &mut Sink)
-    ensures { Grows out.old out.new (styled attribute_value (attribute_value_val (Name value.now kind.now))) }
+    ensures { Grows out.old out.new
+        (styled attribute_value (attribute_value_val (Name value.now kind.now))) }
 {
     out.open_case("Name");
     show_record::<NameRows>(
@@ -145,7 +148,8 @@ fn show_name(value: &NameValue, kind: &NameType, out: &mut Sink)
 
 /// Appends a Link.
 fn show_link(kind: &LinkType, identifier: &LinkedObjectIdentifier, out: &mut Sink)
-    ensures { Grows out.old out.new (styled attribute_value (attribute_value_val (Link kind.now identifier.now))) }
+    ensures { Grows out.old out.new
+        (styled attribute_value (attribute_value_val (Link kind.now identifier.now))) }
 {
     out.open_case("Link");
     show_record::<LinkRows>(
@@ -158,7 +162,9 @@ fn show_link(kind: &LinkType, identifier: &LinkedObjectIdentifier, out: &mut Sin
 
 /// Appends Application Specific Information.
 fn show_information(namespace: &ApplicationNamespace, contents: &ApplicationData, out: &mut Sink)
-    ensures { Grows out.old out.new (styled attribute_value (attribute_value_val (ApplicationSpecificInformation namespace.now contents.now))) }
+    ensures { Grows out.old out.new
+        (styled attribute_value (attribute_value_val
+        (ApplicationSpecificInformation namespace.now contents.now))) }
 {
     out.open_case("ApplicationSpecificInformation");
     show_record::<InformationRows>(
@@ -171,7 +177,8 @@ fn show_information(namespace: &ApplicationNamespace, contents: &ApplicationData
 
 /// Appends Cryptographic Parameters.
 fn show_parameters(parameters: &CryptographicParameters, out: &mut Sink)
-    ensures { Grows out.old out.new (styled attribute_value (case 4 (cryptographic_parameters_val parameters.now))) }
+    ensures { Grows out.old out.new
+        (styled attribute_value (case 4 (cryptographic_parameters_val parameters.now))) }
 {
     out.open_case("CryptographicParameters");
     parameters.show_into(out);

@@ -50,8 +50,12 @@ impl AttributeValue {
     /// Appends a child of a custom structure, which has a form as one.
     fn write_plain(&self, out: &mut Buffer)
         requires form { maybe_form (plain_leaf attribute_values (attribute_value_val self.now)) }
-        requires room { maybe_size (plain_leaf attribute_values (attribute_value_val self.now)) ≤ out.old.spare }
-        ensures { Appends out.old out.new (maybe_text tag_of_children (plain_leaf attribute_values (attribute_value_val self.now))) (maybe_size (plain_leaf attribute_values (attribute_value_val self.now))) }
+        requires room { maybe_size (plain_leaf attribute_values (attribute_value_val self.now)) ≤
+            out.old.spare }
+        ensures { Appends out.old out.new
+            (maybe_text tag_of_children
+            (plain_leaf attribute_values (attribute_value_val self.now)))
+            (maybe_size (plain_leaf attribute_values (attribute_value_val self.now))) }
     {
         let tag = Tag::of(CHILD);
         match self {
@@ -81,7 +85,8 @@ impl AttributeValue {
 /// The length of the children of a custom structure, and `None` exactly where one has no form or they reach 2^32 bytes.
 #[tactic(auto, using(kmip_shape::proofs::Lens::plus_assoc, kmip_shape::proofs::Lens::plains_len_zero, kmip_shape::proofs::Lens::plus_end))]
 fn children_len(items: &[AttributeValue]) -> Option<u64>
-    ensures len { result ≡ plains_len attribute_values (vals_of (map attribute_value_val items.now)) }
+    ensures len { result ≡ plains_len attribute_values
+        (vals_of (map attribute_value_val items.now)) }
     ensures below { IfSome result (λ n. n < 2 ^ 32) }
 {
     let mut sum = 0;
@@ -97,8 +102,11 @@ fn children_len(items: &[AttributeValue]) -> Option<u64>
 #[tactic(auto, using(std::proofs::lemmas::List::append_assoc))]
 fn write_children(items: &[AttributeValue], out: &mut Buffer)
     requires form { plains_form attribute_values (vals_of (map attribute_value_val items.now)) }
-    requires room { plains_size attribute_values (vals_of (map attribute_value_val items.now)) ≤ out.old.spare }
-    ensures { Appends out.old out.new (plains_text attribute_values (vals_of (map attribute_value_val items.now))) (plains_size attribute_values (vals_of (map attribute_value_val items.now))) }
+    requires room { plains_size attribute_values (vals_of (map attribute_value_val items.now)) ≤
+        out.old.spare }
+    ensures { Appends out.old out.new
+        (plains_text attribute_values (vals_of (map attribute_value_val items.now)))
+        (plains_size attribute_values (vals_of (map attribute_value_val items.now))) }
 {
     let mut rest = items;
     while let [item, tail @ ..] = rest {

@@ -158,7 +158,8 @@ impl Buffer {
     /// Writes another length into the head that begins at a place.
     pub(crate) fn set_length(&mut self, at: usize, len: u32)
         requires { at + 8 ≤ length self.old.bytes }
-        ensures bytes { self.new.bytes ≡ take (at + 4) self.old.bytes ++ (to_be_bytes w32 len ++ drop (at + 8) self.old.bytes) }
+        ensures bytes { self.new.bytes ≡ take (at + 4) self.old.bytes ++
+            (to_be_bytes w32 len ++ drop (at + 8) self.old.bytes) }
         ensures spare { self.new.spare ≡ self.old.spare }
     {
         self.bytes[at + 4..at + 8].copy_from_slice(&len.to_be_bytes());
@@ -169,7 +170,8 @@ impl Buffer {
     #[inline(always)]
     pub fn put_four(&mut self, tag: Tag, kind: Kind, value: u32)
         requires { 16 ≤ self.old.spare }
-        ensures { Appends self.old self.new (item_bytes tag (code_of kind) (to_be_bytes w32 value)) 16 }
+        ensures { Appends self.old self.new (item_bytes tag (code_of kind) (to_be_bytes w32 value))
+            16 }
     {
         let tag = tag.number().to_be_bytes();
         let value = value.to_be_bytes();
@@ -198,7 +200,8 @@ impl Buffer {
     #[inline(always)]
     pub fn put_eight(&mut self, tag: Tag, kind: Kind, value: u64)
         requires { 16 ≤ self.old.spare }
-        ensures { Appends self.old self.new (item_bytes tag (code_of kind) (to_be_bytes w64 value)) 16 }
+        ensures { Appends self.old self.new (item_bytes tag (code_of kind) (to_be_bytes w64 value))
+            16 }
     {
         let tag = tag.number().to_be_bytes();
         let value = value.to_be_bytes();
@@ -235,7 +238,8 @@ impl Buffer {
     pub fn put_item(&mut self, tag: Tag, kind: Kind, value: &[u8])
         requires form { length value.now < 2 ^ 32 }
         requires room { 8 + length value.now + pads (length value.now) ≤ self.old.spare }
-        ensures { Appends self.old self.new (item_bytes tag (code_of kind) value.now) (8 + length value.now + pads (length value.now)) }
+        ensures { Appends self.old self.new (item_bytes tag (code_of kind) value.now)
+            (8 + length value.now + pads (length value.now)) }
     {
         self.put_head(tag, kind, value.len() as u32);
         self.put(value);

@@ -30,7 +30,8 @@ pub(crate) fn whole_length(bytes: &[u8]) -> usize
 
 // The whole length that the head tells, where that many bytes are there.
 fn size_at(bytes: &[u8]) -> Option<usize>
-    ensures { MatchOption result (length bytes.now < size_at bytes.now) (λ n. (n ≡ size_at bytes.now) × (n ≤ length bytes.now)) }
+    ensures { MatchOption result (length bytes.now < size_at bytes.now)
+        (λ n. (n ≡ size_at bytes.now) × (n ≤ length bytes.now)) }
 {
     if bytes.len() < 8 {
         return None;
@@ -146,7 +147,8 @@ fn is_node(kind: Kind, padded: &[u8], size: usize, levels: u32) -> bool
     requires levels { levels ≤ 64 }
     requires within { size ≤ length padded.now }
     requires fits { size < 2 ^ 32 }
-    ensures { result ≡ well_formed (is_some (items_of levels (take size padded.now))) (Some kind) (take size padded.now) }
+    ensures { result ≡ well_formed (is_some (items_of levels (take size padded.now))) (Some kind)
+        (take size padded.now) }
 {
     match kind {
         Kind::Structure => are_items(&padded[..size], levels),

@@ -36,7 +36,8 @@ impl<'a> ItemRef<'a> {
     /// The view of bytes that are one well-formed item and nothing more, and `None` exactly where they are not.
     pub fn root(bytes: &'a [u8]) -> Option<ItemRef<'a>>
         ensures tree { option_map item_tree result ≡ item_of 64 bytes.now }
-        ensures parses { MatchOption result ((t : Tree) → Parses t 1 bytes.now → ⊥) (λ item. Parses (item_tree item) 1 bytes.now) }
+        ensures parses { MatchOption result ((t : Tree) → Parses t 1 bytes.now →
+            ⊥) (λ item. Parses (item_tree item) 1 bytes.now) }
     {
         if check(bytes) {
             Some(ItemRef { bytes })

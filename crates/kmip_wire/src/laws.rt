@@ -11,14 +11,18 @@ ghost use Rattle.kmip_wire.specs.Bytes.{bytes, levels, AreBytes, HasRanges};
 
 /// A text parses as one tree at most, and no text that parses begins another that does. A list of texts that parse at a level is determined by their concatenation.
 pub fn one_tree()
-    ensures tree { (t u : Tree) (level : ℕ) (b : List ℕ) → Parses t level b → Parses u level b → t ≡ u }
-    ensures length { (t u : Tree) (level other : ℕ) (b rest : List ℕ) → Parses t level b → Parses u other (b ++ rest) → rest ≡ [] }
-    ensures split { (level : ℕ) (bs cs : List (List ℕ)) → AreTexts level bs → AreTexts level cs → joined_texts bs ≡ joined_texts cs → bs ≡ cs }
+    ensures tree { (t u : Tree) (level : ℕ) (b : List ℕ) → Parses t level b → Parses u level b →
+        t ≡ u }
+    ensures length { (t u : Tree) (level other : ℕ) (b rest : List ℕ) → Parses t level b →
+        Parses u other (b ++ rest) → rest ≡ [] }
+    ensures split { (level : ℕ) (bs cs : List (List ℕ)) → AreTexts level bs → AreTexts level cs →
+        joined_texts bs ≡ joined_texts cs → bs ≡ cs }
 {}
 
 /// The tree that the decoder gives is the tree as which the bytes parse.
 pub fn tree_computed()
-    ensures { (t : Tree) (level : ℕ) (b : List ℕ) → IsLevel level → (item_of (65 - level) b ≡ Some t) ↔ Parses t level b }
+    ensures { (t : Tree) (level : ℕ) (b : List ℕ) → IsLevel level →
+        (item_of (65 - level) b ≡ Some t) ↔ Parses t level b }
 {}
 
 /// What bytes parse as has its numbers, texts and bytes in their ranges.
@@ -28,12 +32,14 @@ pub fn parsed_ranges()
 
 /// Canonical bytes parse as the tree that they were written for, where no level passes 64.
 pub fn written_parses()
-    ensures { (t : Tree) (b : List ℕ) → HasRanges t → levels t ≤ 64 → bytes t ≡ Some b → Parses t 1 b }
+    ensures { (t : Tree) (b : List ℕ) → HasRanges t → levels t ≤ 64 → bytes t ≡ Some b →
+        Parses t 1 b }
 {}
 
 /// Trees of the same canonical bytes are equal, at any depth.
 pub fn one_text()
-    ensures { (t u : Tree) (b : List ℕ) → HasRanges t → HasRanges u → bytes t ≡ Some b → bytes u ≡ Some b → t ≡ u }
+    ensures { (t u : Tree) (b : List ℕ) → HasRanges t → HasRanges u → bytes t ≡ Some b →
+        bytes u ≡ Some b → t ≡ u }
 {}
 
 /// `==` says whether two trees, lists of trees, texts or strings of bytes are equal.
@@ -45,5 +51,6 @@ pub fn equality()
 
 /// `==` says whether two lists are equal, where it says so of their items.
 pub fn list_equality<T: PartialEq>()
-    ensures { ((x y : T) → Decides (T.eq x y) (x ≡ y)) → (xs ys : List T) → Decides (pointwise T.eq xs ys) (xs ≡ ys) }
+    ensures { ((x y : T) → Decides (T.eq x y) (x ≡ y)) → (xs ys : List T) →
+        Decides (pointwise T.eq xs ys) (xs ≡ ys) }
 {}

@@ -24,7 +24,8 @@ use std::str;
 // The value of a scalar's type.
 fn read_scalar(alloc: Global, kind: Kind, value: &[u8]) -> Result<Node, OutOfMemory>
     requires { IsTrue (is_some (scalar_at kind value.now)) }
-    ensures { IfOk result (λ node. option_map (scalar 0) (scalar_at kind value.now) ≡ Some (tree_of 0 node)) }
+    ensures { IfOk result (λ node. option_map (scalar 0) (scalar_at kind value.now) ≡
+        Some (tree_of 0 node)) }
 {
     match kind {
         Kind::Structure => unreachable!(),
