@@ -20,16 +20,26 @@ pub struct ClientBuilder<T> {
 impl<T> Model for ClientBuilder<T> {
     ghost Value = { BuilderState T };
 
-    ghost view = { λ b. record { link = b.stream; username = b.username; password = b.password;
-        limit = b.config.max_bytes; buffered = b.config.has_buf } };
+    ghost view = { λ b. record {
+      link = b.stream;
+      username = b.username;
+      password = b.password;
+      limit = b.config.max_bytes;
+      buffered = b.config.has_buf;
+    } };
 }
 
 impl<T> ClientBuilder<T> {
     /// A client over this link, with no credentials, no limit and no buffer.
     pub fn new(stream: T) -> Self
         ensures { result ≡
-            record { link = stream; username = None; password = None; limit = None;
-            buffered = false } }
+            record {
+              link = stream;
+              username = None;
+              password = None;
+              limit = None;
+              buffered = false;
+            } }
     {
         ClientBuilder {
             stream,
@@ -67,9 +77,15 @@ impl<T> ClientBuilder<T> {
     /// The client. It sends a credential exactly where username and password are both set.
     pub fn build(self) -> Client<T>
         ensures { result ≡
-            record { link = self.link; credential = credential_for self.username self.password;
-            limit = self.limit; buffered = self.buffered; errors = 0; request_text = None;
-            response_text = None } }
+            record {
+              link = self.link;
+              credential = credential_for self.username self.password;
+              limit = self.limit;
+              buffered = self.buffered;
+              errors = 0;
+              request_text = None;
+              response_text = None;
+            } }
     {
         let authentication = match (self.username, self.password) {
             (Some(username), Some(password)) => {

@@ -36,11 +36,15 @@ pub struct Client<T> {
 impl<T> Model for Client<T> {
     ghost Value = { ClientState T };
 
-    ghost view = { λ c. record { link = c.link;
-        credential = option_map credential_of c.settings.authentication;
-        limit = c.settings.config.max_bytes; buffered = c.settings.config.has_buf;
-        errors = c.errors; request_text = c.diagnostics.request;
-        response_text = c.diagnostics.response } };
+    ghost view = { λ c. record {
+      link = c.link;
+      credential = option_map credential_of c.settings.authentication;
+      limit = c.settings.config.max_bytes;
+      buffered = c.settings.config.has_buf;
+      errors = c.errors;
+      request_text = c.diagnostics.request;
+      response_text = c.diagnostics.response;
+    } };
 }
 
 impl<T> Client<T> {
@@ -51,9 +55,15 @@ impl<T> Client<T> {
         config: Config,
     ) -> Client<T>
         ensures { result ≡
-            record { link = link; credential = option_map credential_of authentication;
-            limit = config.max_bytes; buffered = config.has_buf; errors = 0; request_text = None;
-            response_text = None } }
+            record {
+              link = link;
+              credential = option_map credential_of authentication;
+              limit = config.max_bytes;
+              buffered = config.has_buf;
+              errors = 0;
+              request_text = None;
+              response_text = None;
+            } }
     {
         Client {
             link,

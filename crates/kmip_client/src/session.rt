@@ -119,8 +119,11 @@ fn told<T, P: Drop>(
     answer: Result<P>,
 ) -> std::result::Result<Exchange<P>, OutOfMemory>
     ensures { IfOk result (λ exchange. exchange ≡
-        record { answer = answer; req_diag = client.now.request_text;
-        res_diag = client.now.response_text }) }
+        record {
+          answer = answer;
+          req_diag = client.now.request_text;
+          res_diag = client.now.response_text;
+        }) }
 {
     Ok(Exchange {
         answer,

@@ -25,8 +25,13 @@ pub struct MemoryLink {
 impl Model for MemoryLink {
     ghost Value = { MemoryState };
 
-    ghost view = { λ m. record { ever = m.ever.items; pos = m.pos; sent = m.sent.items;
-        sizes = m.sizes.items; place = m.place } };
+    ghost view = { λ m. record {
+      ever = m.ever.items;
+      pos = m.pos;
+      sent = m.sent.items;
+      sizes = m.sizes.items;
+      place = m.place;
+    } };
 
     ghost invariant = { λ m. (m.pos ≤ length m.ever.items) × ((length m.sizes.items ≡ 0) ⊎
         (m.place < length m.sizes.items)) };

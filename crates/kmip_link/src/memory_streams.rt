@@ -22,8 +22,13 @@ pub struct MemorySource {
 impl Model for MemorySource {
     ghost Value = { SourceMemory };
 
-    ghost view = { λ s. record { ever = s.ever.items; pos = s.pos; failing = s.failing.items;
-        number = s.number; faults = s.faults } };
+    ghost view = { λ s. record {
+      ever = s.ever.items;
+      pos = s.pos;
+      failing = s.failing.items;
+      number = s.number;
+      faults = s.faults;
+    } };
 
     ghost invariant = { λ s. s.pos ≤ length s.ever.items };
 }
@@ -96,8 +101,12 @@ pub struct MemorySink {
 impl Model for MemorySink {
     ghost Value = { SinkMemory };
 
-    ghost view = { λ s. record { sent = s.sent.items; failing = s.failing.items; number = s.number;
-        faults = s.faults } };
+    ghost view = { λ s. record {
+      sent = s.sent.items;
+      failing = s.failing.items;
+      number = s.number;
+      faults = s.faults;
+    } };
 }
 
 impl MemorySink {

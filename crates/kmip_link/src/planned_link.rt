@@ -22,8 +22,12 @@ pub struct PlannedLink {
 impl Model for PlannedLink {
     ghost Value = { PlannedState };
 
-    ghost view = { λ p. record { link = p.link; failing = p.failing.items; number = p.number;
-        faults = p.faults } };
+    ghost view = { λ p. record {
+      link = p.link;
+      failing = p.failing.items;
+      number = p.number;
+      faults = p.faults;
+    } };
 }
 
 impl PlannedLink {
@@ -58,8 +62,10 @@ impl PlannedLink {
     fn begin(&mut self) -> Result<(), LinkError>
         ensures ok { OnOk result (self.new ≡ record self.old { number = counted self.old.number }) }
         ensures err { OnErr result (self.new ≡
-            record self.old { number = counted self.old.number;
-            faults = counted self.old.faults }) }
+            record self.old {
+              number = counted self.old.number;
+              faults = counted self.old.faults;
+            }) }
         ensures fails { IsErrOf result LinkError.Fault ↔ Contains self.old.failing self.old.number }
         ensures cause { IfErr result (λ e. e ≡ LinkError.Fault) }
         ensures later { self.old.faults ≤ self.new.faults }
