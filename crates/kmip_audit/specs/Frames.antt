@@ -2,7 +2,7 @@
 use Rattle.std.specs.Prelude.{ℕ, zero, suc, List, [], ◌∷◌, length, drop, Option, Some, None}
 use Rattle.kmip_client.specs.Message.{Message, Whole, message_at}
 
--- the frame at the front: the head of a structure and as many bytes as it tells (KMIP 1.0, 9.1.1)
+-- the frame at the front: the head of a structure and as many bytes as it says (KMIP 1.0, 9.1.1)
 abbrev pub frame_of : Message → Option (List ℕ)
 frame_of (Whole m) = Some m
 frame_of message = None

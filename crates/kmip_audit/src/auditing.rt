@@ -33,7 +33,7 @@ fn end_of(stream: &[u8], left: &[u8]) -> End
 
 /// The report on the bytes that a client sent and on those that it received.
 ///
-/// Each stream is cut into frames from its front: the head of a structure and as many bytes as it tells. The frames of
+/// Each stream is cut into frames from its front: the head of a structure and as many bytes as it says. The frames of
 /// both sides stand together by their places alone, whatever they hold. Fails where memory runs out alone.
 pub fn audit(alloc: Global, sent: &[u8], received: &[u8]) -> Result<Report, OutOfMemory>
     ensures { IfOk result (λ report. report ≡ report_of sent.now received.now) }

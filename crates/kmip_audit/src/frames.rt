@@ -4,7 +4,7 @@ ghost use Rattle.kmip_audit.specs.Frames.{front_frame, after_frame};
 
 use kmip_wire::{Config, head};
 
-/// The frame at the front: the head of a structure and as many bytes as it tells (KMIP 1.0, 9.1.1).
+/// The frame at the front: the head of a structure and as many bytes as it says (KMIP 1.0, 9.1.1).
 pub fn front_frame(bytes: &[u8]) -> Option<&[u8]>
     ensures { option_map (λ frame. frame.now) result ≡ front_frame bytes.now }
 {

@@ -37,7 +37,7 @@ pub fn sessions_are_reported()
 }
 
 /// Two pairs of streams with equal ends and equal outcomes, whose frames all parse, have equal reports exactly where
-/// the skeletons of their frames are equal, one by one. So a report tells tags, types, nesting and the numbers of
+/// the skeletons of their frames are equal, one by one. So a report shows tags, types, nesting and the numbers of
 /// enumerations, all of them, and, beside its ends and outcomes, nothing else.
 pub fn reports_tell_skeletons()
     ensures { (sent received other_sent other_received : List ℕ) → AllParse sent → AllParse received → AllParse other_sent → AllParse other_received →

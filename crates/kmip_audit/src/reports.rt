@@ -37,7 +37,7 @@ pub struct Entry {
     pub outcome: Outcome,
 }
 
-/// What two captured streams tell.
+/// The report on two captured streams.
 #[derive(Drop)]
 pub struct Report {
     /// One for each place, as many as the longer side has frames.

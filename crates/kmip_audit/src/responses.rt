@@ -1,4 +1,4 @@
-//! What a response tells, each test a function of its own.
+//! What a response says, each test a function of its own.
 ghost use Rattle.std.specs.Prelude.{◌≡◌, IfOk, pos};
 ghost use Rattle.std.specs.Option.{option_map};
 ghost use Rattle.std.specs.Ordering.{int_eq};
@@ -37,7 +37,7 @@ fn payload_outcome(operation: Operation, payload: &Option<ResponsePayload>) -> O
     }
 }
 
-/// What a batch item tells, by its status, its operation and its payload.
+/// What a batch item says, by its status, its operation and its payload.
 #[tactic(auto, using(crate::proofs::Variants::reason_back, crate::proofs::Variants::operation_back))]
 fn item_outcome(operation: Operation, item: &BatchItem) -> Outcome
     ensures { result ≡ item_outcome operation (batch_item_val item.now) }
@@ -63,7 +63,7 @@ fn counts_one(header: &ResponseHeader) -> bool
     header.batch_count == 1
 }
 
-/// What a response message tells.
+/// What a response message says.
 fn message_outcome(operation: Operation, message: &ResponseMessage) -> Outcome
     ensures { result ≡ message_outcome operation (response_message_val message.now) }
 {
@@ -76,7 +76,7 @@ fn message_outcome(operation: Operation, message: &ResponseMessage) -> Outcome
     }
 }
 
-/// What a response tells to a request of this operation.
+/// What a response says to a request of this operation.
 pub fn response_outcome(
     alloc: Global,
     operation: Operation,

@@ -1,4 +1,4 @@
-//! Lengths as snprintf tells them.
+//! Lengths as snprintf returns them.
 ghost use Rattle.std.specs.Prelude.{◌≡◌, pos, length};
 ghost use Rattle.kmip_c.specs.Codes.{written};
 

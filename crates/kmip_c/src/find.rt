@@ -17,7 +17,7 @@ struct Front<'a> {
     next: &'a [u8],
 }
 
-/// The item that the head at the front tells, where all its bytes are there.
+/// The item that the head at the front announces, where all its bytes are there.
 #[tactic(auto, unfolding(kmip_wire::specs::Head::head_length, kmip_wire::specs::Head::head_tag))]
 fn first_item(bytes: &[u8]) -> Option<Front<'_>>
     ensures first { MatchOption result (length bytes.now < size_at bytes.now) (λ front. IsFirst front bytes.now) }

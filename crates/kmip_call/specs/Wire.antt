@@ -8,7 +8,7 @@ use Rattle.kmip_client.specs.Message.{message_at, taken_for}
 abbrev pub taken_at : List ℕ → Option ℕ → ℕ
 taken_at rest limit = taken_for rest (message_at rest limit)
 
--- how many bytes of contents a head tells, where it is whole and not refused
+-- how many bytes of contents a head says, where it is whole and not refused
 abbrev pub contents_of : List ℕ → Option ℕ → Option ℕ
 contents_of bytes limit = if nat_lt (length bytes) 8 then None else result_ok (head_says (take 8 bytes) limit)
 

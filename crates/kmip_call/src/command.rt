@@ -22,9 +22,9 @@ pub struct Order {
 /// What the program is to do.
 #[derive(Drop)]
 pub enum Command {
-    /// `--help`: tells its words.
+    /// `--help`: prints how it is called.
     Help,
-    /// `--version`: tells its version.
+    /// `--version`: prints its version.
     Version,
     /// Makes a call.
     Make(Order),

@@ -30,7 +30,7 @@ fn contents_of(bytes: &[u8], limit: Option<u32>) -> Option<u32>
     }
 }
 
-/// Reads one message to `response`, which is empty: the 8 bytes of its head, and then just the contents that this tells,
+/// Reads one message to `response`, which is empty: the 8 bytes of its head, and then just the contents that this says,
 /// unless it is refused. Where the source ends before, it is what there was.
 fn read_message<S: Source>(
     alloc: Global,

@@ -1,4 +1,4 @@
--- What stands at the front of the bytes that are left: a message is a head and the contents that it tells (KMIP 1.0, 9.1.1).
+-- What stands at the front of the bytes that are left: a message is a head and the contents that it says (KMIP 1.0, 9.1.1).
 use Rattle.std.specs.Prelude.{◌≡◌, ℕ, ◌+◌, ◌≤◌, List, length, take, Option, if◌then◌else◌, nat_lt, Result, Ok, Err}
 use Rattle.kmip_wire.specs.Heads.{head_says}
 use Rattle.kmip_wire.specs.declared.error.HeadError.{HeadError}
@@ -7,11 +7,11 @@ use Rattle.kmip_client.specs.Transfer.{Takes}
 use Rattle.kmip_client.specs.declared.message.MessageStop.{MessageStop}
 
 pub data Message : Type 0 where
-  -- too few bytes for a head, or for the contents that the head tells
+  -- too few bytes for a head, or for the contents that the head says
   Ended : Message
-  -- the head is not that of a structure, or tells of more than the limit
+  -- the head is not that of a structure, or announces more than the limit
   Refused : HeadError → Message
-  -- these bytes are a head and the contents that it tells
+  -- these bytes are a head and the contents that it says
   Whole : List ℕ → Message
 
 -- the message that an accepted head begins, which tells of n bytes of contents

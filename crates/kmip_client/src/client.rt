@@ -148,7 +148,7 @@ impl<T: Link> Client<T> {
     /// Sends a request, and returns what its response says.
     ///
     /// It sends the one canonical message of the request, with the credential where the client has one, reads the
-    /// 8 bytes of a head and then exactly the contents that the head tells. Link faults and lack of memory aside,
+    /// 8 bytes of a head and then exactly the contents that the head says. Link faults and lack of memory aside,
     /// it returns a payload exactly where the bytes left begin with a valid response to the request, of which it
     /// then took every byte and no other. Both diagnostics are those of this call. Its errors are:
     ///
@@ -156,7 +156,7 @@ impl<T: Link> Client<T> {
     /// - `RequestWriteError`: the link failed. A part of the request was sent, and nothing was taken.
     /// - `ResponseReadError`: the link failed, or ended within a message. The request was sent, as after each error
     ///   below.
-    /// - `DeserializeError`: the head is not that of a structure or tells of more than the limit, and its 8 bytes
+    /// - `DeserializeError`: the head is not that of a structure or announces more than the limit, and its 8 bytes
     ///   were taken; or the message is not well formed, and was taken whole, as after the next three.
     /// - `ServerError`, `ItemNotFound`: the server refused the request, or there is not one batch item.
     /// - `InternalError`: the message is no success of the request's operation.

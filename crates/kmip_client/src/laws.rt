@@ -20,7 +20,7 @@ pub fn messages_are_answered_in_order()
 {}
 
 /// Two sessions whose requests and messages all parse, with numbers in their ranges, have equal diagnostics at every call exactly where the skeletons of their
-/// requests and of their responses are equal at every call. So a diagnostic tells tags, types, nesting and the numbers
+/// requests and of their responses are equal at every call. So a diagnostic shows tags, types, nesting and the numbers
 /// of enumerations, all of them, and nothing else.
 pub fn diagnostics_of_sessions()
     ensures { (payloads others : List RequestPayload) (credential other : Option CredentialType)

@@ -14,7 +14,7 @@ use kmip_wire::{Config, HeadError, head};
 pub enum MessageStop {
     /// The bytes ended within the head or the contents.
     Ended,
-    /// The head is not that of a structure, or tells of more than the limit.
+    /// The head is not that of a structure, or announces more than the limit.
     Refused(HeadError),
     /// The link failed.
     Fault,
@@ -37,7 +37,7 @@ impl From<ReadStop> for MessageStop {
     }
 }
 
-/// How many bytes of contents the head tells.
+/// How many bytes of contents the head says.
 fn contents_len(bytes: &[u8], config: &Config) -> Result<u32, MessageStop>
     requires { length bytes.now ≡ 8 }
     ensures { result ≡ head_stop_of (head_says bytes.now config.now.max_bytes) }
@@ -51,7 +51,7 @@ fn contents_len(bytes: &[u8], config: &Config) -> Result<u32, MessageStop>
     }
 }
 
-/// Reads one message to the end of `taken`, which is empty: the head, then exactly the contents that it tells.
+/// Reads one message to the end of `taken`, which is empty: the head, then exactly the contents that it says.
 pub fn read_message<L: Link>(
     link: &mut L,
     config: &Config,

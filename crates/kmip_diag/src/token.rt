@@ -1,7 +1,7 @@
 // The pieces of a diagnostic.
 use kmip_wire::Tag;
 
-/// What a diagnostic tells of an item that is no structure.
+/// What a diagnostic shows of an item that is no structure.
 #[derive(Clone, Copy)]
 pub enum Mark {
     /// A signed number of 32 bits.

@@ -31,7 +31,7 @@ fn head_tag(bytes: &[u8]) -> Tag
     Tag::of(u32::from_be_bytes([0, bytes[0], bytes[1], bytes[2]]))
 }
 
-// What is there of the contents that the head tells of.
+// What is there of the contents that the head says of.
 #[tactic(auto, unfolding(kmip_wire::specs::Head::head_length))]
 fn contents(bytes: &[u8]) -> &[u8]
     requires { 8 ≤ length bytes.now }

@@ -13,7 +13,7 @@ pub enum QueryFunction {
     QueryOperations = 1,
     /// The types of managed objects that the server supports.
     QueryObjects = 2,
-    /// What the vendor tells of the server.
+    /// What the vendor says of the server.
     QueryServerInformation = 3,
 }
 

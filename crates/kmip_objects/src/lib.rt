@@ -1,4 +1,4 @@
-//! What responses tell of objects: attributes, key blocks with their wrapping, and managed objects.
+//! The objects of responses: attributes, key blocks with their wrapping, and managed objects.
 //!
 //! Each type reads its children in one walk and takes memory only for what the value holds.
 #![tactic(auto)]

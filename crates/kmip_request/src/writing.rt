@@ -92,7 +92,7 @@ fn message_len<P: WriteItem>(
     ])
 }
 
-/// That length, and what it tells of the message.
+/// That length, and what it says of the message.
 fn message_size<P: WriteItem>(
     version: &ProtocolVersion,
     authentication: &Option<Authentication>,

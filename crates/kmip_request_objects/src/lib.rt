@@ -1,4 +1,4 @@
-//! What requests tell of objects: attributes and their constructors, templates, key blocks with their wrapping, managed
+//! The objects of requests: attributes and their constructors, templates, key blocks with their wrapping, managed
 //! objects, and why an object is revoked.
 #![tactic(auto)]
 

@@ -82,7 +82,7 @@ fn bytes_known(bytes: &[u8])
 {}
 
 /// Two sessions whose requests are valid and whose messages parse have equal diagnostics at every call exactly where
-/// the skeletons of their requests and of their responses are equal at every call. So a diagnostic tells tags, types,
+/// the skeletons of their requests and of their responses are equal at every call. So a diagnostic shows tags, types,
 /// nesting and the numbers of enumerations, all of them, and nothing else.
 pub fn diagnostics_of_whole_sessions(
     payloads: &[RequestPayload],

@@ -76,7 +76,7 @@ pub trait WriteRow<'b>: FieldRow<'b> {
 
 /// A row whose field is shown.
 pub trait ShowRow<'b>: FieldRow<'b> {
-    /// Appends the name and what the field shows, after others or not; tells whether a field stands
+    /// Appends the name and what the field shows, after others or not; says whether a field stands
     /// now.
     fn show(lent: Self::Lent, name: &str, after: bool, out: &mut Sink) -> bool
         ensures after { (a : Bool) → after ≡ a → result ≡ (a || stands (Self.field lent)) }

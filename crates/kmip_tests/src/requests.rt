@@ -1,4 +1,4 @@
-//! What requests tell, each type read, written again and copied once.
+//! Requests, each type read, written again and copied once.
 use crate::helpers::{is_written, is_written_alone};
 use kmip_request::{
     Attribute, Authentication, BatchCount, BatchItem, CommonTemplateAttribute, Credential,

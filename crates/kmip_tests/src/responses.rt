@@ -1,4 +1,4 @@
-//! What responses tell, each type read, shown and copied once.
+//! Responses, each type read, shown and copied once.
 use crate::helpers::{are_equal, is_read, is_read_alone, is_shown, shows};
 use kmip_response::{
     Attribute, BatchItem, Certificate, EncryptionKeyInformation, KeyBlock, KeyValue,

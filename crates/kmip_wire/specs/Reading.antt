@@ -36,7 +36,7 @@ items_by one zero (x ∷ xs) = None
 items_by one (suc fuel) (x ∷ xs) =
     joined (one (take (size_at (x ∷ xs)) (x ∷ xs))) (items_by one fuel (drop (size_at (x ∷ xs)) (x ∷ xs)))
 
--- whether the whole of b has the length that its head tells
+-- whether the whole of b has the length that its head says
 abbrev pub is_whole : List ℕ → Bool
 is_whole b = nat_le 8 (length b) && (length b == size_at b)
 

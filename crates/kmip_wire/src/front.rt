@@ -10,7 +10,7 @@ ghost use Rattle.kmip_wire.specs.Open.{NoItems, Passes};
 use crate::kind::Kind;
 use crate::value::is_value;
 
-// What the head tells of the length of the value.
+// What the head says of the length of the value.
 #[tactic(auto, unfolding(crate::specs::Head::head_length))]
 pub(crate) fn head_length(bytes: &[u8]) -> u32
     requires { 8 ≤ length bytes.now }
@@ -19,7 +19,7 @@ pub(crate) fn head_length(bytes: &[u8]) -> u32
     u32::from_be_bytes([bytes[4], bytes[5], bytes[6], bytes[7]])
 }
 
-// The whole length that the head tells.
+// The whole length that the head says.
 pub(crate) fn whole_length(bytes: &[u8]) -> usize
     requires { 8 ≤ length bytes.now }
     ensures { result ≡ size_at bytes.now }
@@ -28,7 +28,7 @@ pub(crate) fn whole_length(bytes: &[u8]) -> usize
     8 + length + (8 - length % 8) % 8
 }
 
-// The whole length that the head tells, where that many bytes are there.
+// The whole length that the head says, where that many bytes are there.
 fn size_at(bytes: &[u8]) -> Option<usize>
     ensures { MatchOption result (length bytes.now < size_at bytes.now)
         (λ n. (n ≡ size_at bytes.now) × (n ≤ length bytes.now)) }

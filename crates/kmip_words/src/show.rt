@@ -152,7 +152,7 @@ pub fn show<P: ShowItem + Drop>(
     }
 }
 
-/// The line where there is nothing to tell but that it was done.
+/// The line where there is nothing to show but that it was done.
 fn done_line(style: Style) -> &'static str
     ensures { result.now ≡ value_line (done_styled style) style }
 {
@@ -162,7 +162,7 @@ fn done_line(style: Style) -> &'static str
     }
 }
 
-/// The same where there is nothing to tell but that it was done.
+/// The same where there is nothing to show but that it was done.
 pub fn show_done(
     alloc: Global,
     style: Style,

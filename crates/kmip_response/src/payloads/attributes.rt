@@ -1,4 +1,4 @@
-//! Payloads that tell of attributes.
+//! Payloads with attributes.
 
 ghost use Rattle.std.specs.Prelude.{◌≡◌};
 ghost use Rattle.kmip_tags.specs.Tags as tags;

@@ -1,4 +1,4 @@
-//! Payloads that tell of new objects, and of objects by their identifiers.
+//! Payloads with the identifiers of objects.
 
 ghost use Rattle.std.specs.Prelude.{◌≡◌};
 ghost use Rattle.kmip_tags.specs.Tags as tags;

@@ -1,4 +1,4 @@
-//! Payloads that tell of the server.
+//! The payload of Discover Versions.
 
 ghost use Rattle.std.specs.Prelude.{◌≡◌};
 ghost use Rattle.kmip_tags.specs.Tags as tags;

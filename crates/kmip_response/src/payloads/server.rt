@@ -1,4 +1,4 @@
-//! What Query answers.
+//! The payload of Query.
 //!
 //! It stands in a file of its own, since a struct with an invariant leads to all that its file names.
 
@@ -7,7 +7,7 @@ ghost use Rattle.kmip_response.specs.Skipped.{IsSkipped, IsSkipped-prop};
 use kmip_enums::{ObjectType, Operation};
 use kmip_wire::{List, Text};
 
-/// What a server tells of itself, which is skipped.
+/// The Server Information of a response (KMIP 1.0, 4.24), which is skipped.
 #[derive(Clone, Copy, PartialEq, Eq, Default, Drop)]
 pub struct ServerInformation;
 
@@ -20,7 +20,7 @@ pub struct QueryResponsePayload {
     pub object_types: Option<List<ObjectType>>,
     /// What the vendor calls the server.
     pub vendor_identification: Option<Text>,
-    /// Always `None`: what the server tells of itself is skipped.
+    /// Always `None`: Server Information is skipped.
     pub server_information: Option<ServerInformation>,
     ghost skipped: { IsSkipped server_information } by { IsSkipped-prop server_information },
 }
