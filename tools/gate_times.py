@@ -57,7 +57,7 @@ def watched(root, known, seen):
             at, steps = parents.get(at, 0), steps + 1
         if at != root:
             continue
-        if pid not in known:
+        if not known.get(pid):  # a process that was just forked has the words of its parent until it becomes the prover
             try:
                 words = open(f'/proc/{pid}/cmdline').read().split('\0')
                 known[pid] = phase_of(words, os.readlink(f'/proc/{pid}/cwd'))
