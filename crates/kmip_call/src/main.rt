@@ -10,6 +10,8 @@ mod command;
 mod exchange;
 mod program;
 mod record;
+#[cfg(test)]
+mod tests;
 mod wire;
 
 use command::{Command, Order, command_of};
