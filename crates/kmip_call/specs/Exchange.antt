@@ -4,7 +4,7 @@ use Rattle.kmip_link.specs.State.{SourceState, SinkState, Rose, source_left}
 use Rattle.kmip_client.specs.Outcome.{Answer}
 use Rattle.kmip_client.specs.declared.error.Error.{Error}
 use Rattle.kmip_client.specs.declared.error.Error.TheVariants.{RequestWriteError, ResponseReadError}
-use Rattle.kmip_words.specs.Streams.{Gives, GivesPart, WrotePart}
+use Rattle.kmip_words.specs.Streams.{Gives, GivesPart, WroteProperPart}
 use Rattle.kmip_words.specs.Calls.{typed_call}
 use Rattle.kmip_words.specs.Exchange.{Settings, asked, or_empty, ending_of, json_line, call_outcome}
 use Rattle.kmip_words.specs.declared.call.Call.{Call}
@@ -39,10 +39,10 @@ pub data Carried (settings : Settings) (call : Call) (w0 w1 : SinkState) (s0 s1 
       × (bytes ≡ take (taken_by settings call (source_left s0)) (source_left s0))
       × (answer ≡ (call_outcome settings call (source_left s0)).answer)) →
       Carried settings call w0 w1 s0 s1 response answer
-  -- the sink failed: a part of the request was sent, and nothing was read
+  -- the sink failed: a proper part of the request was sent, and nothing was read
   write_failed : response ≡ None → answer ≡ Err (RequestWriteError (codes "link failed")) →
       Rose w0.faults w1.faults →
-      (IsTrue w0.tells → WrotePart w0 w1 (request_bytes settings call)) → s1 ≡ s0 →
+      (IsTrue w0.tells → WroteProperPart w0 w1 (request_bytes settings call)) → s1 ≡ s0 →
       Carried settings call w0 w1 s0 s1 response answer
   -- the source failed: the request was sent, and a part of the message was read
   read_failed : response ≡ None → answer ≡ Err (ResponseReadError (codes "link failed")) →

@@ -1,7 +1,7 @@
 //! A request to a sink, and one message from a source.
 ghost use Rattle.std.specs.Prelude.{◌≡◌, ◌++◌, ◌≤◌, [], length, take, IfOk, OnOk, IsErrOf, IsTrue};
 ghost use Rattle.kmip_link.specs.State.{SourceKeeps, SinkKeeps, Rose, source_left};
-ghost use Rattle.kmip_words.specs.Streams.{Gives, GivesPart, WrotePart};
+ghost use Rattle.kmip_words.specs.Streams.{Gives, GivesPart, WroteProperPart};
 ghost use Rattle.kmip_call.specs.Wire.{taken_at, contents_of, IsOneAtMost};
 
 use kmip_link::{LinkError, Sink, Source};
@@ -82,7 +82,7 @@ pub fn transfer<W: Sink, S: Source>(
     ensures write_fault { IsErrOf result TransferStop.WriteFault →
         Rose (W.state wire.old).faults (W.state wire.new).faults
         × (IsTrue (W.state wire.old).tells →
-        WrotePart (W.state wire.old) (W.state wire.new) request.now)
+        WroteProperPart (W.state wire.old) (W.state wire.new) request.now)
         × (S.state source.new ≡ S.state source.old) }
     ensures read_fault { IsErrOf result TransferStop.ReadFault →
         Rose (S.state source.old).faults (S.state source.new).faults

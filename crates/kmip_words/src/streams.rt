@@ -1,7 +1,7 @@
 //! A whole script from a source, and a whole text to a sink.
 ghost use Rattle.std.specs.Prelude.{◌≡◌, ◌+◌, ◌-◌, ◌<◌, ◌≤◌, ◌++◌, ℕ, [], length, take, drop, min, IfOk, IfErr, OnErr, OnOk, IsErrOf, IsTrue, vec_len};
 ghost use Rattle.kmip_link.specs.State.{SourceKeeps, SinkKeeps, Rose, source_left};
-ghost use Rattle.kmip_words.specs.Streams.{Gives, GivesPart, WrotePart};
+ghost use Rattle.kmip_words.specs.Streams.{Gives, GivesPart, WrotePart, WroteProperPart};
 
 use kmip_link::{LinkError, Sink, Source};
 use std::alloc::Global;
@@ -16,6 +16,8 @@ pub fn write_out<K: Sink>(sink: &mut K, text: &[u8]) -> Result<(), LinkError>
         (K.state sink.new).sent ≡ (K.state sink.old).sent ++ text.now) }
     ensures part { IsTrue (K.state sink.old).tells →
         WrotePart (K.state sink.old) (K.state sink.new) text.now }
+    ensures cut { OnErr result (IsTrue (K.state sink.old).tells →
+        WroteProperPart (K.state sink.old) (K.state sink.new) text.now) }
     ensures cause { IsErrOf result LinkError.Fault →
         Rose (K.state sink.old).faults (K.state sink.new).faults }
 {
