@@ -8,8 +8,8 @@ use kmip_link::{MemoryLink, MemorySink, MemorySource};
 use kmip_shape::Style;
 use kmip_wire::{Blob, List, Text};
 use kmip_words::{
-    Call, Ending, RawRequest, Settings, answer, answer_of, call_of, client_of, copied, read_up_to,
-    request_of, show_error, typed_call, words_of, write_out,
+    Call, Ending, RawRequest, Settings, answer, answer_of, bytes_of, call_of, client_of, copied,
+    read_up_to, request_of, show_error, typed_call, words_of, write_out,
 };
 use std::alloc::Global;
 use std::process::Abort;
@@ -651,6 +651,16 @@ fn words_are_read(rt: HostRuntime) -> Result<(), Fail> {
     assert!(rt; call_of(alloc, b"rng 16".as_slice())?.is_none());
     assert!(rt; typed(alloc)?.is_some());
     assert!(rt; matches!(copied(alloc, Some("a"))?, Some(copy) if copy.as_str() == "a"));
+    Ok(())
+}
+
+#[test]
+fn digits_are_bytes(rt: HostRuntime) -> Result<(), Fail> {
+    match bytes_of(rt.alloc(), "00fF")? {
+        Some(bytes) => is_hex(&rt, rt.alloc(), bytes.as_slice(), "00FF", "digits")?,
+        None => assert!(rt; false),
+    }
+    assert!(rt; bytes_of(rt.alloc(), "00f")?.is_none());
     Ok(())
 }
 
