@@ -17,7 +17,8 @@ use Rattle.kmip_audit.specs.declared.reports.End.TheVariants.{Whole}
 
 -- The outcome is that the operation was answered exactly where the answer is a payload.
 abbrev pub Agree : Operation → Outcome → Answer → Type 0
-Agree operation outcome answer = (outcome ≡ Answered operation) ↔ ((payload : Val) × (answer ≡ Ok payload))
+Agree operation outcome answer =
+    (outcome ≡ Answered operation) ↔ ((payload : Val) × (answer ≡ Ok payload))
 
 -- There is one outcome and one answer for each operation, and these agree at each place.
 abbrev pub AllAgree : List Operation → List Outcome → List Answer → Type 0
@@ -29,10 +30,15 @@ AllAgree operations outcomes answers = ⊥
 -- Each request is matched, and what the types of Rust keep.
 abbrev pub AreMatched : List RequestPayload → Option CredentialType → Type 0
 AreMatched [] credential = Unit {0}
-AreMatched (payload ∷ payloads) credential = (IsHeld payload credential × IsMatched payload) × AreMatched payloads credential
+AreMatched (payload ∷ payloads) credential =
+    (IsHeld payload credential × IsMatched payload) × AreMatched payloads credential
 
 -- What the turns of these requests sent, and what they took of the bytes left, is reported as they were answered.
-pub record IsReported (payloads : List RequestPayload) (turns : List Turn) (rest : List ℕ) : Type 0 where
+pub record IsReported (payloads : List RequestPayload) (turns : List Turn)
+    (rest : List ℕ) : Type 0 where
   pub sent_end : (report_of (all_sent turns) (take (all_taken turns) rest)).sent_end ≡ Whole
-  pub received_end : (report_of (all_sent turns) (take (all_taken turns) rest)).received_end ≡ Whole
-  pub agree : AllAgree (map operation_of payloads) (outcomes_in (report_of (all_sent turns) (take (all_taken turns) rest))) (map (λ turn. turn.outcome.answer) turns)
+  pub received_end :
+      (report_of (all_sent turns) (take (all_taken turns) rest)).received_end ≡ Whole
+  pub agree : AllAgree (map operation_of payloads)
+      (outcomes_in (report_of (all_sent turns) (take (all_taken turns) rest)))
+      (map (λ turn. turn.outcome.answer) turns)

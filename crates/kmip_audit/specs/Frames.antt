@@ -27,7 +27,8 @@ then_frames b (Some m) later = record { all = m ∷ later.all; rest = later.rest
 -- with fuel for each byte
 abbrev pub frames_by : ℕ → List ℕ → Frames
 frames_by zero b = record { all = []; rest = b }
-frames_by (suc fuel) b = then_frames b (front_frame b) (frames_by fuel (after_frame b (front_frame b)))
+frames_by (suc fuel) b =
+    then_frames b (front_frame b) (frames_by fuel (after_frame b (front_frame b)))
 
 -- as many frames as stand at the front
 unfoldable pub frames : List ℕ → Frames

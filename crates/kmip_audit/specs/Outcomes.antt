@@ -36,7 +36,8 @@ item_outcome operation item =
     if has_status OperationFailed item then Failed (reason_in (one_of (field_at 3 item)))
     else if has_status OperationPending item then Pending
     else if has_status OperationUndone item then Undone
-    else if not (has_operation operation item) then OtherOperation (operation_in (one_of (field_at 0 item)))
+    else if not (has_operation operation item)
+    then OtherOperation (operation_in (one_of (field_at 0 item)))
     else payload_outcome operation (one_of (field_at 5 item))
 
 -- what the batch items tell, where it is said whether the header counts one
@@ -46,7 +47,8 @@ items_outcome operation _ items = NotOne
 
 -- what a response message tells
 abbrev pub message_outcome : Operation → Val → Outcome
-message_outcome operation message = items_outcome operation (is_number (pos 1) (batch_count message)) (batch_items message)
+message_outcome operation message =
+    items_outcome operation (is_number (pos 1) (batch_count message)) (batch_items message)
 
 abbrev pub value_outcome : Operation → Option Val → Outcome
 value_outcome operation None = Unread
@@ -54,7 +56,8 @@ value_outcome operation (Some message) = message_outcome operation message
 
 abbrev pub tree_outcome : Operation → Option Tree → Outcome
 tree_outcome operation None = Malformed
-tree_outcome operation (Some tree) = value_outcome operation (root_read response_message response_tag tree)
+tree_outcome operation (Some tree) =
+    value_outcome operation (root_read response_message response_tag tree)
 
 -- what a response tells, where there is one
 abbrev pub response_outcome : Operation → Option (List ℕ) → Outcome

@@ -58,7 +58,9 @@ shown_text (Some text) = text
 abbrev pub entry_text : ℕ → Entry → List ℕ
 entry_text number entry =
     codes "#" ++ (decimal number ++ (codes " " ++ (outcome_text entry.outcome
-    ++ (codes "\n>~ " ++ (shown_text entry.request ++ (codes "\n<~ " ++ (shown_text entry.response ++ codes "\n")))))))
+    ++ (codes "\n>~ "
+    ++ (shown_text entry.request
+    ++ (codes "\n<~ " ++ (shown_text entry.response ++ codes "\n")))))))
 
 -- those of the entries from this number on
 abbrev pub entries_text : ℕ → List Entry → List ℕ
@@ -69,4 +71,6 @@ entries_text number (entry ∷ entries) = entry_text number entry ++ entries_tex
 abbrev pub report_text : Report → List ℕ
 report_text report =
     entries_text 1 report.entries
-    ++ (codes "sent " ++ (end_text report.sent_end ++ (codes "\nreceived " ++ (end_text report.received_end ++ codes "\n"))))
+    ++ (codes "sent "
+    ++ (end_text report.sent_end
+    ++ (codes "\nreceived " ++ (end_text report.received_end ++ codes "\n"))))

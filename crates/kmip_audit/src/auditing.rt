@@ -11,7 +11,9 @@ use std::alloc::Global;
 
 /// Whether neither side has a frame.
 fn are_none(request: Option<&[u8]>, response: Option<&[u8]>) -> bool
-    ensures { result ≡ are_none (option_map (λ frame. frame.now) request.entry) (option_map (λ frame. frame.now) response.entry) }
+    ensures { result ≡
+        are_none (option_map (λ frame. frame.now) request.entry)
+        (option_map (λ frame. frame.now) response.entry) }
 {
     match request {
         Some(_) => false,

@@ -17,7 +17,9 @@ use std::alloc::Global;
 
 /// The operation of a request, and none where the bytes are not what a client writes.
 fn asked(alloc: Global, request: &[u8]) -> Result<Option<Operation>, OutOfMemory>
-    ensures { IfOk result (λ operation. operation ≡ option_map (λ request. request.operation) (request_read request.now)) }
+    ensures { IfOk result
+        (λ operation.
+        operation ≡ option_map (λ request. request.operation) (request_read request.now)) }
 {
     match from_slice(alloc, request) {
         Ok(read) => Ok(Some(read.0.operation())),
@@ -32,7 +34,10 @@ fn outcome_for(
     request: Option<&[u8]>,
     response: Option<&[u8]>,
 ) -> Result<Outcome, OutOfMemory>
-    ensures { IfOk result (λ outcome. outcome ≡ outcome_of (option_map (λ frame. frame.now) request.entry) (option_map (λ frame. frame.now) response.entry)) }
+    ensures { IfOk result
+        (λ outcome. outcome ≡
+        outcome_of (option_map (λ frame. frame.now) request.entry)
+        (option_map (λ frame. frame.now) response.entry)) }
 {
     let Some(request) = request else {
         return Ok(Outcome::NoRequest);
@@ -48,7 +53,9 @@ fn outcome_for(
 
 /// The diagnostic of a frame, where there is one.
 fn diagnostic_of(alloc: Global, frame: Option<&[u8]>) -> Result<Option<Text>, OutOfMemory>
-    ensures { IfOk result (λ text. text ≡ option_map (diagnostic (Some 0x4200)) (option_map (λ frame. frame.now) frame.entry)) }
+    ensures { IfOk result
+        (λ text. text ≡
+        option_map (diagnostic (Some 0x4200)) (option_map (λ frame. frame.now) frame.entry)) }
 {
     let Some(frame) = frame else {
         return Ok(None);
@@ -64,7 +71,10 @@ pub fn entry_for(
     request: Option<&[u8]>,
     response: Option<&[u8]>,
 ) -> Result<Entry, OutOfMemory>
-    ensures { IfOk result (λ entry. entry ≡ entry_of (option_map (λ frame. frame.now) request.entry) (option_map (λ frame. frame.now) response.entry)) }
+    ensures { IfOk result
+        (λ entry. entry ≡
+        entry_of (option_map (λ frame. frame.now) request.entry)
+        (option_map (λ frame. frame.now) response.entry)) }
 {
     let outcome = outcome_for(alloc, request, response)?;
     Ok(Entry {

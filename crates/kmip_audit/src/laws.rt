@@ -20,15 +20,18 @@ use kmip_wire::tree_computed;
 /// A response is told as answered exactly where a client answers a payload: for a response message that was read, and
 /// for the bytes of a message.
 pub fn answered_exactly_where_ok()
-    ensures message { (operation : Operation) (message : Val) → Agree operation (message_outcome operation message) (check_response operation message) }
-    ensures bytes { (operation : Operation) (m : List ℕ) → Agree operation (response_outcome operation (Some m)) (read_answer operation m) }
+    ensures message { (operation : Operation) (message : Val) →
+        Agree operation (message_outcome operation message) (check_response operation message) }
+    ensures bytes { (operation : Operation) (m : List ℕ) →
+        Agree operation (response_outcome operation (Some m)) (read_answer operation m) }
 {}
 
 /// Where each request of a session is valid and matched, and the bytes left begin with a message for each, within the
 /// limit, what the session sent and took is reported as it was answered: both streams end whole, and there is an entry
 /// for each request, told as answered exactly where the client answered a payload.
 pub fn sessions_are_reported()
-    ensures { (payloads : List RequestPayload) (credential : Option CredentialType) (limit : Option ℕ) (messages : List (List ℕ)) (rest : List ℕ) →
+    ensures { (payloads : List RequestPayload) (credential : Option CredentialType)
+        (limit : Option ℕ) (messages : List (List ℕ)) (rest : List ℕ) →
         AreMatched payloads credential → AreServed payloads credential limit messages rest →
         IsReported payloads (session payloads credential limit rest) rest }
 {
@@ -40,10 +43,12 @@ pub fn sessions_are_reported()
 /// the skeletons of their frames are equal, one by one. So a report shows tags, types, nesting and the numbers of
 /// enumerations, all of them, and, beside its ends and outcomes, nothing else.
 pub fn reports_tell_skeletons()
-    ensures { (sent received other_sent other_received : List ℕ) → AllParse sent → AllParse received → AllParse other_sent → AllParse other_received →
+    ensures { (sent received other_sent other_received : List ℕ) → AllParse sent →
+        AllParse received → AllParse other_sent → AllParse other_received →
         AreAlike (report_of sent received) (report_of other_sent other_received) →
         (report_of sent received ≡ report_of other_sent other_received)
-        ↔ ((frame_skeletons sent ≡ frame_skeletons other_sent) × (frame_skeletons received ≡ frame_skeletons other_received)) }
+        ↔ ((frame_skeletons sent ≡ frame_skeletons other_sent)
+        × (frame_skeletons received ≡ frame_skeletons other_received)) }
 {
     diagnostics_tell_skeletons();
     tree_computed();

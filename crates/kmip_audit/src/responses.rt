@@ -19,7 +19,9 @@ use std::alloc::Global;
 
 /// Whether a batch item names the operation that was asked for.
 fn is_of(answered: Option<Operation>, asked: Operation) -> bool
-    ensures { result ≡ is_number (pos (operation_line asked).number) (one_of (optional (enumeration_val operation_line) answered)) }
+    ensures { result ≡
+        is_number (pos (operation_line asked).number)
+        (one_of (optional (enumeration_val operation_line) answered)) }
 {
     match answered {
         Some(answered) => answered.number() == asked.number(),
@@ -29,7 +31,8 @@ fn is_of(answered: Option<Operation>, asked: Operation) -> bool
 
 /// Whether there is a payload.
 fn payload_outcome(operation: Operation, payload: &Option<ResponsePayload>) -> Outcome
-    ensures { result ≡ payload_outcome operation (one_of (optional response_payload_val payload.now)) }
+    ensures { result ≡
+        payload_outcome operation (one_of (optional response_payload_val payload.now)) }
 {
     match payload {
         Some(_) => Outcome::Answered(operation),

@@ -27,11 +27,18 @@ plain = record { credential = None; limit = None; buffered = false }
 abbrev pub settings_of : Bool → List ℕ → List ℕ → Option Settings
 settings_of false user password = Some plain
 settings_of true user password =
-    if is_utf8 user && is_utf8 password then Some (record { credential = credential_for (Some user) (Some password); limit = None; buffered = false }) else None
+    if is_utf8 user && is_utf8 password
+    then Some (record {
+      credential = credential_for (Some user) (Some password);
+      limit = None;
+      buffered = false;
+    })
+    else None
 
 -- what is told of a request, memory aside: its bytes, or that it has no form, or that what was given is not of the grammar
 abbrev pub IsRequested : Option Settings → Option Call → List ℕ → ℤ → List ℕ → Type 0
-IsRequested (Some settings) (Some call) before result after = IsTold (asked call settings.credential).message no_form before result after
+IsRequested (Some settings) (Some call) before result after =
+    IsTold (asked call settings.credential).message no_form before result after
 IsRequested settings call before result after = (result ≡ grammar) × (after ≡ before)
 
 -- 0, 1 and 3
@@ -47,5 +54,7 @@ answer_to call response = (call_outcome plain call response).answer
 -- what is told of a response, memory aside: how the call ended, and the line of its answer; or that the call is not of the grammar
 abbrev pub IsAnswered : Option Call → List ℕ → ℤ → List ℕ → ℤ → List ℕ → Type 0
 IsAnswered (Some call) response status before length after =
-    (status ≡ status_of (ending_of (answer_to call response))) × IsTold (Some (json_line call (answer_to call response))) (pos 0) before length after
-IsAnswered None response status before length after = (status ≡ pos 2) × IsTold None (pos 0) before length after
+    (status ≡ status_of (ending_of (answer_to call response)))
+    × IsTold (Some (json_line call (answer_to call response))) (pos 0) before length after
+IsAnswered None response status before length after =
+    (status ≡ pos 2) × IsTold None (pos 0) before length after

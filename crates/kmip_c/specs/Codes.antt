@@ -6,11 +6,13 @@ use Rattle.kmip_wire.specs.Heads.{head_says}
 
 -- what stands in the room after some bytes were written to its front: all of them, where they fit, and else nothing
 abbrev pub written : List ℕ → List ℕ → List ℕ
-written bytes room = if nat_le (length bytes) (length room) then bytes ++ drop (length bytes) room else room
+written bytes room =
+    if nat_le (length bytes) (length room) then bytes ++ drop (length bytes) room else room
 
 -- the whole length is told, and the bytes are written where they fit; where there are none, a code is told, and nothing is written
 abbrev pub IsTold : Option (List ℕ) → ℤ → List ℕ → ℤ → List ℕ → Type 0
-IsTold (Some bytes) code before result after = (result ≡ pos (length bytes)) × (after ≡ written bytes before)
+IsTold (Some bytes) code before result after =
+    (result ≡ pos (length bytes)) × (after ≡ written bytes before)
 IsTold None code before result after = (result ≡ code) × (after ≡ before)
 
 -- -2 to -6
@@ -41,4 +43,5 @@ length_code (Err (TooLong size limit)) = too_long
 
 -- of bytes that are to be the eight of a head
 abbrev pub contents_code : List ℕ → Option ℕ → ℤ
-contents_code bytes limit = if length bytes == 8 then length_code (head_says bytes limit) else grammar
+contents_code bytes limit =
+    if length bytes == 8 then length_code (head_says bytes limit) else grammar

@@ -8,4 +8,6 @@ abbrev pub next_of : List ℕ → List ℕ
 next_of b = drop (if head_code b == 1 then 8 else size_at b) b
 
 abbrev pub IsFirst : Front → List ℕ → Type 0
-IsFirst front b = (size_at b ≤ length b) × (front.tag ≡ head_tag b) × (front.value.now ≡ value_of b) × (front.next.now ≡ next_of b)
+IsFirst front b =
+    (size_at b ≤ length b) × (front.tag ≡ head_tag b) × (front.value.now ≡ value_of b)
+    × (front.next.now ≡ next_of b)

@@ -12,7 +12,9 @@ use std::alloc::Global;
 /// How a call ended, and the line of its answer.
 #[derive(Drop)]
 pub struct AnswerLine {
+    /// Whether it was answered, and whether the connection is good for the next call.
     pub ending: Ending,
+    /// The line of JSON, with its line feed.
     pub line: Text,
 }
 
@@ -30,7 +32,8 @@ pub fn status_of(ending: Ending) -> i32
 /// How a call ended that has this response, and its line. None where the call is not of the grammar.
 pub fn told(alloc: Global, call: &[u8], response: &[u8]) -> Result<Option<AnswerLine>, OutOfMemory>
     ensures grammar { IfOk result (λ told. call_of call.now ≡ None → told ≡ None) }
-    ensures told { (c : TheCall) → call_of call.now ≡ Some c → IfOk result (λ told. MatchOption told ⊥
+    ensures told { (c : TheCall) → call_of call.now ≡ Some c →
+        IfOk result (λ told. MatchOption told ⊥
         (λ t. (t.ending ≡ ending_of (answer_to c response.now)) ×
         (t.line ≡ json_line c (answer_to c response.now)))) }
 {

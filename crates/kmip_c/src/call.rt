@@ -39,7 +39,8 @@ pub fn settings_of(
     user: &[u8],
     password: &[u8],
 ) -> Result<Option<Settings>, OutOfMemory>
-    ensures { IfOk result (λ settings. settings ≡ settings_of has_credential user.now password.now) }
+    ensures { IfOk result
+        (λ settings. settings ≡ settings_of has_credential user.now password.now) }
 {
     if !has_credential {
         return Ok(Some(Settings::new(None, None, None)));

@@ -20,8 +20,10 @@ struct Front<'a> {
 /// The item that the head at the front announces, where all its bytes are there.
 #[tactic(auto, unfolding(kmip_wire::specs::Head::head_length, kmip_wire::specs::Head::head_tag))]
 fn first_item(bytes: &[u8]) -> Option<Front<'_>>
-    ensures first { MatchOption result (length bytes.now < size_at bytes.now) (λ front. IsFirst front bytes.now) }
-    ensures shorter { MatchOption result (length bytes.now < size_at bytes.now) (λ front. length front.next.now < length bytes.now) }
+    ensures first { MatchOption result (length bytes.now < size_at bytes.now)
+        (λ front. IsFirst front bytes.now) }
+    ensures shorter { MatchOption result (length bytes.now < size_at bytes.now)
+        (λ front. length front.next.now < length bytes.now) }
 {
     if bytes.len() < 8 {
         return None;

@@ -52,7 +52,8 @@ pub extern "C" fn kmip_request(
     into: &mut [u8],
 ) -> i64
     ensures request { result ≢ memory →
-        IsRequested (settings_of has_credential user.now password.now) (call_of call.now) into.old result into.new }
+        IsRequested (settings_of has_credential user.now password.now) (call_of call.now) into.old
+        result into.new }
     ensures memory { result ≡ memory → into.new ≡ into.old }
 {
     let settings = match settings_of(alloc, has_credential, user, password) {

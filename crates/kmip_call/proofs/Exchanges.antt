@@ -12,7 +12,7 @@ use Rattle.kmip_client.specs.Outcome.{Answer, Outcome, outcome_of, answer_of}
 use Rattle.kmip_client.specs.declared.error.Error.{Error}
 use Rattle.kmip_client.specs.declared.error.Error.TheVariants.{RequestWriteError, ResponseReadError}
 use Rattle.kmip_client.proofs.Messages.{message_short, message_refused, message_cut, message_whole}
-use Rattle.kmip_words.specs.Streams.{Gives, GivesPart, WrotePart}
+use Rattle.kmip_words.specs.Streams.{Gives, GivesPart, WroteProperPart}
 use Rattle.kmip_words.specs.Calls.{typed_call}
 use Rattle.kmip_words.specs.Exchange.{Settings, asked, or_empty, ending_of, loses_link, json_line, call_outcome}
 use Rattle.kmip_words.specs.declared.call.Call.{Call}
@@ -128,7 +128,7 @@ sent settings words call w0 w1 s0 s1 by request response old new ending call_is 
 
 -- the sink failed
 pub write_fault : (settings : Settings) (words : List (List ℕ)) (call : Call) (w0 w1 : SinkState) (s0 s1 : SourceState) (by : Bool) (request response old new error_text : List ℕ) (ending : Ending) → typed_call words ≡ Some call → Some request ≡ (asked call settings.credential).message → by ≡ false → error_text ≡ codes "link failed" →
-    Rose w0.faults w1.faults → (IsTrue w0.tells → WrotePart w0 w1 request) → s1 ≡ s0 →
+    Rose w0.faults w1.faults → (IsTrue w0.tells → WroteProperPart w0 w1 request) → s1 ≡ s0 →
     new ≡ old ++ json_line call (answer_err (RequestWriteError error_text)) → ending ≡ Lost →
     Exchanges settings words w0 w1 s0 s1 (response_if by response) old new ending
 write_fault settings words call w0 w1 s0 s1 by request response old new error_text ending call_is some false_is text_is rose part still text ends = record {
@@ -136,7 +136,7 @@ write_fault settings words call w0 w1 s0 s1 by request response old new error_te
   is = call_is;
   answer = answer_err (RequestWriteError (codes "link failed"));
   carried = write_failed (ap (λ b. response_if b response) false_is) refl rose
-      (λ tells. (let P : List ℕ → Type 0 = λ l. WrotePart w0 w1 l in subst P (bytes_by settings call (Some request) some) (part tells))) still;
+      (λ tells. (let P : List ℕ → Type 0 = λ l. WroteProperPart w0 w1 l in subst P (bytes_by settings call (Some request) some) (part tells))) still;
   line = text ∙ ap (λ t. old ++ json_line call (answer_err (RequestWriteError t))) text_is;
   ending_is = ends;
 }
@@ -180,7 +180,7 @@ sent_or settings words w0 w1 s0 s1 request response old new (Ok end) asks writes
 sent_or settings words w0 w1 s0 s1 request response old new (Err error) asks writes one reads text ends by = tt
 
 pub write_fault_or : {E : Type 0} (settings : Settings) (words : List (List ℕ)) (w0 w1 : SinkState) (s0 s1 : SourceState) (request response old new error_text : List ℕ) (result : Result CallEnd E) → Requests settings words (Some request) → error_text ≡ codes "link failed" →
-    Rose w0.faults w1.faults × (IsTrue w0.tells → WrotePart w0 w1 request) × (s1 ≡ s0) →
+    Rose w0.faults w1.faults × (IsTrue w0.tells → WroteProperPart w0 w1 request) × (s1 ≡ s0) →
     OnOk result ((call : Call) → new ≡ old ++ json_line call (answer_err (RequestWriteError error_text))) →
     IfOk result (λ end. end.ending ≡ cond (loses_link (RequestWriteError error_text)) Lost Refused) → IfOk result (λ end. end.by_response ≡ false) →
     IfOk result (λ end. Exchanges settings words w0 w1 s0 s1 (response_if end.by_response response) old new end.ending)

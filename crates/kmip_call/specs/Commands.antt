@@ -14,15 +14,24 @@ first_of (Some text) second = Some text
 first_of None second = second
 
 abbrev pub order_with : Option CredentialType → Option ℕ → Option (List ℕ) → List (List ℕ) → Order
-order_with credential limit file words = record { settings = record { credential = credential; limit = limit; buffered = false }; file = file; words = words }
+order_with credential limit file words =
+    record {
+      settings = record { credential = credential; limit = limit; buffered = false };
+      file = file;
+      words = words;
+    }
 
-abbrev pub order_numbered : Option CredentialType → Option ℕ → Option (List ℕ) → List (List ℕ) → Option Order
-order_numbered credential (Some limit) file words = Some (order_with credential (Some limit) file words)
+abbrev pub order_numbered : Option CredentialType → Option ℕ → Option (List ℕ) → List (List ℕ) →
+    Option Order
+order_numbered credential (Some limit) file words =
+    Some (order_with credential (Some limit) file words)
 order_numbered credential None file words = None
 
-abbrev pub order_limited : Option CredentialType → Option (List ℕ) → Option (List ℕ) → List (List ℕ) → Option Order
+abbrev pub order_limited : Option CredentialType → Option (List ℕ) → Option (List ℕ) →
+    List (List ℕ) → Option Order
 order_limited credential None file words = Some (order_with credential None file words)
-order_limited credential (Some limit) file words = order_numbered credential (number_of limit) file words
+order_limited credential (Some limit) file words =
+    order_numbered credential (number_of limit) file words
 
 -- `[user=U] [password=P] [limit=N] [record=FILE] CALL`: each option at most once and in this order, and a password only
 -- after a user; without `password=P` it is that of the environment
@@ -32,7 +41,8 @@ order_of environment words =
     let password : Given = given_after user.value (codes "password=") user.rest in
     let limit : Given = given (codes "limit=") password.rest in
     let file : Given = given (codes "record=") limit.rest in
-    order_limited (credential_for user.value (first_of password.value environment)) limit.value file.value file.rest
+    order_limited (credential_for user.value (first_of password.value environment)) limit.value
+    file.value file.rest
 
 abbrev pub one_word : List ℕ → Option Command → Option Command
 one_word word other =
@@ -42,5 +52,6 @@ one_word word other =
 
 -- the command of the words after the program's name
 abbrev pub command_of : Option (List ℕ) → List (List ℕ) → Option Command
-command_of environment (word ∷ []) = one_word word (option_map Make (order_of environment (word ∷ [])))
+command_of environment (word ∷ []) =
+    one_word word (option_map Make (order_of environment (word ∷ [])))
 command_of environment words = option_map Make (order_of environment words)

@@ -4,7 +4,7 @@ use Rattle.kmip_link.specs.State.{SourceState, SinkState, Rose, source_left}
 use Rattle.kmip_client.specs.Outcome.{Answer}
 use Rattle.kmip_client.specs.declared.error.Error.{Error}
 use Rattle.kmip_client.specs.declared.error.Error.TheVariants.{RequestWriteError, ResponseReadError}
-use Rattle.kmip_words.specs.Streams.{Gives, GivesPart, WrotePart}
+use Rattle.kmip_words.specs.Streams.{Gives, GivesPart, WroteProperPart}
 use Rattle.kmip_words.specs.Calls.{typed_call}
 use Rattle.kmip_words.specs.Exchange.{Settings, asked, or_empty, ending_of, json_line, call_outcome}
 use Rattle.kmip_words.specs.declared.call.Call.{Call}
@@ -29,30 +29,39 @@ taken_by settings call rest = (call_outcome settings call rest).taken
 
 -- A call went from these states of its sink and its source to those, and has this answer. What is said of bytes holds
 -- where the sink, or the source, tells its bytes.
-pub data Carried (settings : Settings) (call : Call) (w0 w1 : SinkState) (s0 s1 : SourceState) (response : Option (List ℕ)) (answer : Answer) : Type 0 where
+pub data Carried (settings : Settings) (call : Call) (w0 w1 : SinkState) (s0 s1 : SourceState)
+    (response : Option (List ℕ)) (answer : Answer) : Type 0 where
   -- the request was sent, and one message at most was read: the answer is what these bytes say, and what the bytes left say
-  answered : (bytes : List ℕ) → response ≡ Some bytes → answer ≡ (call_outcome settings call bytes).answer → IsOneAtMost settings.limit bytes →
+  answered : (bytes : List ℕ) → response ≡ Some bytes →
+      answer ≡ (call_outcome settings call bytes).answer → IsOneAtMost settings.limit bytes →
       (IsTrue w0.tells → w1.sent ≡ w0.sent ++ request_bytes settings call) →
-      (IsTrue s0.tells → Gives s0 s1 (taken_by settings call (source_left s0)) × (bytes ≡ take (taken_by settings call (source_left s0)) (source_left s0)) × (answer ≡ (call_outcome settings call (source_left s0)).answer)) →
+      (IsTrue s0.tells → Gives s0 s1 (taken_by settings call (source_left s0))
+      × (bytes ≡ take (taken_by settings call (source_left s0)) (source_left s0))
+      × (answer ≡ (call_outcome settings call (source_left s0)).answer)) →
       Carried settings call w0 w1 s0 s1 response answer
-  -- the sink failed: a part of the request was sent, and nothing was read
-  write_failed : response ≡ None → answer ≡ Err (RequestWriteError (codes "link failed")) → Rose w0.faults w1.faults →
-      (IsTrue w0.tells → WrotePart w0 w1 (request_bytes settings call)) → s1 ≡ s0 →
+  -- the sink failed: a proper part of the request was sent, and nothing was read
+  write_failed : response ≡ None → answer ≡ Err (RequestWriteError (codes "link failed")) →
+      Rose w0.faults w1.faults →
+      (IsTrue w0.tells → WroteProperPart w0 w1 (request_bytes settings call)) → s1 ≡ s0 →
       Carried settings call w0 w1 s0 s1 response answer
   -- the source failed: the request was sent, and a part of the message was read
-  read_failed : response ≡ None → answer ≡ Err (ResponseReadError (codes "link failed")) → Rose s0.faults s1.faults →
+  read_failed : response ≡ None → answer ≡ Err (ResponseReadError (codes "link failed")) →
+      Rose s0.faults s1.faults →
       (IsTrue w0.tells → w1.sent ≡ w0.sent ++ request_bytes settings call) →
       (IsTrue s0.tells → GivesPart s0 s1 (taken_by settings call (source_left s0))) →
       Carried settings call w0 w1 s0 s1 response answer
 
 -- What a call of these words sends: its one canonical message, none where it has no wire form.
-pub record Requests (settings : Settings) (words : List (List ℕ)) (request : Option (List ℕ)) : Type 0 where
+pub record Requests (settings : Settings) (words : List (List ℕ))
+    (request : Option (List ℕ)) : Type 0 where
   pub call : Call
   pub is : typed_call words ≡ Some call
   pub message : request ≡ (asked call settings.credential).message
 
 -- The call of these words was carried, and the line of its answer was added.
-pub record Exchanges (settings : Settings) (words : List (List ℕ)) (w0 w1 : SinkState) (s0 s1 : SourceState) (response : Option (List ℕ)) (old new : List ℕ) (ending : Ending) : Type 0 where
+pub record Exchanges (settings : Settings) (words : List (List ℕ)) (w0 w1 : SinkState)
+    (s0 s1 : SourceState) (response : Option (List ℕ)) (old new : List ℕ)
+    (ending : Ending) : Type 0 where
   pub call : Call
   pub is : typed_call words ≡ Some call
   pub answer : Answer

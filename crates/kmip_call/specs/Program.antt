@@ -27,7 +27,8 @@ status_of Refused = 1
 status_of Lost = 3
 
 -- The call was carried, and this is the line of its answer.
-pub record Makes (order : Order) (w0 w1 : SinkState) (s0 s1 : SourceState) (response : Option (List ℕ)) (line : List ℕ) (ending : Ending) : Type 0 where
+pub record Makes (order : Order) (w0 w1 : SinkState) (s0 s1 : SourceState)
+    (response : Option (List ℕ)) (line : List ℕ) (ending : Ending) : Type 0 where
   pub call : Call
   pub is : call_for order ≡ Some call
   pub answer : Answer
@@ -37,13 +38,15 @@ pub record Makes (order : Order) (w0 w1 : SinkState) (s0 s1 : SourceState) (resp
 
 -- The program made the call: over its sink and source, the record and the line of the answer. After 4 one of the last
 -- two could not be written.
-pub record Ran (order : Order) (w0 w1 : SinkState) (s0 s1 : SourceState) (f0 f1 k0 k1 : SinkState) (status : ℕ) : Type 0 where
+pub record Ran (order : Order) (w0 w1 : SinkState) (s0 s1 : SourceState) (f0 f1 k0 k1 : SinkState)
+    (status : ℕ) : Type 0 where
   pub call : Call
   pub is : call_for order ≡ Some call
   pub answer : Answer
   pub response : Option (List ℕ)
   pub carried : Carried order.settings call w0 w1 s0 s1 response answer
-  pub recorded : status ≢ 4 → IsTrue f0.tells → f1.sent ≡ f0.sent ++ recorded order.file order.words response
+  pub recorded : status ≢ 4 → IsTrue f0.tells →
+      f1.sent ≡ f0.sent ++ recorded order.file order.words response
   pub told : status ≢ 4 → IsTrue k0.tells → k1.sent ≡ k0.sent ++ json_line call answer
   pub part : IsTrue k0.tells → WrotePart k0 k1 (json_line call answer)
   pub status_is : status ≢ 4 → status ≡ status_of (ending_of answer)

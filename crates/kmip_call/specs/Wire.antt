@@ -10,7 +10,8 @@ taken_at rest limit = taken_for rest (message_at rest limit)
 
 -- how many bytes of contents a head says, where it is whole and not refused
 abbrev pub contents_of : List ℕ → Option ℕ → Option ℕ
-contents_of bytes limit = if nat_lt (length bytes) 8 then None else result_ok (head_says (take 8 bytes) limit)
+contents_of bytes limit =
+    if nat_lt (length bytes) 8 then None else result_ok (head_says (take 8 bytes) limit)
 
 -- The bytes are no more than one message: each is taken for it.
 abbrev pub IsOneAtMost : Option ℕ → List ℕ → Type 0

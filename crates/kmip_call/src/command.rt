@@ -32,7 +32,9 @@ pub enum Command {
 
 /// The first of two texts that may be absent.
 fn first_of<'a>(first: Option<&'a str>, second: Option<&'a str>) -> Option<&'a str>
-    ensures { option_map (λ text. text.now) result ≡ first_of (option_map (λ text. text.now) first.entry) (option_map (λ text. text.now) second.entry) }
+    ensures { option_map (λ text. text.now) result ≡
+        first_of (option_map (λ text. text.now) first.entry)
+        (option_map (λ text. text.now) second.entry) }
 {
     match first {
         Some(text) => Some(text),
@@ -49,7 +51,9 @@ fn order_with(
     file: Option<&str>,
     words: &[Text],
 ) -> Result<Option<Order>, OutOfMemory>
-    ensures { IfOk result (λ order. order ≡ Some (order_with (credential_for (option_map (λ text. text.now) user.entry) (option_map (λ text. text.now) password.entry))
+    ensures { IfOk result (λ order. order ≡ Some (order_with
+        (credential_for (option_map (λ text. text.now) user.entry)
+        (option_map (λ text. text.now) password.entry))
         limit (option_map (λ text. text.now) file.entry) words.now)) }
 {
     let user = copied(alloc, user)?;
@@ -70,7 +74,8 @@ fn order_of(
     environment: Option<&str>,
     words: &[Text],
 ) -> Result<Option<Order>, OutOfMemory>
-    ensures { IfOk result (λ order. order ≡ order_of (option_map (λ text. text.now) environment.entry) words.now) }
+    ensures { IfOk result
+        (λ order. order ≡ order_of (option_map (λ text. text.now) environment.entry) words.now) }
 {
     let (user, words) = given("user=", words);
     let (password, words) = given_after(user, "password=", words);
@@ -103,7 +108,9 @@ fn one_word(
     word: &str,
     words: &[Text],
 ) -> Result<Option<Command>, OutOfMemory>
-    ensures { IfOk result (λ command. command ≡ one_word word.now (option_map Make (order_of (option_map (λ text. text.now) environment.entry) words.now))) }
+    ensures { IfOk result
+        (λ command. command ≡ one_word word.now
+        (option_map Make (order_of (option_map (λ text. text.now) environment.entry) words.now))) }
 {
     match word {
         "--help" => Ok(Some(Command::Help)),
@@ -118,7 +125,9 @@ pub fn command_of(
     environment: Option<&str>,
     words: &[Text],
 ) -> Result<Option<Command>, OutOfMemory>
-    ensures { IfOk result (λ command. command ≡ command_of (option_map (λ text. text.now) environment.entry) words.now) }
+    ensures { IfOk result
+        (λ command. command ≡
+        command_of (option_map (λ text. text.now) environment.entry) words.now) }
 {
     match words {
         [word] => one_word(alloc, environment, word.as_str(), words),

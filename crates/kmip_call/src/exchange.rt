@@ -17,6 +17,7 @@ use std::alloc::Global;
 /// How a call ended.
 #[derive(Clone, Copy)]
 pub struct CallEnd {
+    /// Whether it was answered, and whether the connection is good for the next call.
     pub ending: Ending,
     /// Whether the answer is what the bytes of the response say, and not that the sink or the source failed.
     pub by_response: bool,
@@ -32,9 +33,11 @@ fn answer_by(
 ) -> Result<CallEnd, OutOfMemory>
     requires { IsSome (typed_call words.now) }
     ensures line { (call : TheCall) → typed_call words.now ≡ Some call →
-        OnOk result (line.new ≡ line.old ++ json_line call (call_outcome settings.now call response.now).answer) }
+        OnOk result (line.new ≡ line.old
+        ++ json_line call (call_outcome settings.now call response.now).answer) }
     ensures ending { (call : TheCall) → typed_call words.now ≡ Some call →
-        IfOk result (λ end. end.ending ≡ ending_of (call_outcome settings.now call response.now).answer) }
+        IfOk result
+        (λ end. end.ending ≡ ending_of (call_outcome settings.now call response.now).answer) }
     ensures by { IfOk result (λ end. end.by_response ≡ true) }
 {
     let Some(call) = typed_call(alloc, words)? else {
@@ -49,8 +52,10 @@ fn answer_by(
 
 /// The answer that the sink or the source failed.
 fn answer_failed(alloc: Global, error: Error, line: &mut Text) -> Result<CallEnd, OutOfMemory>
-    ensures line { OnOk result ((call : TheCall) → line.new ≡ line.old ++ json_line call (answer_err error)) }
-    ensures ending { IfOk result (λ end. end.ending ≡ cond (loses_link error) endings.Lost endings.Refused) }
+    ensures line { OnOk result ((call : TheCall) →
+        line.new ≡ line.old ++ json_line call (answer_err error)) }
+    ensures ending { IfOk result
+        (λ end. end.ending ≡ cond (loses_link error) endings.Lost endings.Refused) }
     ensures by { IfOk result (λ end. end.by_response ≡ false) }
 {
     let ending = show_error(alloc, Style::Json, &error, line)?;
@@ -74,7 +79,9 @@ pub fn exchange<W: Sink, S: Source>(
 ) -> Result<CallEnd, OutOfMemory>
     requires response { response.old.items ≡ [] }
     requires request { Requests settings.now words.now (option_map (λ r. r.items) request) }
-    ensures { IfOk result (λ end. Exchanges settings.now words.now (W.state wire.old) (W.state wire.new) (S.state source.old) (S.state source.new)
+    ensures { IfOk result
+        (λ end. Exchanges settings.now words.now (W.state wire.old) (W.state wire.new)
+        (S.state source.old) (S.state source.new)
         (response_if end.by_response response.new.items) line.old line.new end.ending) }
 {
     let Some(request) = request else {

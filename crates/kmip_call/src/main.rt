@@ -10,6 +10,8 @@ mod command;
 mod exchange;
 mod program;
 mod record;
+#[cfg(test)]
+mod tests;
 mod wire;
 
 use command::{Command, Order, command_of};
@@ -57,7 +59,7 @@ record=FILE          adds CALL and the response to FILE, as a line that
 
 Status   0 answered   1 refused   2 the words are not of this grammar
          3 the connection is lost   4 the answer could not be written
-         5 out of memory
+         5 out of memory, or a word or the password is not UTF-8
 After 3, 4 and 5 the connection is to be closed.
 ";
 

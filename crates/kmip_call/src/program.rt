@@ -38,7 +38,8 @@ fn is_allowed(alloc: Global, order: &Order) -> Result<bool, OutOfMemory>
 /// What a call sends, none where it has no wire form; none at all where its words are not of the grammar.
 fn request_for(alloc: Global, order: &Order) -> Result<Option<Option<Vec<u8>>>, OutOfMemory>
     ensures { IfOk result (λ found. MatchOption found (call_for order.now ≡ None)
-        (λ request. (is_allowed order.now.file order.now.words ≡ true) × Requests order.now.settings order.now.words (option_map (λ r. r.items) request))) }
+        (λ request. (is_allowed order.now.file order.now.words ≡ true)
+        × Requests order.now.settings order.now.words (option_map (λ r. r.items) request))) }
 {
     if !is_allowed(alloc, order)? {
         return Ok(None);
@@ -64,7 +65,10 @@ fn make_call<W: Sink, S: Source>(
     ensures none { IfOk result (λ end. end ≡ None → call_for order.now ≡ None) }
     ensures wire { call_for order.now ≡ None → W.state wire.new ≡ W.state wire.old }
     ensures source { call_for order.now ≡ None → S.state source.new ≡ S.state source.old }
-    ensures made { IfOk result (λ end. MatchOption end (Unit {0}) (λ it. Makes order.now (W.state wire.old) (W.state wire.new) (S.state source.old) (S.state source.new)
+    ensures made { IfOk result
+        (λ end. MatchOption end (Unit {0})
+        (λ it. Makes order.now (W.state wire.old) (W.state wire.new) (S.state source.old)
+        (S.state source.new)
         (response_if it.by_response response.new.items) line.new it.ending)) }
 {
     let Some(request) = request_for(alloc, order)? else {
@@ -91,8 +95,11 @@ fn keep<F: Sink>(
     response: &[u8],
     kept: &mut F,
 ) -> Result<(), LinkError>
-    ensures ok { OnOk result (IsTrue (F.state kept.old).tells → (F.state kept.new).sent ≡ (F.state kept.old).sent ++ recorded order.now.file order.now.words (response_if by_response response.now)) }
-    ensures cause { IsErrOf result LinkError.Fault → Rose (F.state kept.old).faults (F.state kept.new).faults }
+    ensures ok { OnOk result (IsTrue (F.state kept.old).tells →
+        (F.state kept.new).sent ≡ (F.state kept.old).sent
+        ++ recorded order.now.file order.now.words (response_if by_response response.now)) }
+    ensures cause { IsErrOf result LinkError.Fault →
+        Rose (F.state kept.old).faults (F.state kept.new).faults }
 {
     match &order.file {
         Some(_) if by_response => write_record(alloc, order.words.as_slice(), response, kept),
@@ -112,10 +119,14 @@ fn report<F: Sink, K: Sink>(
 ) -> u8
     ensures status { (result ≡ status_of end.ending) ⊎ ((result ≡ 4) ⊎ (result ≡ 5)) }
     ensures recorded { result ≢ 4 → result ≢ 5 → IsTrue (F.state kept.old).tells →
-        (F.state kept.new).sent ≡ (F.state kept.old).sent ++ recorded order.now.file order.now.words (response_if end.by_response response.now) }
-    ensures told { result ≢ 4 → result ≢ 5 → IsTrue (K.state told.old).tells → (K.state told.new).sent ≡ (K.state told.old).sent ++ line.now }
-    ensures part { IsTrue (K.state told.old).tells → WrotePart (K.state told.old) (K.state told.new) line.now }
-    ensures cause { result ≡ 4 → Rose (F.state kept.old).faults (F.state kept.new).faults ⊎ Rose (K.state told.old).faults (K.state told.new).faults }
+        (F.state kept.new).sent ≡ (F.state kept.old).sent
+        ++ recorded order.now.file order.now.words (response_if end.by_response response.now) }
+    ensures told { result ≢ 4 → result ≢ 5 → IsTrue (K.state told.old).tells →
+        (K.state told.new).sent ≡ (K.state told.old).sent ++ line.now }
+    ensures part { IsTrue (K.state told.old).tells →
+        WrotePart (K.state told.old) (K.state told.new) line.now }
+    ensures cause { result ≡ 4 → Rose (F.state kept.old).faults (F.state kept.new).faults
+        ⊎ Rose (K.state told.old).faults (K.state told.new).faults }
 {
     match keep(alloc, order, end.by_response, response, kept) {
         Ok(()) => {}
@@ -152,7 +163,8 @@ pub fn run<W: Sink, S: Source, F: Sink, K: Sink>(
         (W.state wire.new ≡ W.state wire.old) × (S.state source.new ≡ S.state source.old)
         × (F.state kept.new ≡ F.state kept.old) × (K.state told.new ≡ K.state told.old) }
     ensures ran { result ≢ 2 → result ≢ 5 →
-        Ran order.now (W.state wire.old) (W.state wire.new) (S.state source.old) (S.state source.new)
+        Ran order.now (W.state wire.old) (W.state wire.new) (S.state source.old)
+        (S.state source.new)
         (F.state kept.old) (F.state kept.new) (K.state told.old) (K.state told.new) result }
 {
     let mut response = Vec::new(alloc);

@@ -59,8 +59,10 @@ pub fn write_record<F: Sink>(
     response: &[u8],
     kept: &mut F,
 ) -> Result<(), LinkError>
-    ensures ok { OnOk result (IsTrue (F.state kept.old).tells → (F.state kept.new).sent ≡ (F.state kept.old).sent ++ record_text words.now response.now) }
-    ensures cause { IsErrOf result LinkError.Fault → Rose (F.state kept.old).faults (F.state kept.new).faults }
+    ensures ok { OnOk result (IsTrue (F.state kept.old).tells →
+        (F.state kept.new).sent ≡ (F.state kept.old).sent ++ record_text words.now response.now) }
+    ensures cause { IsErrOf result LinkError.Fault →
+        Rose (F.state kept.old).faults (F.state kept.new).faults }
 {
     let Ok(mut line) = record_line(alloc, words, response) else {
         return Err(LinkError::OutOfMemory);

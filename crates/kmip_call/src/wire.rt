@@ -1,7 +1,7 @@
 //! A request to a sink, and one message from a source.
 ghost use Rattle.std.specs.Prelude.{◌≡◌, ◌++◌, ◌≤◌, [], length, take, IfOk, OnOk, IsErrOf, IsTrue};
 ghost use Rattle.kmip_link.specs.State.{SourceKeeps, SinkKeeps, Rose, source_left};
-ghost use Rattle.kmip_words.specs.Streams.{Gives, GivesPart, WrotePart};
+ghost use Rattle.kmip_words.specs.Streams.{Gives, GivesPart, WroteProperPart};
 ghost use Rattle.kmip_call.specs.Wire.{taken_at, contents_of, IsOneAtMost};
 
 use kmip_link::{LinkError, Sink, Source};
@@ -42,10 +42,16 @@ fn read_message<S: Source>(
     ensures keeps { SourceKeeps (S.state source.old) (S.state source.new) }
     ensures one { OnOk result (IsOneAtMost limit response.new.items) }
     ensures taken { OnOk result (IsTrue (S.state source.old).tells →
-        Gives (S.state source.old) (S.state source.new) (taken_at (source_left (S.state source.old)) limit)
-        × (response.new.items ≡ take (taken_at (source_left (S.state source.old)) limit) (source_left (S.state source.old)))) }
-    ensures part { IsTrue (S.state source.old).tells → GivesPart (S.state source.old) (S.state source.new) (taken_at (source_left (S.state source.old)) limit) }
-    ensures cause { IsErrOf result LinkError.Fault → Rose (S.state source.old).faults (S.state source.new).faults }
+        Gives (S.state source.old) (S.state source.new)
+        (taken_at (source_left (S.state source.old)) limit)
+        × (response.new.items ≡
+        take (taken_at (source_left (S.state source.old)) limit)
+        (source_left (S.state source.old)))) }
+    ensures part { IsTrue (S.state source.old).tells →
+        GivesPart (S.state source.old) (S.state source.new)
+        (taken_at (source_left (S.state source.old)) limit) }
+    ensures cause { IsErrOf result LinkError.Fault →
+        Rose (S.state source.old).faults (S.state source.new).faults }
 {
     read_up_to(alloc, source, 8, response)?;
     match contents_of(response, limit) {
@@ -64,19 +70,27 @@ pub fn transfer<W: Sink, S: Source>(
     response: &mut Vec<u8>,
 ) -> Result<(), TransferStop>
     requires { response.old.items ≡ [] }
-    ensures sent { OnOk result (IsTrue (W.state wire.old).tells → (W.state wire.new).sent ≡ (W.state wire.old).sent ++ request.now) }
+    ensures sent { OnOk result (IsTrue (W.state wire.old).tells →
+        (W.state wire.new).sent ≡ (W.state wire.old).sent ++ request.now) }
     ensures one { OnOk result (IsOneAtMost limit response.new.items) }
     ensures taken { OnOk result (IsTrue (S.state source.old).tells →
-        Gives (S.state source.old) (S.state source.new) (taken_at (source_left (S.state source.old)) limit)
-        × (response.new.items ≡ take (taken_at (source_left (S.state source.old)) limit) (source_left (S.state source.old)))) }
+        Gives (S.state source.old) (S.state source.new)
+        (taken_at (source_left (S.state source.old)) limit)
+        × (response.new.items ≡
+        take (taken_at (source_left (S.state source.old)) limit)
+        (source_left (S.state source.old)))) }
     ensures write_fault { IsErrOf result TransferStop.WriteFault →
         Rose (W.state wire.old).faults (W.state wire.new).faults
-        × (IsTrue (W.state wire.old).tells → WrotePart (W.state wire.old) (W.state wire.new) request.now)
+        × (IsTrue (W.state wire.old).tells →
+        WroteProperPart (W.state wire.old) (W.state wire.new) request.now)
         × (S.state source.new ≡ S.state source.old) }
     ensures read_fault { IsErrOf result TransferStop.ReadFault →
         Rose (S.state source.old).faults (S.state source.new).faults
-        × (IsTrue (W.state wire.old).tells → (W.state wire.new).sent ≡ (W.state wire.old).sent ++ request.now)
-        × (IsTrue (S.state source.old).tells → GivesPart (S.state source.old) (S.state source.new) (taken_at (source_left (S.state source.old)) limit)) }
+        × (IsTrue (W.state wire.old).tells →
+        (W.state wire.new).sent ≡ (W.state wire.old).sent ++ request.now)
+        × (IsTrue (S.state source.old).tells →
+        GivesPart (S.state source.old) (S.state source.new)
+        (taken_at (source_left (S.state source.old)) limit)) }
 {
     match write_out(wire, request) {
         Ok(()) => {}

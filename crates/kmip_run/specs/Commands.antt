@@ -12,12 +12,16 @@ diag_of (word ∷ []) = if bytes_eq word (codes "diag") then Some true else None
 diag_of words = None
 
 abbrev pub replay_limited : Option (List ℕ) → Option (List ℕ) → Option ℕ → Bool → Option Command
-replay_limited user password (Some limit) diag = Some (Replay (record { user = user; password = password; limit = Some limit; diag = diag }))
+replay_limited user password (Some limit) diag =
+    Some (Replay (record { user = user; password = password; limit = Some limit; diag = diag }))
 replay_limited user password None diag = None
 
-abbrev pub replay_with : Option (List ℕ) → Option (List ℕ) → Option (List ℕ) → Option Bool → Option Command
-replay_with user password None (Some diag) = Some (Replay (record { user = user; password = password; limit = None; diag = diag }))
-replay_with user password (Some limit) (Some diag) = replay_limited user password (number_of limit) diag
+abbrev pub replay_with : Option (List ℕ) → Option (List ℕ) → Option (List ℕ) → Option Bool →
+    Option Command
+replay_with user password None (Some diag) =
+    Some (Replay (record { user = user; password = password; limit = None; diag = diag }))
+replay_with user password (Some limit) (Some diag) =
+    replay_limited user password (number_of limit) diag
 replay_with user password limit None = None
 
 -- `[user=U] [password=P] [limit=N] [diag]`, each at most once and in this order, and a password only after a user

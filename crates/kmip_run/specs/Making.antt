@@ -26,15 +26,23 @@ next_of x = (6364136223846793005 * x + 1442695040888963407) % 2 ^ 64
 
 -- the version 1 with this minor number (KMIP 1.0, 6.1)
 abbrev pub version_tree : ℤ → Tree
-version_tree minor = structure PROTOCOL_VERSION (trees_of (scalar PROTOCOL_VERSION_MAJOR (integer (pos 1)) ∷ scalar PROTOCOL_VERSION_MINOR (integer minor) ∷ []))
+version_tree minor =
+    structure PROTOCOL_VERSION
+    (trees_of (scalar PROTOCOL_VERSION_MAJOR (integer (pos 1))
+    ∷ scalar PROTOCOL_VERSION_MINOR (integer minor) ∷ []))
 
 -- the header of a response: its version, the time stamp 1, and that it has one batch item (KMIP 1.0, 7.2)
 abbrev pub head_tree : ℤ → Tree
-head_tree minor = structure RESPONSE_HEADER (trees_of (version_tree minor ∷ scalar TIME_STAMP (date_time 1) ∷ scalar BATCH_COUNT (integer (pos 1)) ∷ []))
+head_tree minor =
+    structure RESPONSE_HEADER
+    (trees_of (version_tree minor ∷ scalar TIME_STAMP (date_time 1)
+    ∷ scalar BATCH_COUNT (integer (pos 1)) ∷ []))
 
 -- a response message, with the fields of its batch item (KMIP 1.0, 7.1)
 abbrev pub response_tree : ℤ → List Tree → Tree
-response_tree minor fields = structure RESPONSE_MESSAGE (trees_of (head_tree minor ∷ structure BATCH_ITEM (trees_of fields) ∷ []))
+response_tree minor fields =
+    structure RESPONSE_MESSAGE
+    (trees_of (head_tree minor ∷ structure BATCH_ITEM (trees_of fields) ∷ []))
 
 -- the first field of a batch item
 abbrev pub operation_tree : Operation → Tree
@@ -57,22 +65,30 @@ gone_trees =
 
 -- a response to a request, of its version and its operation, with the fields that follow the operation
 abbrev pub response_to : RequestPayload → List Tree → Tree
-response_to request fields = response_tree (pos (minor_of request)) (operation_tree (operation_of request) ∷ fields)
+response_to request fields =
+    response_tree (pos (minor_of request)) (operation_tree (operation_of request) ∷ fields)
 
 -- a call that makes this request, with the canonical bytes of its response
 abbrev pub with_tree : Call → RequestPayload → List Tree → Recorded
-with_tree call request fields = record { call = call; response = or_empty (bytes (response_to request fields)) }
+with_tree call request fields =
+    record { call = call; response = or_empty (bytes (response_to request fields)) }
 
 -- so many random bytes, each this one
 abbrev pub random_made : ℕ → ℕ → Recorded
-random_made count byte = with_tree (Rng (pos count)) (rng_request (pos count)) (done_trees (scalar DATA (byte_string (replicate count byte)) ∷ []))
+random_made count byte =
+    with_tree (Rng (pos count)) (rng_request (pos count))
+    (done_trees (scalar DATA (byte_string (replicate count byte)) ∷ []))
 
 abbrev pub activated_made : List ℕ → Recorded
-activated_made id = with_tree (Activate id) (activate_request id) (done_trees (scalar UNIQUE_IDENTIFIER (text_string id) ∷ []))
+activated_made id =
+    with_tree (Activate id) (activate_request id)
+    (done_trees (scalar UNIQUE_IDENTIFIER (text_string id) ∷ []))
 
 -- a server that knows Create and Query
 abbrev pub queried_made : Recorded
-queried_made = with_tree Query query_request (done_trees (operation_tree operations.Create ∷ operation_tree operations.Query ∷ []))
+queried_made =
+    with_tree Query query_request
+    (done_trees (operation_tree operations.Create ∷ operation_tree operations.Query ∷ []))
 
 abbrev pub destroyed_made : List ℕ → Recorded
 destroyed_made id = with_tree (Destroy id) (destroy_request id) gone_trees
@@ -128,7 +144,8 @@ made settings (suc count) x rest =
     then_made it.response s (made settings count (next_of x) (drop s.taken (rest ++ it.response)))
 
 -- what an exchange did: to the link, and how many bytes it took
-pub record MakesCall (s : Step) (fed : List ℕ) (before after : MemoryState) (failed : Bool) (taken : ℕ) : Type 0 where
+pub record MakesCall (s : Step) (fed : List ℕ) (before after : MemoryState) (failed : Bool)
+    (taken : ℕ) : Type 0 where
   pub failed_is : failed ≡ s.failed
   pub taken_is : taken ≡ s.taken
   pub ever : after.ever ≡ before.ever ++ fed
@@ -152,5 +169,7 @@ made_settings = record { credential = None; limit = None; buffered = false }
 -- the five lines: how many exchanges, answers that are payloads and that are errors, and bytes sent and taken
 abbrev pub made_text : ℕ → ℕ → ℕ → ℕ → ℕ → List ℕ
 made_text count ok errors sent taken =
-    codes "exchanges " ++ (decimal count ++ (codes "\nok " ++ (decimal ok ++ (codes "\nerrors " ++ (decimal errors
-    ++ (codes "\nsent " ++ (decimal sent ++ (codes "\ntaken " ++ (decimal taken ++ codes "\n")))))))))
+    codes "exchanges "
+    ++ (decimal count ++ (codes "\nok " ++ (decimal ok ++ (codes "\nerrors " ++ (decimal errors
+    ++ (codes "\nsent "
+    ++ (decimal sent ++ (codes "\ntaken " ++ (decimal taken ++ codes "\n")))))))))

@@ -9,7 +9,9 @@ use Rattle.kmip_audit.specs.declared.reports.End.TheVariants.{Whole}
 use Rattle.kmip_audit.specs.declared.reports.Report.{Report}
 
 -- Both sides are whole, and there is an entry for each request, told as answered exactly where its turn answered a payload.
-pub record ReportsTurns (payloads : List RequestPayload) (turns : List Turn) (report : Report) : Type 0 where
+pub record ReportsTurns (payloads : List RequestPayload) (turns : List Turn)
+    (report : Report) : Type 0 where
   pub sent_end : report.sent_end ≡ Whole
   pub received_end : report.received_end ≡ Whole
-  pub agree : AllAgree (map operation_of payloads) (outcomes_in report) (map (λ turn. turn.outcome.answer) turns)
+  pub agree : AllAgree (map operation_of payloads) (outcomes_in report)
+      (map (λ turn. turn.outcome.answer) turns)

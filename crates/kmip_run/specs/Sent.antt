@@ -25,9 +25,11 @@ AreHeld (payload ∷ payloads) credential = IsHeld payload credential × AreHeld
 abbrev pub IsSent : RequestPayload → List ℕ → List Turn → List RequestPayload → Type 0
 IsSent payload text [] payloads = ⊥
 IsSent payload text (turn ∷ turns) [] = ⊥
-IsSent payload text (turn ∷ turns) (p ∷ payloads) = ((p ≡ payload) × (turn.request ≡ Some text)) ⊎ IsSent payload text turns payloads
+IsSent payload text (turn ∷ turns) (p ∷ payloads) =
+    ((p ≡ payload) × (turn.request ≡ Some text)) ⊎ IsSent payload text turns payloads
 
 -- The reader gives this request and credential, or memory ran out.
-abbrev pub GivesBack : RequestPayload → Option CredentialType → Result (RequestPayload × Option CredentialType) RequestReadError → Type 0
+abbrev pub GivesBack : RequestPayload → Option CredentialType →
+    Result (RequestPayload × Option CredentialType) RequestReadError → Type 0
 GivesBack payload credential (Ok read) = (read.0 ≡ payload) × (read.1 ≡ credential)
 GivesBack payload credential (Err error) = error ≡ OutOfMemory

@@ -62,7 +62,9 @@ replayed settings (line ∷ lines) number status rest = elim (call_of line) [
   | None ↦ bad_line number
   | Some it ↦
       let s : Step = step settings it.call (rest ++ it.response) in
-      then_later it.response s (replayed settings lines (number + 1) (status_after status s.failed) (drop s.taken (rest ++ it.response)))
+      then_later it.response s
+      (replayed settings lines (number + 1) (status_after status s.failed)
+      (drop s.taken (rest ++ it.response)))
 ]
 
 -- the expansion of a line that is a diagnostic
@@ -91,7 +93,14 @@ audited lines = reported (captured_in lines)
 
 -- the lines that count exchanges, and what is fed, sent and taken in these
 abbrev pub counted_transcript : ℕ → Counts → Transcript
-counted_transcript count c = record { text = made_text count c.ok c.errors (length c.sent) c.taken; status = 0; fed = c.fed; sent = c.sent; taken = c.taken }
+counted_transcript count c =
+    record {
+      text = made_text count c.ok c.errors (length c.sent) c.taken;
+      status = 0;
+      fed = c.fed;
+      sent = c.sent;
+      taken = c.taken;
+    }
 
 -- so many exchanges, the first of the number after 1
 abbrev pub made_transcript : ℕ → Transcript
@@ -117,7 +126,9 @@ unfoldable pub most_script : ℕ
 most_script = 16777216
 
 unfoldable pub script_transcript : Command → List ℕ → Transcript
-script_transcript command script = if reads_script (Some command) && nat_lt most_script (length script) then only_text [] 6 else lines_transcript command (lines_of script)
+script_transcript command script =
+    if reads_script (Some command) && nat_lt most_script (length script) then only_text [] 6
+    else lines_transcript command (lines_of script)
 
 abbrev pub command_transcript : Option Command → List ℕ → Transcript
 command_transcript None script = only_text (codes "! words\n") 2
@@ -155,12 +166,14 @@ AreLinesOf command lines = Unit {0}
 -- The words are of the grammar, and, where they read a script, each line of it is, and it is not too long.
 pub record IsOfGrammar (words : List (List ℕ)) (script : List ℕ) : Type 0 where
   pub words_are : IsSome (command_of words)
-  pub lines_are : IsTrue (reads_script (command_of words)) → All (IsLineOf (command_of words)) (lines_of script)
+  pub lines_are : IsTrue (reads_script (command_of words)) →
+      All (IsLineOf (command_of words)) (lines_of script)
   pub together : AreLinesOf (command_of words) (lines_of script)
   pub fits : IsTrue (reads_script (command_of words)) → length script ≤ most_script
 
 -- what a call did: to the link, and to the text
-pub record RunsCall (s : Step) (fed : List ℕ) (before after : MemoryState) (failed : Bool) (old new : List ℕ) : Type 0 where
+pub record RunsCall (s : Step) (fed : List ℕ) (before after : MemoryState) (failed : Bool)
+    (old new : List ℕ) : Type 0 where
   pub text : new ≡ old ++ call_text s
   pub failed_is : failed ≡ s.failed
   pub ever : after.ever ≡ before.ever ++ fed
@@ -169,7 +182,8 @@ pub record RunsCall (s : Step) (fed : List ℕ) (before after : MemoryState) (fa
   pub left : drop after.pos after.ever ≡ drop s.taken (drop before.pos before.ever ++ fed)
 
 -- what the lines did: to the link, and to the text
-pub record Replays (t : Transcript) (before after : MemoryState) (status : ℕ) (old new : List ℕ) : Type 0 where
+pub record Replays (t : Transcript) (before after : MemoryState) (status : ℕ)
+    (old new : List ℕ) : Type 0 where
   pub text : new ≡ old ++ t.text
   pub status_is : status ≡ t.status
   pub ever : after.ever ≡ before.ever ++ t.fed

@@ -32,7 +32,9 @@ fn stream_of(alloc: Global, line: &[u8]) -> Result<Option<Blob>, OutOfMemory>
 
 /// The bytes of the first line, and the lines after it; none where there is no line, or it is not one word in hex.
 fn next_stream(alloc: Global, script: &[u8]) -> Result<Option<(Blob, &[u8])>, OutOfMemory>
-    ensures { IfOk result (λ next. option_map (λ n. (n.0, lines_of n.1.now)) next ≡ next_stream (lines_of script.now)) }
+    ensures { IfOk result
+        (λ next. option_map (λ n. (n.0, lines_of n.1.now)) next ≡
+        next_stream (lines_of script.now)) }
 {
     if script.is_empty() {
         return Ok(None);
@@ -69,7 +71,8 @@ fn captured_in(alloc: Global, script: &[u8]) -> Result<Captured, OutOfMemory>
 pub fn audit_script(alloc: Global, script: &[u8], output: &mut Text) -> Result<u8, OutOfMemory>
     ensures bound { IfOk result (λ status. status < 3) }
     ensures status { IfOk result (λ status. status ≡ (audited (lines_of script.now)).status) }
-    ensures text { IfOk result (λ status. output.new ≡ output.old ++ (audited (lines_of script.now)).text) }
+    ensures text { IfOk result
+        (λ status. output.new ≡ output.old ++ (audited (lines_of script.now)).text) }
 {
     match captured_in(alloc, script)? {
         Captured::Streams(sent, received) => {

@@ -14,8 +14,11 @@ use std::alloc::Global;
 /// Feeds a recorded response to the client's link.
 pub fn feed(client: &mut Client<MemoryLink>, response: &[u8]) -> Result<(), OutOfMemory>
     ensures settings { settings_of client.new ≡ settings_of client.old }
-    ensures fed { OnOk result (client.new.link ≡ record client.old.link { ever = client.old.link.ever ++ response.now }) }
-    ensures left { OnOk result (drop client.new.link.pos client.new.link.ever ≡ drop client.old.link.pos client.old.link.ever ++ response.now) }
+    ensures fed { OnOk result
+        (client.new.link ≡ record client.old.link { ever = client.old.link.ever ++ response.now }) }
+    ensures left { OnOk result
+        (drop client.new.link.pos client.new.link.ever ≡
+        drop client.old.link.pos client.old.link.ever ++ response.now) }
 {
     match client.inner().feed(response) {
         Ok(()) => Ok(()),
@@ -34,7 +37,8 @@ pub fn sent_len(client: &mut Client<MemoryLink>) -> usize
 /// Adds `> ` and the bytes in upper-case hex, as a line.
 #[tactic(auto, using(std::proofs::lemmas::List::append_assoc))]
 fn show_sent(alloc: Global, sent: &[u8], output: &mut Text) -> Result<(), OutOfMemory>
-    ensures { OnOk result (output.new ≡ output.old ++ (codes "> " ++ (encode_upper sent.now ++ codes "\n"))) }
+    ensures { OnOk result
+        (output.new ≡ output.old ++ (codes "> " ++ (encode_upper sent.now ++ codes "\n"))) }
 {
     let text = hex::encode_upper(alloc, sent)?;
     output.push_str("> ")?;
@@ -53,14 +57,17 @@ fn show_sent_from(
 ) -> Result<(), OutOfMemory>
     requires { from ≤ length client.old.link.sent }
     ensures same { client.new ≡ client.old }
-    ensures text { OnOk result (output.new ≡ output.old ++ (codes "> " ++ (encode_upper (drop from client.old.link.sent) ++ codes "\n"))) }
+    ensures text { OnOk result
+        (output.new ≡ output.old
+        ++ (codes "> " ++ (encode_upper (drop from client.old.link.sent) ++ codes "\n"))) }
 {
     show_sent(alloc, &client.inner().sent()[from..], output)
 }
 
 /// Adds a diagnostic, and nothing where there is none.
 fn push_diagnostic(diagnostic: Option<&str>, output: &mut Text) -> Result<(), OutOfMemory>
-    ensures { OnOk result (output.new ≡ output.old ++ or_empty (option_map (λ text. text.now) diagnostic.entry)) }
+    ensures { OnOk result
+        (output.new ≡ output.old ++ or_empty (option_map (λ text. text.now) diagnostic.entry)) }
 {
     match diagnostic {
         Some(text) => output.push_str(text),
@@ -75,7 +82,9 @@ fn show_diagnostics(
     diag: bool,
     output: &mut Text,
 ) -> Result<(), OutOfMemory>
-    ensures { OnOk result (output.new ≡ output.old ++ told_lines diag client.now.request_text client.now.response_text) }
+    ensures { OnOk result
+        (output.new ≡ output.old
+        ++ told_lines diag client.now.request_text client.now.response_text) }
 {
     if !diag {
         return Ok(());
@@ -98,7 +107,9 @@ pub fn exchange(
 ) -> Result<bool, OutOfMemory>
     requires { diag ≡ client.old.buffered }
     ensures settings { OnOk result (settings_of client.new ≡ settings_of client.old) }
-    ensures runs { IfOk result (λ failed. RunsCall (step (settings_of client.old) recorded.call (drop client.old.link.pos client.old.link.ever ++ recorded.response))
+    ensures runs { IfOk result
+        (λ failed. RunsCall (step (settings_of client.old) recorded.call
+        (drop client.old.link.pos client.old.link.ever ++ recorded.response))
         recorded.response client.old.link client.new.link failed output.old output.new) }
 {
     feed(client, recorded.response.as_slice())?;

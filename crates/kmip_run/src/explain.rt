@@ -32,7 +32,8 @@ fn expanded(
 pub fn explain(alloc: Global, script: &[u8], output: &mut Text) -> Result<u8, OutOfMemory>
     ensures bound { IfOk result (λ status. status < 3) }
     ensures status { IfOk result (λ status. status ≡ (explained (lines_of script.now) 1).status) }
-    ensures text { IfOk result (λ status. output.new ≡ output.old ++ (explained (lines_of script.now) 1).text) }
+    ensures text { IfOk result
+        (λ status. output.new ≡ output.old ++ (explained (lines_of script.now) 1).text) }
 {
     let mut printer = PrettyPrinter::new();
     printer.with_tag_prefix(0x4200);

@@ -30,14 +30,22 @@ use std::alloc::Global;
 ///
 /// The premise `AreHeld` holds of all payloads and credentials that Rust can hold.
 pub fn sent_bytes_of_sessions()
-    ensures joined { (payloads : List Payload) (credential : Option Credential) (limit : Option ℕ) (rest : List ℕ) →
-        all_sent (session payloads credential limit rest) ≡ joined_texts (messages_of (session payloads credential limit rest)) }
-    ensures parse { (payloads : List Payload) (credential : Option Credential) (limit : Option ℕ) (rest : List ℕ) → AreHeld payloads credential →
+    ensures joined { (payloads : List Payload) (credential : Option Credential) (limit : Option ℕ)
+        (rest : List ℕ) →
+        all_sent (session payloads credential limit rest) ≡
+        joined_texts (messages_of (session payloads credential limit rest)) }
+    ensures parse { (payloads : List Payload) (credential : Option Credential) (limit : Option ℕ)
+        (rest : List ℕ) → AreHeld payloads credential →
         AreTexts 1 (messages_of (session payloads credential limit rest)) }
-    ensures only { (payloads : List Payload) (credential : Option Credential) (limit : Option ℕ) (rest : List ℕ) (texts : List (List ℕ)) → AreHeld payloads credential →
-        AreTexts 1 texts → joined_texts texts ≡ all_sent (session payloads credential limit rest) → texts ≡ messages_of (session payloads credential limit rest) }
-    ensures requests { (payloads : List Payload) (credential : Option Credential) (limit : Option ℕ) (rest : List ℕ) →
-        map (λ turn. turn.request) (session payloads credential limit rest) ≡ map (λ payload. request_bytes payload credential) (take (length (session payloads credential limit rest)) payloads) }
+    ensures only { (payloads : List Payload) (credential : Option Credential) (limit : Option ℕ)
+        (rest : List ℕ) (texts : List (List ℕ)) → AreHeld payloads credential →
+        AreTexts 1 texts → joined_texts texts ≡ all_sent (session payloads credential limit rest) →
+        texts ≡ messages_of (session payloads credential limit rest) }
+    ensures requests { (payloads : List Payload) (credential : Option Credential) (limit : Option ℕ)
+        (rest : List ℕ) →
+        map (λ turn. turn.request) (session payloads credential limit rest) ≡
+        map (λ payload. request_bytes payload credential)
+        (take (length (session payloads credential limit rest)) payloads) }
 {
     request_parses();
     one_tree();
@@ -49,8 +57,10 @@ pub fn sent_requests_are_read(
     alloc: Global,
     text: &[u8],
 ) -> Result<(RequestPayload, Option<CredentialType>), RequestReadError>
-    ensures { (payloads : List Payload) (credential : Option Credential) (limit : Option ℕ) (rest : List ℕ) (payload : Payload) → AreHeld payloads credential →
-        IsSent payload text.now (session payloads credential limit rest) payloads → IsMatched payload → GivesBack payload credential result }
+    ensures { (payloads : List Payload) (credential : Option Credential) (limit : Option ℕ)
+        (rest : List ℕ) (payload : Payload) → AreHeld payloads credential →
+        IsSent payload text.now (session payloads credential limit rest) payloads →
+        IsMatched payload → GivesBack payload credential result }
 {
     request_parses();
     from_slice(alloc, text)
@@ -92,9 +102,13 @@ pub fn diagnostics_of_whole_sessions(
     other: &Option<CredentialType>,
     bytes: &[u8],
 )
-    ensures { (limit most : Option ℕ) → AllAnswered (session payloads.now credential.now limit rest.now) → AllAnswered (session others.now other.now most bytes.now) →
-        (texts_of (session payloads.now credential.now limit rest.now) ≡ texts_of (session others.now other.now most bytes.now))
-        ↔ (skeletons_in (session payloads.now credential.now limit rest.now) ≡ skeletons_in (session others.now other.now most bytes.now)) }
+    ensures { (limit most : Option ℕ) →
+        AllAnswered (session payloads.now credential.now limit rest.now) →
+        AllAnswered (session others.now other.now most bytes.now) →
+        (texts_of (session payloads.now credential.now limit rest.now) ≡
+        texts_of (session others.now other.now most bytes.now))
+        ↔ (skeletons_in (session payloads.now credential.now limit rest.now) ≡
+        skeletons_in (session others.now other.now most bytes.now)) }
 {
     held(payloads, credential);
     held(others, other);
@@ -114,10 +128,13 @@ pub fn traffic_of_sessions_is_reported(
     sent: &[u8],
     received: &[u8],
 ) -> Result<Report, OutOfMemory>
-    ensures { (payloads : List Payload) (credential : Option Credential) (limit : Option ℕ) (messages : List (List ℕ)) (rest : List ℕ) →
+    ensures { (payloads : List Payload) (credential : Option Credential) (limit : Option ℕ)
+        (messages : List (List ℕ)) (rest : List ℕ) →
         AreMatched payloads credential → AreServed payloads credential limit messages rest →
-        sent.now ≡ all_sent (session payloads credential limit rest) → received.now ≡ take (all_taken (session payloads credential limit rest)) rest →
-        IfOk result (λ report. ReportsTurns payloads (session payloads credential limit rest) report) }
+        sent.now ≡ all_sent (session payloads credential limit rest) →
+        received.now ≡ take (all_taken (session payloads credential limit rest)) rest →
+        IfOk result
+        (λ report. ReportsTurns payloads (session payloads credential limit rest) report) }
 {
     sessions_are_reported();
     audit(alloc, sent, received)

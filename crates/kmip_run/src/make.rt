@@ -48,7 +48,9 @@ fn make_call(
     line: &mut Text,
 ) -> Result<(bool, usize), OutOfMemory>
     ensures settings { OnOk result (settings_of client.new ≡ settings_of client.old) }
-    ensures makes { IfOk result (λ did. MakesCall (step (settings_of client.old) recorded.call (drop client.old.link.pos client.old.link.ever ++ recorded.response))
+    ensures makes { IfOk result
+        (λ did. MakesCall (step (settings_of client.old) recorded.call
+        (drop client.old.link.pos client.old.link.ever ++ recorded.response))
         recorded.response client.old.link client.new.link did.0 did.1) }
 {
     feed(client, recorded.response.as_slice())?;
@@ -89,7 +91,9 @@ fn make_calls(
     client: &mut Client<MemoryLink>,
     count: u32,
 ) -> Result<Tally, OutOfMemory>
-    ensures { IfOk result (λ tally. Makes (made (settings_of client.old) count 1 (drop client.old.link.pos client.old.link.ever))
+    ensures { IfOk result
+        (λ tally. Makes
+        (made (settings_of client.old) count 1 (drop client.old.link.pos client.old.link.ever))
         client.old.link client.new.link tally.ok tally.errors tally.taken) }
 {
     let mut tally = Tally {
@@ -118,7 +122,8 @@ fn show_tally(
     sent: usize,
     output: &mut Text,
 ) -> Result<(), OutOfMemory>
-    ensures { OnOk result (output.new ≡ output.old ++ made_text count tally.ok tally.errors sent tally.taken) }
+    ensures { OnOk result
+        (output.new ≡ output.old ++ made_text count tally.ok tally.errors sent tally.taken) }
 {
     let Tally { ok, errors, taken } = tally;
     let text = format!(in alloc;
@@ -136,7 +141,8 @@ pub fn make(
 ) -> Result<u8, OutOfMemory>
     ensures bound { IfOk result (λ status. status < 3) }
     ensures replays { IfOk result (λ status. Replays
-        (counted_transcript count (made (settings_of client.old) count 1 (drop client.old.link.pos client.old.link.ever)))
+        (counted_transcript count
+        (made (settings_of client.old) count 1 (drop client.old.link.pos client.old.link.ever)))
         client.old.link client.new.link status output.old output.new) }
 {
     let before = sent_len(client);

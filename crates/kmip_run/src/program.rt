@@ -30,8 +30,10 @@ fn finish<K: Sink>(sink: &mut K, text: &str, status: u8) -> u8
     ensures keeps { SinkKeeps (K.state sink.old) (K.state sink.new) }
     ensures fault { result ≡ 4 → Rose (K.state sink.old).faults (K.state sink.new).faults }
     ensures status { (result ≡ status) ⊎ ((result ≡ 4) ⊎ (result ≡ 5)) }
-    ensures written { IsTrue (K.state sink.old).tells → result ≢ 4 → result ≢ 5 → (K.state sink.new).sent ≡ (K.state sink.old).sent ++ text.now }
-    ensures part { IsTrue (K.state sink.old).tells → WrotePart (K.state sink.old) (K.state sink.new) text.now }
+    ensures written { IsTrue (K.state sink.old).tells → result ≢ 4 → result ≢ 5 →
+        (K.state sink.new).sent ≡ (K.state sink.old).sent ++ text.now }
+    ensures part { IsTrue (K.state sink.old).tells →
+        WrotePart (K.state sink.old) (K.state sink.new) text.now }
 {
     match write_out(sink, text.as_bytes()) {
         Ok(()) => status,
@@ -57,7 +59,8 @@ fn replay_on(
 ) -> Result<u8, OutOfMemory>
     ensures bound { IfOk result (λ status. status < 3) }
     ensures replays { IfOk result (λ status. Replays
-        (replayed (settings_for options) (lines_of script.now) 1 0 (drop link.old.pos link.old.ever))
+        (replayed (settings_for options) (lines_of script.now) 1 0
+        (drop link.old.pos link.old.ever))
         link.old link.new status output.old output.new) }
 {
     let moved = mem::replace(link, MemoryLink::new(alloc));
@@ -104,7 +107,9 @@ fn perform(
     requires { drop link.old.pos link.old.ever ≡ [] }
     ensures bound { IfOk result (λ status. status < 3) }
     ensures kept { makes_calls (Some command) ≡ false → link.new ≡ link.old }
-    ensures replays { IfOk result (λ status. Replays (lines_transcript command (lines_of script.now)) link.old link.new status output.old output.new) }
+    ensures replays { IfOk result
+        (λ status. Replays (lines_transcript command (lines_of script.now)) link.old link.new status
+        output.old output.new) }
 {
     match command {
         Command::Replay(options) => replay_on(alloc, options, script, link, output),
@@ -129,10 +134,12 @@ fn run_alone<K: Sink>(alloc: Global, command: Command, sink: &mut K, link: &mut 
     requires unread { reads_script (Some command) ≡ false }
     requires empty { drop link.old.pos link.old.ever ≡ [] }
     ensures sink_keeps { SinkKeeps (K.state sink.old) (K.state sink.new) }
-    ensures status { (result ≡ (script_transcript command []).status) ⊎ ((result ≡ 4) ⊎ (result ≡ 5)) }
+    ensures status { (result ≡ (script_transcript command []).status)
+        ⊎ ((result ≡ 4) ⊎ (result ≡ 5)) }
     ensures bound { (result < 3) ⊎ ((result ≡ 4) ⊎ (result ≡ 5)) }
     ensures replays { IsTrue (K.state sink.old).tells → result ≢ 4 → result ≢ 5 →
-        Replays (script_transcript command []) link.old link.new result (K.state sink.old).sent (K.state sink.new).sent }
+        Replays (script_transcript command []) link.old link.new result (K.state sink.old).sent
+        (K.state sink.new).sent }
     ensures part { IsTrue (K.state sink.old).tells → (result ≡ 4) ⊎ (result ≡ 5) →
         WrotePart (K.state sink.old) (K.state sink.new) (script_transcript command []).text }
     ensures fault { result ≡ 4 → Rose (K.state sink.old).faults (K.state sink.new).faults }
@@ -158,18 +165,28 @@ fn run_script<S: Source, K: Sink>(
     ensures source_keeps { SourceKeeps (S.state source.old) (S.state source.new) }
     ensures sink_keeps { SinkKeeps (K.state sink.old) (K.state sink.new) }
     ensures bound { result ≤ 6 }
-    ensures replays { IsTrue (S.state source.old).tells → IsTrue (K.state sink.old).tells → result ≢ 3 → result ≢ 4 → result ≢ 5 →
-        Replays (script_transcript command (source_left (S.state source.old))) link.old link.new result (K.state sink.old).sent (K.state sink.new).sent }
-    ensures part { IsTrue (S.state source.old).tells → IsTrue (K.state sink.old).tells → (result ≡ 4) ⊎ (result ≡ 5) →
-        WrotePart (K.state sink.old) (K.state sink.new) (script_transcript command (source_left (S.state source.old))).text }
+    ensures replays { IsTrue (S.state source.old).tells → IsTrue (K.state sink.old).tells →
+        result ≢ 3 → result ≢ 4 → result ≢ 5 →
+        Replays (script_transcript command (source_left (S.state source.old))) link.old link.new
+        result (K.state sink.old).sent (K.state sink.new).sent }
+    ensures part { IsTrue (S.state source.old).tells → IsTrue (K.state sink.old).tells →
+        (result ≡ 4) ⊎ (result ≡ 5) →
+        WrotePart (K.state sink.old) (K.state sink.new)
+        (script_transcript command (source_left (S.state source.old))).text }
     ensures read_fault { result ≡ 3 → Rose (S.state source.old).faults (S.state source.new).faults }
     ensures write_fault { result ≡ 4 → Rose (K.state sink.old).faults (K.state sink.new).faults }
-    ensures kept { (makes_calls (Some command) ≡ false) ⊎ ((result ≡ 3) ⊎ (result ≡ 6)) → link.new ≡ link.old }
+    ensures kept { (makes_calls (Some command) ≡ false) ⊎ ((result ≡ 3) ⊎ (result ≡ 6)) →
+        link.new ≡ link.old }
     ensures silent { (result ≡ 3) ⊎ (result ≡ 6) → K.state sink.new ≡ K.state sink.old }
-    ensures too_long { IsTrue (S.state source.old).tells → result ≡ 6 → most_script < length (source_left (S.state source.old)) }
-    ensures long { IsTrue (S.state source.old).tells → most_script < length (source_left (S.state source.old)) → (result ≡ 6) ⊎ ((result ≡ 3) ⊎ (result ≡ 5)) }
+    ensures too_long { IsTrue (S.state source.old).tells → result ≡ 6 →
+        most_script < length (source_left (S.state source.old)) }
+    ensures long { IsTrue (S.state source.old).tells →
+        most_script < length (source_left (S.state source.old)) →
+        (result ≡ 6) ⊎ ((result ≡ 3) ⊎ (result ≡ 5)) }
     ensures read { IsTrue (S.state source.old).tells → result ≢ 3 → result ≢ 4 → result ≢ 5 →
-        (S.state source.new).pos ≡ (S.state source.old).pos + read_by (Some command) (length (source_left (S.state source.old))) }
+        (S.state source.new).pos ≡
+        (S.state source.old).pos + read_by (Some command)
+        (length (source_left (S.state source.old))) }
 {
     let mut script = Vec::new(alloc);
     match read_up_to(alloc, source, MAX_SCRIPT + 1, &mut script) {
@@ -208,30 +225,51 @@ pub fn run<S: Source, K: Sink>(
     ensures source_keeps { SourceKeeps (S.state source.old) (S.state source.new) }
     ensures sink_keeps { SinkKeeps (K.state sink.old) (K.state sink.new) }
     ensures bound { result ≤ 6 }
-    ensures transcript { IsTrue (S.state source.old).tells → IsTrue (K.state sink.old).tells → result ≢ 3 → result ≢ 4 → result ≢ 5 →
-        Replays (transcript words.now (source_left (S.state source.old))) link.old link.new result (K.state sink.old).sent (K.state sink.new).sent }
-    ensures part { IsTrue (S.state source.old).tells → IsTrue (K.state sink.old).tells → (result ≡ 4) ⊎ (result ≡ 5) →
-        WrotePart (K.state sink.old) (K.state sink.new) (transcript words.now (source_left (S.state source.old))).text }
+    ensures transcript { IsTrue (S.state source.old).tells → IsTrue (K.state sink.old).tells →
+        result ≢ 3 → result ≢ 4 → result ≢ 5 →
+        Replays (transcript words.now (source_left (S.state source.old))) link.old link.new result
+        (K.state sink.old).sent (K.state sink.new).sent }
+    ensures part { IsTrue (S.state source.old).tells → IsTrue (K.state sink.old).tells →
+        (result ≡ 4) ⊎ (result ≡ 5) →
+        WrotePart (K.state sink.old) (K.state sink.new)
+        (transcript words.now (source_left (S.state source.old))).text }
     ensures read_fault { result ≡ 3 → Rose (S.state source.old).faults (S.state source.new).faults }
     ensures write_fault { result ≡ 4 → Rose (K.state sink.old).faults (K.state sink.new).faults }
     ensures words { command_of words.now ≡ None → (result ≡ 2) ⊎ ((result ≡ 4) ⊎ (result ≡ 5)) }
-    ensures words_text { command_of words.now ≡ None → IsTrue (K.state sink.old).tells → result ≡ 2 → (K.state sink.new).sent ≡ (K.state sink.old).sent ++ codes "! words\n" }
-    ensures words_part { command_of words.now ≡ None → IsTrue (K.state sink.old).tells → WrotePart (K.state sink.old) (K.state sink.new) (codes "! words\n") }
-    ensures unread { reads_script (command_of words.now) ≡ false → S.state source.new ≡ S.state source.old }
-    ensures scriptless { reads_script (command_of words.now) ≡ false → IsTrue (K.state sink.old).tells → result ≢ 4 → result ≢ 5 →
-        Replays (transcript words.now []) link.old link.new result (K.state sink.old).sent (K.state sink.new).sent }
-    ensures scriptless_part { reads_script (command_of words.now) ≡ false → IsTrue (K.state sink.old).tells → (result ≡ 4) ⊎ (result ≡ 5) →
+    ensures words_text { command_of words.now ≡ None → IsTrue (K.state sink.old).tells →
+        result ≡ 2 → (K.state sink.new).sent ≡ (K.state sink.old).sent ++ codes "! words\n" }
+    ensures words_part { command_of words.now ≡ None → IsTrue (K.state sink.old).tells →
+        WrotePart (K.state sink.old) (K.state sink.new) (codes "! words\n") }
+    ensures unread { reads_script (command_of words.now) ≡ false →
+        S.state source.new ≡ S.state source.old }
+    ensures scriptless { reads_script (command_of words.now) ≡ false →
+        IsTrue (K.state sink.old).tells → result ≢ 4 → result ≢ 5 →
+        Replays (transcript words.now []) link.old link.new result (K.state sink.old).sent
+        (K.state sink.new).sent }
+    ensures scriptless_part { reads_script (command_of words.now) ≡ false →
+        IsTrue (K.state sink.old).tells → (result ≡ 4) ⊎ (result ≡ 5) →
         WrotePart (K.state sink.old) (K.state sink.new) (transcript words.now []).text }
-    ensures scriptless_status { reads_script (command_of words.now) ≡ false → (result ≡ (transcript words.now []).status) ⊎ ((result ≡ 4) ⊎ (result ≡ 5)) }
-    ensures kept { (makes_calls (command_of words.now) ≡ false) ⊎ ((result ≡ 3) ⊎ (result ≡ 6)) → link.new ≡ link.old }
+    ensures scriptless_status { reads_script (command_of words.now) ≡ false →
+        (result ≡ (transcript words.now []).status) ⊎ ((result ≡ 4) ⊎ (result ≡ 5)) }
+    ensures kept { (makes_calls (command_of words.now) ≡ false) ⊎ ((result ≡ 3) ⊎ (result ≡ 6)) →
+        link.new ≡ link.old }
     ensures silent { (result ≡ 3) ⊎ (result ≡ 6) → K.state sink.new ≡ K.state sink.old }
-    ensures too_long { IsTrue (S.state source.old).tells → result ≡ 6 → IsTrue (reads_script (command_of words.now)) × (most_script < length (source_left (S.state source.old))) }
-    ensures long { IsTrue (S.state source.old).tells → IsTrue (reads_script (command_of words.now)) → most_script < length (source_left (S.state source.old)) → (result ≡ 6) ⊎ ((result ≡ 3) ⊎ (result ≡ 5)) }
+    ensures too_long { IsTrue (S.state source.old).tells → result ≡ 6 →
+        IsTrue (reads_script (command_of words.now))
+        × (most_script < length (source_left (S.state source.old))) }
+    ensures long { IsTrue (S.state source.old).tells →
+        IsTrue (reads_script (command_of words.now)) →
+        most_script < length (source_left (S.state source.old)) →
+        (result ≡ 6) ⊎ ((result ≡ 3) ⊎ (result ≡ 5)) }
     ensures read { IsTrue (S.state source.old).tells → result ≢ 3 → result ≢ 4 → result ≢ 5 →
-        (S.state source.new).pos ≡ (S.state source.old).pos + read_by (command_of words.now) (length (source_left (S.state source.old))) }
+        (S.state source.new).pos ≡
+        (S.state source.old).pos + read_by (command_of words.now)
+        (length (source_left (S.state source.old))) }
     ensures complete { IsTrue (S.state source.old).tells → IsTrue (K.state sink.old).tells →
-        (Rose (S.state source.old).faults (S.state source.new).faults → ⊥) → (Rose (K.state sink.old).faults (K.state sink.new).faults → ⊥) →
-        IsOfGrammar words.now (source_left (S.state source.old)) → (result ≡ 0) ⊎ ((result ≡ 1) ⊎ (result ≡ 5)) }
+        (Rose (S.state source.old).faults (S.state source.new).faults → ⊥) →
+        (Rose (K.state sink.old).faults (K.state sink.new).faults → ⊥) →
+        IsOfGrammar words.now (source_left (S.state source.old)) →
+        (result ≡ 0) ⊎ ((result ≡ 1) ⊎ (result ≡ 5)) }
 {
     match command_of(alloc, words.as_slice()) {
         Ok(Some(command)) => {

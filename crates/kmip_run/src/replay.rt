@@ -32,7 +32,8 @@ pub fn replay(
     requires { diag ≡ client.old.buffered }
     ensures bound { IfOk result (λ status. status < 3) }
     ensures replays { IfOk result (λ status. Replays
-        (replayed (settings_of client.old) (lines_of script.now) 1 0 (drop client.old.link.pos client.old.link.ever))
+        (replayed (settings_of client.old) (lines_of script.now) 1 0
+        (drop client.old.link.pos client.old.link.ever))
         client.old.link client.new.link status output.old output.new) }
 {
     let mut status = 0;

@@ -20,7 +20,8 @@ pub fn first_line(script: &[u8]) -> (&[u8], &[u8])
 
 /// Adds that the line with this number is not of the grammar.
 pub fn show_bad_line(alloc: Global, number: usize, output: &mut Text) -> Result<(), OutOfMemory>
-    ensures { OnOk result (output.new ≡ output.old ++ (codes "! line " ++ (decimal number ++ codes "\n"))) }
+    ensures { OnOk result
+        (output.new ≡ output.old ++ (codes "! line " ++ (decimal number ++ codes "\n"))) }
 {
     let text = format!(in alloc; "! line {number}\n")?;
     output.push_str(text.as_str())

@@ -58,12 +58,16 @@ call_of_three name id word =
     else None
 
 abbrev pub create_rsa_of : Option ℤ → Option (List ℕ) → Option (List ℕ) → Option Call
-create_rsa_of (Some key_length) (Some private_key_name) (Some public_key_name) = Some (CreateRsa key_length private_key_name public_key_name)
+create_rsa_of (Some key_length) (Some private_key_name) (Some public_key_name) =
+    Some (CreateRsa key_length private_key_name public_key_name)
 create_rsa_of key_length private_key_name public_key_name = None
 
 -- the call of four words: `create-rsa INT TEXT TEXT`
 abbrev pub call_of_four : List ℕ → List ℕ → List ℕ → List ℕ → Option Call
-call_of_four name number first second = if bytes_eq name (codes "create-rsa") then create_rsa_of (int_of number) (text_of first) (text_of second) else None
+call_of_four name number first second =
+    if bytes_eq name (codes "create-rsa")
+    then create_rsa_of (int_of number) (text_of first) (text_of second)
+    else None
 
 abbrev pub with_response : Option Call → Option (List ℕ) → Option Recorded
 with_response (Some call) (Some response) = Some (record { call = call; response = response })
@@ -72,9 +76,12 @@ with_response call response = None
 -- the call of these words, by how many there are; the last is the response that was recorded for it
 abbrev pub call_of_words : List (List ℕ) → Option Recorded
 call_of_words (name ∷ response ∷ []) = with_response (call_of_one name) (bytes_of response)
-call_of_words (name ∷ first ∷ response ∷ []) = with_response (call_of_two name first) (bytes_of response)
-call_of_words (name ∷ first ∷ second ∷ response ∷ []) = with_response (call_of_three name first second) (bytes_of response)
-call_of_words (name ∷ first ∷ second ∷ third ∷ response ∷ []) = with_response (call_of_four name first second third) (bytes_of response)
+call_of_words (name ∷ first ∷ response ∷ []) =
+    with_response (call_of_two name first) (bytes_of response)
+call_of_words (name ∷ first ∷ second ∷ response ∷ []) =
+    with_response (call_of_three name first second) (bytes_of response)
+call_of_words (name ∷ first ∷ second ∷ third ∷ response ∷ []) =
+    with_response (call_of_four name first second third) (bytes_of response)
 call_of_words words = None
 
 abbrev pub call_from : Option (List (List ℕ)) → Option Recorded

@@ -34,7 +34,8 @@ pub record Settings : Type 0 where
   pub buffered : Bool
 
 abbrev pub settings_of : {T : Type 0} → ClientState T → Settings
-settings_of client = record { credential = client.credential; limit = client.limit; buffered = client.buffered }
+settings_of client =
+    record { credential = client.credential; limit = client.limit; buffered = client.buffered }
 
 -- what a call asks for: its one canonical message, where it has one, and its operation
 pub record Asked : Type 0 where
@@ -42,15 +43,18 @@ pub record Asked : Type 0 where
   pub operation : Operation
 
 abbrev pub asked_of : RequestPayload → Option CredentialType → Asked
-asked_of payload credential = record { message = request_bytes payload credential; operation = operation_of payload }
+asked_of payload credential =
+    record { message = request_bytes payload credential; operation = operation_of payload }
 
 -- the request that a line gives by its bytes; the credential is the client's, not theirs
 abbrev pub raw_asked : Request → Option CredentialType → Asked
-raw_asked request credential = record { message = message_bytes request credential; operation = request.operation }
+raw_asked request credential =
+    record { message = message_bytes request credential; operation = request.operation }
 
 abbrev pub asked : Call → Option CredentialType → Asked
 asked Query = asked_of query_request
-asked (CreateRsa key_length private_key_name public_key_name) = asked_of (key_pair_request key_length private_key_name public_key_name)
+asked (CreateRsa key_length private_key_name public_key_name) =
+    asked_of (key_pair_request key_length private_key_name public_key_name)
 asked (Rng num_bytes) = asked_of (rng_request num_bytes)
 asked (Sign id bytes) = asked_of (sign_request id bytes)
 asked (Activate id) = asked_of (activate_request id)
@@ -66,12 +70,17 @@ asked Discover = asked_of discover_request
 
 -- two texts in round brackets, or the identifiers of the two keys of a pair as an object
 abbrev pub pair_styled : List ℕ → List ℕ → Style → List ℕ
-pair_styled first second Bare = codes "(" ++ (text_styled first Bare ++ (codes "," ++ (text_styled second Bare ++ codes ")")))
-pair_styled first second Json = codes "{\"private_key\":" ++ (text_styled first Json ++ (codes ",\"public_key\":" ++ (text_styled second Json ++ codes "}")))
+pair_styled first second Bare =
+    codes "(" ++ (text_styled first Bare ++ (codes "," ++ (text_styled second Bare ++ codes ")")))
+pair_styled first second Json =
+    codes "{\"private_key\":"
+    ++ (text_styled first Json
+    ++ (codes ",\"public_key\":" ++ (text_styled second Json ++ codes "}")))
 
 -- a payload of two texts, as a pair
 abbrev pub texts_styled : Val → Style → List ℕ
-texts_styled (Case n (Record (AndField (One (Text first)) (AndField (One (Text second)) NoField)))) style = pair_styled first second style
+texts_styled (Case n (Record (AndField (One (Text first)) (AndField (One (Text second)) NoField))))
+    style = pair_styled first second style
 texts_styled payload style = []
 
 -- what is told of a payload of no interest
@@ -117,7 +126,10 @@ error_name OutOfMemory = codes "OutOfMemory"
 -- the line of an error
 abbrev pub error_line : Error → Style → List ℕ
 error_line error Bare = codes "- " ++ (error_shown error ++ codes "\n")
-error_line error Json = codes "{\"error\":\"" ++ (error_name error ++ (codes "\",\"text\":" ++ (text_styled (text_of error) Json ++ codes "}\n")))
+error_line error Json =
+    codes "{\"error\":\""
+    ++ (error_name error
+    ++ (codes "\",\"text\":" ++ (text_styled (text_of error) Json ++ codes "}\n")))
 
 -- the line of a value, given its text
 abbrev pub value_line : List ℕ → Style → List ℕ
@@ -161,7 +173,8 @@ or_empty None = []
 
 -- the lines of a call's diagnostics, where they are kept: of its request and of its response
 abbrev pub told_lines : Bool → Option (List ℕ) → Option (List ℕ) → List ℕ
-told_lines true request response = codes ">~ " ++ (or_empty request ++ (codes "\n<~ " ++ (or_empty response ++ codes "\n")))
+told_lines true request response =
+    codes ">~ " ++ (or_empty request ++ (codes "\n<~ " ++ (or_empty response ++ codes "\n")))
 told_lines false request response = []
 
 -- what a call sends and takes, the lines of its diagnostics and of its answer, whether this is an error, and how it ends
@@ -178,7 +191,8 @@ abbrev pub step_of : (Val → List ℕ) → Style → Bool → List ℕ → Outc
 step_of value style buffered rest o = record {
   sent = o.sent;
   taken = o.taken;
-  told = told_lines buffered (Some (diagnostic (Some 0x4200) o.sent)) (Some (diagnostic (Some 0x4200) (take o.taken rest)));
+  told = told_lines buffered (Some (diagnostic (Some 0x4200) o.sent))
+      (Some (diagnostic (Some 0x4200) (take o.taken rest)));
   shown = answer_line value style o.answer;
   failed = is_error o.answer;
   ending = ending_of o.answer;
@@ -186,24 +200,30 @@ step_of value style buffered rest o = record {
 
 -- the outcome of a call over these bytes left
 abbrev pub call_outcome : Settings → Call → List ℕ → Outcome
-call_outcome settings call rest = outcome_of (asked call settings.credential).message (asked call settings.credential).operation settings.limit rest
+call_outcome settings call rest =
+    outcome_of (asked call settings.credential).message (asked call settings.credential).operation
+    settings.limit rest
 
 -- what a call comes to over these bytes left, with its answer in this style
 abbrev pub step_in : Style → Settings → Call → List ℕ → Step
-step_in style settings call rest = step_of (λ payload. value_styled call payload style) style settings.buffered rest (call_outcome settings call rest)
+step_in style settings call rest =
+    step_of (λ payload. value_styled call payload style) style settings.buffered rest
+    (call_outcome settings call rest)
 
 -- the same with the line of a script's answer
 abbrev pub step : Settings → Call → List ℕ → Step
 step = step_in Bare
 
 -- the line of an answer was added, which is not out of memory
-pub record Shows {R : Type 0} (value : R → List ℕ) (style : Style) (answer : Result R Error) (ending : Ending) (old new : List ℕ) : Type 0 where
+pub record Shows {R : Type 0} (value : R → List ℕ) (style : Style) (answer : Result R Error)
+    (ending : Ending) (old new : List ℕ) : Type 0 where
   pub shown : new ≡ old ++ answer_line value style answer
   pub ending_is : ending ≡ ending_of answer
   pub some : answer ≢ Err OutOfMemory
 
 -- what a call did to its client and its link, and the line that it added
-pub record Answers (s : Step) (before after : ClientState MemoryState) (ending : Ending) (old new : List ℕ) : Type 0 where
+pub record Answers (s : Step) (before after : ClientState MemoryState) (ending : Ending)
+    (old new : List ℕ) : Type 0 where
   pub settings : settings_of after ≡ settings_of before
   pub told : told_lines after.buffered after.request_text after.response_text ≡ s.told
   pub shown : new ≡ old ++ s.shown
@@ -212,4 +232,5 @@ pub record Answers (s : Step) (before after : ClientState MemoryState) (ending :
   pub ever : after.link.ever ≡ before.link.ever
   pub sent : after.link.sent ≡ before.link.sent ++ s.sent
   pub pos : after.link.pos ≡ before.link.pos + s.taken
-  pub left : drop after.link.pos after.link.ever ≡ drop s.taken (drop before.link.pos before.link.ever)
+  pub left : drop after.link.pos after.link.ever ≡
+      drop s.taken (drop before.link.pos before.link.ever)

@@ -10,7 +10,8 @@ pub record Given : Type 0 where
 abbrev pub given : List ℕ → List (List ℕ) → Given
 given name [] = record { value = None; rest = [] }
 given name (word ∷ words) =
-    if starts_with nat_eq word name then record { value = Some (drop (length name) word); rest = words }
+    if starts_with nat_eq word name
+    then record { value = Some (drop (length name) word); rest = words }
     else record { value = None; rest = word ∷ words }
 
 -- a value is given only after another

@@ -10,7 +10,8 @@ use Rattle.kmip_request.specs.declared.payload.RequestPayload.{RequestPayload}
 
 -- a name that is an uninterpreted text (KMIP 1.0, 3.2)
 abbrev pub name_attribute : List ℕ → Attribute
-name_attribute name = attribute_of (codes "Name") (values.Name (record { 0 = name }) UninterpretedTextString)
+name_attribute name =
+    attribute_of (codes "Name") (values.Name (record { 0 = name }) UninterpretedTextString)
 
 -- the objects with this name (KMIP 1.0, 4.8)
 abbrev pub locate_request : List ℕ → RequestPayload
@@ -23,7 +24,8 @@ attributes_request id = RequestPayload.GetAttributes (Some (record { 0 = id })) 
 -- the algorithm, the length in bits, the uses Encrypt and Decrypt, and the name of an AES key (KMIP 1.0, 3)
 abbrev pub aes_attributes : ℤ → List ℕ → List Attribute
 aes_attributes key_length name =
-    attribute_of (codes "Cryptographic Algorithm") (values.CryptographicAlgorithm CryptographicAlgorithm.AES)
+    attribute_of (codes "Cryptographic Algorithm")
+    (values.CryptographicAlgorithm CryptographicAlgorithm.AES)
     ∷ attribute_of (codes "Cryptographic Length") (values.Integer key_length)
     ∷ attribute_of (codes "Cryptographic Usage Mask") (values.Integer (pos 0xC))
     ∷ name_attribute name
@@ -31,7 +33,9 @@ aes_attributes key_length name =
 
 -- an AES key (KMIP 1.0, 4.1)
 abbrev pub create_aes_request : ℤ → List ℕ → RequestPayload
-create_aes_request key_length name = RequestPayload.Create SymmetricKey (record { 0 = None; 1 = Some (aes_attributes key_length name) })
+create_aes_request key_length name =
+    RequestPayload.Create SymmetricKey
+    (record { 0 = None; 1 = Some (aes_attributes key_length name) })
 
 -- which versions the server speaks, whichever they are (KMIP 1.1, 4.26)
 abbrev pub discover_request : RequestPayload

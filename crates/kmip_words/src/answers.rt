@@ -35,7 +35,10 @@ fn create_rsa(
     public_key_name: Text,
     line: &mut Text,
 ) -> Result<Ending, OutOfMemory>
-    ensures { IfOk result (λ ending. Answers (step_in style (settings_of client.old) (CreateRsa key_length private_key_name public_key_name) (drop client.old.link.pos client.old.link.ever))
+    ensures { IfOk result
+        (λ ending. Answers (step_in style (settings_of client.old)
+        (CreateRsa key_length private_key_name public_key_name)
+        (drop client.old.link.pos client.old.link.ever))
         client.old client.new ending line.old line.new) }
 {
     let pair = client.create_rsa_key_pair(alloc, key_length, private_key_name, public_key_name);
@@ -50,7 +53,9 @@ fn rng(
     num_bytes: i32,
     line: &mut Text,
 ) -> Result<Ending, OutOfMemory>
-    ensures { IfOk result (λ ending. Answers (step_in style (settings_of client.old) (Rng num_bytes) (drop client.old.link.pos client.old.link.ever))
+    ensures { IfOk result
+        (λ ending. Answers (step_in style (settings_of client.old) (Rng num_bytes)
+        (drop client.old.link.pos client.old.link.ever))
         client.old client.new ending line.old line.new) }
 {
     show(alloc, style, client.rng_retrieve(alloc, num_bytes), line)
@@ -65,7 +70,9 @@ fn get(
     id: Text,
     line: &mut Text,
 ) -> Result<Ending, OutOfMemory>
-    ensures { IfOk result (λ ending. Answers (step_in style (settings_of client.old) (Get id) (drop client.old.link.pos client.old.link.ever))
+    ensures { IfOk result
+        (λ ending. Answers (step_in style (settings_of client.old) (Get id)
+        (drop client.old.link.pos client.old.link.ever))
         client.old client.new ending line.old line.new) }
 {
     show(alloc, style, client.get_key(alloc, id.as_str()), line)
@@ -80,7 +87,9 @@ fn raw(
     request: RawRequest,
     line: &mut Text,
 ) -> Result<Ending, OutOfMemory>
-    ensures { IfOk result (λ ending. Answers (step_in style (settings_of client.old) (Raw request) (drop client.old.link.pos client.old.link.ever))
+    ensures { IfOk result
+        (λ ending. Answers (step_in style (settings_of client.old) (Raw request)
+        (drop client.old.link.pos client.old.link.ever))
         client.old client.new ending line.old line.new) }
 {
     same_message();
@@ -99,8 +108,10 @@ fn requested(
     client: &mut Client<MemoryLink>,
     payload: RequestPayload,
 ) -> Result<ResponsePayload, Error>
-    ensures call { IsCall memory_state payload client.old client.new (seen_by response_payload_val result) }
-    ensures variant { IfOk result (λ answer. IsOfOperation (operation_of payload) (response_payload_val answer)) }
+    ensures call { IsCall memory_state payload client.old client.new
+        (seen_by response_payload_val result) }
+    ensures variant { IfOk result
+        (λ answer. IsOfOperation (operation_of payload) (response_payload_val answer)) }
 {
     client.do_request(alloc, payload)
 }
@@ -113,7 +124,9 @@ fn locate(
     name: Text,
     line: &mut Text,
 ) -> Result<Ending, OutOfMemory>
-    ensures { IfOk result (λ ending. Answers (step_in style (settings_of client.old) (Locate name) (drop client.old.link.pos client.old.link.ever))
+    ensures { IfOk result
+        (λ ending. Answers (step_in style (settings_of client.old) (Locate name)
+        (drop client.old.link.pos client.old.link.ever))
         client.old client.new ending line.old line.new) }
 {
     let request = locate_request(alloc, name)?;
@@ -129,7 +142,9 @@ fn get_attributes(
     id: Text,
     line: &mut Text,
 ) -> Result<Ending, OutOfMemory>
-    ensures { IfOk result (λ ending. Answers (step_in style (settings_of client.old) (Attributes id) (drop client.old.link.pos client.old.link.ever))
+    ensures { IfOk result
+        (λ ending. Answers (step_in style (settings_of client.old) (Attributes id)
+        (drop client.old.link.pos client.old.link.ever))
         client.old client.new ending line.old line.new) }
 {
     let request = attributes_request(id);
@@ -146,7 +161,9 @@ fn create_aes(
     name: Text,
     line: &mut Text,
 ) -> Result<Ending, OutOfMemory>
-    ensures { IfOk result (λ ending. Answers (step_in style (settings_of client.old) (CreateAes key_length name) (drop client.old.link.pos client.old.link.ever))
+    ensures { IfOk result
+        (λ ending. Answers (step_in style (settings_of client.old) (CreateAes key_length name)
+        (drop client.old.link.pos client.old.link.ever))
         client.old client.new ending line.old line.new) }
 {
     let request = create_aes_request(alloc, key_length, name)?;
@@ -161,7 +178,9 @@ fn discover(
     style: Style,
     line: &mut Text,
 ) -> Result<Ending, OutOfMemory>
-    ensures { IfOk result (λ ending. Answers (step_in style (settings_of client.old) Discover (drop client.old.link.pos client.old.link.ever))
+    ensures { IfOk result
+        (λ ending. Answers (step_in style (settings_of client.old) Discover
+        (drop client.old.link.pos client.old.link.ever))
         client.old client.new ending line.old line.new) }
 {
     let request = discover_request(alloc);
@@ -177,7 +196,9 @@ pub fn answer(
     call: Call,
     line: &mut Text,
 ) -> Result<Ending, OutOfMemory>
-    ensures { IfOk result (λ ending. Answers (step_in style (settings_of client.old) call (drop client.old.link.pos client.old.link.ever))
+    ensures { IfOk result
+        (λ ending. Answers (step_in style (settings_of client.old) call
+        (drop client.old.link.pos client.old.link.ever))
         client.old client.new ending line.old line.new) }
 {
     match call {

@@ -190,7 +190,10 @@ fn create_rsa_of(
     private_key_name: &str,
     public_key_name: &str,
 ) -> Result<Option<Call>, OutOfMemory>
-    ensures { IfOk result (λ call. call ≡ create_rsa_of (int_of key_length.now) (text_of private_key_name.now) (text_of public_key_name.now)) }
+    ensures { IfOk result
+        (λ call. call ≡
+        create_rsa_of (int_of key_length.now) (text_of private_key_name.now)
+        (text_of public_key_name.now)) }
 {
     let Some(key_length) = int_of(key_length) else {
         return Ok(None);
@@ -243,7 +246,8 @@ fn with_response(
 
 /// The call of these words, the last of which is its response, or none where they are not of the grammar.
 fn call_of_words(alloc: Global, words: &[&str]) -> Result<Option<Recorded>, OutOfMemory>
-    ensures { IfOk result (λ recorded. recorded ≡ call_of_words (map (λ word. word.now) words.now)) }
+    ensures { IfOk result
+        (λ recorded. recorded ≡ call_of_words (map (λ word. word.now) words.now)) }
 {
     match words {
         [name, response] => with_response(alloc, call_of_one(name), response),
@@ -320,7 +324,8 @@ fn typed_of_two(alloc: Global, name: &str, word: &str) -> Result<Option<Call>, O
 
 /// `create-aes INT TEXT`.
 fn create_aes_of(alloc: Global, key_length: &str, name: &str) -> Result<Option<Call>, OutOfMemory>
-    ensures { IfOk result (λ call. call ≡ create_aes_of (int_of key_length.now) (text_of name.now)) }
+    ensures { IfOk result
+        (λ call. call ≡ create_aes_of (int_of key_length.now) (text_of name.now)) }
 {
     let Some(key_length) = int_of(key_length) else {
         return Ok(None);

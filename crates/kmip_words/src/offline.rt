@@ -29,14 +29,19 @@ impl Model for Settings {
 
     ghost Value = { TheSettings };
 
-    ghost view = { λ s. record { credential = credential_for s.user s.password; limit = s.limit; buffered = false } };
+    ghost view = { λ s. record {
+      credential = credential_for s.user s.password;
+      limit = s.limit;
+      buffered = false;
+    } };
 }
 
 impl Settings {
     /// Calls by a user with a password, who are named in each request where both are given; `limit` is the most bytes
     /// that a response may have, its head counted. It takes no memory.
     pub fn new(user: Option<Text>, password: Option<Text>, limit: Option<u32>) -> Settings
-        ensures { result ≡ record { credential = credential_for user password; limit = limit; buffered = false } }
+        ensures { result ≡
+            record { credential = credential_for user password; limit = limit; buffered = false } }
     {
         Settings {
             user,
@@ -91,7 +96,9 @@ pub fn request_of(
     settings: &Settings,
     call: Call,
 ) -> Result<Option<Vec<u8>>, OutOfMemory>
-    ensures { IfOk result (λ request. option_map (λ r. r.items) request ≡ (asked call settings.now.credential).message) }
+    ensures { IfOk result
+        (λ request. option_map (λ r. r.items) request ≡
+        (asked call settings.now.credential).message) }
 {
     let mut client = settings.client(alloc, link_over(alloc, &[])?)?;
     let mut line = Text::new(alloc);
@@ -113,8 +120,11 @@ pub fn answer_of(
     response: &[u8],
     line: &mut Text,
 ) -> Result<Ending, OutOfMemory>
-    ensures line { OnOk result (line.new ≡ line.old ++ json_line call (call_outcome settings.now call response.now).answer) }
-    ensures ending { IfOk result (λ ending. ending ≡ ending_of (call_outcome settings.now call response.now).answer) }
+    ensures line { OnOk result
+        (line.new ≡ line.old
+        ++ json_line call (call_outcome settings.now call response.now).answer) }
+    ensures ending { IfOk result
+        (λ ending. ending ≡ ending_of (call_outcome settings.now call response.now).answer) }
 {
     let mut client = settings.client(alloc, link_over(alloc, response)?)?;
     answer(alloc, &mut client, Style::Json, call, line)

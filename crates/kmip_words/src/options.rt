@@ -25,8 +25,10 @@ pub fn given_after<'a>(
     name: &str,
     words: &'a [Text],
 ) -> (Option<&'a str>, &'a [Text])
-    ensures value { option_map (λ value. value.now) result.0 ≡ (given_after (option_map (λ value. value.now) before.entry) name.now words.now).value }
-    ensures rest { result.1.now ≡ (given_after (option_map (λ value. value.now) before.entry) name.now words.now).rest }
+    ensures value { option_map (λ value. value.now) result.0 ≡
+        (given_after (option_map (λ value. value.now) before.entry) name.now words.now).value }
+    ensures rest { result.1.now ≡
+        (given_after (option_map (λ value. value.now) before.entry) name.now words.now).rest }
 {
     match before {
         Some(_) => given(name, words),

@@ -14,8 +14,10 @@ use kmip_response::{
 
 /// That of Locate.
 pub fn located(answer: Result<ResponsePayload, Error>) -> Result<LocateResponsePayload, Error>
-    requires { IfOk answer (λ payload. IsOfOperation TheOperation.Locate (response_payload_val payload)) }
-    ensures { seen_by (λ payload. response_payload_val (payloads.Locate payload)) result ≡ seen answer }
+    requires { IfOk answer
+        (λ payload. IsOfOperation TheOperation.Locate (response_payload_val payload)) }
+    ensures { seen_by (λ payload. response_payload_val (payloads.Locate payload)) result ≡
+        seen answer }
 {
     match answer {
         Ok(ResponsePayload::Locate(payload)) => Ok(payload),
@@ -28,8 +30,10 @@ pub fn located(answer: Result<ResponsePayload, Error>) -> Result<LocateResponseP
 pub fn attributes(
     answer: Result<ResponsePayload, Error>,
 ) -> Result<GetAttributesResponsePayload, Error>
-    requires { IfOk answer (λ payload. IsOfOperation TheOperation.GetAttributes (response_payload_val payload)) }
-    ensures { seen_by (λ payload. response_payload_val (payloads.GetAttributes payload)) result ≡ seen answer }
+    requires { IfOk answer
+        (λ payload. IsOfOperation TheOperation.GetAttributes (response_payload_val payload)) }
+    ensures { seen_by (λ payload. response_payload_val (payloads.GetAttributes payload)) result ≡
+        seen answer }
 {
     match answer {
         Ok(ResponsePayload::GetAttributes(payload)) => Ok(payload),
@@ -40,8 +44,10 @@ pub fn attributes(
 
 /// That of Create.
 pub fn created(answer: Result<ResponsePayload, Error>) -> Result<CreateResponsePayload, Error>
-    requires { IfOk answer (λ payload. IsOfOperation TheOperation.Create (response_payload_val payload)) }
-    ensures { seen_by (λ payload. response_payload_val (payloads.Create payload)) result ≡ seen answer }
+    requires { IfOk answer
+        (λ payload. IsOfOperation TheOperation.Create (response_payload_val payload)) }
+    ensures { seen_by (λ payload. response_payload_val (payloads.Create payload)) result ≡
+        seen answer }
 {
     match answer {
         Ok(ResponsePayload::Create(payload)) => Ok(payload),
@@ -54,8 +60,10 @@ pub fn created(answer: Result<ResponsePayload, Error>) -> Result<CreateResponseP
 pub fn discovered(
     answer: Result<ResponsePayload, Error>,
 ) -> Result<DiscoverVersionsResponsePayload, Error>
-    requires { IfOk answer (λ payload. IsOfOperation TheOperation.DiscoverVersions (response_payload_val payload)) }
-    ensures { seen_by (λ payload. response_payload_val (payloads.DiscoverVersions payload)) result ≡ seen answer }
+    requires { IfOk answer
+        (λ payload. IsOfOperation TheOperation.DiscoverVersions (response_payload_val payload)) }
+    ensures { seen_by (λ payload. response_payload_val (payloads.DiscoverVersions payload)) result ≡
+        seen answer }
 {
     match answer {
         Ok(ResponsePayload::DiscoverVersions(payload)) => Ok(payload),

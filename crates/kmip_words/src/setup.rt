@@ -16,7 +16,8 @@ fn with_user(
     requires username { builder.username ≡ None }
     requires password { builder.password ≡ None }
     ensures link { result.link ≡ builder.link }
-    ensures credential { credential_for result.username result.password ≡ credential_for user password }
+    ensures credential { credential_for result.username result.password ≡
+        credential_for user password }
 {
     match user {
         Some(user) => builder.with_credentials(user, password),
@@ -54,7 +55,8 @@ pub fn client_of(
     diag: bool,
 ) -> Client<MemoryLink>
     ensures link { result.link ≡ link }
-    ensures settings { settings_of result ≡ record { credential = credential_for user password; limit = limit; buffered = diag } }
+    ensures settings { settings_of result ≡
+        record { credential = credential_for user password; limit = limit; buffered = diag } }
 {
     let config = config_of(limit, diag);
     with_user(ClientBuilder::new(link), user, password)

@@ -78,7 +78,8 @@ pub fn show_error(
     line: &mut Text,
 ) -> Result<Ending, OutOfMemory>
     ensures shown { OnOk result (line.new ≡ line.old ++ error_line error.now style) }
-    ensures ending { IfOk result (λ ending. ending ≡ cond (loses_link error.now) endings.Lost endings.Refused) }
+    ensures ending { IfOk result
+        (λ ending. ending ≡ cond (loses_link error.now) endings.Lost endings.Refused) }
     ensures memory { OnOk result (error.now ≢ Error.OutOfMemory) }
 {
     if matches!(error, Error::OutOfMemory) {
@@ -98,7 +99,8 @@ fn push_bare_payload<P: ShowItem>(
     payload: &P,
     line: &mut Text,
 ) -> Result<(), OutOfMemory>
-    ensures { OnOk result (line.new ≡ line.old ++ value_line (styled P.shape (P.val payload.now) Bare) Bare) }
+    ensures { OnOk result
+        (line.new ≡ line.old ++ value_line (styled P.shape (P.val payload.now) Bare) Bare) }
 {
     line.push_str("= ")?;
     payload.show(alloc, line)?;
@@ -112,7 +114,8 @@ fn push_json_payload<P: ShowItem>(
     payload: &P,
     line: &mut Text,
 ) -> Result<(), OutOfMemory>
-    ensures { OnOk result (line.new ≡ line.old ++ value_line (styled P.shape (P.val payload.now) Json) Json) }
+    ensures { OnOk result
+        (line.new ≡ line.old ++ value_line (styled P.shape (P.val payload.now) Json) Json) }
 {
     line.push_str("{\"answer\":")?;
     payload.show_json(alloc, line)?;
@@ -126,7 +129,8 @@ fn push_payload<P: ShowItem>(
     payload: &P,
     line: &mut Text,
 ) -> Result<(), OutOfMemory>
-    ensures { OnOk result (line.new ≡ line.old ++ value_line (styled P.shape (P.val payload.now) style) style) }
+    ensures { OnOk result
+        (line.new ≡ line.old ++ value_line (styled P.shape (P.val payload.now) style) style) }
 {
     match style {
         Style::Bare => push_bare_payload(alloc, payload, line),
@@ -141,7 +145,9 @@ pub fn show<P: ShowItem + Drop>(
     answer: Result<P, Error>,
     line: &mut Text,
 ) -> Result<Ending, OutOfMemory>
-    ensures { IfOk result (λ ending. Shows (λ payload. styled P.shape (P.val payload) style) style answer ending line.old line.new) }
+    ensures { IfOk result
+        (λ ending. Shows (λ payload. styled P.shape (P.val payload) style) style answer ending
+        line.old line.new) }
 {
     match answer {
         Ok(payload) => {
@@ -169,7 +175,8 @@ pub fn show_done(
     answer: Result<(), Error>,
     line: &mut Text,
 ) -> Result<Ending, OutOfMemory>
-    ensures { IfOk result (λ ending. Shows (λ done. done_styled style) style answer ending line.old line.new) }
+    ensures { IfOk result
+        (λ ending. Shows (λ done. done_styled style) style answer ending line.old line.new) }
 {
     match answer {
         Ok(()) => {
@@ -188,7 +195,8 @@ fn push_bare_pair(
     second: &Text,
     line: &mut Text,
 ) -> Result<(), OutOfMemory>
-    ensures { OnOk result (line.new ≡ line.old ++ value_line (pair_styled first.now second.now Bare) Bare) }
+    ensures { OnOk result
+        (line.new ≡ line.old ++ value_line (pair_styled first.now second.now Bare) Bare) }
 {
     line.push_str("= (")?;
     push_text(alloc, Style::Bare, first, line)?;
@@ -205,7 +213,8 @@ fn push_json_pair(
     second: &Text,
     line: &mut Text,
 ) -> Result<(), OutOfMemory>
-    ensures { OnOk result (line.new ≡ line.old ++ value_line (pair_styled first.now second.now Json) Json) }
+    ensures { OnOk result
+        (line.new ≡ line.old ++ value_line (pair_styled first.now second.now Json) Json) }
 {
     line.push_str("{\"answer\":")?;
     line.push_str("{\"private_key\":")?;
@@ -224,7 +233,8 @@ fn push_pair(
     second: &Text,
     line: &mut Text,
 ) -> Result<(), OutOfMemory>
-    ensures { OnOk result (line.new ≡ line.old ++ value_line (pair_styled first.now second.now style) style) }
+    ensures { OnOk result
+        (line.new ≡ line.old ++ value_line (pair_styled first.now second.now style) style) }
 {
     match style {
         Style::Bare => push_bare_pair(alloc, first, second, line),
@@ -239,7 +249,9 @@ pub fn show_pair(
     answer: Result<(Text, Text), Error>,
     line: &mut Text,
 ) -> Result<Ending, OutOfMemory>
-    ensures { IfOk result (λ ending. Shows (λ pair. pair_styled pair.0 pair.1 style) style answer ending line.old line.new) }
+    ensures { IfOk result
+        (λ ending. Shows (λ pair. pair_styled pair.0 pair.1 style) style answer ending line.old
+        line.new) }
 {
     match answer {
         Ok((first, second)) => {

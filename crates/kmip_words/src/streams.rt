@@ -1,7 +1,7 @@
 //! A whole script from a source, and a whole text to a sink.
 ghost use Rattle.std.specs.Prelude.{◌≡◌, ◌+◌, ◌-◌, ◌<◌, ◌≤◌, ◌++◌, ℕ, [], length, take, drop, min, IfOk, IfErr, OnErr, OnOk, IsErrOf, IsTrue, vec_len};
 ghost use Rattle.kmip_link.specs.State.{SourceKeeps, SinkKeeps, Rose, source_left};
-ghost use Rattle.kmip_words.specs.Streams.{Gives, GivesPart, WrotePart};
+ghost use Rattle.kmip_words.specs.Streams.{Gives, GivesPart, WrotePart, WroteProperPart};
 
 use kmip_link::{LinkError, Sink, Source};
 use std::alloc::Global;
@@ -12,9 +12,14 @@ const MAX_PIECE: usize = 65536;
 /// Writes the whole text. Each write is offered the whole rest.
 pub fn write_out<K: Sink>(sink: &mut K, text: &[u8]) -> Result<(), LinkError>
     ensures keeps { SinkKeeps (K.state sink.old) (K.state sink.new) }
-    ensures ok { OnOk result (IsTrue (K.state sink.old).tells → (K.state sink.new).sent ≡ (K.state sink.old).sent ++ text.now) }
-    ensures part { IsTrue (K.state sink.old).tells → WrotePart (K.state sink.old) (K.state sink.new) text.now }
-    ensures cause { IsErrOf result LinkError.Fault → Rose (K.state sink.old).faults (K.state sink.new).faults }
+    ensures ok { OnOk result (IsTrue (K.state sink.old).tells →
+        (K.state sink.new).sent ≡ (K.state sink.old).sent ++ text.now) }
+    ensures part { IsTrue (K.state sink.old).tells →
+        WrotePart (K.state sink.old) (K.state sink.new) text.now }
+    ensures cut { OnErr result (IsTrue (K.state sink.old).tells →
+        WroteProperPart (K.state sink.old) (K.state sink.new) text.now) }
+    ensures cause { IsErrOf result LinkError.Fault →
+        Rose (K.state sink.old).faults (K.state sink.new).faults }
 {
     let mut done = 0;
     while done < text.len() {
@@ -36,12 +41,14 @@ fn read_piece<S: Source>(
     ensures bound { IfOk result (λ n. n ≤ room) }
     ensures grown { IfOk result (λ n. vec_len script.new ≡ vec_len script.old + n) }
     ensures kept { take (length script.old.items) script.new.items ≡ script.old.items }
-    ensures part { IsTrue (S.state source.old).tells → GivesPart (S.state source.old) (S.state source.new) room }
+    ensures part { IsTrue (S.state source.old).tells →
+        GivesPart (S.state source.old) (S.state source.new) room }
     ensures ok { IfOk result (λ n. IsTrue (S.state source.old).tells →
         Gives (S.state source.old) (S.state source.new) n
         × (script.new.items ≡ script.old.items ++ take n (source_left (S.state source.old)))
         × (n ≡ 0 → source_left (S.state source.old) ≡ [])) }
-    ensures cause { IsErrOf result LinkError.Fault → Rose (S.state source.old).faults (S.state source.new).faults }
+    ensures cause { IsErrOf result LinkError.Fault →
+        Rose (S.state source.old).faults (S.state source.new).faults }
 {
     let got = source.read(&mut piece[..room])?;
     script.extend_from_slice(&piece[..got])?;
@@ -58,11 +65,14 @@ pub fn read_up_to<S: Source>(
     ensures keeps { SourceKeeps (S.state source.old) (S.state source.new) }
     ensures grown { OnOk result (vec_len script.new ≤ vec_len script.old + count) }
     ensures kept { take (length script.old.items) script.new.items ≡ script.old.items }
-    ensures part { IsTrue (S.state source.old).tells → GivesPart (S.state source.old) (S.state source.new) count }
+    ensures part { IsTrue (S.state source.old).tells →
+        GivesPart (S.state source.old) (S.state source.new) count }
     ensures ok { OnOk result (IsTrue (S.state source.old).tells →
-        Gives (S.state source.old) (S.state source.new) (min count (length (source_left (S.state source.old))))
+        Gives (S.state source.old) (S.state source.new)
+        (min count (length (source_left (S.state source.old))))
         × (script.new.items ≡ script.old.items ++ take count (source_left (S.state source.old)))) }
-    ensures cause { IsErrOf result LinkError.Fault → Rose (S.state source.old).faults (S.state source.new).faults }
+    ensures cause { IsErrOf result LinkError.Fault →
+        Rose (S.state source.old).faults (S.state source.new).faults }
 {
     let mut piece = vec![in alloc; 0u8; count.min(MAX_PIECE)]?;
     let mut done = 0;
