@@ -7,7 +7,7 @@ ghost use Rattle.kmip_wire.specs.Bytes.{head_bytes, item_bytes};
 ghost use Rattle.kmip_wire.specs.Room.{Appends};
 
 use crate::kind::Kind;
-use crate::memory::{OutOfMemory, wipe};
+use crate::memory::{OutOfMemory, overwrite};
 use crate::tag::Tag;
 use crate::text::Blob;
 use std::alloc::Global;
@@ -16,7 +16,9 @@ use std::marker::Model;
 /// Bytes, and room reserved for more.
 #[derive(Drop)]
 pub struct Buffer {
+    // The bytes, and after them the room, whose own bytes mean nothing.
     room: Vec<u8>,
+    // How many are bytes.
     len: usize,
 }
 
@@ -29,6 +31,22 @@ impl Model for Buffer {
     ghost view = { λ b. record { bytes = take b.len b.room.items; spare = vec_len b.room - b.len } };
 
     ghost invariant = { λ b. b.len ≤ vec_len b.room };
+}
+
+// Writes zero over each of the first bytes.
+fn overwrite_front(bytes: &mut [u8], len: usize)
+    requires { len ≤ length bytes.old }
+    ensures { bytes.new ≡ replicate len 0 ++ drop len bytes.old }
+{
+    overwrite(&mut bytes[..len]);
+}
+
+// Writes a length into the head that begins at a place.
+fn put_length(bytes: &mut [u8], at: usize, len: u32)
+    requires { at + 8 ≤ length bytes.old }
+    ensures { bytes.new ≡ take (at + 4) bytes.old ++ (to_be_bytes w32 len ++ drop (at + 8) bytes.old) }
+{
+    bytes[at + 4..at + 8].copy_from_slice(&len.to_be_bytes());
 }
 
 #[tactic(auto, using(std::proofs::lemmas::List::append_assoc))]
@@ -61,7 +79,10 @@ impl Buffer {
         if more <= self.spare() {
             return Ok(());
         }
-        match self.room.resize(self.len + more, 0) {
+        let Some(len) = self.len.checked_add(more) else {
+            return Err(OutOfMemory);
+        };
+        match self.room.resize(len, 0) {
             Ok(()) => Ok(()),
             Err(_) => Err(OutOfMemory),
         }
@@ -112,7 +133,7 @@ impl Buffer {
         ensures bytes { self.new.bytes ≡ [] }
         ensures room { length self.old.bytes + self.old.spare ≤ self.new.spare }
     {
-        self.room[..self.len].fill(0);
+        overwrite_front(self.room.as_mut_slice(), self.len);
         self.len = 0;
     }
 
@@ -158,7 +179,7 @@ impl Buffer {
         ensures bytes { self.new.bytes ≡ take (at + 4) self.old.bytes ++ (to_be_bytes w32 len ++ drop (at + 8) self.old.bytes) }
         ensures spare { self.new.spare ≡ self.old.spare }
     {
-        self.room[at + 4..at + 8].copy_from_slice(&len.to_be_bytes());
+        put_length(self.room.as_mut_slice(), at, len);
     }
 
     /// Appends an item of a value of four bytes, in one piece.
