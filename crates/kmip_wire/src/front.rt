@@ -103,11 +103,12 @@ fn are_items(bytes: &[u8], levels: u32) -> bool
     let mut rest = bytes;
     let mut left = bytes.len();
     'items: loop {
-        let front = &rest[..left];
-        if left >= 16 && is_word(front) {
+        'words: while left >= 16 && is_word(&rest[..left]) {
             rest = &rest[16..];
             left -= 16;
-        } else if left == 0 {
+        }
+        let front = &rest[..left];
+        if left == 0 {
             if depth == 0 {
                 return true;
             }
