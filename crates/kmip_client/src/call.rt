@@ -131,9 +131,7 @@ pub fn call<L: Link, P: Answered>(
         Ok(()) => {}
         Err(error) => return Err(error),
     }
-    if settings.config.has_buf() {
-        diagnostics.request = Some(diagnostic_of(alloc, room.request.as_slice())?);
-    }
+    diagnostics.request = diagnostic_for(alloc, &settings.config, room.request.as_slice())?;
     room.taken.clear();
     room.taken.reserve(FIRST_ROOM)?;
     let answer = exchange(
@@ -144,9 +142,9 @@ pub fn call<L: Link, P: Answered>(
         room.request.as_slice(),
         &mut room.taken,
     );
-    if !settings.config.has_buf() || !is_read(&answer) {
+    if !is_read(&answer) {
         return answer;
     }
-    diagnostics.response = Some(diagnostic_of(alloc, &room.taken)?);
-    answer
+    let made = diagnostic_for(alloc, &settings.config, &room.taken);
+    keep(answer, made, &mut diagnostics.response)
 }
