@@ -188,23 +188,16 @@ impl<T: Link> Client<T> {
             request: None,
             response: None,
         };
-        if self.room.is_none() {
-            self.room = Some(Room::new(alloc));
-        }
-        let Some(room) = &mut self.room else {
-            unreachable!()
-        };
+        let mut room = Room::again(self.room.take(), alloc);
         let answer = call(
             alloc,
             &mut self.link,
             &self.settings,
             payload,
             &mut self.diagnostics,
-            room,
+            &mut room,
         );
-        if !room.wipe() {
-            self.room = None;
-        }
+        self.room = room.kept();
         self.errors = counted(self.errors, loses_connection(&answer));
         answer
     }
