@@ -117,7 +117,6 @@ impl WriteItem for i32 {
         Some(SCALAR_LEN)
     }
 
-    #[inline(always)]
     fn write_into(&self, tag: Tag, out: &mut Buffer) {
         put_integer(tag, *self, out);
     }
