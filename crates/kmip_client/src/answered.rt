@@ -132,7 +132,7 @@ impl Answered for QueryResponsePayload {
 
     fn of(_operation: Operation, payload: ResponsePayload) -> QueryResponsePayload {
         match payload {
-            ResponsePayload::Query(payload) => payload,
+            ResponsePayload::Query(payload) => payload.into_inner(),
             _ => unreachable!(),
         }
     }

@@ -50,7 +50,7 @@ pub enum ResponsePayload {
     /// What Destroy returns: KMIP 1.0, 4.20.
     Destroy(UniqueIdentifierResponsePayload),
     /// What Query returns: KMIP 1.0, 4.24.
-    Query(QueryResponsePayload),
+    Query(Boxed<QueryResponsePayload>),
     /// What Discover Versions returns: KMIP 1.1, 4.26.
     DiscoverVersions(DiscoverVersionsResponsePayload),
     /// What Sign returns: KMIP 1.2, 4.31.
@@ -183,7 +183,7 @@ impl ReadItem for ResponsePayload {
             Some(20) => Ok(ResponsePayload::Destroy(UniqueIdentifierResponsePayload::read(
                 alloc, outer, item,
             )?)),
-            Some(24) => Ok(ResponsePayload::Query(QueryResponsePayload::read(alloc, outer, item)?)),
+            Some(24) => Ok(ResponsePayload::Query(Boxed::read(alloc, outer, item)?)),
             Some(30) => Ok(ResponsePayload::DiscoverVersions(DiscoverVersionsResponsePayload::read(
                 alloc, outer, item,
             )?)),

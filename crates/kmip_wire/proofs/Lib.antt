@@ -10,3 +10,4 @@ pub mod Ascii
 pub mod Writing
 pub mod Written
 pub mod Ranges
+pub mod Places

@@ -7,7 +7,7 @@ ghost use Rattle.kmip_wire.specs.Bytes.{head_bytes, item_bytes};
 ghost use Rattle.kmip_wire.specs.Room.{Appends};
 
 use crate::kind::Kind;
-use crate::memory::{OutOfMemory, wipe};
+use crate::memory::{OutOfMemory, overwrite};
 use crate::tag::Tag;
 use crate::text::Blob;
 use std::alloc::Global;
@@ -16,19 +16,37 @@ use std::marker::Model;
 /// Bytes, and room reserved for more.
 #[derive(Drop)]
 pub struct Buffer {
-    bytes: Vec<u8>,
-    spare: usize,
+    // The bytes, and after them the room, whose own bytes mean nothing.
+    room: Vec<u8>,
+    // How many are bytes.
+    len: usize,
 }
 
 impl Model for Buffer {
-    ghost use Rattle.std.specs.Prelude.{◌+◌, ◌≤◌, vec_len, vec_capacity};
+    ghost use Rattle.std.specs.Prelude.{◌-◌, ◌≤◌, take, vec_len};
     ghost use Rattle.kmip_wire.specs.Room.{Room};
 
     ghost Value = { Room };
 
-    ghost view = { λ b. record { bytes = b.bytes.items; spare = b.spare } };
+    ghost view = { λ b. record { bytes = take b.len b.room.items; spare = vec_len b.room - b.len } };
 
-    ghost invariant = { λ b. vec_len b.bytes + b.spare ≤ vec_capacity b.bytes };
+    ghost invariant = { λ b. b.len ≤ vec_len b.room };
+}
+
+// Writes zero over each of the first bytes.
+fn overwrite_front(bytes: &mut [u8], len: usize)
+    requires { len ≤ length bytes.old }
+    ensures { bytes.new ≡ replicate len 0 ++ drop len bytes.old }
+{
+    overwrite(&mut bytes[..len]);
+}
+
+// Writes a length into the head that begins at a place.
+fn put_length(bytes: &mut [u8], at: usize, len: u32)
+    requires { at + 8 ≤ length bytes.old }
+    ensures { bytes.new ≡ take (at + 4) bytes.old ++ (to_be_bytes w32 len ++ drop (at + 8) bytes.old) }
+{
+    bytes[at + 4..at + 8].copy_from_slice(&len.to_be_bytes());
 }
 
 #[tactic(auto, using(std::proofs::lemmas::List::append_assoc))]
@@ -39,8 +57,8 @@ impl Buffer {
         ensures spare { result.spare ≡ 0 }
     {
         Buffer {
-            bytes: Vec::new(alloc),
-            spare: 0,
+            room: Vec::new(alloc),
+            len: 0,
         }
     }
 
@@ -48,7 +66,7 @@ impl Buffer {
     pub fn spare(&self) -> usize
         ensures { result ≡ self.now.spare }
     {
-        self.spare
+        self.room.len() - self.len
     }
 
     /// Makes the spare room at least `more`. Where memory runs out, the buffer stays as it was.
@@ -58,14 +76,14 @@ impl Buffer {
         ensures grows { self.old.spare ≤ self.new.spare }
         ensures refused { OnErr result (self.new ≡ self.old) }
     {
-        if more <= self.spare {
+        if more <= self.spare() {
             return Ok(());
         }
-        match self.bytes.reserve(more) {
-            Ok(()) => {
-                self.spare = more;
-                Ok(())
-            }
+        let Some(len) = self.len.checked_add(more) else {
+            return Err(OutOfMemory);
+        };
+        match self.room.resize(len, 0) {
+            Ok(()) => Ok(()),
             Err(_) => Err(OutOfMemory),
         }
     }
@@ -76,17 +94,16 @@ impl Buffer {
         requires { length bytes.now ≤ self.old.spare }
         ensures { Appends self.old self.new bytes.now (length bytes.now) }
     {
-        match self.bytes.extend_from_slice(bytes) {
-            Ok(()) => self.spare -= bytes.len(),
-            Err(_) => unreachable!(),
-        }
+        let end = self.len + bytes.len();
+        self.room[self.len..end].copy_from_slice(bytes);
+        self.len = end;
     }
 
     /// Its bytes.
     pub fn as_slice(&self) -> &[u8]
         ensures { result.now ≡ self.now.bytes }
     {
-        self.bytes.as_slice()
+        &self.room[..self.len]
     }
 
     /// Leaves no bytes. Its room stays, and so does in memory what it held, until that is written
@@ -95,8 +112,7 @@ impl Buffer {
         ensures bytes { self.new.bytes ≡ [] }
         ensures room { length self.old.bytes + self.old.spare ≤ self.new.spare }
     {
-        self.bytes.clear();
-        self.spare = self.bytes.capacity();
+        self.len = 0;
     }
 
     /// Leaves no bytes and makes room for `room` of them: the buffer is ready for the next message.
@@ -117,15 +133,17 @@ impl Buffer {
         ensures bytes { self.new.bytes ≡ [] }
         ensures room { length self.old.bytes + self.old.spare ≤ self.new.spare }
     {
-        wipe(&mut self.bytes);
-        self.spare = self.bytes.capacity();
+        overwrite_front(self.room.as_mut_slice(), self.len);
+        self.len = 0;
     }
 
     /// Its bytes, with no copy made.
     pub fn into_blob(self) -> Blob
         ensures { result ≡ self.bytes }
     {
-        Blob::of_vec(self.bytes)
+        let Buffer { mut room, len } = self;
+        room.truncate(len);
+        Blob::of_vec(room)
     }
 
     /// Appends the head of an item, which is 8 bytes.
@@ -152,7 +170,7 @@ impl Buffer {
     pub fn len(&self) -> usize
         ensures { result ≡ length self.now.bytes }
     {
-        self.bytes.len()
+        self.len
     }
 
     /// Writes another length into the head that begins at a place.
@@ -162,7 +180,7 @@ impl Buffer {
             (to_be_bytes w32 len ++ drop (at + 8) self.old.bytes) }
         ensures spare { self.new.spare ≡ self.old.spare }
     {
-        self.bytes[at + 4..at + 8].copy_from_slice(&len.to_be_bytes());
+        put_length(self.room.as_mut_slice(), at, len);
     }
 
     /// Appends an item of a value of four bytes, in one piece.

@@ -24,8 +24,7 @@ pub(crate) fn whole_length(bytes: &[u8]) -> usize
     requires { 8 ≤ length bytes.now }
     ensures { result ≡ size_at bytes.now }
 {
-    let length = head_length(bytes) as usize;
-    8 + length + (8 - length % 8) % 8
+    (head_length(bytes) as usize + 15) / 8 * 8
 }
 
 // The whole length that the head says, where that many bytes are there.
@@ -37,11 +36,11 @@ fn size_at(bytes: &[u8]) -> Option<usize>
         return None;
     }
     let length = head_length(bytes) as usize;
-    let size = length + (8 - length % 8) % 8;
-    if size > bytes.len() - 8 {
+    let whole = (length + 15) / 8 * 8;
+    if whole > bytes.len() {
         return None;
     }
-    Some(8 + size)
+    Some(whole)
 }
 
 // For each number of a type, the length of its values where any bytes of that length are one.
@@ -105,11 +104,12 @@ fn are_items(bytes: &[u8], levels: u32) -> bool
     let mut rest = bytes;
     let mut left = bytes.len();
     'items: loop {
-        let front = &rest[..left];
-        if left >= 16 && is_word(front) {
+        'words: while left >= 16 && is_word(&rest[..left]) {
             rest = &rest[16..];
             left -= 16;
-        } else if left == 0 {
+        }
+        let front = &rest[..left];
+        if left == 0 {
             if depth == 0 {
                 return true;
             }

@@ -63,7 +63,7 @@ impl<'a> ItemRef<'a> {
     pub fn tag(self) -> Tag
         ensures { result ≡ tag_of (item_tree self.entry) }
     {
-        Tag::from_bytes(self.bytes[0], self.bytes[1], self.bytes[2])
+        Tag::from_word(self.bytes[0], self.bytes[1], self.bytes[2], self.bytes[3])
     }
 
     /// The item's type.

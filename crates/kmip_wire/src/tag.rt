@@ -40,12 +40,12 @@ impl Tag {
         Tag { number }
     }
 
-    /// The tag that three bytes spell.
-    pub(crate) fn from_bytes(high: u8, middle: u8, low: u8) -> Tag
+    /// The tag that the first three bytes of a word spell. A word is read at once, three bytes one by one.
+    pub(crate) fn from_word(high: u8, middle: u8, low: u8, other: u8) -> Tag
         ensures { result ≡ from_be_bytes w32 (0 ∷ high ∷ middle ∷ low ∷ []) }
     {
         Tag {
-            number: u32::from_be_bytes([0, high, middle, low]),
+            number: u32::from_be_bytes([high, middle, low, other]) >> 8,
         }
     }
 

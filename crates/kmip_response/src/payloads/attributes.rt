@@ -15,7 +15,7 @@ use kmip_shape::{
 };
 use kmip_tags::tags::{ATTRIBUTE, ATTRIBUTE_NAME, RESPONSE_PAYLOAD, UNIQUE_IDENTIFIER};
 use kmip_types::{AttributeName, UniqueIdentifier};
-use kmip_wire::{ItemRef, List, OutOfMemory, Tag, TryClone, clone_optional};
+use kmip_wire::{Boxed, ItemRef, List, OutOfMemory, Tag, TryClone, clone_optional};
 use std::alloc::Global;
 
 /// The response payload of Get Attributes: KMIP 1.0, 4.11.
@@ -160,12 +160,12 @@ pub struct AttributeEditResponsePayload {
     /// The identifier of the object.
     pub unique_identifier: UniqueIdentifier,
     /// The attribute that was added, changed or taken away.
-    pub attribute: Attribute,
+    pub attribute: Boxed<Attribute>,
 }
 
 type AttributeEditResponsePayloadRows = Row<
     One<UniqueIdentifier, UNIQUE_IDENTIFIER>,
-    Row<One<Attribute, ATTRIBUTE>, End>,
+    Row<One<Boxed<Attribute>, ATTRIBUTE>, End>,
 >;
 
 impl TryClone for AttributeEditResponsePayload {

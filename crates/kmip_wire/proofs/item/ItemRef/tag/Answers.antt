@@ -12,6 +12,9 @@ bounds-self-1 c = omega (arith, (long_enough c.args.self.bytes.now c.args.self.i
 pub bounds-self-2 : goal.bounds-self-2
 bounds-self-2 c = omega (arith, (long_enough c.args.self.bytes.now c.args.self.is_item).0)
 
+pub bounds-self-3 : goal.bounds-self-3
+bounds-self-3 c = omega (arith, (long_enough c.args.self.bytes.now c.args.self.is_item).0)
+
 pub returns : goal.returns
 unfolding item_tree
-returns c = tag_is_bytes c.args.self.bytes.now c.from_bytes.result c.args.self.is_item c.from_bytes.ensures
+returns c = tag_is_bytes c.args.self.bytes.now c.from_word.result c.args.self.is_item c.from_word.ensures
