@@ -246,10 +246,10 @@ cut_whole state server server' ever sent begun bytes message false takes not tim
 
 -- ---- the rules of a write
 
-pub did_not_whole : {M : Type 0} (state : M → MakerState) (server : ServerState M) (ever sent sent' begun bytes message : List ℕ) (whole : Bool) (n : ℕ) → Takes begun bytes message whole → whole ≡ false →
+pub did_not_whole : {M : Type 0} (state : M → MakerState) (server : ServerState M) (ever sent sent' begun bytes message : List ℕ) (whole : Bool) (n : ℕ) → Takes begun bytes message whole → whole ≡ false → n ≡ length message - length begun →
     sent' ≡ sent ++ take (length message - length begun) bytes → begun ≡ (split sent).begun → Did state server server ever ever sent sent' bytes (Ok n)
-did_not_whole state server ever sent sent' begun bytes message whole n takes not sent_is is =
-    Did.goes_on n refl (ap (λ (s : Split). s.whole) (not_whole sent sent' begun bytes message whole takes not sent_is is)) refl refl
+did_not_whole state server ever sent sent' begun bytes message whole n takes not count sent_is is =
+    Did.goes_on n refl (count ∙ count_is begun bytes message whole takes ∙ takes.all not) (ap (λ (s : Split). s.whole) (not_whole sent sent' begun bytes message whole takes not sent_is is)) refl refl
 
 pub did_whole : {M : Type 0} (state : M → MakerState) (server server' : ServerState M) (ever ever' sent sent' begun bytes message response : List ℕ) (whole : Bool) (n : ℕ) → Takes begun bytes message whole → whole ≡ true →
     sent' ≡ sent ++ take (length message - length begun) bytes → begun ≡ (split sent).begun → Answers state server server' message (Ok response) → ever' ≡ ever ++ response →
@@ -264,19 +264,19 @@ did_formless state server server' ever ever' sent sent' begun bytes message whol
     Did.formless takes.n refusal refl (ap is_message kept ∙ (takes.ends so).1) (kept ∙ takes.is ∙ ap (λ (b : List ℕ). b ++ take takes.n bytes) is)
     (subst (λ (m : List ℕ). Answers state server server' m (Err NoForm)) (sym kept) answers) kind
 
-pub writes_ok : {M : Type 0} (state : M → MakerState) (before after : ServerLinkState M) (bytes : List ℕ) (n : ℕ) → before.faults ≡ 0 → Did state before.server after.server before.ever after.ever before.sent after.sent bytes (Ok n) →
+pub writes_ok : {M : Type 0} (state : M → MakerState) (before after : ServerLinkState M) (bytes : List ℕ) (n : ℕ) → before.faults ≡ 0 → after.starved ≡ before.starved → Did state before.server after.server before.ever after.ever before.sent after.sent bytes (Ok n) →
     WritesTo state before after bytes (Ok n)
-writes_ok state before after bytes n none (Did.goes_on m is whole server ever) = WritesTo.goes_on m none (let e : n ≡ m = cc in ap Ok e) whole server ever
-writes_ok state before after bytes n none (Did.ends m message response is split_is answers ever) = WritesTo.ends m message response none (let e : n ≡ m = cc in ap Ok e) split_is answers ever
-writes_ok state before after bytes n none (Did.formless m refusal is message kept answers kind) = absurd (cc)
-writes_ok state before after bytes n none (Did.no_memory is) = absurd (cc)
+writes_ok state before after bytes n none fed (Did.goes_on m is all whole server ever) = WritesTo.goes_on m none fed (let e : n ≡ m = cc in ap Ok e) all whole server ever
+writes_ok state before after bytes n none fed (Did.ends m message response is split_is answers ever) = WritesTo.ends m message response none fed (let e : n ≡ m = cc in ap Ok e) split_is answers ever
+writes_ok state before after bytes n none fed (Did.formless m refusal is message kept answers kind) = absurd (cc)
+writes_ok state before after bytes n none fed (Did.no_memory is) = absurd (cc)
 
-pub writes_formless : {M : Type 0} (state : M → MakerState) (before after : ServerLinkState M) (bytes : List ℕ) (refusal : Refusal) → before.faults ≡ 0 → is_memory refusal ≡ false → after.kept ≡ kept_in refusal →
+pub writes_formless : {M : Type 0} (state : M → MakerState) (before after : ServerLinkState M) (bytes : List ℕ) (refusal : Refusal) → before.faults ≡ 0 → after.starved ≡ before.starved → is_memory refusal ≡ false → after.kept ≡ kept_in refusal →
     Did state before.server after.server before.ever after.ever before.sent after.sent bytes (Err refusal) → WritesTo state before after bytes (Err Fault)
-writes_formless state before after bytes refusal none kind kept_is (Did.goes_on m is whole server ever) = absurd (cc)
-writes_formless state before after bytes refusal none kind kept_is (Did.ends m message response is split_is answers ever) = absurd (cc)
-writes_formless state before after bytes refusal none kind kept_is (Did.formless m refusal' is message kept answers kind') =
+writes_formless state before after bytes refusal none fed kind kept_is (Did.goes_on m is all whole server ever) = absurd (cc)
+writes_formless state before after bytes refusal none fed kind kept_is (Did.ends m message response is split_is answers ever) = absurd (cc)
+writes_formless state before after bytes refusal none fed kind kept_is (Did.formless m refusal' is message kept answers kind') =
     let same : refusal' ≡ refusal = cc in
     let keeps : after.kept ≡ kept_in refusal' = kept_is ∙ ap kept_in (sym same) in
-    WritesTo.formless m none refl (ap is_message keeps ∙ message) (keeps ∙ kept) (subst (λ (b : List ℕ). Answers state before.server after.server b (Err NoForm)) (sym keeps) answers)
-writes_formless state before after bytes refusal none kind kept_is (Did.no_memory is) = absurd (let same : refusal ≡ Refusal.OutOfMemory = cc in let e : true ≡ false = sym (ap is_memory same) ∙ kind in cc)
+    WritesTo.formless m none fed refl (ap is_message keeps ∙ message) (keeps ∙ kept) (subst (λ (b : List ℕ). Answers state before.server after.server b (Err NoForm)) (sym keeps) answers)
+writes_formless state before after bytes refusal none fed kind kept_is (Did.no_memory is) = absurd (let same : refusal ≡ Refusal.OutOfMemory = cc in let e : true ≡ false = sym (ap is_memory same) ∙ kind in cc)

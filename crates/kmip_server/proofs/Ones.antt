@@ -1,10 +1,11 @@
 -- One call, as the code makes it.
 use Rattle.std.proofs.Common.{◌≡◌, ◌⊎◌, inl, inr, ℕ, ◌<◌, List, drop, length, refl, ◌∙◌, ap, sym, subst, Option, Some, None, Bool, true, false, Result, Ok, Err}
 use Rattle.kmip_shape.specs.Val.{Val}
-use Rattle.kmip_link.specs.State.{LinkState}
+use Rattle.kmip_link.specs.State.{LinkState, Keeps}
 use Rattle.kmip_client.specs.Calls.{IsCall}
 use Rattle.kmip_client.specs.Client.{ClientState, loses_connection, lacks_memory, counted}
 use Rattle.kmip_client.specs.Outcome.{Answer}
+use Rattle.kmip_client.proofs.Transfers.{keeps_self}
 use Rattle.kmip_client.specs.declared.error.Error.{Error}
 use Rattle.kmip_client.specs.declared.error.Error.TheVariants.{OutOfMemory}
 use Rattle.kmip_store.specs.declared.call.Call.{Call}
@@ -17,7 +18,7 @@ use Rattle.kmip_server.specs.Calls.{IsAsked, called, not_made, answered_seen, ca
 use Rattle.kmip_server.specs.declared.answers.Answered.{Answered}
 use Rattle.kmip_server.specs.declared.answers.CallAnswer.{CallAnswer}
 use Rattle.kmip_server.proofs.Frames.{AreMessages}
-use Rattle.kmip_server.proofs.Opened.{AreRequests, code_told, called_of}
+use Rattle.kmip_server.proofs.Opened.{AreRequests, code_told, called_of, time_same}
 use Rattle.kmip_server.proofs.Cuts.{cut_called}
 
 helped_keeps : (call : Call) (answer : Answer) → loses_connection (helped call answer) ≡ loses_connection answer
@@ -79,3 +80,27 @@ counted_so before looked after closed told_client call result lost lacks same (c
     ∙ ap (λ (c : ClientState _). counted c.errors lost) same
 counted_so before looked after closed told_client call result lost lacks same (not_made is stays) lacks_is room closed_is told_is lost_is =
     absurd (let e : lacks_memory (answered_seen result) ≡ true = ap (λ r. lacks_memory (answered_seen r)) is in let f : lacks_memory (answered_seen result) ≡ false = sym lacks_is ∙ room in cc)
+
+-- ---- what a call leaves of its client, whatever it answered
+
+same_settings : {M : Type 0} (x y : ClientState (ServerLinkState M)) → x.credential ≡ y.credential → x.limit ≡ y.limit → x.buffered ≡ y.buffered → x.link.server.time ≡ y.link.server.time → settings_of x ≡ settings_of y
+same_settings x y a b c d = rw (a, b, c, d) refl
+
+asked_settings : {M : Type 0} (state : M → MakerState) (before after : ClientState (ServerLinkState M)) (call : Call) (result : Result Answered Error) → IsAsked (server_link_state state) call before after result →
+    settings_of after ≡ settings_of before
+asked_settings state before after call result (called answer is_call is) = same_settings after before is_call.credential is_call.limit is_call.buffered (time_same state before.link after.link is_call.keeps.mark)
+asked_settings state before after call result (not_made is stays) = ap settings_of stays
+
+asked_keeps : {M : Type 0} (state : M → MakerState) (before after : ClientState (ServerLinkState M)) (call : Call) (result : Result Answered Error) → IsAsked (server_link_state state) call before after result →
+    Keeps (server_link_state state before.link) (server_link_state state after.link)
+asked_keeps state before after call result (called answer is_call is) = is_call.keeps
+asked_keeps state before after call result (not_made is stays) = rw stays (keeps_self _)
+
+-- where the code looked at the client before and after
+pub settings_so : {M : Type 0} (state : M → MakerState) (before looked after last : ClientState (ServerLinkState M)) (call : Call) (result : Result Answered Error) → looked ≡ before → IsAsked (server_link_state state) call looked after result → last ≡ after →
+    settings_of last ≡ settings_of before
+settings_so state before looked after last call result same asked last_is = ap settings_of last_is ∙ asked_settings state looked after call result asked ∙ ap settings_of same
+
+pub keeps_so : {M : Type 0} (state : M → MakerState) (before looked after last : ClientState (ServerLinkState M)) (call : Call) (result : Result Answered Error) → looked ≡ before → IsAsked (server_link_state state) call looked after result → last ≡ after →
+    Keeps (server_link_state state before.link) (server_link_state state last.link)
+keeps_so state before looked after last call result same asked last_is = rw (last_is, ← same) (asked_keeps state looked after call result asked)

@@ -138,8 +138,8 @@ pub record Accepted (bytes : List ℕ) (n : ℕ) (ever ever' sent sent' : List �
 
 -- What a link that was not faulted did with bytes: `server`, `ever` and `sent` are those before, and the next of each those after.
 pub data Did {M : Type 0} (state : M → MakerState) (server server' : ServerState M) (ever ever' sent sent' bytes : List ℕ) (result : Result ℕ Refusal) : Type 0 where
-  -- the begun message goes on
-  goes_on : (n : ℕ) → result ≡ Ok n → (split sent').whole ≡ (split sent).whole → server' ≡ server → ever' ≡ ever →
+  -- all bytes are taken, and the begun message goes on
+  goes_on : (n : ℕ) → result ≡ Ok n → n ≡ length bytes → (split sent').whole ≡ (split sent).whole → server' ≡ server → ever' ≡ ever →
       Did state server server' ever ever' sent sent' bytes result
   -- it ends, and the server's response to it comes after what was readable
   ends : (n : ℕ) (message response : List ℕ) → result ≡ Ok n → split sent' ≡ record { whole = (split sent).whole ++ message ∷ []; begun = [] } →
@@ -152,15 +152,16 @@ pub data Did {M : Type 0} (state : M → MakerState) (server server' : ServerSta
   no_memory : result ≡ Err Refusal.OutOfMemory → Did state server server' ever ever' sent sent' bytes result
 
 -- What a write did. It answers `Fault` exactly where the link is faulted already, and then the server isn't asked; and where it
--- ends a message whose response has no wire form, which the link keeps.
+-- ends a message whose response has no wire form, which the link keeps. It takes bytes up to the end of a message, and starves the
+-- link only where memory runs out.
 pub data WritesTo {M : Type 0} (state : M → MakerState) (before after : ServerLinkState M) (bytes : List ℕ) (result : Result ℕ LinkError) : Type 0 where
-  refused : 0 < before.faults → result ≡ Err Fault → after.server ≡ before.server → after.kept ≡ before.kept → WritesTo state before after bytes result
-  goes_on : (n : ℕ) → before.faults ≡ 0 → result ≡ Ok n → (split after.sent).whole ≡ (split before.sent).whole → after.server ≡ before.server → after.ever ≡ before.ever →
+  refused : 0 < before.faults → result ≡ Err Fault → after.starved ≡ before.starved → after.server ≡ before.server → after.kept ≡ before.kept → WritesTo state before after bytes result
+  goes_on : (n : ℕ) → before.faults ≡ 0 → after.starved ≡ before.starved → result ≡ Ok n → n ≡ length bytes → (split after.sent).whole ≡ (split before.sent).whole → after.server ≡ before.server → after.ever ≡ before.ever →
       WritesTo state before after bytes result
-  ends : (n : ℕ) (message response : List ℕ) → before.faults ≡ 0 → result ≡ Ok n → split after.sent ≡ record { whole = (split before.sent).whole ++ message ∷ []; begun = [] } →
+  ends : (n : ℕ) (message response : List ℕ) → before.faults ≡ 0 → after.starved ≡ before.starved → result ≡ Ok n → split after.sent ≡ record { whole = (split before.sent).whole ++ message ∷ []; begun = [] } →
       Answers state before.server after.server message (Ok response) → after.ever ≡ before.ever ++ response →
       WritesTo state before after bytes result
-  formless : (n : ℕ) → before.faults ≡ 0 → result ≡ Err Fault → is_message after.kept ≡ true → after.kept ≡ (split before.sent).begun ++ take n bytes →
+  formless : (n : ℕ) → before.faults ≡ 0 → after.starved ≡ before.starved → result ≡ Err Fault → is_message after.kept ≡ true → after.kept ≡ (split before.sent).begun ++ take n bytes →
       Answers state before.server after.server after.kept (Err NoForm) → WritesTo state before after bytes result
   -- the link is starved from then on
   no_memory : before.faults ≡ 0 → result ≡ Err OutOfMemory → after.starved ≡ true → after.faults ≡ 0 → WritesTo state before after bytes result

@@ -37,3 +37,4 @@ pub record Takes (begun bytes message : List ℕ) (whole : Bool) : Type 0 where
   pub split_is : (w : List (List ℕ)) → fold took (record { whole = w; begun = begun }) (take n bytes) ≡
       (if whole then record { whole = w ++ message ∷ []; begun = [] } else record { whole = w; begun = message })
   pub ends : whole ≡ true → (0 < n) × (is_message message ≡ true)
+  pub all : whole ≡ false → n ≡ length bytes

@@ -1,5 +1,6 @@
 //! One call of a client over a server.
 ghost use Rattle.std.specs.Prelude.{◌≡◌, List, IfOk, IfErr, option_map, drop, length, true};
+ghost use Rattle.kmip_link.specs.State.{Keeps};
 ghost use Rattle.kmip_client.specs.Client.{loses_connection, lacks_memory, counted, ClientState};
 ghost use Rattle.kmip_client.specs.Outcome.{seen_by};
 ghost use Rattle.kmip_client.specs.declared.error.Error.TheVariants.{OutOfMemory as no_memory};
@@ -189,7 +190,8 @@ pub fn make_call<M: Maker>(
     call: &Call,
 ) -> Result<(CallAnswer, bool)>
     ensures called { IfOk result (λ r. IsOpen M.state client.old.link → IsCalled M.state (settings_of client.old) call.now client.old.link client.new.link (call_told r.0) r.1) }
-    ensures settings { IfOk result (λ r. settings_of client.new ≡ settings_of client.old) }
+    ensures keeps { Keeps (server_link_state M.state client.old.link) (server_link_state M.state client.new.link) }
+    ensures settings { settings_of client.new ≡ settings_of client.old }
     ensures known { IfOk result (λ r. IsKnown M.state client.new.link) }
     ensures lost { IfOk result (λ r. r.1 ≡ loses_connection (call_told r.0).answer) }
     ensures count { IfOk result (λ r. client.new.errors ≡ counted client.old.errors r.1) }

@@ -1,5 +1,6 @@
 //! Calls of a client over a server.
 ghost use Rattle.std.specs.Prelude.{◌≡◌, ◌∷◌, ◌<◌, [], List, map, IfOk, IfErr, true, false};
+ghost use Rattle.kmip_link.specs.State.{Keeps};
 ghost use Rattle.kmip_client.specs.Client.{counted};
 ghost use Rattle.kmip_client.specs.declared.error.Error.TheVariants.{OutOfMemory as no_memory};
 ghost use Rattle.kmip_server.specs.Calls.{call_told, settings_of, expected_of, finish_of};
@@ -53,8 +54,9 @@ pub fn call_all<M: Maker>(
         0 < client.new.link.faults) }
     ensures count { IfOk result (λ answers.
         client.new.errors ≡ counted client.old.errors (ends_lost (map call_told answers))) }
-    ensures settings { IfOk result (λ answers.
-        settings_of client.new ≡ settings_of client.old) }
+    ensures keeps { Keeps (server_link_state M.state client.old.link)
+        (server_link_state M.state client.new.link) }
+    ensures settings { settings_of client.new ≡ settings_of client.old }
     ensures memory { IfErr result (λ e. e ≡ no_memory) }
 {
     own_call();
@@ -74,8 +76,9 @@ fn calls_over<M: Maker>(
         client.new.link calls (map call_told answers)) }
     ensures count { IfOk result (λ answers.
         client.new.errors ≡ counted client.old.errors (ends_lost (map call_told answers))) }
-    ensures settings { IfOk result (λ answers.
-        settings_of client.new ≡ settings_of client.old) }
+    ensures keeps { Keeps (server_link_state M.state client.old.link)
+        (server_link_state M.state client.new.link) }
+    ensures settings { settings_of client.new ≡ settings_of client.old }
     ensures memory { IfErr result (λ e. e ≡ no_memory) }
 {
     look(client);

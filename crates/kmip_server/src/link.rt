@@ -1,5 +1,5 @@
 //! A link round a server of its own.
-ghost use Rattle.std.specs.Prelude.{◌≡◌, ◌<◌, ◌≤◌, ◌++◌, [], true, false, IsTrue, length, take, ◌≢◌, IfOk, OnErr, IsErrOf, ℕ, List};
+ghost use Rattle.std.specs.Prelude.{◌≡◌, ◌<◌, ◌≤◌, ◌++◌, [], true, false, IsTrue, length, take, ◌≢◌, IfOk, IfErr, OnErr, IsErrOf, ℕ, List};
 ghost use Rattle.kmip_link.specs.declared.link.LinkError.{LinkError};
 ghost use Rattle.kmip_link.specs.State.{Keeps, IsIdle, Reads, Writes, Rose};
 ghost use Rattle.kmip_store.specs.Makers.{MakerKeeps};
@@ -156,7 +156,16 @@ fn accept<M: Maker>(
 impl<M: Maker> Link for ServerLink<M> {
     ghost state = { server_link_state M.state };
 
-    fn read(&mut self, into: &mut [u8]) -> Result<usize, LinkError> {
+    /// Moves what the server answered to the front of `into`. It answers no error.
+    fn read(&mut self, into: &mut [u8]) -> Result<usize, LinkError>
+        ensures keeps { Keeps (server_link_state M.state self.old) (server_link_state M.state self.new) }
+        ensures bound { IfOk result (λ n. n ≤ length into.new) }
+        ensures moved { IfOk result (λ n. Reads (server_link_state M.state self.old) (server_link_state M.state self.new) into.new n) }
+        ensures idle { OnErr result (IsIdle (server_link_state M.state self.old) (server_link_state M.state self.new)) }
+        ensures cause { IsErrOf result LinkError.Fault → Rose self.old.faults self.new.faults }
+        ensures never { IfErr result (λ e. ⊥) }
+        ensures rest { self.new ≡ record self.old { pos = self.new.pos } }
+    {
         let count = into.len().min(self.ever.len() - self.pos);
         into[..count].copy_from_slice(&self.ever[self.pos..self.pos + count]);
         self.pos += count;

@@ -1,5 +1,6 @@
 use Rattle.std.proofs.Common.{◌≡◌, ◌+◌, ◌≤◌, drop, length, map, refl, sym, ◌∙◌, ap, arith, Bool, ℕ}
 use Rattle.kmip_client.specs.Client.{counted}
+use Rattle.kmip_client.proofs.Transfers.{keeps_on}
 use Rattle.kmip_server.specs.Calls.{call_told, settings_of}
 use Rattle.kmip_server.specs.Joined.{Settings}
 use Rattle.kmip_server.specs.Link.{server_link_state}
@@ -10,7 +11,8 @@ pub loop-call-preserved : goal.loop-call-preserved
 loop-call-preserved g c =
     let i = c.loop-call.invariant in
     record {
-      settings = c.in_ok-answer.ensures.settings ∙ i.settings;
+      keeps = keeps_on i.keeps c.make_call.ensures.keeps;
+      settings = c.make_call.ensures.settings ∙ i.settings;
       errors = c.in_ok-answer.ensures.count ∙ ap (λ (b : Bool). counted c.loop-call.client.errors b) c.if-lost.false ∙ i.errors;
       connected = ends_with c.loop-call.answers c.push.new.self c.in_ok-answer.answer c.in_ok-answer.lost c.in_ok-push.ensures c.in_ok-answer.ensures.lost ∙ c.if-lost.false;
       known = c.in_ok-answer.ensures.known;
@@ -23,7 +25,7 @@ loop-call-preserved g c =
 pub returns-then-lost-clause-ended : goal.returns-then-lost-clause-ended
 returns-then-lost-clause-ended g c =
     let i = c.loop-call.invariant in
-    let time = ap (λ (s : Settings). s.time) (c.in_ok-answer.ensures.settings ∙ i.settings) in
+    let time = ap (λ (s : Settings). s.time) (c.make_call.ensures.settings ∙ i.settings) in
     rw (← c.look.ensures.stays, ← c.as_slice-call-items.ensures)
     (λ opened. going_lost g.M.Maker.state (settings_of c.look.new.client) (settings_of c.loop-call.client) (server_link_state g.M.Maker.state c.look.new.client.link)
     c.loop-call.client.link c.make_call.new.client.link c.as_slice-call-items.result.now c.loop-call.call-index c.call-item.result c.loop-call.answers c.push.new.self c.in_ok-answer.answer c.in_ok-answer.lost

@@ -51,7 +51,8 @@ pub returns-then-not-whole-clause-did : goal.returns-then-not-whole-clause-did
 returns-then-not-whole-clause-did g c is =
     let takes : Takes c.args.begun.now.items c.args.bytes.now c.in_ok-message.message.items c.in_ok-message.whole = rw (← c.deref.ensures.value) c.in_ok-message.ensures in
     let sent : c.extend_from_slice.new.self.items ≡ c.args.sent.now.items ++ take (length c.in_ok-message.message.items - length c.args.begun.now.items) c.args.bytes.now = grind (arith, common_steps) in
-    did_not_whole _ _ _ _ _ _ _ _ _ _ takes c.if-not-whole.true sent is
+    let count : c.len.result - c.len-2.result ≡ length c.in_ok-message.message.items - length c.args.begun.now.items = grind (arith, common_steps) in
+    did_not_whole _ _ _ _ _ _ _ _ _ _ takes c.if-not-whole.true count sent is
 
 pub returns-in_ok-grow_both-in-Ok-clause-did : goal.returns-in_ok-grow_both-in-Ok-clause-did
 returns-in_ok-grow_both-in-Ok-clause-did g c is =
