@@ -1,5 +1,5 @@
 -- The messages in bytes that were sent one after the other.
-use Rattle.std.specs.Prelude.{◌≡◌, ℕ, ◌+◌, ◌<◌, ◌≤◌, ◌==◌, ◌&&◌, nat_le, Bool, true, List, [], ◌∷◌, ◌++◌, length, take, fold, if◌then◌else◌}
+use Rattle.std.specs.Prelude.{◌≡◌, ℕ, ◌+◌, ◌<◌, ◌≤◌, ◌==◌, ◌&&◌, nat_le, Bool, true, false, List, [], ◌∷◌, ◌++◌, length, take, fold, if◌then◌else◌}
 use Rattle.kmip_wire.specs.Head.{head_length}
 
 -- whether bytes are a head and as many more as it tells, whatever its type (KMIP 1.0, 9.1.1)
