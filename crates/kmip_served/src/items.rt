@@ -111,7 +111,8 @@ fn operations(alloc: Global) -> Result<List<Operation>, OutOfMemory>
 
 /// The types of the objects of a store.
 fn object_types(alloc: Global) -> Result<List<ObjectType>, OutOfMemory>
-    ensures { IfOk result (λ object_types. object_types ≡ types.PublicKey ∷ types.PrivateKey ∷ []) }
+    ensures { IfOk result (λ object_types.
+        object_types ≡ types.PublicKey ∷ types.PrivateKey ∷ []) }
 {
     let mut object_types = List::new(alloc);
     object_types.push(ObjectType::PublicKey)?;
@@ -182,7 +183,8 @@ pub fn sign_item(
 
 /// A payload that names an object.
 fn named(alloc: Global, id: &Text) -> Result<UniqueIdentifierResponsePayload, OutOfMemory>
-    ensures { IfOk result (λ payload. payload ≡ record { unique_identifier = record { 0 = id.now } }) }
+    ensures { IfOk result (λ payload.
+        payload ≡ record { unique_identifier = record { 0 = id.now } }) }
 {
     Ok(UniqueIdentifierResponsePayload {
         unique_identifier: UniqueIdentifier(id.try_clone(alloc)?),

@@ -59,7 +59,8 @@ fn destroys(store: &Store, id: &str) -> Result<(), StoreError>
 
 /// What the store will answer to a call that gives the object another name, memory aside.
 fn renames(store: &Store, id: &str) -> Result<(), StoreError>
-    ensures { told (λ _. Done) result ≡ Some (foretold (λ object. not (is_destroyed object.state))
+    ensures { told (λ _. Done) result ≡ Some (foretold
+        (λ object. not (is_destroyed object.state))
         (option_map object_of (found store.now id.now))) }
 {
     match store.find(id) {

@@ -62,7 +62,8 @@ impl Stamp {
         reason: ResultReason,
         text: &str,
     ) -> Result<Blob, WireError>
-        ensures { IsWritten (message_with self.now.time (failed_item operation reason text.now)) result }
+        ensures { IsWritten (message_with self.now.time
+            (failed_item operation reason text.now)) result }
     {
         let item = failed(self.alloc, operation, reason, text)?;
         self.write(item)

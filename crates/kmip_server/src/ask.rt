@@ -26,7 +26,8 @@ fn unit(answer: Result<()>) -> Result<Answered>
 }
 
 fn pair(answer: Result<(Text, Text)>) -> Result<Answered>
-    ensures { result ≡ projected (λ identifiers. answered.Pair identifiers.0 identifiers.1) answer }
+    ensures { result ≡
+        projected (λ identifiers. answered.Pair identifiers.0 identifiers.1) answer }
 {
     match answer {
         Ok((private_key, public_key)) => Ok(Answered::Pair(private_key, public_key)),
@@ -87,7 +88,9 @@ fn create<T: Link>(
     private_name: &Text,
     public_name: &Text,
 ) -> Result<Answered>
-    ensures { IsAsked T.state (calls.CreateRsaKeyPair key_length private_name.now public_name.now) client.old client.new result }
+    ensures { IsAsked T.state
+        (calls.CreateRsaKeyPair key_length private_name.now public_name.now)
+        client.old client.new result }
 {
     let private_name = private_name.try_clone(alloc)?;
     let public_name = public_name.try_clone(alloc)?;

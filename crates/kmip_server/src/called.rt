@@ -103,7 +103,8 @@ fn settle<M: Maker>(
     call: &Call,
     answer: &Result<Answered>,
 ) -> std::result::Result<(), OutOfMemory>
-    ensures settled { IfOk result (λ _. IsSettledBy call.now (answered_seen answer.now) client.old.link) }
+    ensures settled { IfOk result (λ _.
+        IsSettledBy call.now (answered_seen answer.now) client.old.link) }
     ensures kept { IsKnown M.state client.old.link }
     ensures stays { client.new ≡ client.old }
 {
@@ -157,7 +158,12 @@ fn told<M: Maker>(
     from: usize,
     answer: Result<Answered>,
 ) -> std::result::Result<CallAnswer, OutOfMemory>
-    ensures told { IfOk result (λ x. x ≡ record { sent = drop from client.old.link.sent; answer = answer; req_diag = client.old.request_text; res_diag = client.old.response_text }) }
+    ensures told { IfOk result (λ x. x ≡ record {
+      sent = drop from client.old.link.sent;
+      answer = answer;
+      req_diag = client.old.request_text;
+      res_diag = client.old.response_text;
+    }) }
     ensures stays { client.new ≡ client.old }
 {
     let sent = sent_from(alloc, client, from)?;
@@ -189,8 +195,11 @@ pub fn make_call<M: Maker>(
     client: &mut Client<ServerLink<M>>,
     call: &Call,
 ) -> Result<(CallAnswer, bool)>
-    ensures called { IfOk result (λ r. IsOpen M.state client.old.link → IsCalled M.state (settings_of client.old) call.now client.old.link client.new.link (call_told r.0) r.1) }
-    ensures keeps { Keeps (server_link_state M.state client.old.link) (server_link_state M.state client.new.link) }
+    ensures called { IfOk result (λ r. IsOpen M.state client.old.link →
+        IsCalled M.state (settings_of client.old) call.now client.old.link client.new.link
+        (call_told r.0) r.1) }
+    ensures keeps { Keeps (server_link_state M.state client.old.link)
+        (server_link_state M.state client.new.link) }
     ensures settings { settings_of client.new ≡ settings_of client.old }
     ensures known { IfOk result (λ r. IsKnown M.state client.new.link) }
     ensures lost { IfOk result (λ r. r.1 ≡ loses_connection (call_told r.0).answer) }

@@ -31,16 +31,40 @@ pub struct ServerLink<M: Maker> {
 impl<M: Maker> Model for ServerLink<M> {
     ghost Value = { ServerLinkState M };
 
-    ghost view = { λ l. record { server = l.server; ever = l.ever.items; pos = l.pos; sent = l.sent.items; kept = l.kept.items; faults = l.faults; starved = l.starved } };
+    ghost view = { λ l. record {
+      server = l.server;
+      ever = l.ever.items;
+      pos = l.pos;
+      sent = l.sent.items;
+      kept = l.kept.items;
+      faults = l.faults;
+      starved = l.starved;
+    } };
 
-    ghost invariant = { λ l. IsKept M.state (record { server = l.server; ever = l.ever.items; pos = l.pos; sent = l.sent.items; kept = l.kept.items; faults = l.faults; starved = l.starved }) l.begun.items };
+    ghost invariant = { λ l. IsKept M.state (record {
+      server = l.server;
+      ever = l.ever.items;
+      pos = l.pos;
+      sent = l.sent.items;
+      kept = l.kept.items;
+      faults = l.faults;
+      starved = l.starved;
+    }) l.begun.items };
 }
 
 impl<M: Maker> ServerLink<M> {
     /// A link round a server with no objects. It takes no memory.
     pub fn new(alloc: Global, maker: M, time_stamp: i64) -> ServerLink<M>
         requires { IsTrue (M.state maker).tells → IsUnused (M.state maker) }
-        ensures { result ≡ record { server = record { objects = []; maker = maker; time = time_stamp }; ever = []; pos = 0; sent = []; kept = []; faults = 0; starved = false } }
+        ensures { result ≡ record {
+          server = record { objects = []; maker = maker; time = time_stamp };
+          ever = [];
+          pos = 0;
+          sent = [];
+          kept = [];
+          faults = 0;
+          starved = false;
+        } }
     {
         ServerLink {
             alloc,
@@ -126,12 +150,21 @@ fn accept<M: Maker>(
     begun: &mut Vec<u8>,
     bytes: &[u8],
 ) -> Result<usize, Refusal>
-    ensures ok { IfOk result (λ n. Accepted bytes.now n ever.old.items ever.new.items sent.old.items sent.new.items) }
-    ensures held { IfOk result (λ n. IsTrue (M.state server.old.maker).tells → Holds M.state server.old ever.old.items sent.old.items begun.old.items → Holds M.state server.new ever.new.items sent.new.items begun.new.items) }
-    ensures refused { IsTrue (M.state server.old.maker).tells → Holds M.state server.old ever.old.items sent.old.items begun.old.items → IsRefused M.state server.new ever.new.items sent.new.items result }
-    ensures did { begun.old.items ≡ (split sent.old.items).begun → Did M.state server.old server.new ever.old.items ever.new.items sent.old.items sent.new.items bytes.now result }
-    ensures begun { IfOk result (λ n. begun.old.items ≡ (split sent.old.items).begun → begun.new.items ≡ (split sent.new.items).begun) }
-    ensures err { OnErr result ((ever.new.items ≡ ever.old.items) × (sent.new.items ≡ sent.old.items) × (begun.new.items ≡ begun.old.items)) }
+    ensures ok { IfOk result (λ n. Accepted bytes.now n
+        ever.old.items ever.new.items sent.old.items sent.new.items) }
+    ensures held { IfOk result (λ n. IsTrue (M.state server.old.maker).tells →
+        Holds M.state server.old ever.old.items sent.old.items begun.old.items →
+        Holds M.state server.new ever.new.items sent.new.items begun.new.items) }
+    ensures refused { IsTrue (M.state server.old.maker).tells →
+        Holds M.state server.old ever.old.items sent.old.items begun.old.items →
+        IsRefused M.state server.new ever.new.items sent.new.items result }
+    ensures did { begun.old.items ≡ (split sent.old.items).begun →
+        Did M.state server.old server.new ever.old.items ever.new.items
+        sent.old.items sent.new.items bytes.now result }
+    ensures begun { IfOk result (λ n. begun.old.items ≡ (split sent.old.items).begun →
+        begun.new.items ≡ (split sent.new.items).begun) }
+    ensures err { OnErr result ((ever.new.items ≡ ever.old.items)
+        × (sent.new.items ≡ sent.old.items) × (begun.new.items ≡ begun.old.items)) }
     ensures keeps { MakerKeeps (M.state server.old.maker) (M.state server.new.maker) }
     ensures time { server.new.time ≡ server.old.time }
 {
@@ -158,10 +191,13 @@ impl<M: Maker> Link for ServerLink<M> {
 
     /// Moves what the server answered to the front of `into`. It answers no error.
     fn read(&mut self, into: &mut [u8]) -> Result<usize, LinkError>
-        ensures keeps { Keeps (server_link_state M.state self.old) (server_link_state M.state self.new) }
+        ensures keeps { Keeps (server_link_state M.state self.old)
+            (server_link_state M.state self.new) }
         ensures bound { IfOk result (λ n. n ≤ length into.new) }
-        ensures moved { IfOk result (λ n. Reads (server_link_state M.state self.old) (server_link_state M.state self.new) into.new n) }
-        ensures idle { OnErr result (IsIdle (server_link_state M.state self.old) (server_link_state M.state self.new)) }
+        ensures moved { IfOk result (λ n. Reads (server_link_state M.state self.old)
+            (server_link_state M.state self.new) into.new n) }
+        ensures idle { OnErr result (IsIdle (server_link_state M.state self.old)
+            (server_link_state M.state self.new)) }
         ensures cause { IsErrOf result LinkError.Fault → Rose self.old.faults self.new.faults }
         ensures never { IfErr result (λ e. ⊥) }
         ensures rest { self.new ≡ record self.old { pos = self.new.pos } }
@@ -177,11 +213,14 @@ impl<M: Maker> Link for ServerLink<M> {
     /// `Fault` comes exactly where the link is faulted already, and then the server isn't asked, or where the message
     /// ends whose response has no wire form: the link keeps that message.
     fn write(&mut self, bytes: &[u8]) -> Result<usize, LinkError>
-        ensures keeps { Keeps (server_link_state M.state self.old) (server_link_state M.state self.new) }
+        ensures keeps { Keeps (server_link_state M.state self.old)
+            (server_link_state M.state self.new) }
         ensures bound { IfOk result (λ n. n ≤ length bytes.now) }
         ensures some { IfOk result (λ n. 0 < length bytes.now → 0 < n) }
-        ensures moved { IfOk result (λ n. Writes (server_link_state M.state self.old) (server_link_state M.state self.new) (take n bytes.now)) }
-        ensures idle { OnErr result (IsIdle (server_link_state M.state self.old) (server_link_state M.state self.new)) }
+        ensures moved { IfOk result (λ n. Writes (server_link_state M.state self.old)
+            (server_link_state M.state self.new) (take n bytes.now)) }
+        ensures idle { OnErr result (IsIdle (server_link_state M.state self.old)
+            (server_link_state M.state self.new)) }
         ensures cause { IsErrOf result LinkError.Fault → Rose self.old.faults self.new.faults }
         ensures answers { WritesTo M.state self.old self.new bytes.now result }
     {

@@ -44,7 +44,8 @@ pub fn grow_both(
 ) -> Result<(), AllocError>
     ensures ever { OnOk result (ever.new.items ≡ ever.old.items ++ response.now) }
     ensures sent { OnOk result (sent.new.items ≡ sent.old.items ++ bytes.now) }
-    ensures err { OnErr result ((ever.new.items ≡ ever.old.items) × (sent.new.items ≡ sent.old.items)) }
+    ensures err { OnErr result ((ever.new.items ≡ ever.old.items)
+        × (sent.new.items ≡ sent.old.items)) }
 {
     let before = ever.len();
     ever.extend_from_slice(response)?;
