@@ -1,6 +1,6 @@
 //! What the tests share. No function here has a clause, so that a test's proof has none to meet.
-use kmip_client::{Client, ClientBuilder, Error};
-use kmip_server::{Answered, Call, CallAnswers, ServerLink};
+use kmip_client::{Client, ClientBuilder};
+use kmip_server::{Answered, Call, CallAnswer, CallAnswers, ServerLink};
 use kmip_shape::ShowItem;
 use kmip_store::Maker;
 use kmip_wire::{Blob, Config, List, Text};
@@ -55,6 +55,23 @@ fn shown(alloc: Global, answered: &Answered) -> Result<Text, Fail> {
     Ok(shown)
 }
 
+/// The call's answer is shown as this text, or has it as its error.
+fn answer_is(
+    rt: &impl Abort,
+    alloc: Global,
+    answer: &CallAnswer,
+    expected: &str,
+) -> Result<(), Fail> {
+    match &answer.answer {
+        Ok(answered) => {
+            let shown = shown(alloc, answered)?;
+            assert_eq!(rt; shown.as_str(), expected);
+        }
+        Err(error) => assert_eq!(rt; error.text(), expected),
+    }
+    Ok(())
+}
+
 /// The text that each call's answer is shown as, or its error.
 pub fn answers_are(
     rt: &impl Abort,
@@ -63,24 +80,17 @@ pub fn answers_are(
     expected: &[&str],
 ) -> Result<(), Fail> {
     assert_eq!(rt; answers.len(), expected.len());
-    let mut place = 0;
+    let mut left = expected;
     for answer in answers.as_slice() {
-        match &answer.answer {
-            Ok(answered) => {
-                let shown = shown(alloc, answered)?;
-                assert_eq!(rt; shown.as_str(), expected[place]);
-            }
-            Err(error) => assert_eq!(rt; error.text(), expected[place]),
-        }
-        place += 1;
+        let [first, rest @ ..] = left else {
+            return Err(Fail::from("more calls"));
+        };
+        answer_is(rt, alloc, answer, first)?;
+        left = rest;
     }
     Ok(())
 }
 
 pub fn calls(alloc: Global) -> List<Call> {
     List::new(alloc)
-}
-
-pub fn is_memory(error: &Error) -> bool {
-    matches!(error, Error::OutOfMemory)
 }
