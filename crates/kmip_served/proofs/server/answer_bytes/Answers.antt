@@ -12,6 +12,6 @@ pub returns-in-Err-Malformed-clause-answers : goal.returns-in-Err-Malformed-clau
 returns-in-Err-Malformed-clause-answers g c =
     invalid_bytes c.args.store.now c.args.request.now (g.M.Maker.state c.args.maker.now) c.args.stamp.now.time c.refuse.result (c.in-Err-Malformed.ensures.unread (inl (ap Err c.in-Err-Malformed.field-0-is))) c.refuse.ensures
 
-pub returns-clause-answers : goal.returns-clause-answers
-returns-clause-answers g c =
+pub returns-in-Err-NotCanonical-clause-answers : goal.returns-in-Err-NotCanonical-clause-answers
+returns-in-Err-NotCanonical-clause-answers g c =
     invalid_bytes c.args.store.now c.args.request.now (g.M.Maker.state c.args.maker.now) c.args.stamp.now.time c.refuse-in-Err-NotCanonical.result (c.in-Err-NotCanonical.ensures.unread (inr (ap Err c.in-Err-NotCanonical.field-0-is))) c.refuse-in-Err-NotCanonical.ensures
