@@ -1,0 +1,8 @@
+pub mod Writing
+pub mod Answering
+pub mod Foretold
+pub mod Pairs
+pub mod Refused
+pub mod Requested
+pub mod Matched
+pub mod Settled

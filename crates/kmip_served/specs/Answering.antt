@@ -1,0 +1,104 @@
+-- What a server answered, and what it did to its objects and its maker.
+use Rattle.std.specs.Prelude.{◌≡◌, ℕ, ℤ, Bool, cond, List, [], ◌∷◌, ◌++◌, true, Option, Some, None, Result, Ok, Err, IsTrue}
+use Rattle.std.specs.Option.{option_map}
+use Rattle.kmip_wire.specs.declared.error.WireError.{WireError}
+use Rattle.kmip_wire.specs.declared.error.WireError.TheVariants.{NoForm, Malformed, OutOfMemory}
+use Rattle.kmip_response.specs.declared.batch_item.BatchItem.{BatchItem}
+use Rattle.kmip_response.specs.declared.message.ResponseMessage.{ResponseMessage}
+use Rattle.kmip_response_write.specs.Settled.{IsHeld, response_bytes}
+use Rattle.kmip_store.specs.Answers.{suits}
+use Rattle.kmip_store.specs.Makers.{MakerState}
+use Rattle.kmip_store.specs.Steps.{Answer, NotFound, Denied, Failed, Done, question}
+use Rattle.kmip_store.specs.declared.call.Call.{Call}
+use Rattle.kmip_store.specs.declared.error.StoreError.{StoreError}
+use Rattle.kmip_store.specs.declared.error.StoreError.TheVariants as errors
+use Rattle.kmip_store.specs.declared.maker.Asked.{Asked}
+use Rattle.kmip_store.specs.declared.maker.Made.{Made}
+use Rattle.kmip_store.specs.declared.object.Object.{Object}
+use Rattle.kmip_served.specs.Items.{item_for, message_with}
+use Rattle.kmip_served.specs.Served.{Served, served_call}
+
+abbrev pub listed : {T : Type 0} → Option T → List T
+listed None = []
+listed (Some x) = x ∷ []
+
+-- a maker's lists grew by the question, and by the answer to it, where there is one
+pub record Took (question : Option Asked) (made : Option Made) (before after : MakerState) : Type 0 where
+  pub asked : after.asked ≡ before.asked ++ listed question
+  pub given : after.given ≡ before.given ++ listed made
+
+-- The answer is one to the question: there is one exactly where there is a question, of the question's kind or a
+-- refusal. A maker that tells was asked the question and gave the answer, and nothing else.
+pub record IsGiven (question : Option Asked) (made : Option Made) (before after : MakerState) : Type 0 where
+  pub suits_it : suits question made ≡ true
+  pub took : IsTrue before.tells → Took question made before after
+
+-- what a writer of responses answered
+abbrev pub IsWritten : ResponseMessage → Result (List ℕ) WireError → Type 0
+IsWritten message (Ok bytes) = IsHeld message × (response_bytes message ≡ Some bytes)
+IsWritten message (Err NoForm) = response_bytes message ≡ None
+IsWritten message (Err Malformed) = ⊥
+IsWritten message (Err OutOfMemory) = Unit {0}
+
+-- the message of this time with this item is held, and written as these bytes
+abbrev pub IsTold : ℤ → BatchItem → List ℕ → Type 0
+IsTold time item bytes = IsWritten (message_with time item) (Ok bytes)
+
+-- The maker was asked the question and gave an answer, and with that answer what is served was told and done; or the
+-- message has no wire form, and the objects stay; or memory ran out, and the objects stay.
+pub data AnswersBy (question : Option Asked) (serve : Option Made → Served) (objects : List Object)
+    (before after : MakerState) (new : List Object) (result : Result (List ℕ) WireError) : Type 0 where
+  answered : (made : Option Made) (bytes : List ℕ) → IsGiven question made before after →
+      IsHeld (serve made).message → response_bytes (serve made).message ≡ Some bytes →
+      result ≡ Ok bytes → new ≡ (serve made).objects →
+      AnswersBy question serve objects before after new result
+  no_form : (made : Option Made) → IsGiven question made before after →
+      response_bytes (serve made).message ≡ None → result ≡ Err NoForm → new ≡ objects →
+      AnswersBy question serve objects before after new result
+  no_memory : result ≡ Err OutOfMemory → new ≡ objects →
+      AnswersBy question serve objects before after new result
+
+-- ---- results of the store
+
+abbrev pub refusal_of : StoreError → Option Answer
+refusal_of errors.ItemNotFound = Some NotFound
+refusal_of errors.PermissionDenied = Some Denied
+refusal_of errors.CryptographicFailure = Some Failed
+refusal_of errors.OutOfMemory = None
+
+-- a result as the answer of a step; none where memory ran out
+abbrev pub told : {T : Type 0} → (T → Answer) → Result T StoreError → Option Answer
+told answer (Ok x) = Some (answer x)
+told answer (Err error) = refusal_of error
+
+-- the item tells what a call of the store answered
+abbrev pub Tells : {T : Type 0} → (T → Answer) → Call → Result T StoreError → BatchItem → Type 0
+Tells answer call result item = option_map (item_for call) (told answer result) ≡ Some item
+
+-- ---- a helper's call
+
+-- what a server answered to the request of a helper's call
+abbrev pub Serves : Call → ℤ → List Object → MakerState → MakerState → List Object → Result (List ℕ) WireError → Type 0
+Serves call time objects before after new result = AnswersBy (question objects call)
+    (λ made. served_call objects call made time) objects before after new result
+
+-- the same of a call that asks no maker
+abbrev pub ServesAlone : Call → ℤ → List Object → List Object → Result (List ℕ) WireError → Type 0
+ServesAlone call time objects new result =
+    (maker : MakerState) → Serves call time objects maker maker new result
+
+-- what a store answers to a call that changes an object, by whether it has the object, and its state allows the call
+abbrev pub foretold : (Object → Bool) → Option Object → Answer
+foretold allows None = NotFound
+foretold allows (Some object) = cond (allows object) Done Denied
+
+-- the response, unless the store lacked memory for what it tells
+abbrev pub responded : Result (Unit {0}) StoreError → List ℕ → Result (List ℕ) WireError
+responded (Err errors.OutOfMemory) response = Err OutOfMemory
+responded _ response = Ok response
+
+-- of the response that tells of a pair and the one that refuses it, the one that the store's answer wants
+abbrev pub chosen : Result (List ℕ × List ℕ) StoreError → List ℕ → List ℕ → Result (List ℕ) WireError
+chosen (Ok pair) made refused = Ok made
+chosen (Err errors.CryptographicFailure) made refused = Ok refused
+chosen (Err _) made refused = Err OutOfMemory

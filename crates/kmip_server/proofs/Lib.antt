@@ -1,0 +1,15 @@
+pub mod Splits
+pub mod Frames
+pub mod Helds
+pub mod Steps
+pub mod Responses
+pub mod Readings
+pub mod Directs
+pub mod Asked
+pub mod Takes
+pub mod Accepts
+pub mod Opened
+pub mod Cuts
+pub mod Going
+pub mod ReadBack
+pub mod Ones

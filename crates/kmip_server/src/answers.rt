@@ -1,0 +1,37 @@
+//! What calls of a client over a server came to.
+
+use kmip_client::Result;
+use kmip_response::{
+    GetResponsePayload, ModifyAttributeResponsePayload, QueryResponsePayload,
+    RNGRetrieveResponsePayload, SignResponsePayload,
+};
+use kmip_wire::{Blob, List, Text};
+
+/// What a helper returned.
+#[derive(Drop)]
+pub enum Answered {
+    /// A key was activated, revoked or destroyed.
+    Unit,
+    /// The identifiers of the private and the public key of a new pair.
+    Pair(Text, Text),
+    Query(QueryResponsePayload),
+    Random(RNGRetrieveResponsePayload),
+    Signed(SignResponsePayload),
+    Renamed(ModifyAttributeResponsePayload),
+    Got(GetResponsePayload),
+}
+
+/// A call that was made.
+#[derive(Drop)]
+pub struct CallAnswer {
+    /// The bytes that its link took in this call.
+    pub sent: Blob,
+    pub answer: Result<Answered>,
+    /// The diagnostic of its request, where the client keeps diagnostics and the request is valid.
+    pub req_diag: Option<Text>,
+    /// That of the bytes that it took, where the client keeps diagnostics and the whole request was sent.
+    pub res_diag: Option<Text>,
+}
+
+/// The calls that were made, in order.
+pub type CallAnswers = List<CallAnswer>;

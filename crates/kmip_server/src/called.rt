@@ -1,0 +1,219 @@
+//! One call of a client over a server.
+ghost use Rattle.std.specs.Prelude.{◌≡◌, List, IfOk, IfErr, option_map, drop, length, true};
+ghost use Rattle.kmip_link.specs.State.{Keeps};
+ghost use Rattle.kmip_client.specs.Client.{loses_connection, lacks_memory, counted, ClientState};
+ghost use Rattle.kmip_client.specs.Outcome.{seen_by};
+ghost use Rattle.kmip_client.specs.declared.error.Error.TheVariants.{OutOfMemory as no_memory};
+ghost use Rattle.kmip_server.specs.Calls.{answered_val, answered_seen, call_told, settings_of};
+ghost use Rattle.kmip_server.specs.Came.{IsCalled, IsLeft, IsSettledBy, IsRequestOf, fails_writing};
+ghost use Rattle.kmip_server.specs.Link.{ServerLinkState, server_link_state, IsOpen, IsKnown};
+ghost use Rattle.kmip_server.specs.Joined.{IsReadBack};
+
+use crate::answers::{Answered, CallAnswer};
+use crate::ask::ask;
+use crate::link::ServerLink;
+use kmip_client::{Client, Error, Result};
+use kmip_request_read::{request_is_message, request_is_read};
+use kmip_served::{call_known, helper_is_matched, is_request_of};
+use kmip_store::{Call, Maker};
+use kmip_wire::{Blob, OutOfMemory, Text};
+use std::alloc::Global;
+
+/// How a call left its link.
+enum Left {
+    Open,
+    Faulted,
+    Starved,
+}
+
+/// Whether the connection failed.
+fn loses_connection(answer: &Result<Answered>) -> bool
+    ensures { result ≡ loses_connection (answered_seen answer.now) }
+{
+    match answer {
+        Ok(_) => false,
+        Err(error) => error.is_connection_error(),
+    }
+}
+
+/// Whether memory ran out.
+fn lacks_memory(answer: &Result<Answered>) -> bool
+    ensures { result ≡ lacks_memory (answered_seen answer.now) }
+{
+    match answer {
+        Err(Error::OutOfMemory) => true,
+        _ => false,
+    }
+}
+
+/// How many bytes were sent so far; and what holds of the link.
+pub fn look<M: Maker>(client: &mut Client<ServerLink<M>>) -> usize
+    ensures sent { result ≡ length client.old.link.sent }
+    ensures kept { IsKnown M.state client.old.link }
+    ensures stays { client.new ≡ client.old }
+{
+    let link = client.inner();
+    link.known();
+    link.sent().len()
+}
+
+/// How the last call left the link; and what holds of it.
+fn left_by<M: Maker>(client: &mut Client<ServerLink<M>>) -> Left
+    ensures left { IsLeft client.old.link result }
+    ensures kept { IsKnown M.state client.old.link }
+    ensures stays { client.new ≡ client.old }
+{
+    let link = client.inner();
+    link.known();
+    if link.starved() {
+        Left::Starved
+    } else if link.faulted() {
+        Left::Faulted
+    } else {
+        Left::Open
+    }
+}
+
+/// Whether the link keeps the request of this call.
+fn keeps_request_of<M: Maker>(
+    alloc: Global,
+    client: &mut Client<ServerLink<M>>,
+    call: &Call,
+) -> std::result::Result<bool, OutOfMemory>
+    ensures kept { IfOk result (λ is. is ≡ true → IsRequestOf call.now client.old.link.kept) }
+    ensures stays { client.new ≡ client.old }
+{
+    is_request_of(alloc, call, client.inner().kept())
+}
+
+/// Whether a request was not sent.
+fn fails_writing(answer: &Result<Answered>) -> bool
+    ensures { result ≡ fails_writing (answered_seen answer.now) }
+{
+    match answer {
+        Err(Error::RequestWriteError(_)) => true,
+        _ => false,
+    }
+}
+
+/// Sees to it that a call left the link open, or was cut short by a response with no wire form.
+fn settle<M: Maker>(
+    alloc: Global,
+    client: &mut Client<ServerLink<M>>,
+    call: &Call,
+    answer: &Result<Answered>,
+) -> std::result::Result<(), OutOfMemory>
+    ensures settled { IfOk result (λ _.
+        IsSettledBy call.now (answered_seen answer.now) client.old.link) }
+    ensures kept { IsKnown M.state client.old.link }
+    ensures stays { client.new ≡ client.old }
+{
+    match left_by(client) {
+        Left::Open => Ok(()),
+        Left::Starved => Err(OutOfMemory),
+        Left::Faulted => {
+            if !fails_writing(answer) {
+                return Err(OutOfMemory);
+            }
+            if keeps_request_of(alloc, client, call)? {
+                Ok(())
+            } else {
+                Err(OutOfMemory)
+            }
+        }
+    }
+}
+
+/// What was sent from there on.
+fn sent_from<M: Maker>(
+    alloc: Global,
+    client: &mut Client<ServerLink<M>>,
+    from: usize,
+) -> std::result::Result<Blob, OutOfMemory>
+    ensures sent { IfOk result (λ sent. sent ≡ drop from client.old.link.sent) }
+    ensures stays { client.new ≡ client.old }
+{
+    let sent = client.inner().sent();
+    if from <= sent.len() {
+        Blob::of(alloc, &sent[from..])
+    } else {
+        Ok(Blob::new(alloc))
+    }
+}
+
+/// A copy of a text that there may be.
+fn copied(alloc: Global, text: Option<&str>) -> std::result::Result<Option<Text>, OutOfMemory>
+    ensures { IfOk result (λ made. made ≡ option_map (λ s. s.now) text.entry) }
+{
+    match text {
+        Some(text) => Ok(Some(Text::of(alloc, text)?)),
+        None => Ok(None),
+    }
+}
+
+/// An answer beside what was sent for it and copies of its diagnostics.
+fn told<M: Maker>(
+    alloc: Global,
+    client: &mut Client<ServerLink<M>>,
+    from: usize,
+    answer: Result<Answered>,
+) -> std::result::Result<CallAnswer, OutOfMemory>
+    ensures told { IfOk result (λ x. x ≡ record {
+      sent = drop from client.old.link.sent;
+      answer = answer;
+      req_diag = client.old.request_text;
+      res_diag = client.old.response_text;
+    }) }
+    ensures stays { client.new ≡ client.old }
+{
+    let sent = sent_from(alloc, client, from)?;
+    Ok(CallAnswer {
+        sent,
+        answer,
+        req_diag: copied(alloc, client.last_req_diag_str())?,
+        res_diag: copied(alloc, client.last_res_diag_str())?,
+    })
+}
+
+/// The request of the call, where it is valid, is read as it.
+fn reads_back<T>(
+    alloc: Global,
+    client: &Client<T>,
+    call: &Call,
+) -> std::result::Result<(), OutOfMemory>
+    ensures { IfOk result (λ _. IsReadBack call.now client.now.credential) }
+{
+    request_is_read();
+    helper_is_matched();
+    client.known();
+    call_known(alloc, call)
+}
+
+/// One call, and whether it was the last.
+pub fn make_call<M: Maker>(
+    alloc: Global,
+    client: &mut Client<ServerLink<M>>,
+    call: &Call,
+) -> Result<(CallAnswer, bool)>
+    ensures called { IfOk result (λ r. IsOpen M.state client.old.link →
+        IsCalled M.state (settings_of client.old) call.now client.old.link client.new.link
+        (call_told r.0) r.1) }
+    ensures keeps { Keeps (server_link_state M.state client.old.link)
+        (server_link_state M.state client.new.link) }
+    ensures settings { settings_of client.new ≡ settings_of client.old }
+    ensures known { IfOk result (λ r. IsKnown M.state client.new.link) }
+    ensures lost { IfOk result (λ r. r.1 ≡ loses_connection (call_told r.0).answer) }
+    ensures count { IfOk result (λ r. client.new.errors ≡ counted client.old.errors r.1) }
+    ensures memory { IfErr result (λ e. e ≡ no_memory) }
+{
+    request_is_message();
+    reads_back(alloc, client, call)?;
+    let from = look(client);
+    let answer = ask(alloc, client, call);
+    if lacks_memory(&answer) {
+        return Err(Error::OutOfMemory);
+    }
+    settle(alloc, client, call, &answer)?;
+    let lost = loses_connection(&answer);
+    Ok((told(alloc, client, from, answer)?, lost))
+}
