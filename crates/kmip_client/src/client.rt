@@ -217,16 +217,23 @@ impl<T: Link> Client<T> {
             request: None,
             response: None,
         };
-        let mut room = Room::again(self.room.take(), alloc);
+        if self.room.is_none() {
+            self.room = Some(Room::new(alloc));
+        }
+        let Some(room) = &mut self.room else {
+            unreachable!()
+        };
         let answer = call(
             alloc,
             &mut self.link,
             &self.settings,
             payload,
             &mut self.diagnostics,
-            &mut room,
+            room,
         );
-        self.room = room.kept();
+        if !room.wipe() {
+            self.room = None;
+        }
         self.errors = counted(self.errors, loses_connection(&answer));
         answer
     }
