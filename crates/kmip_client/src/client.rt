@@ -14,7 +14,7 @@ ghost use Rattle.kmip_client.specs.Diagnostics.{IsRequestText, IsResponseText};
 use crate::answered::Answered;
 use crate::call::{Diagnostics, Settings, call};
 use crate::error::Error;
-use crate::room::Room;
+use crate::room::{Room, keep};
 use kmip_link::Link;
 use kmip_request::{Authentication, RequestPayload};
 use kmip_response::ResponsePayload;
@@ -217,12 +217,7 @@ impl<T: Link> Client<T> {
             request: None,
             response: None,
         };
-        if self.room.is_none() {
-            self.room = Some(Room::new(alloc));
-        }
-        let Some(room) = &mut self.room else {
-            unreachable!()
-        };
+        let room = self.room.get_or_insert_with(|| Room::new(alloc));
         let answer = call(
             alloc,
             &mut self.link,
@@ -231,9 +226,7 @@ impl<T: Link> Client<T> {
             &mut self.diagnostics,
             room,
         );
-        if !room.wipe() {
-            self.room = None;
-        }
+        keep(&mut self.room);
         self.errors = counted(self.errors, loses_connection(&answer));
         answer
     }

@@ -32,12 +32,22 @@ impl Room {
 
     /// Leaves no bytes, after zeros were written over its messages, and says whether it is kept:
     /// very much room is to be let go.
-    pub fn wipe(&mut self) -> bool
+    fn wipe(&mut self) -> bool
         ensures request { self.new.request.bytes ≡ [] }
         ensures taken { self.new.taken.items ≡ [] }
     {
         self.request.wipe();
         wipe(&mut self.taken);
         self.request.spare() <= MOST_KEPT && self.taken.capacity() <= MOST_KEPT
+    }
+}
+
+/// What is kept after a call: zeros are written over its messages, and very much room is let go.
+pub fn keep(room: &mut Option<Room>)
+    ensures { MatchOption room.new (Unit {0})
+        (λ room. (room.request.bytes ≡ []) × (room.taken.items ≡ [])) }
+{
+    if let Some(used) = room && !used.wipe() {
+        *room = None;
     }
 }
