@@ -47,7 +47,9 @@ pub fn keep(room: &mut Option<Room>)
     ensures { MatchOption room.new (Unit {0})
         (λ room. (room.request.bytes ≡ []) × (room.taken.items ≡ [])) }
 {
-    if let Some(used) = room && !used.wipe() {
+    if let Some(used) = room
+        && !used.wipe()
+    {
         *room = None;
     }
 }
