@@ -14,7 +14,7 @@ ghost use Rattle.kmip_client.specs.Diagnostics.{IsRequestText, IsResponseText};
 use crate::answered::Answered;
 use crate::call::{Diagnostics, Settings, call};
 use crate::error::Error;
-use crate::room::Room;
+use crate::room::{Room, keep};
 use kmip_link::Link;
 use kmip_request::{Authentication, RequestPayload};
 use kmip_response::ResponsePayload;
@@ -217,16 +217,16 @@ impl<T: Link> Client<T> {
             request: None,
             response: None,
         };
-        let mut room = Room::again(self.room.take(), alloc);
+        let room = self.room.get_or_insert_with(|| Room::new(alloc));
         let answer = call(
             alloc,
             &mut self.link,
             &self.settings,
             payload,
             &mut self.diagnostics,
-            &mut room,
+            room,
         );
-        self.room = room.kept();
+        keep(&mut self.room);
         self.errors = counted(self.errors, loses_connection(&answer));
         answer
     }

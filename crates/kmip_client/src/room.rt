@@ -20,34 +20,36 @@ pub struct Room {
 }
 
 impl Room {
-    /// The room that was kept, or none yet. It takes no memory.
-    pub fn again(kept: Option<Room>, alloc: Global) -> Room
-        ensures { MatchOption kept (result.taken.items ≡ []) (λ room. result ≡ room) }
+    /// No room yet. It takes no memory.
+    pub fn new(alloc: Global) -> Room
+        ensures { result.taken.items ≡ [] }
     {
-        match kept {
-            Some(room) => room,
-            None => Room {
-                request: Buffer::new(alloc),
-                taken: Vec::new(alloc),
-            },
+        Room {
+            request: Buffer::new(alloc),
+            taken: Vec::new(alloc),
         }
     }
 
-    /// What is kept after a call: zeros are written over its messages, and very much room is let go.
-    pub fn kept(self) -> Option<Room>
-        ensures { MatchOption result (Unit {0})
-            (λ room. (room.request.bytes ≡ []) × (room.taken.items ≡ [])) }
+    /// Leaves no bytes, after zeros were written over its messages, and says whether it is kept:
+    /// very much room is to be let go.
+    fn wipe(&mut self) -> bool
+        ensures request { self.new.request.bytes ≡ [] }
+        ensures taken { self.new.taken.items ≡ [] }
     {
-        let Room {
-            mut request,
-            mut taken,
-        } = self;
-        request.wipe();
-        wipe(&mut taken);
-        if request.spare() <= MOST_KEPT && taken.capacity() <= MOST_KEPT {
-            Some(Room { request, taken })
-        } else {
-            None
-        }
+        self.request.wipe();
+        wipe(&mut self.taken);
+        self.request.spare() <= MOST_KEPT && self.taken.capacity() <= MOST_KEPT
+    }
+}
+
+/// What is kept after a call: zeros are written over its messages, and very much room is let go.
+pub fn keep(room: &mut Option<Room>)
+    ensures { MatchOption room.new (Unit {0})
+        (λ room. (room.request.bytes ≡ []) × (room.taken.items ≡ [])) }
+{
+    if let Some(used) = room
+        && !used.wipe()
+    {
+        *room = None;
     }
 }
