@@ -1,0 +1,45 @@
+-- What a call of a client over a server in memory did.
+use Rattle.std.specs.Prelude.{◌≡◌, ℕ, pos, List, ◌++◌, Bool, Option}
+use Rattle.kmip_shape.specs.Shown.{styled}
+use Rattle.kmip_shape.specs.declared.style.Style.TheVariants.{Bare}
+use Rattle.kmip_response.specs.Tables.{query_payload, rng_retrieve_payload, sign_payload, attribute_edit_payload, get_payload}
+use Rattle.kmip_response.specs.Values.{query_payload_val, rng_retrieve_payload_val, sign_payload_val, attribute_edit_payload_val, get_payload_val}
+use Rattle.kmip_store.specs.Plain.{PlainMemory, plain_state, plain_answers}
+use Rattle.kmip_server.specs.Link.{ServerLinkState, IsOpen}
+use Rattle.kmip_server.specs.declared.answers.Answered.{Answered}
+use Rattle.kmip_server.specs.declared.answers.Answered.TheVariants as answered
+use Rattle.kmip_server.specs.declared.answers.CallAnswer.{CallAnswer}
+use Rattle.kmip_words.specs.Exchange.{Step, answer_line, call_text, done_styled, is_error, pair_styled, told_lines}
+use Rattle.kmip_joined.specs.World.{World, Joined}
+
+-- calls can go over the link, and its server's time stamp is 0
+pub record IsJoined (link : ServerLinkState PlainMemory) : Type 0 where
+  pub is_open : IsOpen plain_state link
+  pub time : link.server.time ≡ pos 0
+
+-- what the maker gave are its answers by their numbers
+abbrev pub IsPlain : ServerLinkState PlainMemory → Type 0
+IsPlain link = link.server.maker.given ≡ plain_answers 0 link.server.maker.asked
+
+-- what a helper returned, as it is shown
+abbrev pub answered_shown : Answered → List ℕ
+answered_shown answered.Unit = done_styled Bare
+answered_shown (answered.Pair first second) = pair_styled first second Bare
+answered_shown (answered.Query payload) = styled query_payload (query_payload_val payload) Bare
+answered_shown (answered.Random payload) = styled rng_retrieve_payload (rng_retrieve_payload_val payload) Bare
+answered_shown (answered.Signed payload) = styled sign_payload (sign_payload_val payload) Bare
+answered_shown (answered.Renamed payload) = styled attribute_edit_payload (attribute_edit_payload_val payload) Bare
+answered_shown (answered.Got payload) = styled get_payload (get_payload_val payload) Bare
+
+-- a call was told as this step says
+pub record Tells (s : Step) (buffered : Bool) (told : CallAnswer) : Type 0 where
+  pub sent : told.sent ≡ s.sent
+  pub texts : told_lines buffered told.req_diag told.res_diag ≡ s.told
+  pub shown : answer_line answered_shown Bare told.answer ≡ s.shown
+  pub failed : is_error told.answer ≡ s.failed
+
+-- what a call did: to the client and its server, and to the text
+pub record Runs (it : Joined) (after : World) (failed : Bool) (old new : List ℕ) : Type 0 where
+  pub text : new ≡ old ++ call_text it.step
+  pub failed_is : failed ≡ it.step.failed
+  pub world : after ≡ it.after

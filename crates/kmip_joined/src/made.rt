@@ -1,0 +1,66 @@
+//! A call of a client over a server in memory.
+ghost use Rattle.std.specs.Prelude.{◌≡◌, [], ◌<◌, length, pos, true, false, IfOk, OnOk, OnErr, IfErr};
+ghost use Rattle.kmip_server.specs.Link.{IsKnown};
+ghost use Rattle.kmip_store.specs.Plain.{plain_state, plain_answers};
+ghost use Rattle.kmip_words.specs.Exchange.{settings_of};
+ghost use Rattle.kmip_joined.specs.Lines.{line_call};
+ghost use Rattle.kmip_joined.specs.World.{world_of, joined_step, nothing_yet};
+ghost use Rattle.kmip_joined.specs.Told.{IsJoined, IsPlain, Tells};
+
+use kmip_client::Client;
+use kmip_server::{Call, CallAnswer, ServerLink, call_all};
+use kmip_store::PlainMaker;
+use kmip_wire::{List, OutOfMemory};
+use std::alloc::Global;
+
+/// A link round a server with no objects and a plain maker. It takes no memory.
+pub fn joined_link(alloc: Global) -> ServerLink<PlainMaker>
+    ensures joined { IsJoined result }
+    ensures world { world_of result ≡ nothing_yet }
+{
+    ServerLink::new(alloc, PlainMaker::new(alloc), 0)
+}
+
+/// Whether the link met a message whose response has no wire form; and what holds of it and of its maker.
+fn look(client: &mut Client<ServerLink<PlainMaker>>) -> bool
+    ensures known { IsKnown plain_state client.old.link }
+    ensures plain { IsPlain client.old.link }
+    ensures sound { result ≡ false → client.old.link.faults ≡ 0 }
+    ensures stays { client.new ≡ client.old }
+{
+    let link = client.inner();
+    link.known();
+    link.server().maker().known();
+    link.faulted()
+}
+
+/// Makes a call. No response that is made here is too long for a wire form; memory is said to have run out if one is.
+pub fn make(
+    alloc: Global,
+    client: &mut Client<ServerLink<PlainMaker>>,
+    call: Call,
+) -> Result<CallAnswer, OutOfMemory>
+    requires { IsJoined client.old.link }
+    ensures settings { OnOk result (settings_of client.new ≡ settings_of client.old) }
+    ensures joined { OnOk result (IsJoined client.new.link) }
+    ensures world { OnOk result (world_of client.new.link ≡
+        (joined_step (settings_of client.old) (line_call call) (world_of client.old.link)).after) }
+    ensures told { IfOk result (λ answer. Tells
+        (joined_step (settings_of client.old) (line_call call) (world_of client.old.link)).step
+        client.old.buffered answer) }
+{
+    look(client);
+    let mut calls = List::new(alloc);
+    calls.push(call)?;
+    let Ok(answers) = call_all(alloc, client, calls) else {
+        return Err(OutOfMemory);
+    };
+    if look(client) {
+        return Err(OutOfMemory);
+    }
+    let mut answers = answers.into_vec();
+    match answers.pop() {
+        Some(answer) => Ok(answer),
+        None => unreachable!(),
+    }
+}

@@ -1,0 +1,45 @@
+//! The lines of a script, one call after the other over a server in memory.
+ghost use Rattle.std.specs.Prelude.{◌≡◌, ◌<◌, ◌++◌, IfOk};
+ghost use Rattle.kmip_run.specs.Script.{lines_of};
+ghost use Rattle.kmip_run.specs.Setup.{settings_for};
+ghost use Rattle.kmip_run.specs.Transcript.{joined};
+ghost use Rattle.kmip_joined.specs.World.{nothing_yet};
+
+use crate::command::Options;
+use crate::replay::status_after;
+use crate::script::{first_line, show_bad_line};
+use crate::setup::client_of;
+use kmip_joined::{exchange, helper_call, joined_link};
+use kmip_wire::{OutOfMemory, Text};
+use std::alloc::Global;
+
+/// Makes the calls of the lines on a client that is joined to a server with no objects, up to a line that is not of the
+/// grammar, and answers the status.
+pub fn joined(
+    alloc: Global,
+    options: Options,
+    script: &[u8],
+    output: &mut Text,
+) -> Result<u8, OutOfMemory>
+    ensures bound { IfOk result (λ status. status < 3) }
+    ensures status { IfOk result (λ status. status ≡ (joined (settings_for options) (lines_of script.now) 1 0 nothing_yet).status) }
+    ensures text { IfOk result (λ status. output.new ≡ output.old ++ (joined (settings_for options) (lines_of script.now) 1 0 nothing_yet).text) }
+{
+    let diag = options.diag;
+    let mut client = client_of(joined_link(alloc), options);
+    let mut status = 0;
+    let mut number = 0;
+    let mut rest = script;
+    while !rest.is_empty() {
+        let (line, later) = first_line(rest);
+        number += 1;
+        let Some(call) = helper_call(alloc, line)? else {
+            show_bad_line(alloc, number, output)?;
+            return Ok(2);
+        };
+        let failed = exchange(alloc, &mut client, diag, call, output)?;
+        status = status_after(status, failed);
+        rest = later;
+    }
+    Ok(status)
+}
