@@ -1,9 +1,11 @@
 -- What a call of a client over a server in memory did.
-use Rattle.std.specs.Prelude.{◌≡◌, ℕ, pos, List, ◌++◌, Bool, Option}
+use Rattle.std.specs.Prelude.{◌≡◌, ℕ, pos, List, ◌++◌, Bool, true, false, Option, Ok}
 use Rattle.kmip_shape.specs.Shown.{styled}
 use Rattle.kmip_shape.specs.declared.style.Style.TheVariants.{Bare}
 use Rattle.kmip_response.specs.Tables.{query_payload, rng_retrieve_payload, sign_payload, attribute_edit_payload, get_payload}
 use Rattle.kmip_response.specs.Values.{query_payload_val, rng_retrieve_payload_val, sign_payload_val, attribute_edit_payload_val, get_payload_val}
+use Rattle.kmip_store.specs.declared.call.Call.{Call}
+use Rattle.kmip_store.specs.declared.call.Call.TheVariants.{CreateRsaKeyPair}
 use Rattle.kmip_store.specs.Plain.{PlainMemory, plain_state, plain_answers}
 use Rattle.kmip_server.specs.Link.{ServerLinkState, IsOpen}
 use Rattle.kmip_server.specs.declared.answers.Answered.{Answered}
@@ -30,6 +32,15 @@ answered_shown (answered.Random payload) = styled rng_retrieve_payload (rng_retr
 answered_shown (answered.Signed payload) = styled sign_payload (sign_payload_val payload) Bare
 answered_shown (answered.Renamed payload) = styled attribute_edit_payload (attribute_edit_payload_val payload) Bare
 answered_shown (answered.Got payload) = styled get_payload (get_payload_val payload) Bare
+
+-- the one call that is answered by two identifiers
+abbrev pub makes_pair : Call → Bool
+makes_pair (CreateRsaKeyPair key_length private_name public_name) = true
+makes_pair call = false
+
+abbrev pub is_pair : Answered → Bool
+is_pair (answered.Pair first second) = true
+is_pair x = false
 
 -- a call was told as this step says
 pub record Tells (s : Step) (buffered : Bool) (told : CallAnswer) : Type 0 where

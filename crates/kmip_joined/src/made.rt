@@ -5,10 +5,10 @@ ghost use Rattle.kmip_store.specs.Plain.{plain_state, plain_answers};
 ghost use Rattle.kmip_words.specs.Exchange.{settings_of};
 ghost use Rattle.kmip_joined.specs.Lines.{line_call};
 ghost use Rattle.kmip_joined.specs.World.{world_of, joined_step, nothing_yet};
-ghost use Rattle.kmip_joined.specs.Told.{IsJoined, IsPlain, Tells};
+ghost use Rattle.kmip_joined.specs.Told.{IsJoined, IsPlain, Tells, makes_pair, is_pair};
 
-use kmip_client::Client;
-use kmip_server::{Call, CallAnswer, ServerLink, call_all};
+use kmip_client::{Client, Error};
+use kmip_server::{Answered, Call, CallAnswer, ServerLink, call_all};
 use kmip_store::PlainMaker;
 use kmip_wire::{List, OutOfMemory};
 use std::alloc::Global;
@@ -34,7 +34,28 @@ fn look(client: &mut Client<ServerLink<PlainMaker>>) -> bool
     link.faulted()
 }
 
-/// Makes a call. No response that is made here is too long for a wire form; memory is said to have run out if one is.
+/// Whether a call is answered by two identifiers.
+fn makes_pair(call: &Call) -> bool
+    ensures { result ≡ makes_pair call.now }
+{
+    matches!(call, Call::CreateRsaKeyPair(..))
+}
+
+/// Whether an answer is an error or two identifiers.
+fn may_be_pair(answer: &Result<Answered, Error>) -> bool
+    ensures { result ≡ true → IfOk answer.now (λ x. is_pair x ≡ true) }
+{
+    match answer {
+        Ok(Answered::Pair(_, _)) | Err(_) => true,
+        Ok(_) => false,
+    }
+}
+
+/// Makes a call.
+///
+/// Memory is said to have run out also where the server's response has no wire form, and where a pair is answered by
+/// something else. Neither comes: a response is not much longer than the line that it answers, and each helper returns
+/// what is its own. But the contracts of the calls below do not say so.
 pub fn make(
     alloc: Global,
     client: &mut Client<ServerLink<PlainMaker>>,
@@ -50,6 +71,7 @@ pub fn make(
         client.old.buffered answer) }
 {
     look(client);
+    let pair = makes_pair(&call);
     let mut calls = List::new(alloc);
     calls.push(call)?;
     let Ok(answers) = call_all(alloc, client, calls) else {
@@ -60,7 +82,12 @@ pub fn make(
     }
     let mut answers = answers.into_vec();
     match answers.pop() {
-        Some(answer) => Ok(answer),
+        Some(answer) => {
+            if pair && !may_be_pair(&answer.answer) {
+                return Err(OutOfMemory);
+            }
+            Ok(answer)
+        }
         None => unreachable!(),
     }
 }
