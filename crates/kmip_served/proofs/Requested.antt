@@ -3,16 +3,23 @@ use Rattle.std.proofs.Common.{◌≡◌, ℕ, List, refl, ◌∙◌, ap, sym, su
 use Rattle.std.specs.Prelude.{if◌then◌else◌}
 use Rattle.std.specs.Option.{option_and_then}
 use Rattle.kmip_shape.specs.Val.{Val}
+use Rattle.kmip_shape.specs.Fits.{Fits}
 use Rattle.kmip_shape.proofs.Parts.{none_some, some_same}
 use Rattle.kmip_types.specs.SameValues.{same_val, same_val-sound, same_val-refl}
+use Rattle.kmip_types.specs.declared.auth.CredentialType.{CredentialType}
+use Rattle.kmip_request.specs.Held.{AreTexts, IsHeld}
+use Rattle.kmip_request.specs.Message.{request_bytes}
 use Rattle.kmip_request.specs.Same.{request_payload_same}
+use Rattle.kmip_request.specs.Tables.{request_payload}
 use Rattle.kmip_request.specs.Values.{request_payload_val}
 use Rattle.kmip_request.specs.declared.payload.RequestPayload.{RequestPayload}
-use Rattle.kmip_request_read.specs.Reading.{Request, request_for}
+use Rattle.kmip_request_read.specs.Matched.{IsMatched}
+use Rattle.kmip_request_read.specs.Reading.{Request, request_for, request_read}
 use Rattle.kmip_store.specs.declared.call.Call.{Call}
 use Rattle.kmip_store.specs.declared.call.Call.TheVariants.{Query, CreateRsaKeyPair, RngRetrieve, Sign, ActivateKey, RevokeKey, DestroyKey, RenameKey, GetKey}
 use Rattle.kmip_served.specs.Picked.{picked}
 use Rattle.kmip_served.specs.Requests.{request_of, candidate, if_request, call_of}
+use Rattle.kmip_served.proofs.Matched.{helper_is_matched}
 
 own : (call : Call) → if_request (request_payload_val (request_of call)) call ≡ Some call
 own call = let e : same_val (request_payload_val (request_of call)) (request_payload_val (request_of call)) ≡ true = same_val-refl (request_payload_val (request_of call)) in rw e refl
@@ -59,8 +66,9 @@ call_payload r c h = go (candidate r.operation r.payload) h
 
 -- ---- what the code looks at
 
-pub is_call : (p : RequestPayload) (c : Call) → request_of c ≡ p → Some c ≡ call_of (request_for p)
-is_call p c h = sym (own_call c) ∙ ap (λ x. call_of (request_for x)) h
+-- bytes that are read as the payload and as the request of a call
+pub same_read : (b : List ℕ) (p : RequestPayload) (c : Call) → request_read b ≡ Some (request_for p) → request_read b ≡ Some (request_for (request_of c)) → Some c ≡ call_of (request_for p)
+same_read b p c read own = sym (own_call c) ∙ ap call_of (some_same (request_for (request_of c)) (request_for p) (sym own ∙ read))
 
 none_called : (p : RequestPayload) → ((c : Call) → request_of c ≡ p → ⊥) → None ≡ call_of (request_for p)
 none_called p never = go (call_of (request_for p)) refl
@@ -74,3 +82,16 @@ no_candidate p none = none_called p (λ c h. none_some ⊥ (sym none ∙ (ap pic
 
 pub other_request : (p : RequestPayload) (c : Call) → picked p ≡ Some c → (request_of c ≡ p → ⊥) → None ≡ call_of (request_for p)
 other_request p c some other = none_called p (λ d h. other (ap request_of (some_same c d (sym some ∙ (ap picked (sym h) ∙ picked_own d))) ∙ h))
+
+-- bytes of the payload that are not those of the one call whose request it may be
+pub other_bytes : (b : List ℕ) (p : RequestPayload) (credential : Option CredentialType) (c : Call) → picked p ≡ Some c → request_bytes p credential ≡ Some b → (request_bytes (request_of c) credential ≡ Some b → ⊥) → None ≡ call_of (request_for p)
+other_bytes b p credential c some written other = other_request p c some (λ h. other (ap (λ x. request_bytes x credential) h ∙ written))
+
+-- ---- what the code writes
+
+-- a call's request was written as these bytes
+pub made_read : ((p : RequestPayload) (c : Option CredentialType) (b : List ℕ) → IsHeld p c → IsMatched p → request_bytes p c ≡ Some b → request_read b ≡ Some (request_for p)) →
+    (call : Call) (p : RequestPayload) (credential : Option CredentialType) (b : List ℕ) → p ≡ request_of call → Fits request_payload (request_payload_val p) → AreTexts credential → request_bytes p credential ≡ Some b →
+    request_read b ≡ Some (request_for (request_of call))
+made_read reads call p credential b is fits texts written =
+    reads (request_of call) credential b (subst (λ x. Fits request_payload (request_payload_val x)) is fits, texts) (helper_is_matched call) (subst (λ x. request_bytes x credential ≡ Some b) is written)

@@ -20,6 +20,5 @@ mod stamp;
 
 pub use kmip_store::Call;
 pub use laws::{helper_is_matched, own_call, served_is_settled};
-pub use own::{call_known, is_request_of};
-pub use picking::{call_of, request_of};
+pub use own::{call_known, is_request_of, request_of};
 pub use server::Server;

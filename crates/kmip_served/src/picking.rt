@@ -1,48 +1,21 @@
 //! Which helper's call a request is.
 
-ghost use Rattle.std.specs.Prelude.{◌≡◌, IfOk, true, false};
-ghost use Rattle.kmip_request_read.specs.Reading.{request_for};
+ghost use Rattle.std.specs.Prelude.{◌≡◌, Some, IfOk};
+ghost use Rattle.kmip_request.specs.Message.{request_bytes};
+ghost use Rattle.kmip_request_read.specs.Reading.{request_for, request_read};
 ghost use Rattle.kmip_served.specs.Picked.{id_text, value_name, value_number, first_name, second_number, length_in, private_name, public_name, picked};
 ghost use Rattle.kmip_served.specs.Requests as calls;
 
-use kmip_helpers::{
-    activate_request, destroy_request, get_request, key_pair_request, query_request,
-    rename_request, revoke_request, sign_request,
-};
+use crate::own::is_made_by;
 use kmip_request::{
     Attribute, CommonTemplateAttribute, PrivateKeyTemplateAttribute, PublicKeyTemplateAttribute,
     RequestPayload,
 };
 use kmip_store::Call;
+use kmip_types::auth::CredentialType;
 use kmip_types::{AttributeValue, Data, DataLength, UniqueIdentifier};
-use kmip_wire::{Blob, Boxed, List, OutOfMemory, Text, TryClone};
+use kmip_wire::{Blob, List, OutOfMemory, Text, TryClone};
 use std::alloc::Global;
-
-/// The request of a helper's call.
-pub fn request_of(alloc: Global, call: &Call) -> Result<RequestPayload, OutOfMemory>
-    ensures { IfOk result (λ payload. payload ≡ calls.request_of call.now) }
-{
-    match call {
-        Call::Query => query_request(alloc),
-        Call::CreateRsaKeyPair(key_length, private_name, public_name) => key_pair_request(
-            alloc,
-            *key_length,
-            private_name.try_clone(alloc)?,
-            public_name.try_clone(alloc)?,
-        ),
-        Call::RngRetrieve(num_bytes) => Ok(RequestPayload::RNGRetrieve(DataLength(*num_bytes))),
-        Call::Sign(id, in_bytes) => sign_request(alloc, id.as_str(), in_bytes.as_slice()),
-        Call::ActivateKey(id) => activate_request(alloc, id.as_str()),
-        Call::RevokeKey(id) => revoke_request(alloc, id.as_str()),
-        Call::DestroyKey(id) => destroy_request(alloc, id.as_str()),
-        Call::RenameKey(id, new_name) => rename_request(
-            alloc,
-            id.as_str(),
-            new_name.try_clone(alloc)?,
-        ),
-        Call::GetKey(id) => get_request(alloc, id.as_str()),
-    }
-}
 
 /// The text of an identifier.
 fn identifier(alloc: Global, id: &Option<UniqueIdentifier>) -> Result<Text, OutOfMemory>
@@ -165,27 +138,26 @@ fn picked(alloc: Global, payload: &RequestPayload) -> Result<Option<Call>, OutOf
     Ok(Some(call))
 }
 
-/// Whether the request of the call is this payload.
-fn is_made_by(alloc: Global, call: &Call, payload: &RequestPayload) -> Result<bool, OutOfMemory>
-    ensures same { IfOk result (λ same. same ≡ true → calls.request_of call.now ≡ payload.now) }
-    ensures other { IfOk result (λ same. same ≡ false → calls.request_of call.now ≡ payload.now → ⊥) }
-{
-    let request = Boxed::new(alloc, request_of(alloc, call)?)?;
-    Ok(*request.get() == *payload)
-}
-
-/// The helper's call whose request this is, where there is one.
+/// The helper's call whose request this payload is, where there is one. The bytes are those of the
+/// payload with this credential.
 ///
-/// Its arguments are taken from where they stand in the payload, and the request of that call is
-/// compared with the payload as a whole.
-#[tactic(auto, using(crate::proofs::Requested::is_call, crate::proofs::Requested::no_candidate, crate::proofs::Requested::other_request))]
-pub fn call_of(alloc: Global, payload: &RequestPayload) -> Result<Option<Call>, OutOfMemory>
+/// The arguments of the call are taken from where they stand in the payload, and the request of that
+/// call is compared with the bytes as a whole.
+#[tactic(auto, using(crate::proofs::Requested::no_candidate))]
+pub fn call_of(
+    alloc: Global,
+    payload: &RequestPayload,
+    credential: Option<CredentialType>,
+    bytes: &[u8],
+) -> Result<Option<Call>, OutOfMemory>
+    requires read { request_read bytes.now ≡ Some (request_for payload.now) }
+    requires written { request_bytes payload.now credential ≡ Some bytes.now }
     ensures { IfOk result (λ found. found ≡ calls.call_of (request_for payload.now)) }
 {
     let found = picked(alloc, payload)?;
     match found {
         Some(call) => {
-            let same = is_made_by(alloc, &call, payload)?;
+            let same = is_made_by(alloc, &call, credential, bytes)?;
             if same { Ok(Some(call)) } else { Ok(None) }
         }
         None => Ok(None),

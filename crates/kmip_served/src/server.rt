@@ -2,7 +2,8 @@
 
 ghost use Rattle.std.specs.Prelude.{◌≡◌, [], Some};
 ghost use Rattle.kmip_store.specs.Makers.{MakerKeeps};
-ghost use Rattle.kmip_request_read.specs.Reading.{request_for};
+ghost use Rattle.kmip_request.specs.Message.{request_bytes};
+ghost use Rattle.kmip_request_read.specs.Reading.{request_for, request_read};
 ghost use Rattle.kmip_served.specs.Answering.{AnswersBy};
 ghost use Rattle.kmip_served.specs.Requests.{is_served};
 ghost use Rattle.kmip_served.specs.Served.{served, served_request, asks, asks_request};
@@ -15,6 +16,7 @@ use kmip_enums::{Operation, ResultReason};
 use kmip_request::RequestPayload;
 use kmip_request_read::{RequestReadError, from_slice};
 use kmip_store::{Maker, Store};
+use kmip_types::auth::CredentialType;
 use kmip_wire::{Blob, WireError};
 use std::alloc::Global;
 use std::marker::Model;
@@ -107,13 +109,17 @@ fn is_served(operation: Operation) -> bool
     )
 }
 
-/// Answers a request that was read.
+/// Answers a request that was read as this payload and credential.
 fn answer_request<M: Maker>(
     stamp: &Stamp,
     store: &mut Store,
     maker: &mut M,
     payload: &RequestPayload,
+    credential: Option<CredentialType>,
+    request: &[u8],
 ) -> Result<Blob, WireError>
+    requires read { request_read request.now ≡ Some (request_for payload.now) }
+    requires written { request_bytes payload.now credential ≡ Some request.now }
     ensures answers { AnswersBy (asks_request store.old (Some (request_for payload.now)))
         (λ made. served_request store.old (Some (request_for payload.now)) made stamp.now.time)
         store.old (M.state maker.old) (M.state maker.new) store.new result }
@@ -127,7 +133,7 @@ fn answer_request<M: Maker>(
             "operation not supported",
         );
     }
-    match call_of(stamp.alloc, payload) {
+    match call_of(stamp.alloc, payload, credential, request) {
         Ok(Some(call)) => answer_call(stamp, store, maker, &call),
         Ok(None) => stamp.refuse(
             Some(operation),
@@ -151,7 +157,9 @@ fn answer_bytes<M: Maker>(
     ensures keeps { MakerKeeps (M.state maker.old) (M.state maker.new) }
 {
     match from_slice(stamp.alloc, request) {
-        Ok((payload, _)) => answer_request(stamp, store, maker, &payload),
+        Ok((payload, credential)) => answer_request(
+            stamp, store, maker, &payload, credential, request,
+        ),
         Err(RequestReadError::OutOfMemory) => Err(WireError::OutOfMemory),
         Err(RequestReadError::Malformed) => stamp.refuse(
             None,

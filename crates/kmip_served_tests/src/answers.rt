@@ -1,7 +1,7 @@
 //! Each helper's call, answered.
 use crate::helpers::{denies, item, request, tells, text};
 use kmip_enums::{Operation, ResultReason, ResultStatus};
-use kmip_served::{Call, Server};
+use kmip_served::{Call, Server, call_known, is_request_of};
 use kmip_store::PlainMaker;
 use kmip_types::auth::{CredentialType, UsernameAndPasswordCredential};
 use kmip_wire::Blob;
@@ -173,5 +173,22 @@ fn with_a_credential(rt: HostRuntime) -> Result<(), Fail> {
     let bytes = request(alloc, &Call::RngRetrieve(1), Some(credential))?;
     let item = item(&rt, alloc, &mut server(alloc), bytes.as_slice(), 2)?;
     assert!(rt; item.result_status == ResultStatus::Success);
+    Ok(())
+}
+
+/// Bytes are the request of one call, whatever its credential.
+#[test]
+fn the_call_of_a_request(rt: HostRuntime) -> Result<(), Fail> {
+    let alloc = rt.alloc();
+    let call = sign(alloc, "1")?;
+    call_known(alloc, &call)?;
+    let credential = CredentialType::UsernameAndPassword(UsernameAndPasswordCredential {
+        username: text(alloc, "alice")?,
+        password: Some(text(alloc, "secret")?),
+    });
+    let bytes = request(alloc, &call, Some(credential))?;
+    assert!(rt; is_request_of(alloc, &call, bytes.as_slice())?);
+    assert!(rt; !is_request_of(alloc, &sign(alloc, "2")?, bytes.as_slice())?);
+    assert!(rt; !is_request_of(alloc, &call, b"\x42\x00\x78")?);
     Ok(())
 }
