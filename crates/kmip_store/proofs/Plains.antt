@@ -16,7 +16,9 @@ more_from n (first ∷ asked) question =
 pub one_more : (asked : List Asked) (question : Asked) →
     plain_answers 0 (asked ++ question ∷ [])
     ≡ plain_answers 0 asked ++ plain_answer (length asked + 1) question ∷ []
-one_more asked question = more_from 0 asked question
+one_more asked question =
+    more_from 0 asked question
+    ∙ ap (λ (k : ℕ). plain_answers 0 asked ++ plain_answer k question ∷ []) (omega arith)
 
 pub as_many : (n : ℕ) (asked : List Asked) → length (plain_answers n asked) ≡ length asked
 as_many n [] = omega arith
