@@ -25,7 +25,7 @@ use Rattle.kmip_server.specs.declared.answers.CallAnswer.{CallAnswer}
 use Rattle.kmip_words.specs.Exchange.{Settings as LineSettings, Asked as LineAsked, Step, step, step_of, asked, asked_of, value_styled, or_empty}
 use Rattle.kmip_joined.specs.Lines.{line_call}
 use Rattle.kmip_joined.specs.World.{World, Joined, next_made, after_request, after_sending, step_on, joined_step, world_of}
-use Rattle.kmip_joined.specs.Told.{IsJoined, IsPlain, Tells, makes_pair, is_pair}
+use Rattle.kmip_joined.specs.Told.{IsJoined, IsPlain, IsMade, Tells, makes_pair, is_pair}
 use Rattle.kmip_joined.proofs.Own.{append_none, first_is}
 use Rattle.kmip_joined.proofs.Plain.{world_with, world_same, world_at, Stands, stands}
 use Rattle.kmip_joined.proofs.Told.{told_as}
@@ -196,41 +196,75 @@ popped [] x y e = cc
 popped (a ∷ []) x y e = absurd (cc)
 popped (a ∷ b ∷ rest) x y e = absurd (cc)
 
--- what the calls below say of one call
-pub record Said (old new : ClientState (ServerLinkState PlainMemory)) (call : Call) (xs : List CallAnswer) : Type 0 where
-  pub meet : Meet (settings_of old) (expected_of plain_state old new.link (call ∷ [])) (map call_told xs)
-  pub ends : standing plain_state new.link ≡ finish_of plain_state old new.link (call ∷ [])
-  pub faulted : has_unsent (expected_of plain_state old new.link (call ∷ [])) ≡ true → 0 < new.link.faults
+abbrev Clients : Type 0
+Clients = ClientState (ServerLinkState PlainMemory)
 
-one_of : (old new : ClientState (ServerLinkState PlainMemory)) (call : Call) (xs : List CallAnswer) → new.link.faults ≡ 0 → Said old new call xs →
+-- what a call's contract says, and two looks that leave the client as it is
+pub made_of : (old looked called new : Clients) (call : Call) (xs : List CallAnswer) → IsOpen plain_state old.link → looked ≡ old → new ≡ called → IsKnown plain_state old.link → IsPlain old.link → IsPlain called.link →
+    called.link.faults ≡ 0 → settings_of called ≡ settings_of looked →
+    (IsOpen plain_state looked.link → Meet (settings_of looked) (expected_of plain_state looked called.link (call ∷ [])) (map call_told xs)) →
+    (IsOpen plain_state looked.link → standing plain_state called.link ≡ finish_of plain_state looked called.link (call ∷ [])) →
+    (IsOpen plain_state looked.link → has_unsent (expected_of plain_state looked called.link (call ∷ [])) ≡ true → 0 < called.link.faults) →
+    (IsOpen plain_state looked.link → has_unsent (expected_of plain_state looked called.link (call ∷ [])) ≡ false → IsOpen plain_state called.link) →
+    IsMade old new call xs
+made_of old looked called new call xs is_open stays stays_too known plain plain_after sound same meet ends faulted opened =
+    let open_too : IsOpen plain_state looked.link = subst (λ (c : Clients). IsOpen plain_state c.link) (sym stays) is_open in
+    let made : IsMade looked called call xs = record {
+      known = subst (λ (c : Clients). IsKnown plain_state c.link) (sym stays) known;
+      plain = subst (λ (c : Clients). IsPlain c.link) (sym stays) plain;
+      plain_after = plain_after;
+      sound = sound;
+      settings = same;
+      meet = meet open_too;
+      ends = ends open_too;
+      faulted = faulted open_too;
+      opened = opened open_too;
+    } in
+    subst (λ (c : Clients). IsMade old c call xs) (sym stays_too) (subst (λ (c : Clients). IsMade c called call xs) stays made)
+
+one_of : (old new : Clients) (call : Call) (xs : List CallAnswer) → IsMade old new call xs →
     Only (next (settings_of old) (before_all plain_state old new.link) call).expected xs
-one_of old new call xs sound said =
+one_of old new call xs said =
     let s : Settings = settings_of old in
     let now : Between = before_all plain_state old new.link in
     let one : expected s now (call ∷ []) ≡ (next s now call).expected ∷ [] = expected_one s now call in
     only s (next s now call).expected xs (subst (λ (es : List Expected). Meet s es (map call_told xs)) one said.meet)
-    (λ cut. let above : 0 < new.link.faults = said.faulted (ap has_unsent one ∙ cut) in omega (arith, above, sound))
+    (λ cut. let above : 0 < new.link.faults = said.faulted (ap has_unsent one ∙ cut) in let sound : new.link.faults ≡ 0 = said.sound in omega (arith, above, sound))
 
 -- it was answered
-pub some_answer : (old new : ClientState (ServerLinkState PlainMemory)) (call : Call) (xs : List CallAnswer) → new.link.faults ≡ 0 → Said old new call xs → xs ≡ [] → ⊥
-some_answer old new call xs sound said none = let it = one_of old new call xs sound said in no it.x (sym it.is ∙ none)
+pub some_answer : (old new : Clients) (call : Call) (xs : List CallAnswer) → IsMade old new call xs → xs ≡ [] → ⊥
+some_answer old new call xs said none = let it = one_of old new call xs said in no it.x (sym it.is ∙ none)
   where
     no : (x : CallAnswer) → x ∷ [] ≡ [] → ⊥
     no x e = cc
 
-pub made_so : (old new : ClientState (ServerLinkState PlainMemory)) (call : Call) (xs rest : List CallAnswer) (x : CallAnswer) → IsJoined old.link → IsKnown plain_state old.link → IsPlain old.link → IsPlain new.link →
-    new.link.faults ≡ 0 → Said old new call xs → xs ≡ rest ++ x ∷ [] → (makes_pair call ≡ true → IfOk x.answer (λ a. is_pair a ≡ true)) →
+pub made_so : (old new : Clients) (call : Call) (xs rest : List CallAnswer) (x : CallAnswer) → IsJoined old.link → IsMade old new call xs → xs ≡ rest ++ x ∷ [] → (makes_pair call ≡ true → IfOk x.answer (λ a. is_pair a ≡ true)) →
     MadeSo (line_settings (settings_of old)) call old.link new.link x
-made_so old new call xs rest x joined known plain plain_after sound said last pair =
+made_so old new call xs rest x joined said last pair =
     let s : Settings = settings_of old in
     let now : Between = before_all plain_state old new.link in
-    let it = one_of old new call xs sound said in
+    let it = one_of old new call xs said in
     let same : it.x ≡ x = popped rest x it.x (sym it.is ∙ last) in
     made_known s call old.link new.link now x (record {
       time = joined.time;
-      plain_after = plain_after;
-      stood = λ extra asked. stands old.link new.link.server.maker.given new.link.server.maker.asked extra joined.is_open known plain plain_after asked;
+      plain_after = said.plain_after;
+      stood = λ extra asked. stands old.link new.link.server.maker.given new.link.server.maker.asked extra joined.is_open said.known said.plain said.plain_after asked;
       ends = said.ends ∙ finish_one s now call;
       told = it.told ∙ ap (λ (a : CallAnswer). Told' (call_told a)) same;
       pair = pair;
     })
+
+-- ---- what stays
+
+not_true : (b : Bool) → (b ≡ true → ⊥) → b ≡ false
+not_true true not = absurd (not refl)
+not_true false not = refl
+
+pub still_joined : (old new : Clients) (call : Call) (xs : List CallAnswer) → IsJoined old.link → IsMade old new call xs → IsJoined new.link
+still_joined old new call xs joined made = record {
+  is_open = made.opened (not_true _ (λ cut. let above : 0 < new.link.faults = made.faulted cut in let sound : new.link.faults ≡ 0 = made.sound in omega (arith, above, sound)));
+  time = ap (λ (s : Settings). s.time) made.settings ∙ joined.time;
+}
+
+pub same_settings : (old new : Clients) (call : Call) (xs : List CallAnswer) → IsMade old new call xs → line_settings (settings_of new) ≡ line_settings (settings_of old)
+same_settings old new call xs made = ap line_settings made.settings

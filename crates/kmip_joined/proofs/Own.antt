@@ -87,4 +87,5 @@ runs_own t (b ∷ bs) run extra h =
     let n : ℕ = length run.asked in
     let here = serves t run b (asked_by t (serve t run b) bs ++ extra)
     (h ∙ ap (λ (l : List Asked). plain_answers n l) (append_assoc (listed (asks run.objects b)) (asked_by t (serve t run b) bs) extra)) in
-    subst (λ (start : Own). IsOwn t start bs extra (fold (serve t) (serve t run b) bs)) here.same (runs_own t bs (serve t run b) extra here.given)
+    let later = runs_own t bs (serve t run b) extra here.given in
+    record { same = later.same ∙ ap (λ (start : Own). fold (own_serve t) start bs) here.same; given = later.given }

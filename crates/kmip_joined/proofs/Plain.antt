@@ -24,7 +24,7 @@ before_own link opened known plain =
     let t : ℤ = link.server.time in
     let ws : List (List ℕ) = (split link.sent).whole in
     let given : List Made = link.server.maker.given ++ [] in
-    let served : run_of t given ws ≡ record { objects = link.server.objects; ever = Some link.ever; asked = link.server.maker.asked; given = [] } = (known.serves opened.fed tt opened.sound).run [] in
+    let served : run_of t given ws ≡ record { objects = link.server.objects; ever = Some link.ever; asked = link.server.maker.asked; given = [] } = (known.serves opened.fed refl opened.sound).run [] in
     let all : asked_by t (fresh given) ws ++ [] ≡ link.server.maker.asked =
     append_none (asked_by t (fresh given) ws) ∙ sym (asked_is t ws (fresh given)) ∙ ap (λ (r : Run). r.asked) served in
     let plain_too : given ≡ plain_answers 0 (asked_by t (fresh given) ws ++ []) =

@@ -69,7 +69,7 @@ of_operation : (request : Option (List ℕ)) (operation : Operation) (limit : Op
 of_operation None operation limit rest = tt
 of_operation (Some bytes) operation limit rest =
     seen_variant {before = 0} {after = 0} (λ (v : Val). v) (Some bytes) operation limit (answer_of operation (message_at rest limit))
-    (given tt rest (seen_itself (answer_of operation (message_at rest limit))))
+    (given refl rest (seen_itself (answer_of operation (message_at rest limit))))
 
 -- so a call that was told as a turn is told as its step says
 pub told_as : (settings : Settings) (call : Call) (request : Option (List ℕ)) (rest : List ℕ) (x : CallAnswer) → call_told x ≡ turn_call_told settings call (turn_with settings call request rest) →

@@ -1,5 +1,5 @@
 -- What a call of a client over a server in memory did.
-use Rattle.std.specs.Prelude.{◌≡◌, ℕ, pos, List, ◌++◌, Bool, true, false, Option, Ok}
+use Rattle.std.specs.Prelude.{◌≡◌, ℕ, ◌<◌, pos, List, [], ◌∷◌, ◌++◌, map, Bool, true, false, Option, Ok}
 use Rattle.kmip_shape.specs.Shown.{styled}
 use Rattle.kmip_shape.specs.declared.style.Style.TheVariants.{Bare}
 use Rattle.kmip_response.specs.Tables.{query_payload, rng_retrieve_payload, sign_payload, attribute_edit_payload, get_payload}
@@ -7,7 +7,11 @@ use Rattle.kmip_response.specs.Values.{query_payload_val, rng_retrieve_payload_v
 use Rattle.kmip_store.specs.declared.call.Call.{Call}
 use Rattle.kmip_store.specs.declared.call.Call.TheVariants.{CreateRsaKeyPair}
 use Rattle.kmip_store.specs.Plain.{PlainMemory, plain_state, plain_answers}
-use Rattle.kmip_server.specs.Link.{ServerLinkState, IsOpen}
+use Rattle.kmip_client.specs.Client.{ClientState}
+use Rattle.kmip_server.specs.Calls.{call_told, settings_of, expected_of, finish_of}
+use Rattle.kmip_server.specs.Came.{standing}
+use Rattle.kmip_server.specs.Joined.{has_unsent, Meet}
+use Rattle.kmip_server.specs.Link.{ServerLinkState, IsKnown, IsOpen}
 use Rattle.kmip_server.specs.declared.answers.Answered.{Answered}
 use Rattle.kmip_server.specs.declared.answers.Answered.TheVariants as answered
 use Rattle.kmip_server.specs.declared.answers.CallAnswer.{CallAnswer}
@@ -41,6 +45,19 @@ makes_pair call = false
 abbrev pub is_pair : Answered → Bool
 is_pair (answered.Pair first second) = true
 is_pair x = false
+
+-- What is known of a call once it was made, whose answer is the one in the list: the link is sound, its maker's answers are those
+-- by their numbers, and the call came as the definitions of kmip_server say.
+pub record IsMade (before after : ClientState (ServerLinkState PlainMemory)) (call : Call) (answers : List CallAnswer) : Type 0 where
+  pub known : IsKnown plain_state before.link
+  pub plain : IsPlain before.link
+  pub plain_after : IsPlain after.link
+  pub sound : after.link.faults ≡ 0
+  pub settings : settings_of after ≡ settings_of before
+  pub meet : Meet (settings_of before) (expected_of plain_state before after.link (call ∷ [])) (map call_told answers)
+  pub ends : standing plain_state after.link ≡ finish_of plain_state before after.link (call ∷ [])
+  pub faulted : has_unsent (expected_of plain_state before after.link (call ∷ [])) ≡ true → 0 < after.link.faults
+  pub opened : has_unsent (expected_of plain_state before after.link (call ∷ [])) ≡ false → IsOpen plain_state after.link
 
 -- a call was told as this step says
 pub record Tells (s : Step) (buffered : Bool) (told : CallAnswer) : Type 0 where

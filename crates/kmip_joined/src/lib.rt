@@ -5,11 +5,11 @@
 //! writes what it came to, as it is written of a call over recorded responses.
 #![tactic(auto)]
 
-mod exchange;
+mod answers;
+mod exchanges;
 mod lines;
 mod made;
-mod shown;
 
-pub use exchange::exchange;
+pub use exchanges::exchange;
 pub use lines::helper_call;
 pub use made::joined_link;

@@ -5,10 +5,10 @@ ghost use Rattle.kmip_store.specs.Plain.{plain_state, plain_answers};
 ghost use Rattle.kmip_words.specs.Exchange.{settings_of};
 ghost use Rattle.kmip_joined.specs.Lines.{line_call};
 ghost use Rattle.kmip_joined.specs.World.{world_of, joined_step, nothing_yet};
-ghost use Rattle.kmip_joined.specs.Told.{IsJoined, IsPlain, Tells, makes_pair, is_pair};
+ghost use Rattle.kmip_joined.specs.Told.{IsJoined, IsPlain, IsMade, Tells, makes_pair, is_pair};
 
 use kmip_client::{Client, Error};
-use kmip_server::{Answered, Call, CallAnswer, ServerLink, call_all};
+use kmip_server::{Answered, Call, CallAnswer, CallAnswers, ServerLink, call_all};
 use kmip_store::PlainMaker;
 use kmip_wire::{List, OutOfMemory};
 use std::alloc::Global;
@@ -51,6 +51,27 @@ fn may_be_pair(answer: &Result<Answered, Error>) -> bool
     }
 }
 
+/// Makes a call, whose answer is the one in the list.
+fn call_one(
+    alloc: Global,
+    client: &mut Client<ServerLink<PlainMaker>>,
+    call: Call,
+) -> Result<CallAnswers, OutOfMemory>
+    requires { IsJoined client.old.link }
+    ensures { IfOk result (λ answers. IsMade client.old client.new call answers) }
+{
+    look(client);
+    let mut calls = List::new(alloc);
+    calls.push(call)?;
+    let Ok(answers) = call_all(alloc, client, calls) else {
+        return Err(OutOfMemory);
+    };
+    if look(client) {
+        return Err(OutOfMemory);
+    }
+    Ok(answers)
+}
+
 /// Makes a call.
 ///
 /// Memory is said to have run out also where the server's response has no wire form, and where a pair is answered by
@@ -70,17 +91,8 @@ pub fn make(
         (joined_step (settings_of client.old) (line_call call) (world_of client.old.link)).step
         client.old.buffered answer) }
 {
-    look(client);
     let pair = makes_pair(&call);
-    let mut calls = List::new(alloc);
-    calls.push(call)?;
-    let Ok(answers) = call_all(alloc, client, calls) else {
-        return Err(OutOfMemory);
-    };
-    if look(client) {
-        return Err(OutOfMemory);
-    }
-    let mut answers = answers.into_vec();
+    let mut answers = call_one(alloc, client, call)?.into_vec();
     match answers.pop() {
         Some(answer) => {
             if pair && !may_be_pair(&answer.answer) {

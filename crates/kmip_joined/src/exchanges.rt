@@ -6,7 +6,7 @@ ghost use Rattle.kmip_joined.specs.World.{world_of, joined_step};
 ghost use Rattle.kmip_joined.specs.Told.{IsJoined, Runs};
 
 use crate::made::make;
-use crate::shown::show_answer;
+use crate::answers::show_answer;
 use kmip_client::Client;
 use kmip_server::{Call, ServerLink};
 use kmip_store::PlainMaker;
