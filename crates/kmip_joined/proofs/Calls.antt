@@ -1,6 +1,6 @@
 -- One call over a server with a plain maker: what is expected of it is what the program's definitions say.
-use Rattle.std.proofs.Common.{◌≡◌, ℕ, ℤ, pos, ◌+◌, ◌<◌, List, [], ◌∷◌, ◌++◌, length, drop, map, length-append, refl, ◌∙◌, ap, sym, subst, arith, Bool, true, false, cond, Option, Some, None, Result, Ok, Err, IfOk}
-use Rattle.std.specs.Option.{option_map}
+use Rattle.std.proofs.Common.{◌≡◌, ℕ, ℤ, pos, ◌+◌, ◌<◌, List, [], ◌∷◌, ◌++◌, length, drop, map, length-append, refl, ◌∙◌, ap, sym, subst, arith, Bool, true, false, cond, Option, Some, None, Result, Ok, Err, IfOk, IfSome}
+use Rattle.std.specs.Option.{option_map, option_to_list}
 use Rattle.kmip_types.specs.declared.auth.CredentialType.{CredentialType}
 use Rattle.kmip_request.specs.Message.{request_bytes}
 use Rattle.kmip_response_write.specs.Settled.{response_bytes}
@@ -25,7 +25,7 @@ use Rattle.kmip_server.specs.declared.answers.CallAnswer.{CallAnswer}
 use Rattle.kmip_words.specs.Exchange.{Settings as LineSettings, Asked as LineAsked, Step, step, step_of, asked, asked_of, value_styled, or_empty}
 use Rattle.kmip_joined.specs.Lines.{line_call}
 use Rattle.kmip_joined.specs.World.{World, Joined, next_made, after_request, after_sending, step_on, joined_step, world_of}
-use Rattle.kmip_joined.specs.Told.{IsJoined, IsPlain, IsMade, Tells, makes_pair, is_pair}
+use Rattle.kmip_joined.specs.Told.{IsJoined, IsPlain, IsMade, IsMadeSo, IsLast, IsSuited, Tells, makes_pair, is_pair}
 use Rattle.kmip_joined.proofs.Own.{append_none, first_is}
 use Rattle.kmip_joined.proofs.Plain.{world_with, world_same, world_at, Stands, stands}
 use Rattle.kmip_joined.proofs.Told.{told_as}
@@ -231,16 +231,9 @@ one_of old new call xs said =
     only s (next s now call).expected xs (subst (λ (es : List Expected). Meet s es (map call_told xs)) one said.meet)
     (λ cut. let above : 0 < new.link.faults = said.faulted (ap has_unsent one ∙ cut) in let sound : new.link.faults ≡ 0 = said.sound in omega (arith, above, sound))
 
--- it was answered
-pub some_answer : (old new : Clients) (call : Call) (xs : List CallAnswer) → IsMade old new call xs → xs ≡ [] → ⊥
-some_answer old new call xs said none = let it = one_of old new call xs said in no it.x (sym it.is ∙ none)
-  where
-    no : (x : CallAnswer) → x ∷ [] ≡ [] → ⊥
-    no x e = cc
-
-pub made_so : (old new : Clients) (call : Call) (xs rest : List CallAnswer) (x : CallAnswer) → IsJoined old.link → IsMade old new call xs → xs ≡ rest ++ x ∷ [] → (makes_pair call ≡ true → IfOk x.answer (λ a. is_pair a ≡ true)) →
+came_so : (old new : Clients) (call : Call) (xs rest : List CallAnswer) (x : CallAnswer) → IsJoined old.link → IsMade old new call xs → xs ≡ rest ++ x ∷ [] → (makes_pair call ≡ true → IfOk x.answer (λ a. is_pair a ≡ true)) →
     MadeSo (line_settings (settings_of old)) call old.link new.link x
-made_so old new call xs rest x joined said last pair =
+came_so old new call xs rest x joined said last pair =
     let s : Settings = settings_of old in
     let now : Between = before_all plain_state old new.link in
     let it = one_of old new call xs said in
@@ -268,3 +261,21 @@ still_joined old new call xs joined made = record {
 
 pub same_settings : (old new : Clients) (call : Call) (xs : List CallAnswer) → IsMade old new call xs → line_settings (settings_of new) ≡ line_settings (settings_of old)
 same_settings old new call xs made = ap line_settings made.settings
+
+-- ---- so a call was made
+
+pub last_of : (o : Option CallAnswer) (all before : List CallAnswer) → all ≡ before ++ option_to_list o → IfSome o (λ x. IsLast all x)
+last_of None all before is = tt
+last_of (Some x) all before is = (before, is)
+
+pub made_so : (old new : Clients) (call : Call) (xs : List CallAnswer) (x : CallAnswer) → IsJoined old.link → IsMade old new call xs → IsLast xs x → (makes_pair call ≡ true → IfOk x.answer (λ a. is_pair a ≡ true)) → IsMadeSo old new call x
+made_so old new call xs x joined made last pair =
+    let it = came_so old new call xs last.0 x joined made last.1 pair in
+    record { settings = same_settings old new call xs made; joined = still_joined old new call xs joined made; world = it.world; tells = it.told }
+
+-- where there is an answer at all
+pub made_if : {E : Type 0} (old new : Clients) (call : Call) (xs : List CallAnswer) (answer : Option CallAnswer) (pair : Bool) (result : Result CallAnswer E) → IsJoined old.link → IsMade old new call xs → IfSome answer (λ x. IsLast xs x) → pair ≡ makes_pair call →
+    IfOk result (λ x. IsSuited pair answer x) → IfOk result (λ x. IsMadeSo old new call x)
+made_if old new call xs answer pair (Ok x) joined made last is suited =
+    made_so old new call xs x joined made (subst (λ (o : Option CallAnswer). IfSome o (λ y. IsLast xs y)) suited.is last) (λ e. suited.suits (is ∙ e))
+made_if old new call xs answer pair (Err error) joined made last is suited = tt

@@ -1,5 +1,5 @@
 -- What a call of a client over a server in memory did.
-use Rattle.std.specs.Prelude.{◌≡◌, ℕ, ◌<◌, pos, List, [], ◌∷◌, ◌++◌, map, Bool, true, false, Option, Ok}
+use Rattle.std.specs.Prelude.{◌≡◌, ℕ, ◌<◌, pos, List, [], ◌∷◌, ◌++◌, map, Bool, true, false, Option, Some, Ok, IfOk}
 use Rattle.kmip_shape.specs.Shown.{styled}
 use Rattle.kmip_shape.specs.declared.style.Style.TheVariants.{Bare}
 use Rattle.kmip_response.specs.Tables.{query_payload, rng_retrieve_payload, sign_payload, attribute_edit_payload, get_payload}
@@ -15,8 +15,9 @@ use Rattle.kmip_server.specs.Link.{ServerLinkState, IsKnown, IsOpen}
 use Rattle.kmip_server.specs.declared.answers.Answered.{Answered}
 use Rattle.kmip_server.specs.declared.answers.Answered.TheVariants as answered
 use Rattle.kmip_server.specs.declared.answers.CallAnswer.{CallAnswer}
-use Rattle.kmip_words.specs.Exchange.{Step, answer_line, call_text, done_styled, is_error, pair_styled, told_lines}
-use Rattle.kmip_joined.specs.World.{World, Joined}
+use Rattle.kmip_words.specs.Exchange.{settings_of as line_settings, Step, answer_line, call_text, done_styled, is_error, pair_styled, told_lines}
+use Rattle.kmip_joined.specs.Lines.{line_call}
+use Rattle.kmip_joined.specs.World.{World, Joined, joined_step, world_of}
 
 -- calls can go over the link, and its server's time stamp is 0
 pub record IsJoined (link : ServerLinkState PlainMemory) : Type 0 where
@@ -65,6 +66,21 @@ pub record Tells (s : Step) (buffered : Bool) (told : CallAnswer) : Type 0 where
   pub texts : told_lines buffered told.req_diag told.res_diag ≡ s.told
   pub shown : answer_line answered_shown Bare told.answer ≡ s.shown
   pub failed : is_error told.answer ≡ s.failed
+
+abbrev pub IsLast : List CallAnswer → CallAnswer → Type 0
+IsLast answers x = (before : List CallAnswer) × (answers ≡ before ++ x ∷ [])
+
+-- it is the answer, and where a pair is to be made it is an error or a pair
+pub record IsSuited (pair : Bool) (answer : Option CallAnswer) (x : CallAnswer) : Type 0 where
+  pub is : answer ≡ Some x
+  pub suits : pair ≡ true → IfOk x.answer (λ a. is_pair a ≡ true)
+
+-- a call was made on a client and told so
+pub record IsMadeSo (before after : ClientState (ServerLinkState PlainMemory)) (call : Call) (told : CallAnswer) : Type 0 where
+  pub settings : line_settings after ≡ line_settings before
+  pub joined : IsJoined after.link
+  pub world : world_of after.link ≡ (joined_step (line_settings before) (line_call call) (world_of before.link)).after
+  pub tells : Tells (joined_step (line_settings before) (line_call call) (world_of before.link)).step before.buffered told
 
 -- what a call did: to the client and its server, and to the text
 pub record Runs (it : Joined) (after : World) (failed : Bool) (old new : List ℕ) : Type 0 where

@@ -1,11 +1,9 @@
 //! A call of a client over a server in memory.
-ghost use Rattle.std.specs.Prelude.{◌≡◌, [], ◌<◌, length, pos, true, false, IfOk, OnOk, OnErr, IfErr};
+ghost use Rattle.std.specs.Prelude.{◌≡◌, true, false, IfOk, IfSome};
 ghost use Rattle.kmip_server.specs.Link.{IsKnown};
-ghost use Rattle.kmip_store.specs.Plain.{plain_state, plain_answers};
-ghost use Rattle.kmip_words.specs.Exchange.{settings_of};
-ghost use Rattle.kmip_joined.specs.Lines.{line_call};
-ghost use Rattle.kmip_joined.specs.World.{world_of, joined_step, nothing_yet};
-ghost use Rattle.kmip_joined.specs.Told.{IsJoined, IsPlain, IsMade, Tells, makes_pair, is_pair};
+ghost use Rattle.kmip_store.specs.Plain.{plain_state};
+ghost use Rattle.kmip_joined.specs.World.{world_of, nothing_yet};
+ghost use Rattle.kmip_joined.specs.Told.{IsJoined, IsPlain, IsMade, IsMadeSo, IsLast, IsSuited, makes_pair, is_pair};
 
 use kmip_client::{Client, Error};
 use kmip_server::{Answered, Call, CallAnswer, CallAnswers, ServerLink, call_all};
@@ -41,14 +39,22 @@ fn makes_pair(call: &Call) -> bool
     matches!(call, Call::CreateRsaKeyPair(..))
 }
 
-/// Whether an answer is an error or two identifiers.
-fn may_be_pair(answer: &Result<Answered, Error>) -> bool
-    ensures { result ≡ true → IfOk answer.now (λ x. is_pair x ≡ true) }
+/// Whether an answer is an error, or what such a call is answered by.
+fn suits(pair: bool, answer: &Result<Answered, Error>) -> bool
+    ensures { result ≡ true → pair ≡ true → IfOk answer.now (λ x. is_pair x ≡ true) }
 {
     match answer {
         Ok(Answered::Pair(_, _)) | Err(_) => true,
-        Ok(_) => false,
+        Ok(_) => !pair,
     }
+}
+
+/// The last of the answers.
+fn last(answers: CallAnswers) -> Option<CallAnswer>
+    ensures { IfSome result (λ answer. IsLast answers answer) }
+{
+    let mut items = answers.into_vec();
+    items.pop()
 }
 
 /// Makes a call, whose answer is the one in the list.
@@ -72,6 +78,21 @@ fn call_one(
     Ok(answers)
 }
 
+/// An answer that suits its call.
+fn suited(pair: bool, answer: Option<CallAnswer>) -> Result<CallAnswer, OutOfMemory>
+    ensures { IfOk result (λ x. IsSuited pair answer x) }
+{
+    match answer {
+        Some(answer) => {
+            if !suits(pair, &answer.answer) {
+                return Err(OutOfMemory);
+            }
+            Ok(answer)
+        }
+        None => Err(OutOfMemory),
+    }
+}
+
 /// Makes a call.
 ///
 /// Memory is said to have run out also where the server's response has no wire form, and where a pair is answered by
@@ -83,23 +104,9 @@ pub fn make(
     call: Call,
 ) -> Result<CallAnswer, OutOfMemory>
     requires { IsJoined client.old.link }
-    ensures settings { OnOk result (settings_of client.new ≡ settings_of client.old) }
-    ensures joined { OnOk result (IsJoined client.new.link) }
-    ensures world { OnOk result (world_of client.new.link ≡
-        (joined_step (settings_of client.old) (line_call call) (world_of client.old.link)).after) }
-    ensures told { IfOk result (λ answer. Tells
-        (joined_step (settings_of client.old) (line_call call) (world_of client.old.link)).step
-        client.old.buffered answer) }
+    ensures { IfOk result (λ answer. IsMadeSo client.old client.new call answer) }
 {
     let pair = makes_pair(&call);
-    let mut answers = call_one(alloc, client, call)?.into_vec();
-    match answers.pop() {
-        Some(answer) => {
-            if pair && !may_be_pair(&answer.answer) {
-                return Err(OutOfMemory);
-            }
-            Ok(answer)
-        }
-        None => unreachable!(),
-    }
+    let answers = call_one(alloc, client, call)?;
+    suited(pair, last(answers))
 }

@@ -1,0 +1,4 @@
+use Rattle.kmip_joined.proofs.made.make.Goals as goal
+
+pub returns : goal.returns
+returns c = ?
