@@ -1,6 +1,6 @@
 -- One call over a server with a plain maker: what is expected of it is what the program's definitions say.
-use Rattle.std.proofs.Common.{◌≡◌, ℕ, ℤ, pos, ◌+◌, ◌<◌, List, [], ◌∷◌, ◌++◌, length, drop, map, length-append, refl, ◌∙◌, ap, sym, subst, arith, Bool, true, false, cond, Option, Some, None, Result, Ok, Err, IfOk, IfSome}
-use Rattle.std.specs.Option.{option_map, option_to_list}
+use Rattle.std.proofs.Common.{◌≡◌, ℕ, ℤ, pos, ◌+◌, ◌<◌, List, [], ◌∷◌, ◌++◌, length, drop, map, length-append, refl, ◌∙◌, ap, sym, subst, arith, Bool, true, false, cond, Option, Some, None, Result, Ok, Err, IfOk}
+use Rattle.std.specs.Option.{option_map}
 use Rattle.kmip_types.specs.declared.auth.CredentialType.{CredentialType}
 use Rattle.kmip_request.specs.Message.{request_bytes}
 use Rattle.kmip_response_write.specs.Settled.{response_bytes}
@@ -25,7 +25,7 @@ use Rattle.kmip_server.specs.declared.answers.CallAnswer.{CallAnswer}
 use Rattle.kmip_words.specs.Exchange.{Settings as LineSettings, Asked as LineAsked, Step, step, step_of, asked, asked_of, value_styled, or_empty}
 use Rattle.kmip_joined.specs.Lines.{line_call}
 use Rattle.kmip_joined.specs.World.{World, Joined, next_made, after_request, after_sending, step_on, joined_step, world_of}
-use Rattle.kmip_joined.specs.Told.{IsJoined, IsPlain, IsMade, IsMadeSo, IsLast, IsSuited, Tells, makes_pair, is_pair}
+use Rattle.kmip_joined.specs.Told.{IsJoined, IsPlain, IsMade, IsMadeSo, IsSuited, Tells, makes_pair, is_pair}
 use Rattle.kmip_joined.proofs.Own.{append_none, first_is}
 use Rattle.kmip_joined.proofs.Plain.{world_with, world_same, world_at, Stands, stands}
 use Rattle.kmip_joined.proofs.Told.{told_as}
@@ -190,11 +190,9 @@ made_known settings call before after now x known =
       told = subst (λ (j : Joined). Tells j.step settings.buffered x) (sym step) (told_as settings call request (after_sending (world_at now) request).rest x it.told known.pair);
     }
 
--- an answer that was taken off a list of one
-popped : (rest : List CallAnswer) (x y : CallAnswer) → y ∷ [] ≡ rest ++ x ∷ [] → y ≡ x
-popped [] x y e = cc
-popped (a ∷ []) x y e = absurd (cc)
-popped (a ∷ b ∷ rest) x y e = absurd (cc)
+-- the first answer of a list of one
+popped : (rest : List CallAnswer) (x y : CallAnswer) → y ∷ [] ≡ x ∷ rest → y ≡ x
+popped rest x y e = cc
 
 abbrev Clients : Type 0
 Clients = ClientState (ServerLinkState PlainMemory)
@@ -231,7 +229,7 @@ one_of old new call xs said =
     only s (next s now call).expected xs (subst (λ (es : List Expected). Meet s es (map call_told xs)) one said.meet)
     (λ cut. let above : 0 < new.link.faults = said.faulted (ap has_unsent one ∙ cut) in let sound : new.link.faults ≡ 0 = said.sound in omega (arith, above, sound))
 
-came_so : (old new : Clients) (call : Call) (xs rest : List CallAnswer) (x : CallAnswer) → IsJoined old.link → IsMade old new call xs → xs ≡ rest ++ x ∷ [] → (makes_pair call ≡ true → IfOk x.answer (λ a. is_pair a ≡ true)) →
+came_so : (old new : Clients) (call : Call) (xs rest : List CallAnswer) (x : CallAnswer) → IsJoined old.link → IsMade old new call xs → xs ≡ x ∷ rest → (makes_pair call ≡ true → IfOk x.answer (λ a. is_pair a ≡ true)) →
     MadeSo (line_settings (settings_of old)) call old.link new.link x
 came_so old new call xs rest x joined said last pair =
     let s : Settings = settings_of old in
@@ -264,18 +262,7 @@ same_settings old new call xs made = ap line_settings made.settings
 
 -- ---- so a call was made
 
-pub last_of : (o : Option CallAnswer) (all before : List CallAnswer) → all ≡ before ++ option_to_list o → IfSome o (λ x. IsLast all x)
-last_of None all before is = tt
-last_of (Some x) all before is = (before, is)
-
-pub made_so : (old new : Clients) (call : Call) (xs : List CallAnswer) (x : CallAnswer) → IsJoined old.link → IsMade old new call xs → IsLast xs x → (makes_pair call ≡ true → IfOk x.answer (λ a. is_pair a ≡ true)) → IsMadeSo old new call x
-made_so old new call xs x joined made last pair =
-    let it = came_so old new call xs last.0 x joined made last.1 pair in
+pub made_so : (old new : Clients) (call : Call) (xs : List CallAnswer) (x : CallAnswer) (pair : Bool) → IsJoined old.link → IsMade old new call xs → pair ≡ makes_pair call → IsSuited pair xs x → IsMadeSo old new call x
+made_so old new call xs x pair joined made is suited =
+    let it = came_so old new call xs suited.later x joined made suited.is (λ e. suited.suits (is ∙ e)) in
     record { settings = same_settings old new call xs made; joined = still_joined old new call xs joined made; world = it.world; tells = it.told }
-
--- where there is an answer at all
-pub made_if : {E : Type 0} (old new : Clients) (call : Call) (xs : List CallAnswer) (answer : Option CallAnswer) (pair : Bool) (result : Result CallAnswer E) → IsJoined old.link → IsMade old new call xs → IfSome answer (λ x. IsLast xs x) → pair ≡ makes_pair call →
-    IfOk result (λ x. IsSuited pair answer x) → IfOk result (λ x. IsMadeSo old new call x)
-made_if old new call xs answer pair (Ok x) joined made last is suited =
-    made_so old new call xs x joined made (subst (λ (o : Option CallAnswer). IfSome o (λ y. IsLast xs y)) suited.is last) (λ e. suited.suits (is ∙ e))
-made_if old new call xs answer pair (Err error) joined made last is suited = tt

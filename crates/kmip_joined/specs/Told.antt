@@ -1,9 +1,12 @@
 -- What a call of a client over a server in memory did.
-use Rattle.std.specs.Prelude.{◌≡◌, ℕ, ◌<◌, pos, List, [], ◌∷◌, ◌++◌, map, Bool, true, false, Option, Some, Ok, IfOk}
+use Rattle.std.specs.Prelude.{◌≡◌, ℕ, ◌<◌, pos, List, [], ◌∷◌, ◌++◌, map, Bool, true, false, Option, Result, Ok, Err, IfOk}
 use Rattle.kmip_shape.specs.Shown.{styled}
 use Rattle.kmip_shape.specs.declared.style.Style.TheVariants.{Bare}
 use Rattle.kmip_response.specs.Tables.{query_payload, rng_retrieve_payload, sign_payload, attribute_edit_payload, get_payload}
 use Rattle.kmip_response.specs.Values.{query_payload_val, rng_retrieve_payload_val, sign_payload_val, attribute_edit_payload_val, get_payload_val}
+use Rattle.kmip_wire.specs.declared.memory.OutOfMemory.{OutOfMemory}
+use Rattle.kmip_words.specs.declared.ending.Ending.{Ending}
+use Rattle.kmip_words.specs.declared.ending.Ending.TheVariants.{Answered as ended}
 use Rattle.kmip_store.specs.declared.call.Call.{Call}
 use Rattle.kmip_store.specs.declared.call.Call.TheVariants.{CreateRsaKeyPair}
 use Rattle.kmip_store.specs.Plain.{PlainMemory, plain_state, plain_answers}
@@ -67,13 +70,16 @@ pub record Tells (s : Step) (buffered : Bool) (told : CallAnswer) : Type 0 where
   pub shown : answer_line answered_shown Bare told.answer ≡ s.shown
   pub failed : is_error told.answer ≡ s.failed
 
-abbrev pub IsLast : List CallAnswer → CallAnswer → Type 0
-IsLast answers x = (before : List CallAnswer) × (answers ≡ before ++ x ∷ [])
-
--- it is the answer, and where a pair is to be made it is an error or a pair
-pub record IsSuited (pair : Bool) (answer : Option CallAnswer) (x : CallAnswer) : Type 0 where
-  pub is : answer ≡ Some x
+-- it stands first in the answers, and where a pair is to be made it is an error or a pair
+pub record IsSuited (pair : Bool) (answers : List CallAnswer) (x : CallAnswer) : Type 0 where
+  pub later : List CallAnswer
+  pub is : answers ≡ x ∷ later
   pub suits : pair ≡ true → IfOk x.answer (λ a. is_pair a ≡ true)
+
+-- how a call ended whose payload was added
+abbrev pub ended_so : Result (Unit {0}) OutOfMemory → Result Ending OutOfMemory
+ended_so (Ok _) = Ok ended
+ended_so (Err error) = Err error
 
 -- a call was made on a client and told so
 pub record IsMadeSo (before after : ClientState (ServerLinkState PlainMemory)) (call : Call) (told : CallAnswer) : Type 0 where
@@ -87,3 +93,8 @@ pub record Runs (it : Joined) (after : World) (failed : Bool) (old new : List �
   pub text : new ≡ old ++ call_text it.step
   pub failed_is : failed ≡ it.step.failed
   pub world : after ≡ it.after
+
+-- it was written as each step says that it tells of
+pub record IsShown (buffered : Bool) (told : CallAnswer) (failed : Bool) (old new : List ℕ) : Type 0 where
+  pub text : (s : Step) → Tells s buffered told → new ≡ old ++ call_text s
+  pub failed_is : failed ≡ is_error told.answer

@@ -3,7 +3,7 @@ ghost use Rattle.std.specs.Prelude.{◌≡◌, true, false, IfOk, IfSome};
 ghost use Rattle.kmip_server.specs.Link.{IsKnown};
 ghost use Rattle.kmip_store.specs.Plain.{plain_state};
 ghost use Rattle.kmip_joined.specs.World.{world_of, nothing_yet};
-ghost use Rattle.kmip_joined.specs.Told.{IsJoined, IsPlain, IsMade, IsMadeSo, IsLast, IsSuited, makes_pair, is_pair};
+ghost use Rattle.kmip_joined.specs.Told.{IsJoined, IsPlain, IsMade, IsSuited, makes_pair, is_pair};
 
 use kmip_client::{Client, Error};
 use kmip_server::{Answered, Call, CallAnswer, CallAnswers, ServerLink, call_all};
@@ -33,7 +33,7 @@ fn look(client: &mut Client<ServerLink<PlainMaker>>) -> bool
 }
 
 /// Whether a call is answered by two identifiers.
-fn makes_pair(call: &Call) -> bool
+pub fn makes_pair(call: &Call) -> bool
     ensures { result ≡ makes_pair call.now }
 {
     matches!(call, Call::CreateRsaKeyPair(..))
@@ -49,16 +49,18 @@ fn suits(pair: bool, answer: &Result<Answered, Error>) -> bool
     }
 }
 
-/// The last of the answers.
-fn last(answers: CallAnswers) -> Option<CallAnswer>
-    ensures { IfSome result (λ answer. IsLast answers answer) }
+/// The first of the answers, where it suits its call.
+pub fn suited(pair: bool, answers: &CallAnswers) -> Option<&CallAnswer>
+    ensures { IfSome result (λ answer. IsSuited pair answers.now answer.now) }
 {
-    let mut items = answers.into_vec();
-    items.pop()
+    match answers.get(0) {
+        Some(answer) if suits(pair, &answer.answer) => Some(answer),
+        _ => None,
+    }
 }
 
 /// Makes a call, whose answer is the one in the list.
-fn call_one(
+pub fn call_one(
     alloc: Global,
     client: &mut Client<ServerLink<PlainMaker>>,
     call: Call,
@@ -76,37 +78,4 @@ fn call_one(
         return Err(OutOfMemory);
     }
     Ok(answers)
-}
-
-/// An answer that suits its call.
-fn suited(pair: bool, answer: Option<CallAnswer>) -> Result<CallAnswer, OutOfMemory>
-    ensures { IfOk result (λ x. IsSuited pair answer x) }
-{
-    match answer {
-        Some(answer) => {
-            if !suits(pair, &answer.answer) {
-                return Err(OutOfMemory);
-            }
-            Ok(answer)
-        }
-        None => Err(OutOfMemory),
-    }
-}
-
-/// Makes a call.
-///
-/// Memory is said to have run out also where the server's response has no wire form, and where a pair is answered by
-/// something else. Neither comes: a response is not much longer than the line that it answers, and each helper returns
-/// what is its own. But the contracts of the calls below do not say so.
-pub fn make(
-    alloc: Global,
-    client: &mut Client<ServerLink<PlainMaker>>,
-    call: Call,
-) -> Result<CallAnswer, OutOfMemory>
-    requires { IsJoined client.old.link }
-    ensures { IfOk result (λ answer. IsMadeSo client.old client.new call answer) }
-{
-    let pair = makes_pair(&call);
-    let answers = call_one(alloc, client, call)?;
-    suited(pair, last(answers))
 }

@@ -29,7 +29,7 @@ pub use offline::{Settings, answer_of, request_of};
 pub use options::{copied, given, given_after};
 pub use raw::RawRequest;
 pub use setup::{client_of, limited};
-pub use show::{show, show_done, show_error, show_pair};
+pub use show::{push_pair, push_payload, show_done, show_error};
 pub use streams::{read_up_to, write_out};
 pub use values::{bytes_of, number_of};
 pub use words::words_of;

@@ -120,7 +120,7 @@ fn push_json_payload<P: ShowItem>(
 }
 
 /// Adds a payload as a line.
-fn push_payload<P: ShowItem>(
+pub fn push_payload<P: ShowItem>(
     alloc: Global,
     style: Style,
     payload: &P,
@@ -217,7 +217,7 @@ fn push_json_pair(
 }
 
 /// Adds two identifiers as a line.
-fn push_pair(
+pub fn push_pair(
     alloc: Global,
     style: Style,
     first: &Text,
