@@ -1,0 +1,5 @@
+pub mod Own
+pub mod Plain
+pub mod Shown
+pub mod Told
+pub mod Calls
