@@ -31,7 +31,13 @@ pub fn show_answer(
 {
     match answer {
         Ok(Answered::Unit) => show_done(alloc, Style::Bare, Ok(()), line),
-        Ok(Answered::Pair(first, second)) => answered(push_pair(alloc, Style::Bare, first, second, line)),
+        Ok(Answered::Pair(first, second)) => answered(push_pair(
+            alloc,
+            Style::Bare,
+            first,
+            second,
+            line,
+        )),
         Ok(Answered::Query(payload)) => answered(push_payload(alloc, Style::Bare, payload, line)),
         Ok(Answered::Random(payload)) => answered(push_payload(alloc, Style::Bare, payload, line)),
         Ok(Answered::Signed(payload)) => answered(push_payload(alloc, Style::Bare, payload, line)),

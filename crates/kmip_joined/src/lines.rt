@@ -17,11 +17,7 @@ fn helper_of(call: LineCall) -> Option<Call>
             key_length,
             private_key_name,
             public_key_name,
-        } => Some(Call::CreateRsaKeyPair(
-            key_length,
-            private_key_name,
-            public_key_name,
-        )),
+        } => Some(Call::CreateRsaKeyPair(key_length, private_key_name, public_key_name)),
         LineCall::Rng { num_bytes } => Some(Call::RngRetrieve(num_bytes)),
         LineCall::Sign { id, bytes } => Some(Call::Sign(id, bytes)),
         LineCall::Activate { id } => Some(Call::ActivateKey(id)),
