@@ -3,3 +3,5 @@ pub mod Plain
 pub mod Shown
 pub mod Told
 pub mod Calls
+pub mod Empty
+pub mod Runs

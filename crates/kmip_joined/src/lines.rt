@@ -35,6 +35,7 @@ fn helper_of(call: LineCall) -> Option<Call>
 
 /// The call of a line: that of a line with a recorded response, without the response and without `raw`. None where the
 /// line is not of this grammar.
+#[tactic(auto, unfolding(crate::specs::Lines::helper_call))]
 pub fn helper_call(alloc: Global, line: &[u8]) -> Result<Option<Call>, OutOfMemory>
     ensures { IfOk result (λ call. option_map line_call call ≡ helper_call line.now) }
 {
