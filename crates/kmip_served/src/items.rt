@@ -131,6 +131,7 @@ pub fn query_item(alloc: Global) -> Result<BatchItem, OutOfMemory>
         vendor_identification: None,
         server_information: None,
     };
+    let payload = Boxed::new(alloc, payload)?;
     Ok(done(Operation::Query, ResponsePayload::Query(payload)))
 }
 
@@ -270,7 +271,7 @@ pub fn rename_item(
         Ok(()) => {
             let payload = AttributeEditResponsePayload {
                 unique_identifier: UniqueIdentifier(id.try_clone(alloc)?),
-                attribute: name(alloc, new_name)?,
+                attribute: Boxed::new(alloc, name(alloc, new_name)?)?,
             };
             Ok(done(
                 Operation::ModifyAttribute,
