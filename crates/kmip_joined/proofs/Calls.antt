@@ -1,13 +1,12 @@
 -- One call over a server with a plain maker: what is expected of it is what the program's definitions say.
-use Rattle.std.proofs.Common.{◌≡◌, ℕ, ℤ, pos, ◌+◌, ◌<◌, List, [], ◌∷◌, ◌++◌, length, drop, map, length-append, refl, ◌∙◌, ap, sym, subst, arith, Bool, true, false, cond, Option, Some, None, Result, Ok, Err, IfOk}
-use Rattle.std.specs.Option.{option_map}
+use Rattle.std.proofs.Common.{◌≡◌, ℕ, ℤ, pos, ◌<◌, List, [], ◌∷◌, ◌++◌, length, drop, map, length-append, refl, ◌∙◌, ap, sym, subst, arith, Bool, true, false, cond, Option, Some, None, IfOk}
 use Rattle.kmip_types.specs.declared.auth.CredentialType.{CredentialType}
 use Rattle.kmip_request.specs.Message.{request_bytes}
 use Rattle.kmip_response_write.specs.Settled.{response_bytes}
 use Rattle.kmip_shape.specs.declared.style.Style.TheVariants.{Bare}
 use Rattle.kmip_client.specs.Client.{ClientState}
 use Rattle.kmip_client.specs.Outcome.{outcome_of}
-use Rattle.kmip_store.specs.Plain.{PlainMemory, plain_state, plain_answer, plain_answers}
+use Rattle.kmip_store.specs.Plain.{PlainMemory, plain_state, plain_answers}
 use Rattle.kmip_store.specs.declared.call.Call.{Call}
 use Rattle.kmip_store.specs.declared.call.Call.TheVariants.{Query, CreateRsaKeyPair, RngRetrieve, Sign, ActivateKey, RevokeKey, DestroyKey, RenameKey, GetKey}
 use Rattle.kmip_store.specs.declared.maker.Asked.{Asked}
@@ -17,17 +16,17 @@ use Rattle.kmip_served.specs.Answering.{listed}
 use Rattle.kmip_served.specs.Requests.{request_of, call_operation}
 use Rattle.kmip_served.specs.Served.{served, asks}
 use Rattle.kmip_server.specs.Calls.{call_told, settings_of, before_all, expected_of, finish_of}
-use Rattle.kmip_server.specs.Came.{between, standing}
-use Rattle.kmip_server.specs.Joined.{Settings, Between, Expected, Told', Unsent, CallTold, Next, turn_with, turn_call_told, next_with, answered_with, sent_with, next, expected, finish, has_unsent, Meet}
-use Rattle.kmip_server.specs.Link.{ServerLinkState, server_link_state, IsOpen, IsKnown}
-use Rattle.kmip_server.specs.Machine.{first_for, rest_for}
+use Rattle.kmip_server.specs.Came.{standing}
+use Rattle.kmip_server.specs.Joined.{Settings, Between, Expected, Told', Unsent, CallTold, Next, turn_with, turn_call_told, answered_with, sent_with, next, expected, finish, has_unsent, Meet}
+use Rattle.kmip_server.specs.Link.{ServerLinkState, IsOpen, IsKnown}
+use Rattle.kmip_server.specs.Machine.{first_for}
 use Rattle.kmip_server.specs.declared.answers.CallAnswer.{CallAnswer}
-use Rattle.kmip_words.specs.Exchange.{Settings as LineSettings, Asked as LineAsked, Step, step, step_of, asked, asked_of, value_styled, or_empty}
+use Rattle.kmip_words.specs.Exchange.{Settings as LineSettings, Asked as LineAsked, Step, step_of, asked, asked_of, value_styled, or_empty}
 use Rattle.kmip_joined.specs.Lines.{line_call}
-use Rattle.kmip_joined.specs.World.{World, Joined, next_made, after_request, after_sending, step_on, joined_step, world_of}
+use Rattle.kmip_joined.specs.World.{World, Joined, next_made, after_request, after_sending, joined_step, world_of}
 use Rattle.kmip_joined.specs.Told.{IsJoined, IsPlain, IsMade, IsMadeSo, IsSuited, Tells, makes_pair, is_pair}
 use Rattle.kmip_joined.proofs.Own.{append_none, first_is}
-use Rattle.kmip_joined.proofs.Plain.{world_with, world_same, world_at, Stands, stands}
+use Rattle.kmip_joined.proofs.Plain.{world_same, world_at, Stands, stands}
 use Rattle.kmip_joined.proofs.Told.{told_as}
 
 -- ---- what the server's definitions expect

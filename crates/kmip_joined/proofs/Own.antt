@@ -1,8 +1,7 @@
 -- A server whose maker's answers are those by their numbers: what it does, without the maker.
-use Rattle.std.proofs.Common.{◌≡◌, ℕ, ℤ, ◌+◌, List, [], ◌∷◌, ◌++◌, length, refl, ◌∙◌, ap, sym, subst, arith, append_assoc, length-append, Option, Some, None}
+use Rattle.std.proofs.Common.{◌≡◌, ℕ, ℤ, ◌+◌, List, [], ◌∷◌, ◌++◌, length, refl, ◌∙◌, ap, sym, arith, append_assoc, length-append, Option, Some, None}
 use Rattle.std.specs.List.{fold}
 use Rattle.std.specs.Option.{option_map}
-use Rattle.std.proofs.lemmas.Grind.{common_steps}
 use Rattle.kmip_store.specs.Plain.{plain_answer, plain_answers}
 use Rattle.kmip_store.specs.declared.maker.Asked.{Asked}
 use Rattle.kmip_store.specs.declared.maker.Made.{Made}

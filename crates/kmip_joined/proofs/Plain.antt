@@ -1,5 +1,5 @@
 -- A link whose server has a plain maker: what stands before a call, whatever the maker's answers are in the end.
-use Rattle.std.proofs.Common.{◌≡◌, ℕ, ℤ, List, [], ◌∷◌, ◌++◌, length, refl, ◌∙◌, ap, sym, Some}
+use Rattle.std.proofs.Common.{◌≡◌, ℕ, ℤ, List, [], ◌++◌, length, refl, ◌∙◌, ap, sym, Some}
 use Rattle.std.specs.List.{fold}
 use Rattle.kmip_link.specs.State.{left}
 use Rattle.kmip_store.specs.Plain.{PlainMemory, plain_state, plain_answers}
@@ -8,7 +8,7 @@ use Rattle.kmip_store.specs.declared.maker.Made.{Made}
 use Rattle.kmip_store.specs.declared.object.Object.{Object}
 use Rattle.kmip_store.proofs.Plains.{as_many}
 use Rattle.kmip_server.specs.Split.{split}
-use Rattle.kmip_server.specs.Machine.{Run, fresh, serve, run_of}
+use Rattle.kmip_server.specs.Machine.{Run, fresh, run_of}
 use Rattle.kmip_server.specs.Link.{ServerLinkState, server_link_state, IsOpen, IsKnown}
 use Rattle.kmip_server.specs.Joined.{Between}
 use Rattle.kmip_server.specs.Came.{between}

@@ -1,5 +1,5 @@
 -- What a helper returned is shown as the payload that answered its call.
-use Rattle.std.proofs.Common.{◌≡◌, ℕ, ◌==◌, if◌then◌else◌, List, [], refl, ◌∙◌, ap, sym, Bool, true, false, Result, Ok, Err, IfOk}
+use Rattle.std.proofs.Common.{◌≡◌, ℕ, ◌==◌, if◌then◌else◌, List, [], refl, ◌∙◌, ap, true, Result, Ok, Err, IfOk}
 use Rattle.kmip_shape.specs.Val.{Val, Number, Text, Bytes, Truth, Record, Case}
 use Rattle.kmip_shape.specs.Shown.{styled}
 use Rattle.kmip_shape.specs.declared.style.Style.TheVariants.{Bare}

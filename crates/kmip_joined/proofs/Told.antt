@@ -1,25 +1,22 @@
 -- A call as it is told, and as the program tells it.
-use Rattle.std.proofs.Common.{◌≡◌, ◌≢◌, ℕ, List, take, refl, ◌∙◌, ap, sym, subst, Bool, true, false, Option, Some, None, Result, Ok, Err, IfOk, inl, inr}
-use Rattle.kmip_diag.specs.Diagnostic.{diagnostic}
+use Rattle.std.proofs.Common.{◌≡◌, ◌≢◌, ℕ, List, take, refl, ◌∙◌, ap, Bool, true, Option, Some, None, Ok, Err, IfOk, inr}
 use Rattle.kmip_enums.specs.declared.operation.Operation.{Operation}
-use Rattle.kmip_request.specs.Message.{operation_of}
 use Rattle.kmip_shape.specs.Val.{Val}
 use Rattle.kmip_shape.specs.declared.style.Style.TheVariants.{Bare}
 use Rattle.kmip_client.specs.Client.{IsOfOperation}
-use Rattle.kmip_client.specs.Diagnostics.{diagnostic_of, diagnostic_for, IsRequestText, IsResponseText}
+use Rattle.kmip_client.specs.Diagnostics.{diagnostic_of, IsRequestText, IsResponseText}
 use Rattle.kmip_client.specs.Message.{Message, message_at}
-use Rattle.kmip_client.specs.Outcome.{Answer, outcome_of, answer_of, seen_by, Caused, given}
+use Rattle.kmip_client.specs.Outcome.{Answer, outcome_of, answer_of, seen_by, given}
 use Rattle.kmip_client.specs.Session.{response_text_of}
-use Rattle.kmip_client.specs.declared.error.Error.{Error}
 use Rattle.kmip_client.specs.declared.error.Error.TheVariants.{SerializeError, RequestWriteError, OutOfMemory}
 use Rattle.kmip_client.proofs.Headlines.{seen_variant}
 use Rattle.kmip_client.proofs.Said.{OfMessages, message_says}
 use Rattle.kmip_store.specs.declared.call.Call.{Call}
-use Rattle.kmip_served.specs.Requests.{request_of, call_operation}
+use Rattle.kmip_served.specs.Requests.{call_operation}
 use Rattle.kmip_server.specs.Calls.{call_told}
 use Rattle.kmip_server.specs.Joined.{Settings, turn_with, turn_call_told}
 use Rattle.kmip_server.specs.declared.answers.CallAnswer.{CallAnswer}
-use Rattle.kmip_words.specs.Exchange.{told_lines, value_styled, step_of, answer_line}
+use Rattle.kmip_words.specs.Exchange.{told_lines, value_styled, step_of}
 use Rattle.kmip_words.proofs.Diagnostics.{told_of}
 use Rattle.kmip_joined.specs.Lines.{line_call}
 use Rattle.kmip_joined.specs.Told.{Tells, makes_pair, is_pair}
