@@ -623,7 +623,7 @@ const MORE_GRAMMAR: &[Row] = &[
     },
     Row {
         shows: "words that stay outside the grammar",
-        words: &["joined"],
+        words: &["join"],
         script: b"",
         written: "! words\n",
         status: 2,

@@ -9,7 +9,7 @@ use Rattle.kmip_run.proofs.Joins.{next_call, next_bad, no_more}
 use Rattle.kmip_run.proofs.joined.joined_lines.Goals as goal
 
 pub loop-rest-init : goal.loop-rest-init
-loop-rest-init c = record { settings = refl; joined = c.requires.joined; bound = omega arith; counted = omega arith; so_far = nothing_yet _ _ }
+loop-rest-init c = record { settings = refl; ready = c.requires.joined; bound = omega arith; counted = omega arith; so_far = nothing_yet _ _ }
 
 pub exchange-requires-clause-buffered : goal.exchange-requires-clause-buffered
 exchange-requires-clause-buffered c = c.requires.buffered ∙ sym (ap (λ (s : Settings). s.buffered) c.loop-rest.invariant.settings)
@@ -20,7 +20,7 @@ loop-rest-preserved c =
     let is = rw c.in-Some.is at c.in_ok-call.ensures in
     record {
       settings = c.in_ok-failed.ensures.settings ∙ i.settings;
-      joined = c.in_ok-failed.ensures.joined;
+      ready = c.in_ok-failed.ensures.joined;
       bound = c.status_after-status.ensures.bound i.bound;
       counted = omega (arith, c.first_line.ensures.shorter);
       so_far = next_call (settings_of c.args.client.now) (line_call c.in-Some.call) c.loop-rest.rest.now c.first_line.result.0.now c.first_line.result.1.now

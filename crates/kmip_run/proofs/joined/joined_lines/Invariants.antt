@@ -10,7 +10,7 @@ use Rattle.kmip_run.proofs.joined.joined_lines.Given as goal
 abbrev pub invariant-loop-rest : goal.invariant-loop-rest
 invariant-loop-rest l = record {
   settings : settings_of l.client ≡ settings_of l.initial.client;
-  joined : IsJoined l.client.link;
+  ready : IsJoined l.client.link;
   bound : l.status < 2;
   counted : l.number + length l.rest ≤ length l.script;
   so_far : SoFar (joined (settings_of l.initial.client) (lines_of l.script) 1 0 (world_of l.initial.client.link)) l.initial.output l.output
