@@ -26,6 +26,7 @@ fn minor(operation: Option<Operation>) -> u8
 /// What every response of a server is made with.
 #[derive(Drop)]
 pub struct Stamp {
+    /// Where responses take their memory.
     pub alloc: Global,
     /// Seconds since 1970.
     pub time: i64,

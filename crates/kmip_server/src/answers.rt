@@ -14,10 +14,15 @@ pub enum Answered {
     Unit,
     /// The identifiers of the private and the public key of a new pair.
     Pair(Text, Text),
+    /// What the server can do.
     Query(QueryResponsePayload),
+    /// Random bytes.
     Random(RNGRetrieveResponsePayload),
+    /// A signature.
     Signed(SignResponsePayload),
+    /// The attribute that a key was given.
     Renamed(ModifyAttributeResponsePayload),
+    /// An object.
     Got(GetResponsePayload),
 }
 
@@ -26,6 +31,7 @@ pub enum Answered {
 pub struct CallAnswer {
     /// The bytes that its link took in this call.
     pub sent: Blob,
+    /// What the helper returned, or why it has no payload.
     pub answer: Result<Answered>,
     /// The diagnostic of its request, where the client keeps diagnostics and the request is valid.
     pub req_diag: Option<Text>,

@@ -25,7 +25,8 @@ use table::{FIRST, NAMES};
 static TABLE: [&str; 292] = NAMES;
 
 pub(crate) fn nth(names: &'static [&'static str], index: usize) -> Option<&'static str>
-    ensures { option_map (λ name. name.now) result ≡ slice_get (map (λ name. name.now) names.now) index }
+    ensures { option_map (λ name. name.now) result ≡
+        slice_get (map (λ name. name.now) names.now) index }
 {
     if index < names.len() {
         Some(names[index])

@@ -36,8 +36,11 @@ impl Under {
 /// An item in hex, and what it shows as where it is read.
 #[derive(Clone, Copy)]
 pub struct Case {
+    /// The value of the chooser that it is read under.
     pub under: Under,
+    /// The bytes of the item.
     pub hex: &'static str,
+    /// What it shows as, and none where it is not read.
     pub shown: Option<&'static str>,
 }
 

@@ -28,7 +28,10 @@ impl Model for Buffer {
 
     ghost Value = { Room };
 
-    ghost view = { λ b. record { bytes = take b.len b.room.items; spare = vec_len b.room - b.len } };
+    ghost view = { λ b. record {
+      bytes = take b.len b.room.items;
+      spare = vec_len b.room - b.len;
+    } };
 
     ghost invariant = { λ b. b.len ≤ vec_len b.room };
 }
@@ -44,7 +47,8 @@ fn overwrite_front(bytes: &mut [u8], len: usize)
 // Writes a length into the head that begins at a place.
 fn put_length(bytes: &mut [u8], at: usize, len: u32)
     requires { at + 8 ≤ length bytes.old }
-    ensures { bytes.new ≡ take (at + 4) bytes.old ++ (to_be_bytes w32 len ++ drop (at + 8) bytes.old) }
+    ensures { bytes.new ≡
+        take (at + 4) bytes.old ++ (to_be_bytes w32 len ++ drop (at + 8) bytes.old) }
 {
     bytes[at + 4..at + 8].copy_from_slice(&len.to_be_bytes());
 }
