@@ -45,7 +45,7 @@ pub record SoFar (all : Transcript) (old now : List ℕ) (rest : Transcript) : T
 pub nothing_yet : (all : Transcript) (old : List ℕ) → SoFar all old old all
 nothing_yet all old = record { text = refl; status = refl }
 
-one_more : {all : Transcript} {old now : List ℕ} (text : List ℕ) (later : Transcript) → SoFar all old now (then_text text later) → SoFar all old (now ++ text) later
+pub one_more : {all : Transcript} {old now : List ℕ} (text : List ℕ) (later : Transcript) → SoFar all old now (then_text text later) → SoFar all old (now ++ text) later
 one_more {now = now} text later so_far = record { text = so_far.text ∙ sym (append_assoc now text later.text); status = so_far.status }
 
 -- the next line is a diagnostic
@@ -59,7 +59,7 @@ pub next_bad : {all : Transcript} {old now : List ℕ} (script line later : List
     SoFar all old now (explained (lines_of script) number) → SoFar all old now (bad_line number)
 next_bad script line later number lines is so_far = rw (lines, explained_bad line (lines_of later) number is) at so_far
 
-ended : {all : Transcript} {old now : List ℕ} → SoFar all old now (only_text [] 0) → (old ++ all.text ≡ now) × (all.status ≡ 0)
+pub ended : {all : Transcript} {old now : List ℕ} {status : ℕ} → SoFar all old now (only_text [] status) → (old ++ all.text ≡ now) × (all.status ≡ status)
 ended {now = now} so_far = (so_far.text ∙ sym (append_none now), so_far.status)
 
 -- no line is left

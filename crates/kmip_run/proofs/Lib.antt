@@ -1,6 +1,7 @@
 pub mod Audited
 pub mod Explained
 pub mod Given
+pub mod Joins
 pub mod Lines
 pub mod Makes
 pub mod Runs

@@ -4,8 +4,8 @@ use Rattle.std.proofs.lemmas.Grind.{common_steps}
 use Rattle.kmip_link.specs.Plan.{MemoryState}
 use Rattle.kmip_run.specs.Script.{lines_of}
 use Rattle.kmip_words.specs.Calls.{call_of}
-use Rattle.kmip_words.specs.Exchange.{Settings, Step, step}
-use Rattle.kmip_run.specs.Transcript.{Transcript, only_text, call_text, status_after, bad_line, then_later, replayed, RunsCall, Replays}
+use Rattle.kmip_words.specs.Exchange.{Settings, Step, step, call_text}
+use Rattle.kmip_run.specs.Transcript.{Transcript, only_text, status_after, bad_line, then_later, replayed, RunsCall, Replays}
 use Rattle.kmip_words.specs.declared.call.Call.{Call}
 use Rattle.kmip_words.specs.declared.call.Recorded.{Recorded}
 

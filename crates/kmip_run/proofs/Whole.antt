@@ -12,12 +12,15 @@ use Rattle.kmip_run.specs.Commands.{command_of}
 use Rattle.kmip_words.specs.Exchange.{Settings, Step, step}
 use Rattle.kmip_run.specs.Setup.{settings_for}
 use Rattle.kmip_words.specs.Streams.{WrotePart}
-use Rattle.kmip_run.specs.Transcript.{Transcript, only_text, status_after, replayed, expanded, explained, reported, audited, lines_transcript, most_script, reads_script, script_transcript, command_transcript, transcript, IsLineOf, AreLinesOf, IsOfGrammar, Replays}
+use Rattle.kmip_run.specs.Transcript.{Transcript, only_text, status_after, replayed, expanded, explained, joined, reported, audited, lines_transcript, most_script, reads_script, script_transcript, command_transcript, transcript, IsLineOf, AreLinesOf, IsOfGrammar, Replays}
 use Rattle.kmip_run.specs.Auditing.{captured_in, AreStreams}
 use Rattle.kmip_run.specs.declared.auditing.Captured.{Captured}
 use Rattle.kmip_run.specs.declared.auditing.Captured.TheVariants.{Streams, Bad}
 use Rattle.kmip_run.specs.declared.command.Command.{Command}
-use Rattle.kmip_run.specs.declared.command.Command.TheVariants.{Replay, Explain, Make, Audit}
+use Rattle.kmip_run.specs.declared.command.Command.TheVariants.{Replay, Explain, Make, Audit, Joined}
+use Rattle.kmip_joined.specs.Lines.{helper_call}
+use Rattle.kmip_joined.specs.World.{World, joined_step, nothing_yet}
+use Rattle.kmip_run.proofs.Joins.{joined_call, joined_none, joined_alone}
 use Rattle.kmip_run.proofs.Explained.{explained_line, explained_none, explained_alone}
 use Rattle.kmip_run.proofs.Runs.{append_none, replayed_call, replayed_none}
 
@@ -35,6 +38,7 @@ transcript_fits (Replay options) script fits = grind (arith, nat_tests)
 transcript_fits Explain script fits = grind (arith, nat_tests)
 transcript_fits (Make count) script fits = refl
 transcript_fits Audit script fits = grind (arith, nat_tests)
+transcript_fits (Joined options) script fits = grind (arith, nat_tests)
 
 -- a command that reads no script makes the same of each
 pub transcript_same : (command : Command) (script : List ℕ) → reads_script (Some command) ≡ false → script_transcript command script ≡ script_transcript command []
@@ -43,6 +47,7 @@ transcript_same (Replay options) script unread = cc
 transcript_same Explain script unread = cc
 transcript_same (Make count) script unread = refl
 transcript_same Audit script unread = cc
+transcript_same (Joined options) script unread = cc
 
 pub transcript_words : (words : List (List ℕ)) (script : List ℕ) → None ≡ command_of words → transcript words script ≡ only_text (codes "! words\n") 2
 unfolding transcript
@@ -119,17 +124,31 @@ reported_small : (captured : Captured) → AreStreams captured → (reported cap
 reported_small (Streams sent received) good = omega arith
 reported_small (Bad number) good = absurd good
 
+-- and calls over a server with the status 0 or 1
+joined_small : (settings : Settings) (lines : List (List ℕ)) (number status : ℕ) (world : World) → status < 2 → All (λ line. IsSome (helper_call line)) lines → (joined settings lines number status world).status < 2
+joined_small settings [] number status world small good = rw (joined_none settings [] number status world refl) small
+joined_small settings (line ∷ lines) number status world small good =
+    elim (helper_call line) as (λ o. helper_call line ≡ o → IsSome o → (joined settings (line ∷ lines) number status world).status < 2) [
+      | None ↦ λ e some. cc
+      | Some call ↦ λ e some.
+          let it = joined_step settings call world in
+          rw (joined_call settings line lines number status world call (sym e))
+          (joined_small settings lines (number + 1) (status_after status it.step.failed) it.after (status_small status it.step.failed small) (All-tail (λ l. IsSome (helper_call l)) line lines good))
+    ] refl (All-head (λ l. IsSome (helper_call l)) line lines good)
+
 lines_small : (command : Command) (lines : List (List ℕ)) → (IsTrue (reads_script (Some command)) → All (IsLineOf (Some command)) lines) → AreLinesOf (Some command) lines → (lines_transcript command lines).status < 2
 lines_small (Replay options) lines good together = replayed_small (settings_for options) lines 1 0 [] (omega arith) (good refl)
 lines_small Explain lines good together = explained_small lines 1 (good refl)
 lines_small (Make count) lines good together = omega arith
 lines_small Audit lines good together = reported_small (captured_in lines) together
+lines_small (Joined options) lines good together = joined_small (settings_for options) lines 1 0 nothing_yet (omega arith) (good refl)
 
 -- the script of a command, where it reads one and this is not too long
 lines_whole : (command : Command) (script : List ℕ) → (IsTrue (reads_script (Some command)) → length script ≤ 16777216) → script_transcript command script ≡ lines_transcript command (lines_of script)
 lines_whole (Replay options) script fits = transcript_fits (Replay options) script (fits refl)
 lines_whole Explain script fits = transcript_fits Explain script (fits refl)
 lines_whole Audit script fits = transcript_fits Audit script (fits refl)
+lines_whole (Joined options) script fits = transcript_fits (Joined options) script (fits refl)
 lines_whole (Make count) script fits = transcript_same (Make count) script refl ∙ transcript_fits (Make count) [] (omega arith)
 
 -- a script of the grammar ends with the status 0 or 1
@@ -138,30 +157,31 @@ grammar_status words script command is good =
     let fits : IsTrue (reads_script (Some command)) → length script ≤ 16777216 = rw (sym is, most) at good.fits in
     rw (transcript_command words script command is, lines_whole command script fits) (lines_small command (lines_of script) (rw (sym is) at good.lines_are) (rw (sym is) at good.together))
 
-explained_now : (link : MemoryState) (lines : List (List ℕ)) (status : ℕ) (old new : List ℕ) → status ≡ (explained lines 1).status → new ≡ old ++ (explained lines 1).text → Replays (explained lines 1) link link status old new
-explained_now link lines status old new status_is text =
-    rw (status_is, text, explained_alone lines 1) (text_alone link (explained lines 1).text (explained lines 1).status old)
+text_now : (t : Transcript) (link : MemoryState) (status : ℕ) (old new : List ℕ) → t ≡ only_text t.text t.status → status ≡ t.status → new ≡ old ++ t.text → Replays t link link status old new
+text_now t link status old new alone status_is text = rw (status_is, text, alone) (text_alone link t.text t.status old)
 
--- the expansions alone were written, and nothing is on the link
+-- a text alone was written, and nothing is on the link
+writes : {E : Type 0} (t : Transcript) (link : MemoryState) (result : Result ℕ E) (old new : List ℕ) → t ≡ only_text t.text t.status →
+    IfOk result (λ status. status ≡ t.status) → IfOk result (λ status. new ≡ old ++ t.text) → IfOk result (λ status. Replays t link link status old new)
+writes t link (Ok status) old new alone status_is text = text_now t link status old new alone status_is text
+writes t link (Err error) old new alone status_is text = tt
+
 pub explains : {E : Type 0} (link : MemoryState) (lines : List (List ℕ)) (result : Result ℕ E) (old new : List ℕ) →
     IfOk result (λ status. status ≡ (explained lines 1).status) → IfOk result (λ status. new ≡ old ++ (explained lines 1).text) → IfOk result (λ status. Replays (explained lines 1) link link status old new)
-explains link lines (Ok status) old new status_is text = explained_now link lines status old new status_is text
-explains link lines (Err error) old new status_is text = tt
+explains link lines result old new = writes (explained lines 1) link result old new (explained_alone lines 1)
+
+pub joins : {E : Type 0} (link : MemoryState) (settings : Settings) (lines : List (List ℕ)) (result : Result ℕ E) (old new : List ℕ) →
+    IfOk result (λ status. status ≡ (joined settings lines 1 0 nothing_yet).status) → IfOk result (λ status. new ≡ old ++ (joined settings lines 1 0 nothing_yet).text) → IfOk result (λ status. Replays (joined settings lines 1 0 nothing_yet) link link status old new)
+joins link settings lines result old new = writes (joined settings lines 1 0 nothing_yet) link result old new (joined_alone settings lines 1 0 nothing_yet)
 
 -- nothing is on the link
 reported_alone : (captured : Captured) → reported captured ≡ only_text (reported captured).text (reported captured).status
 reported_alone (Streams sent received) = refl
 reported_alone (Bad number) = refl
 
-audited_now : (link : MemoryState) (lines : List (List ℕ)) (status : ℕ) (old new : List ℕ) → status ≡ (audited lines).status → new ≡ old ++ (audited lines).text → Replays (audited lines) link link status old new
-audited_now link lines status old new status_is text =
-    rw (status_is, text, reported_alone (captured_in lines)) (text_alone link (audited lines).text (audited lines).status old)
-
--- the report alone was written, and nothing is on the link
 pub audits : {E : Type 0} (link : MemoryState) (lines : List (List ℕ)) (result : Result ℕ E) (old new : List ℕ) →
     IfOk result (λ status. status ≡ (audited lines).status) → IfOk result (λ status. new ≡ old ++ (audited lines).text) → IfOk result (λ status. Replays (audited lines) link link status old new)
-audits link lines (Ok status) old new status_is text = audited_now link lines status old new status_is text
-audits link lines (Err error) old new status_is text = tt
+audits link lines result old new = writes (audited lines) link result old new (reported_alone (captured_in lines))
 
 -- the status that is left, where the writing did not end otherwise
 pub status_left : (result status : ℕ) → (result ≡ status) ⊎ ((result ≡ 4) ⊎ (result ≡ 5)) → result ≢ 4 → result ≢ 5 → result ≡ status

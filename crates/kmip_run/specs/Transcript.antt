@@ -3,7 +3,6 @@ use Rattle.std.specs.Prelude.{◌≡◌, ℕ, ◌+◌, ◌≤◌, List, [], ◌�
 use Rattle.std.specs.Fmt.{decimal}
 use Rattle.std.specs.List.{All}
 use Rattle.std.specs.Str.{is_utf8}
-use Rattle.hex.specs.Hex.{encode_upper}
 use Rattle.kmip_diag.specs.Expansion.{expansion}
 use Rattle.kmip_link.specs.Plan.{MemoryState}
 use Rattle.kmip_audit.specs.Report.{report_of}
@@ -11,8 +10,10 @@ use Rattle.kmip_audit.specs.Printed.{report_text}
 use Rattle.kmip_run.specs.Script.{lines_of}
 use Rattle.kmip_run.specs.Auditing.{captured_in, AreStreams}
 use Rattle.kmip_words.specs.Calls.{call_of}
+use Rattle.kmip_joined.specs.Lines.{helper_call}
+use Rattle.kmip_joined.specs.World.{World, Joined, joined_step, nothing_yet}
 use Rattle.kmip_run.specs.Commands.{command_of}
-use Rattle.kmip_words.specs.Exchange.{Settings, Step, step}
+use Rattle.kmip_words.specs.Exchange.{Settings, Step, step, call_text}
 use Rattle.kmip_run.specs.Setup.{settings_for}
 use Rattle.kmip_run.specs.Making.{Counts, made, made_settings, made_text}
 use Rattle.kmip_run.specs.declared.auditing.Captured.{Captured}
@@ -35,10 +36,6 @@ only_text text status = record { text = text; status = status; fed = []; sent = 
 -- a line that is not of the grammar, by its number
 abbrev pub bad_line : ℕ → Transcript
 bad_line number = only_text (codes "! line " ++ (decimal number ++ codes "\n")) 2
-
--- the lines of a call: what it sent, its diagnostics and its answer
-abbrev pub call_text : Step → List ℕ
-call_text s = codes "> " ++ (encode_upper s.sent ++ (codes "\n" ++ (s.told ++ s.shown)))
 
 -- the status after a call: 1 once some answer was an error
 abbrev pub status_after : ℕ → Bool → ℕ
@@ -83,6 +80,17 @@ explained (line ∷ lines) number = elim (expanded line) [
   | Some text ↦ then_text text (explained lines (number + 1))
 ]
 
+-- the calls of the lines from this one on, over a server in memory: their numbers, the status so far, and what stands
+-- between the calls
+unfoldable pub joined : Settings → List (List ℕ) → ℕ → ℕ → World → Transcript
+joined settings [] number status world = only_text [] status
+joined settings (line ∷ lines) number status world = elim (helper_call line) [
+  | None ↦ bad_line number
+  | Some call ↦
+      let it : Joined = joined_step settings call world in
+      then_text (call_text it.step) (joined settings lines (number + 1) (status_after status it.step.failed) it.after)
+]
+
 -- the report on two captured streams
 abbrev pub reported : Captured → Transcript
 reported (Streams sent received) = only_text (report_text (report_of sent received)) 0
@@ -112,6 +120,7 @@ lines_transcript (Replay options) lines = replayed (settings_for options) lines 
 lines_transcript Explain lines = explained lines 1
 lines_transcript (Make count) lines = made_transcript count
 lines_transcript Audit lines = audited lines
+lines_transcript (Command.Joined options) lines = joined (settings_for options) lines 1 0 nothing_yet
 
 -- The command reads a script.
 abbrev pub reads_script : Option Command → Bool
@@ -119,6 +128,7 @@ reads_script (Some (Replay options)) = true
 reads_script (Some Explain) = true
 reads_script (Some (Make count)) = false
 reads_script (Some Audit) = true
+reads_script (Some (Command.Joined options)) = true
 reads_script None = false
 
 -- the bytes of the longest script
@@ -142,12 +152,13 @@ transcript words script = command_transcript (command_of words) script
 abbrev pub read_by : Option Command → ℕ → ℕ
 read_by command left = if reads_script command then min (most_script + 1) left else 0
 
--- The command makes calls, over the link.
+-- The command makes calls over the link that is handed in.
 abbrev pub makes_calls : Option Command → Bool
 makes_calls (Some (Replay options)) = true
 makes_calls (Some Explain) = false
 makes_calls (Some (Make count)) = true
 makes_calls (Some Audit) = false
+makes_calls (Some (Command.Joined options)) = false
 makes_calls None = false
 
 -- The line is of the grammar of a command. Of the lines of `audit` it is said of all together.
@@ -156,6 +167,7 @@ IsLineOf (Some (Replay options)) line = IsSome (call_of line)
 IsLineOf (Some Explain) line = IsSome (expanded line)
 IsLineOf (Some (Make count)) line = ⊥
 IsLineOf (Some Audit) line = Unit {0}
+IsLineOf (Some (Command.Joined options)) line = IsSome (helper_call line)
 IsLineOf None line = ⊥
 
 -- The lines together are of the grammar of a command: those of `audit` are two, each one word in hex.

@@ -1,7 +1,6 @@
 //! What the words of the command line ask for.
 ghost use Rattle.std.specs.Prelude.{◌≡◌, ◌∷◌, [], map, option_map, IfOk, Some};
-ghost use Rattle.kmip_run.specs.Commands.{diag_of, replay_of, explain_of, make_of, audit_of, command_of};
-ghost use Rattle.kmip_run.specs.declared.command.Command.TheVariants.{Replay};
+ghost use Rattle.kmip_run.specs.Commands.{diag_of, options_of, replay_of, explain_of, make_of, audit_of, joined_of, command_of};
 
 use kmip_wire::{OutOfMemory, Text};
 use kmip_words::{copied, given, given_after, number_of};
@@ -10,7 +9,7 @@ use std::alloc::Global;
 /// The most exchanges that `make` makes.
 const MOST_EXCHANGES: u32 = 100_000;
 
-/// What the words after `replay` set.
+/// What the words after `replay` or `joined` set.
 #[derive(Drop)]
 pub struct Options {
     /// `user=U`: the name that the requests give.
@@ -34,6 +33,8 @@ pub enum Command {
     Make(u32),
     /// `audit`: reports on two captured streams, each one line of the script.
     Audit,
+    /// `joined`, with the options of `replay`: makes the calls of the script, over a server in memory.
+    Joined(Options),
 }
 
 /// Whether the last word is `diag`, where no other is left.
@@ -50,34 +51,34 @@ fn diag_of(words: &[Text]) -> Option<bool>
     }
 }
 
-/// `replay` with these options.
-fn replay_with(
+/// Options of these values.
+fn options_with(
     alloc: Global,
     user: Option<&str>,
     password: Option<&str>,
     limit: Option<u32>,
     diag: bool,
-) -> Result<Option<Command>, OutOfMemory>
-    ensures { IfOk result (λ command. command ≡ Some (Replay (record {
+) -> Result<Option<Options>, OutOfMemory>
+    ensures { IfOk result (λ options. options ≡ Some (record {
       user = option_map (λ text. text.now) user.entry;
       password = option_map (λ text. text.now) password.entry;
       limit = limit;
       diag = diag;
-    }))) }
+    })) }
 {
     let user = copied(alloc, user)?;
     let password = copied(alloc, password)?;
-    Ok(Some(Command::Replay(Options {
+    Ok(Some(Options {
         user,
         password,
         limit,
         diag,
-    })))
+    }))
 }
 
-/// The options of `replay`, or none where its words are not of the grammar.
-fn replay_of(alloc: Global, words: &[Text]) -> Result<Option<Command>, OutOfMemory>
-    ensures { IfOk result (λ command. command ≡ replay_of words.now) }
+/// The options of calls, or none where the words are not of the grammar.
+fn options_of(alloc: Global, words: &[Text]) -> Result<Option<Options>, OutOfMemory>
+    ensures { IfOk result (λ options. options ≡ options_of words.now) }
 {
     let (user, words) = given("user=", words);
     let (password, words) = given_after(user, "password=", words);
@@ -87,10 +88,30 @@ fn replay_of(alloc: Global, words: &[Text]) -> Result<Option<Command>, OutOfMemo
     };
     match limit {
         Some(limit) => match number_of(limit) {
-            Some(limit) => replay_with(alloc, user, password, Some(limit), diag),
+            Some(limit) => options_with(alloc, user, password, Some(limit), diag),
             None => Ok(None),
         },
-        None => replay_with(alloc, user, password, None, diag),
+        None => options_with(alloc, user, password, None, diag),
+    }
+}
+
+/// `replay` with its options, or none where its words are not of the grammar.
+fn replay_of(alloc: Global, words: &[Text]) -> Result<Option<Command>, OutOfMemory>
+    ensures { IfOk result (λ command. command ≡ replay_of words.now) }
+{
+    match options_of(alloc, words)? {
+        Some(options) => Ok(Some(Command::Replay(options))),
+        None => Ok(None),
+    }
+}
+
+/// `joined` with its options, or none where its words are not of the grammar.
+fn joined_of(alloc: Global, words: &[Text]) -> Result<Option<Command>, OutOfMemory>
+    ensures { IfOk result (λ command. command ≡ joined_of words.now) }
+{
+    match options_of(alloc, words)? {
+        Some(options) => Ok(Some(Command::Joined(options))),
+        None => Ok(None),
     }
 }
 
@@ -139,6 +160,7 @@ pub fn command_of(alloc: Global, words: &[Text]) -> Result<Option<Command>, OutO
         "explain" => Ok(explain_of(options)),
         "make" => Ok(make_of(options)),
         "audit" => Ok(audit_of(options)),
+        "joined" => joined_of(alloc, options),
         _ => Ok(None),
     }
 }

@@ -1,14 +1,14 @@
 //! A call over its recorded response, and what is written of it.
-ghost use Rattle.std.specs.Prelude.{◌≡◌, ◌++◌, ◌≤◌, drop, length, codes, option_map, IfOk, OnOk};
+ghost use Rattle.std.specs.Prelude.{◌≡◌, ◌++◌, ◌≤◌, drop, length, codes, IfOk, OnOk};
 ghost use Rattle.hex.specs.Hex.{encode_upper};
-ghost use Rattle.kmip_words.specs.Exchange.{settings_of, or_empty, told_lines, step};
+ghost use Rattle.kmip_words.specs.Exchange.{settings_of, step};
 ghost use Rattle.kmip_run.specs.Transcript.{RunsCall};
 
 use kmip_client::Client;
 use kmip_link::MemoryLink;
 use kmip_shape::Style;
 use kmip_wire::{OutOfMemory, Text};
-use kmip_words::{Recorded, answer};
+use kmip_words::{Recorded, answer, show_diagnostics, show_sent};
 use std::alloc::Global;
 
 /// Feeds a recorded response to the client's link.
@@ -34,19 +34,6 @@ pub fn sent_len(client: &mut Client<MemoryLink>) -> usize
     client.inner().sent().len()
 }
 
-/// Adds `> ` and the bytes in upper-case hex, as a line.
-#[tactic(auto, using(std::proofs::lemmas::List::append_assoc))]
-fn show_sent(alloc: Global, sent: &[u8], output: &mut Text) -> Result<(), OutOfMemory>
-    ensures { OnOk result
-        (output.new ≡ output.old ++ (codes "> " ++ (encode_upper sent.now ++ codes "\n"))) }
-{
-    let text = hex::encode_upper(alloc, sent)?;
-    output.push_str("> ")?;
-    output.push_str(text.as_str())?;
-    output.push_str("\n")?;
-    Ok(())
-}
-
 /// Adds what the client sent from this place on.
 #[tactic(auto, using(crate::proofs::Lines::rest_is))]
 fn show_sent_from(
@@ -62,38 +49,6 @@ fn show_sent_from(
         ++ (codes "> " ++ (encode_upper (drop from client.old.link.sent) ++ codes "\n"))) }
 {
     show_sent(alloc, &client.inner().sent()[from..], output)
-}
-
-/// Adds a diagnostic, and nothing where there is none.
-fn push_diagnostic(diagnostic: Option<&str>, output: &mut Text) -> Result<(), OutOfMemory>
-    ensures { OnOk result
-        (output.new ≡ output.old ++ or_empty (option_map (λ text. text.now) diagnostic.entry)) }
-{
-    match diagnostic {
-        Some(text) => output.push_str(text),
-        None => Ok(()),
-    }
-}
-
-/// Adds the diagnostics of the last call's request and response as lines, where the client keeps them.
-#[tactic(auto, using(std::proofs::lemmas::List::append_assoc))]
-fn show_diagnostics(
-    client: &Client<MemoryLink>,
-    diag: bool,
-    output: &mut Text,
-) -> Result<(), OutOfMemory>
-    ensures { OnOk result
-        (output.new ≡ output.old
-        ++ told_lines diag client.now.request_text client.now.response_text) }
-{
-    if !diag {
-        return Ok(());
-    }
-    output.push_str(">~ ")?;
-    push_diagnostic(client.last_req_diag_str(), output)?;
-    output.push_str("\n<~ ")?;
-    push_diagnostic(client.last_res_diag_str(), output)?;
-    output.push_str("\n")
 }
 
 /// Feeds the recorded response of a call, makes it on the client, and adds what it sent, its diagnostics where the
@@ -117,7 +72,12 @@ pub fn exchange(
     let mut line = Text::new(alloc);
     let ending = answer(alloc, client, Style::Bare, recorded.call, &mut line)?;
     show_sent_from(alloc, client, before, output)?;
-    show_diagnostics(client, diag, output)?;
+    show_diagnostics(
+        diag,
+        client.last_req_diag_str(),
+        client.last_res_diag_str(),
+        output,
+    )?;
     output.push_str(line.as_str())?;
     Ok(ending.is_failure())
 }

@@ -11,6 +11,7 @@ mod auditing;
 mod command;
 mod exchange;
 mod explain;
+mod joined;
 mod laws;
 mod make;
 #[cfg(test)]

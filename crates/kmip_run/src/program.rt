@@ -11,6 +11,7 @@ ghost use Rattle.kmip_run.specs.Transcript.{most_script, reads_script, read_by, 
 use crate::auditing::audit_script;
 use crate::command::{Command, Options, command_of};
 use crate::explain::explain;
+use crate::joined::joined;
 use crate::make::make;
 use crate::replay::replay;
 use crate::setup::client_of;
@@ -116,6 +117,7 @@ fn perform(
         Command::Explain => explain(alloc, script, output),
         Command::Make(count) => make_on(alloc, count, link, output),
         Command::Audit => audit_script(alloc, script, output),
+        Command::Joined(options) => joined(alloc, options, script, output),
     }
 }
 
@@ -124,7 +126,7 @@ fn reads_script(command: &Command) -> bool
     ensures { result ≡ reads_script (Some command.now) }
 {
     match command {
-        Command::Replay(_) | Command::Explain | Command::Audit => true,
+        Command::Replay(_) | Command::Explain | Command::Audit | Command::Joined(_) => true,
         Command::Make(_) => false,
     }
 }

@@ -13,7 +13,7 @@ use kmip_words::call_of;
 use std::alloc::Global;
 
 /// The status after a call: 1 once some answer was an error.
-fn status_after(status: u8, failed: bool) -> u8
+pub fn status_after(status: u8, failed: bool) -> u8
     ensures value { result ≡ status_after status failed }
     ensures bound { status < 2 → result < 2 }
 {

@@ -5,10 +5,9 @@ ghost use Rattle.kmip_run.specs.Setup.{settings_for};
 
 use crate::command::Options;
 use kmip_client::Client;
-use kmip_link::MemoryLink;
 
 /// A client over this link, with the settings of the words.
-pub fn client_of(link: MemoryLink, options: Options) -> Client<MemoryLink>
+pub fn client_of<T>(link: T, options: Options) -> Client<T>
     ensures link { result.link ≡ link }
     ensures settings { settings_of result ≡ settings_for options }
 {

@@ -8,6 +8,7 @@ use std::test::Fail;
 
 mod audit;
 mod hostile;
+mod joined;
 mod raw;
 
 /// What the program writes for these words over this script, and with which status it ends.
@@ -622,7 +623,7 @@ const MORE_GRAMMAR: &[Row] = &[
     },
     Row {
         shows: "words that stay outside the grammar",
-        words: &["joined"],
+        words: &["join"],
         script: b"",
         written: "! words\n",
         status: 2,
@@ -738,6 +739,11 @@ fn diagnostics_are_explained(rt: HostRuntime) -> Result<(), Fail> {
 #[test]
 fn captured_traffic_is_reported(rt: HostRuntime) -> Result<(), Fail> {
     rows_hold(&rt, rt.alloc(), audit::REPORTS)
+}
+
+#[test]
+fn calls_over_a_server_are_answered(rt: HostRuntime) -> Result<(), Fail> {
+    rows_hold(&rt, rt.alloc(), joined::JOINED)
 }
 
 #[test]

@@ -1,4 +1,5 @@
 pub mod Places
 pub mod Questions
 pub mod Kept
+pub mod Plains
 pub mod Runs

@@ -1,5 +1,5 @@
 -- What the plain maker makes: its n-th answer, from the number n.
-use Rattle.std.specs.Prelude.{ℕ, true, ◌%◌, min, ℤ, pos, negsuc, List, [], ◌∷◌, ◌++◌, replicate}
+use Rattle.std.specs.Prelude.{ℕ, true, ◌+◌, ◌%◌, min, ℤ, pos, negsuc, List, [], ◌∷◌, ◌++◌, replicate}
 use Rattle.std.specs.Int.{w64, to_be_bytes}
 use Rattle.kmip_store.specs.Makers.{MakerState}
 use Rattle.kmip_store.specs.declared.maker.Asked.{Asked}
@@ -17,6 +17,12 @@ plain_answer n (KeyPair bits) =
     Pair (to_be_bytes w64 n ++ 1 ∷ []) (to_be_bytes w64 n ++ 2 ∷ [])
 plain_answer n (Random count) = Bytes (replicate (count_of count) (n % 256))
 plain_answer n (Sign key bytes) = Bytes (to_be_bytes w64 n)
+
+-- its answers to these questions, the first of which has the number after n
+abbrev pub plain_answers : ℕ → List Asked → List Made
+plain_answers n [] = []
+plain_answers n (asked ∷ questions) =
+    plain_answer (n + 1) asked ∷ plain_answers (n + 1) questions
 
 -- what the plain maker keeps
 pub record PlainMemory : Type 0 where

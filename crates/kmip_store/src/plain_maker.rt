@@ -2,7 +2,7 @@
 
 ghost use Rattle.std.specs.Prelude.{◌≡◌, ◌+◌, ◌++◌, ◌∷◌, [], length, IfOk, IfErr, OnOk, OnErr};
 ghost use Rattle.kmip_store.specs.Makers.{MakerKeeps, Makes};
-ghost use Rattle.kmip_store.specs.Plain.{plain_state, plain_answer, count_of};
+ghost use Rattle.kmip_store.specs.Plain.{plain_state, plain_answer, plain_answers, count_of};
 ghost use Rattle.kmip_store.specs.declared.maker.Asked.TheVariants.{KeyPair, Random, Sign};
 ghost use Rattle.kmip_store.specs.declared.maker.Made.TheVariants.{Pair, Bytes};
 
@@ -26,11 +26,14 @@ pub struct PlainMaker {
 }
 
 impl Model for PlainMaker {
-    ghost use Rattle.kmip_store.specs.Plain.{PlainMemory};
+    ghost use Rattle.std.specs.Prelude.{◌≡◌};
+    ghost use Rattle.kmip_store.specs.Plain.{PlainMemory, plain_answers};
 
     ghost Value = { PlainMemory };
 
     ghost view = { λ m. record { asked = m.asked.items; given = m.given.items } };
+
+    ghost invariant = { λ m. m.given.items ≡ plain_answers 0 m.asked.items };
 }
 
 /// Bytes, and one more.
@@ -54,8 +57,16 @@ impl PlainMaker {
         }
     }
 
+    /// What holds of each: its answers are those of their numbers. It takes no memory.
+    pub fn known(&self)
+        ensures { self.now.given ≡ plain_answers 0 self.now.asked }
+    {
+        let _ = &self.asked;
+    }
+
     /// Keeps a question and its answer.
     fn keep(&mut self, asked: Asked, made: Made) -> Result<(), MakerError>
+        requires { made ≡ plain_answer (length self.old.asked + 1) asked }
         ensures ok { OnOk result (self.new ≡ record {
           asked = self.old.asked ++ asked ∷ [];
           given = self.old.given ++ made ∷ [];

@@ -4,7 +4,8 @@ use Rattle.std.specs.Str.{is_utf8, IsUtf8}
 use Rattle.std.proofs.lemmas.Str.{IsUtf8-from_is_utf8, is_utf8-from_IsUtf8}
 use Rattle.kmip_words.specs.Words.{words_of}
 use Rattle.kmip_words.specs.Values.{unescaped, text_from, text_of}
-use Rattle.kmip_words.specs.Calls.{call_from, call_of, call_of_words}
+use Rattle.std.specs.Option.{option_and_then}
+use Rattle.kmip_words.specs.Calls.{call_from, call_of, call_of_words, call_in, call_alone}
 
 pub not_utf8 : (bytes : List ℕ) → (IsUtf8 bytes → ⊥) → is_utf8 bytes ≡ false
 not_utf8 bytes not = elim (is_utf8 bytes) as (λ b. is_utf8 bytes ≡ b → b ≡ false) [
@@ -34,6 +35,14 @@ call_of_utf8 line utf8 = rw (is_utf8-from_IsUtf8 line utf8) refl
 pub call_of_other : (line : List ℕ) → (IsUtf8 line → ⊥) → call_of line ≡ None
 unfolding call_of
 call_of_other line not = rw (not_utf8 line not) refl
+
+pub call_alone_utf8 : (line : List ℕ) → IsUtf8 line → call_alone line ≡ option_and_then call_in (words_of line)
+unfolding call_alone
+call_alone_utf8 line utf8 = rw (is_utf8-from_IsUtf8 line utf8) refl
+
+pub call_alone_other : (line : List ℕ) → (IsUtf8 line → ⊥) → call_alone line ≡ None
+unfolding call_alone
+call_alone_other line not = rw (not_utf8 line not) refl
 
 -- there is no call of fewer words than two, or of more than five
 pub no_call : (words : List (Bor (List ℕ))) → length words ≢ 2 → length words ≢ 3 → length words ≢ 4 → length words ≢ 5 → call_of_words (map (λ word. word.now) words) ≡ None

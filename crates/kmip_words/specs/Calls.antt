@@ -1,6 +1,6 @@
 -- What words ask for: those of a line of a script, and those that are typed.
 use Rattle.std.specs.Prelude.{ℕ, ℤ, List, [], ◌∷◌, Option, Some, None, if◌then◌else◌, codes, bytes_eq}
-use Rattle.std.specs.Option.{option_map}
+use Rattle.std.specs.Option.{option_map, option_and_then}
 use Rattle.std.specs.Str.{is_utf8}
 use Rattle.kmip_request_read.specs.Reading.{request_read}
 use Rattle.kmip_words.specs.Words.{words_of}
@@ -91,6 +91,18 @@ call_from None = None
 -- the call of a line, where the line is of the grammar
 unfoldable pub call_of : List ℕ → Option Recorded
 call_of line = if is_utf8 line then call_from (words_of line) else None
+
+-- the call of these words with no response, by how many there are
+abbrev pub call_in : List (List ℕ) → Option Call
+call_in (name ∷ []) = call_of_one name
+call_in (name ∷ first ∷ []) = call_of_two name first
+call_in (name ∷ first ∷ second ∷ []) = call_of_three name first second
+call_in (name ∷ first ∷ second ∷ third ∷ []) = call_of_four name first second third
+call_in words = None
+
+-- the call of a line that gives no response, where the line is of the grammar
+unfoldable pub call_alone : List ℕ → Option Call
+call_alone line = if is_utf8 line then option_and_then call_in (words_of line) else None
 
 -- The calls that are typed, with no response: those above, and four more.
 

@@ -1,5 +1,6 @@
 -- What a call of the client sends, takes and shows.
 use Rattle.std.specs.Prelude.{◌≡◌, ◌≢◌, ℕ, ◌+◌, List, [], ◌++◌, take, drop, Bool, true, false, cond, Option, Some, None, Result, Ok, Err, codes}
+use Rattle.hex.specs.Hex.{encode_upper}
 use Rattle.kmip_link.specs.Plan.{MemoryState}
 use Rattle.kmip_shape.specs.Val.{Val, Text, Record, Case, AndField, NoField, One}
 use Rattle.kmip_shape.specs.Shape.{Shape}
@@ -185,6 +186,10 @@ pub record Step : Type 0 where
   pub shown : List ℕ
   pub failed : Bool
   pub ending : Ending
+
+-- the lines of a call: what it sent, its diagnostics and its answer
+abbrev pub call_text : Step → List ℕ
+call_text s = codes "> " ++ (encode_upper s.sent ++ (codes "\n" ++ (s.told ++ s.shown)))
 
 -- the diagnostics are those of the bytes that were sent and that were taken
 abbrev pub step_of : (Val → List ℕ) → Style → Bool → List ℕ → Outcome → Step

@@ -1,7 +1,7 @@
 //! What words ask for: those of a line of a script, and those that are typed.
 ghost use Rattle.std.specs.Prelude.{◌≡◌, map, option_map, IfOk};
 ghost use Rattle.kmip_words.specs.Values.{int_of, bytes_of, text_of};
-ghost use Rattle.kmip_words.specs.Calls.{typed_of_one, locate_of, attributes_of, typed_of_two, create_aes_of, typed_of_three, typed_call, rng_of, raw_of, key_call, call_of_one, call_of_two, sign_of, rename_of, call_of_three, create_rsa_of, call_of_four, with_response, call_of_words, call_of};
+ghost use Rattle.kmip_words.specs.Calls.{typed_of_one, locate_of, attributes_of, typed_of_two, create_aes_of, typed_of_three, typed_call, rng_of, raw_of, key_call, call_of_one, call_of_two, sign_of, rename_of, call_of_three, create_rsa_of, call_of_four, with_response, call_of_words, call_of, call_in, call_alone};
 
 use crate::raw::RawRequest;
 use crate::values::{bytes_of, int_of, text_of};
@@ -277,6 +277,32 @@ pub fn call_of(alloc: Global, line: &[u8]) -> Result<Option<Recorded>, OutOfMemo
     };
     match words_of(alloc, line)? {
         Some(words) => call_of_words(alloc, &words),
+        None => Ok(None),
+    }
+}
+
+/// The call of these words, with no response, or none where they are not of the grammar.
+fn call_in(alloc: Global, words: &[&str]) -> Result<Option<Call>, OutOfMemory>
+    ensures { IfOk result (λ call. call ≡ call_in (map (λ word. word.now) words.now)) }
+{
+    match words {
+        [name] => Ok(call_of_one(name)),
+        [name, first] => call_of_two(alloc, name, first),
+        [name, first, second] => call_of_three(alloc, name, first, second),
+        [name, first, second, third] => call_of_four(alloc, name, first, second, third),
+        _ => Ok(None),
+    }
+}
+
+/// The call of a line that gives no response, or none where the line is not of the grammar.
+pub fn call_alone(alloc: Global, line: &[u8]) -> Result<Option<Call>, OutOfMemory>
+    ensures { IfOk result (λ call. call ≡ call_alone line.now) }
+{
+    let Ok(line) = str::from_utf8(line) else {
+        return Ok(None);
+    };
+    match words_of(alloc, line)? {
+        Some(words) => call_in(alloc, &words),
         None => Ok(None),
     }
 }

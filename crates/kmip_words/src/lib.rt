@@ -9,6 +9,7 @@
 mod answers;
 mod call;
 mod ending;
+mod lines;
 mod offline;
 mod options;
 mod payloads;
@@ -21,13 +22,14 @@ mod values;
 mod words;
 
 pub use answers::answer;
-pub use call::{Call, Recorded, call_of, typed_call};
+pub use call::{Call, Recorded, call_alone, call_of, typed_call};
 pub use ending::Ending;
+pub use lines::{show_diagnostics, show_sent};
 pub use offline::{Settings, answer_of, request_of};
 pub use options::{copied, given, given_after};
 pub use raw::RawRequest;
 pub use setup::{client_of, limited};
-pub use show::show_error;
+pub use show::{push_pair, push_payload, show_done, show_error};
 pub use streams::{read_up_to, write_out};
 pub use values::{bytes_of, number_of};
 pub use words::words_of;

@@ -4,15 +4,14 @@ ghost use Rattle.kmip_client.specs.Client.{credential_for};
 ghost use Rattle.kmip_words.specs.Exchange.{settings_of};
 
 use kmip_client::{Client, ClientBuilder};
-use kmip_link::MemoryLink;
 use kmip_wire::{Config, Text};
 
 /// A builder with these credentials.
-fn with_user(
-    builder: ClientBuilder<MemoryLink>,
+fn with_user<T>(
+    builder: ClientBuilder<T>,
     user: Option<Text>,
     password: Option<Text>,
-) -> ClientBuilder<MemoryLink>
+) -> ClientBuilder<T>
     requires username { builder.username ≡ None }
     requires password { builder.password ≡ None }
     ensures link { result.link ≡ builder.link }
@@ -47,13 +46,13 @@ fn config_of(limit: Option<u32>, diag: bool) -> Config
 
 /// A client over this link. It sends a credential where there are a user and a password, takes no response of more
 /// bytes than the limit, and keeps diagnostics where `diag` says so. It takes no memory.
-pub fn client_of(
-    link: MemoryLink,
+pub fn client_of<T>(
+    link: T,
     user: Option<Text>,
     password: Option<Text>,
     limit: Option<u32>,
     diag: bool,
-) -> Client<MemoryLink>
+) -> Client<T>
     ensures link { result.link ≡ link }
     ensures settings { settings_of result ≡
         record { credential = credential_for user password; limit = limit; buffered = diag } }

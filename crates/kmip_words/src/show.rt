@@ -123,7 +123,7 @@ fn push_json_payload<P: ShowItem>(
 }
 
 /// Adds a payload as a line.
-fn push_payload<P: ShowItem>(
+pub fn push_payload<P: ShowItem>(
     alloc: Global,
     style: Style,
     payload: &P,
@@ -226,7 +226,7 @@ fn push_json_pair(
 }
 
 /// Adds two identifiers as a line.
-fn push_pair(
+pub fn push_pair(
     alloc: Global,
     style: Style,
     first: &Text,

@@ -1,0 +1,31 @@
+-- The link to a server with no objects, before any call; and the first of the answers.
+use Rattle.std.proofs.Common.{◌≡◌, List, [], ◌∷◌, pos, refl, sym, subst, Bool, true, false, Some, IfOk, slice_get}
+use Rattle.kmip_store.specs.Plain.{PlainMemory}
+use Rattle.kmip_server.specs.Link.{ServerLinkState}
+use Rattle.kmip_server.specs.Split.{split}
+use Rattle.kmip_server.specs.declared.answers.CallAnswer.{CallAnswer}
+use Rattle.kmip_joined.specs.Told.{IsJoined, IsSuited, is_pair}
+
+-- the link round a server with this maker
+abbrev pub link_over : PlainMemory → ServerLinkState PlainMemory
+link_over maker = record {
+  server = record { objects = []; maker = maker; time = pos 0 };
+  ever = [];
+  pos = 0;
+  sent = [];
+  kept = [];
+  faults = 0;
+  starved = false;
+}
+
+joined_over : (maker : PlainMemory) → IsJoined (link_over maker)
+unfolding split
+joined_over maker = record { is_open = record { fed = refl; sound = refl; whole = refl; tells = refl }; time = refl }
+
+pub joined_new : (link : ServerLinkState PlainMemory) (maker : PlainMemory) → link ≡ link_over maker → IsJoined link
+joined_new link maker is = subst (λ (l : ServerLinkState PlainMemory). IsJoined l) (sym is) (joined_over maker)
+
+-- the first of the answers is suited where what is known of it holds
+pub first_suits : (pair : Bool) (xs : List CallAnswer) (x : CallAnswer) → slice_get xs 0 ≡ Some x → (pair ≡ true → IfOk x.answer (λ a. is_pair a ≡ true)) → IsSuited pair xs x
+first_suits pair [] x is suits = absurd (cc)
+first_suits pair (y ∷ ys) x is suits = record { later = ys; is = cc; suits = suits }

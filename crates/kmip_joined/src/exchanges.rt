@@ -1,0 +1,69 @@
+//! A call over the server, and what is written of it.
+ghost use Rattle.std.specs.Prelude.{◌≡◌, IfOk, OnOk, option_map};
+ghost use Rattle.kmip_words.specs.Exchange.{settings_of};
+ghost use Rattle.kmip_joined.specs.Lines.{line_call};
+ghost use Rattle.kmip_joined.specs.World.{world_of, joined_step};
+ghost use Rattle.kmip_joined.specs.Told.{IsJoined, IsShown, Runs};
+
+use crate::answers::show_answer;
+use crate::made::{call_one, makes_pair, suited};
+use kmip_client::Client;
+use kmip_server::{Call, CallAnswer, ServerLink};
+use kmip_store::PlainMaker;
+use kmip_wire::{OutOfMemory, Text};
+use kmip_words::{show_diagnostics, show_sent};
+use std::alloc::Global;
+
+/// A text that may be absent, lent.
+fn lent(text: &Option<Text>) -> Option<&str>
+    ensures { option_map (λ t. t.now) result ≡ text.now }
+{
+    match text {
+        Some(text) => Some(text.as_str()),
+        None => None,
+    }
+}
+
+/// Adds what a call sent, its diagnostics where they are kept, and what it answers. Says whether this is an error.
+fn show_told(
+    alloc: Global,
+    diag: bool,
+    told: &CallAnswer,
+    output: &mut Text,
+) -> Result<bool, OutOfMemory>
+    ensures { IfOk result (λ failed. IsShown diag told.now failed output.old output.new) }
+{
+    show_sent(alloc, told.sent.as_slice(), output)?;
+    show_diagnostics(diag, lent(&told.req_diag), lent(&told.res_diag), output)?;
+    let ending = show_answer(alloc, &told.answer, output)?;
+    Ok(ending.is_failure())
+}
+
+/// Makes a call of the client, and adds what it sent, its diagnostics where the client keeps them, and what it answers.
+/// Says whether the answer is an error. `diag` says whether the client keeps diagnostics.
+///
+/// Memory is said to have run out also where the server's response has no wire form, and where a pair is answered by
+/// something else. Neither comes: a response is not much longer than the line that it answers, and each helper returns
+/// what is its own. But the contracts of the calls below do not say so.
+pub fn exchange(
+    alloc: Global,
+    client: &mut Client<ServerLink<PlainMaker>>,
+    diag: bool,
+    call: Call,
+    output: &mut Text,
+) -> Result<bool, OutOfMemory>
+    requires buffered { diag ≡ client.old.buffered }
+    requires joined { IsJoined client.old.link }
+    ensures settings { OnOk result (settings_of client.new ≡ settings_of client.old) }
+    ensures joined { OnOk result (IsJoined client.new.link) }
+    ensures runs { IfOk result (λ failed. Runs
+        (joined_step (settings_of client.old) (line_call call) (world_of client.old.link))
+        (world_of client.new.link) failed output.old output.new) }
+{
+    let pair = makes_pair(&call);
+    let answers = call_one(alloc, client, call)?;
+    match suited(pair, &answers) {
+        Some(told) => show_told(alloc, diag, told, output),
+        None => Err(OutOfMemory),
+    }
+}

@@ -1,0 +1,46 @@
+//! The call of a line.
+ghost use Rattle.std.specs.Prelude.{◌≡◌, option_map, IfOk};
+ghost use Rattle.kmip_joined.specs.Lines.{if_helper, line_call, helper_call};
+
+use kmip_server::Call;
+use kmip_wire::OutOfMemory;
+use kmip_words::{Call as LineCall, call_alone};
+use std::alloc::Global;
+
+/// The call that a helper of the client makes, and none where no helper makes it.
+fn helper_of(call: LineCall) -> Option<Call>
+    ensures { option_map line_call result ≡ if_helper call }
+{
+    match call {
+        LineCall::Query => Some(Call::Query),
+        LineCall::CreateRsa {
+            key_length,
+            private_key_name,
+            public_key_name,
+        } => Some(Call::CreateRsaKeyPair(key_length, private_key_name, public_key_name)),
+        LineCall::Rng { num_bytes } => Some(Call::RngRetrieve(num_bytes)),
+        LineCall::Sign { id, bytes } => Some(Call::Sign(id, bytes)),
+        LineCall::Activate { id } => Some(Call::ActivateKey(id)),
+        LineCall::Revoke { id } => Some(Call::RevokeKey(id)),
+        LineCall::Destroy { id } => Some(Call::DestroyKey(id)),
+        LineCall::Rename { id, new_name } => Some(Call::RenameKey(id, new_name)),
+        LineCall::Get { id } => Some(Call::GetKey(id)),
+        LineCall::Raw { .. }
+        | LineCall::Locate { .. }
+        | LineCall::Attributes { .. }
+        | LineCall::CreateAes { .. }
+        | LineCall::Discover => None,
+    }
+}
+
+/// The call of a line: that of a line with a recorded response, without the response and without `raw`. None where the
+/// line is not of this grammar.
+#[tactic(auto, unfolding(crate::specs::Lines::helper_call))]
+pub fn helper_call(alloc: Global, line: &[u8]) -> Result<Option<Call>, OutOfMemory>
+    ensures { IfOk result (λ call. option_map line_call call ≡ helper_call line.now) }
+{
+    match call_alone(alloc, line)? {
+        Some(call) => Ok(helper_of(call)),
+        None => Ok(None),
+    }
+}

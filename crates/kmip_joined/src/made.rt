@@ -1,0 +1,81 @@
+//! A call of a client over a server in memory.
+ghost use Rattle.std.specs.Prelude.{◌≡◌, true, false, IfOk, IfSome};
+ghost use Rattle.kmip_server.specs.Link.{IsKnown};
+ghost use Rattle.kmip_store.specs.Plain.{plain_state};
+ghost use Rattle.kmip_joined.specs.World.{world_of, nothing_yet};
+ghost use Rattle.kmip_joined.specs.Told.{IsJoined, IsPlain, IsMade, IsSuited, makes_pair, is_pair};
+
+use kmip_client::{Client, Error};
+use kmip_server::{Answered, Call, CallAnswer, CallAnswers, ServerLink, call_all};
+use kmip_store::PlainMaker;
+use kmip_wire::{List, OutOfMemory};
+use std::alloc::Global;
+
+/// A link round a server with no objects and a plain maker. It takes no memory.
+pub fn joined_link(alloc: Global) -> ServerLink<PlainMaker>
+    ensures joined { IsJoined result }
+    ensures world { world_of result ≡ nothing_yet }
+{
+    ServerLink::new(alloc, PlainMaker::new(alloc), 0)
+}
+
+/// Whether the link met a message whose response has no wire form; and what holds of it and of its maker.
+fn look(client: &mut Client<ServerLink<PlainMaker>>) -> bool
+    ensures known { IsKnown plain_state client.old.link }
+    ensures plain { IsPlain client.old.link }
+    ensures sound { result ≡ false → client.old.link.faults ≡ 0 }
+    ensures stays { client.new ≡ client.old }
+{
+    let link = client.inner();
+    link.known();
+    link.server().maker().known();
+    link.faulted()
+}
+
+/// Whether a call is answered by two identifiers.
+pub fn makes_pair(call: &Call) -> bool
+    ensures { result ≡ makes_pair call.now }
+{
+    matches!(call, Call::CreateRsaKeyPair(..))
+}
+
+/// Whether an answer is an error, or what such a call is answered by.
+fn suits(pair: bool, answer: &Result<Answered, Error>) -> bool
+    ensures { result ≡ true → pair ≡ true → IfOk answer.now (λ x. is_pair x ≡ true) }
+{
+    match answer {
+        Ok(Answered::Pair(_, _)) | Err(_) => true,
+        Ok(_) => !pair,
+    }
+}
+
+/// The first of the answers, where it suits its call.
+pub fn suited(pair: bool, answers: &CallAnswers) -> Option<&CallAnswer>
+    ensures { IfSome result (λ answer. IsSuited pair answers.now answer.now) }
+{
+    match answers.get(0) {
+        Some(answer) if suits(pair, &answer.answer) => Some(answer),
+        _ => None,
+    }
+}
+
+/// Makes a call, whose answer is the one in the list.
+pub fn call_one(
+    alloc: Global,
+    client: &mut Client<ServerLink<PlainMaker>>,
+    call: Call,
+) -> Result<CallAnswers, OutOfMemory>
+    requires { IsJoined client.old.link }
+    ensures { IfOk result (λ answers. IsMade client.old client.new call answers) }
+{
+    look(client);
+    let mut calls = List::new(alloc);
+    calls.push(call)?;
+    let Ok(answers) = call_all(alloc, client, calls) else {
+        return Err(OutOfMemory);
+    };
+    if look(client) {
+        return Err(OutOfMemory);
+    }
+    Ok(answers)
+}

@@ -1,0 +1,9 @@
+//! Tests of a server's answers, and nothing else: a crate with tests is proved twice.
+#![tactic(auto)]
+
+#[cfg(test)]
+mod answers;
+#[cfg(test)]
+mod helpers;
+#[cfg(test)]
+mod refusals;
