@@ -14,7 +14,7 @@ for crate in wire shape enums codes names keys types objects response; do
 done
 cp "$top/HANDLES" "$work/"
 grep -E '^kmip_(wire|shape|enums|codes|names|keys|types|objects|response):' "$top/crates.txt" >"$work/crates.txt"
-echo 'bench: kmip_wire kmip_shape kmip_enums kmip_types kmip_objects kmip_response' >>"$work/crates.txt"
+echo 'bench: kmip_wire kmip_shape kmip_enums kmip_types kmip_response_objects kmip_response' >>"$work/crates.txt"
 cat >"$work/crates/bench/src/main.rt" <<'EOR'
 // Reads the payload on standard input again and again, and prints how many attributes were read and how long it took.
 #![tactic(auto)]

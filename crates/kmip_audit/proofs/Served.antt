@@ -8,7 +8,7 @@ use Rattle.kmip_tags.specs.Tags.{BATCH_ITEM, OPERATION, REQUEST_MESSAGE, REQUEST
 use Rattle.kmip_wire.specs.Tree.{Tree, scalar, structure, trees_of, enumeration}
 use Rattle.kmip_wire.specs.Head.{head_code, head_length}
 use Rattle.kmip_wire.specs.Heads.{head_says}
-use Rattle.kmip_wire.specs.Bytes.{bytes, all_bytes, framed, item_bytes}
+use Rattle.kmip_wire.specs.Bytes.{bytes, all_bytes, structure_bytes, item_bytes}
 use Rattle.kmip_wire.specs.Parses.{joined_texts}
 use Rattle.kmip_shape.specs.Trees.{tree_of}
 use Rattle.kmip_enums.specs.Operations.{operation_line}
@@ -61,7 +61,7 @@ framed_by : (q : Bool) (tag : ℕ) (v b : List ℕ) → ◌≡◌ {A = Option (L
 framed_by true tag v b h = subst (λ (l : List ℕ). head_code l ≡ 1) (some_is h) (head_is tag v)
 framed_by false tag v b h = none_is h
 
-contents_head : (tag : ℕ) (contents : Option (List ℕ)) (b : List ℕ) → framed tag contents ≡ Some b → head_code b ≡ 1
+contents_head : (tag : ℕ) (contents : Option (List ℕ)) (b : List ℕ) → structure_bytes tag contents ≡ Some b → head_code b ≡ 1
 contents_head tag None b h = none_is h
 contents_head tag (Some v) b h = framed_by (nat_lt (length v) (2 ^ 32)) tag v b h
 

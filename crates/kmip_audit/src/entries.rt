@@ -16,7 +16,7 @@ use kmip_wire::{OutOfMemory, Text};
 use std::alloc::Global;
 
 /// The operation of a request, and none where the bytes are not what a client writes.
-fn asked(alloc: Global, request: &[u8]) -> Result<Option<Operation>, OutOfMemory>
+fn operation_of(alloc: Global, request: &[u8]) -> Result<Option<Operation>, OutOfMemory>
     ensures { IfOk result
         (λ operation.
         operation ≡ option_map (λ request. request.operation) (request_read request.now)) }
@@ -42,7 +42,7 @@ fn outcome_for(
     let Some(request) = request else {
         return Ok(Outcome::NoRequest);
     };
-    let Some(operation) = asked(alloc, request)? else {
+    let Some(operation) = operation_of(alloc, request)? else {
         return Ok(Outcome::UnreadRequest);
     };
     let Some(response) = response else {

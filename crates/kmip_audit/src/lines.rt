@@ -7,7 +7,7 @@ use kmip_wire::{OutOfMemory, Text};
 use std::alloc::Global;
 
 /// A diagnostic, and `-` where there is none.
-fn shown(text: &Option<Text>) -> &str
+fn diagnostic_or_dash(text: &Option<Text>) -> &str
     ensures { result.now ≡ shown_text text.now }
 {
     match text {
@@ -26,8 +26,8 @@ fn show_entry(
     ensures { OnOk result (output.new ≡ output.old ++ entry_text number entry.now) }
 {
     let outcome = entry.outcome;
-    let request = shown(&entry.request);
-    let response = shown(&entry.response);
+    let request = diagnostic_or_dash(&entry.request);
+    let response = diagnostic_or_dash(&entry.response);
     let text = format!(in alloc; "#{number} {outcome}\n>~ {request}\n<~ {response}\n")?;
     output.push_str(text.as_str())
 }

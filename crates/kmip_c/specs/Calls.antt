@@ -5,7 +5,7 @@ use Rattle.kmip_client.specs.Client.{credential_for}
 use Rattle.kmip_client.specs.Outcome.{Answer}
 use Rattle.kmip_words.specs.Words.{words_of}
 use Rattle.kmip_words.specs.Calls.{typed_call}
-use Rattle.kmip_words.specs.Exchange.{Settings, asked, call_outcome, ending_of, json_line}
+use Rattle.kmip_words.specs.Exchange.{Settings, request_asked, call_outcome, ending_of, json_line}
 use Rattle.kmip_words.specs.declared.call.Call.{Call}
 use Rattle.kmip_words.specs.declared.ending.Ending.{Ending}
 use Rattle.kmip_words.specs.declared.ending.Ending.TheVariants.{Answered, Refused, Lost}
@@ -38,7 +38,7 @@ settings_of true user password =
 -- what is told of a request, memory aside: its bytes, or that it has no form, or that what was given is not of the grammar
 abbrev pub IsRequested : Option Settings → Option Call → List ℕ → ℤ → List ℕ → Type 0
 IsRequested (Some settings) (Some call) before result after =
-    IsTold (asked call settings.credential).message no_form before result after
+    IsTold (request_asked call settings.credential).message no_form before result after
 IsRequested settings call before result after = (result ≡ grammar) × (after ≡ before)
 
 -- 0, 1 and 3

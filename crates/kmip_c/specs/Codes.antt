@@ -5,14 +5,14 @@ use Rattle.kmip_wire.specs.declared.error.HeadError.TheVariants.{NotStructure, T
 use Rattle.kmip_wire.specs.Heads.{head_says}
 
 -- what stands in the room after some bytes were written to its front: all of them, where they fit, and else nothing
-abbrev pub written : List ℕ → List ℕ → List ℕ
-written bytes room =
+abbrev pub room_with : List ℕ → List ℕ → List ℕ
+room_with bytes room =
     if nat_le (length bytes) (length room) then bytes ++ drop (length bytes) room else room
 
 -- the whole length is told, and the bytes are written where they fit; where there are none, a code is told, and nothing is written
 abbrev pub IsTold : Option (List ℕ) → ℤ → List ℕ → ℤ → List ℕ → Type 0
 IsTold (Some bytes) code before result after =
-    (result ≡ pos (length bytes)) × (after ≡ written bytes before)
+    (result ≡ pos (length bytes)) × (after ≡ room_with bytes before)
 IsTold None code before result after = (result ≡ code) × (after ≡ before)
 
 -- -2 to -6

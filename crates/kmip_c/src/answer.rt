@@ -30,7 +30,11 @@ pub fn status_of(ending: Ending) -> i32
 }
 
 /// How a call ended that has this response, and its line. None where the call is not of the grammar.
-pub fn told(alloc: Global, call: &[u8], response: &[u8]) -> Result<Option<AnswerLine>, OutOfMemory>
+pub fn answer_line(
+    alloc: Global,
+    call: &[u8],
+    response: &[u8],
+) -> Result<Option<AnswerLine>, OutOfMemory>
     ensures grammar { IfOk result (λ told. call_of call.now ≡ None → told ≡ None) }
     ensures told { (c : TheCall) → call_of call.now ≡ Some c →
         IfOk result (λ told. MatchOption told ⊥

@@ -1,11 +1,11 @@
 //! Lengths as snprintf returns them.
 ghost use Rattle.std.specs.Prelude.{◌≡◌, pos, length};
-ghost use Rattle.kmip_c.specs.Codes.{written};
+ghost use Rattle.kmip_c.specs.Codes.{room_with};
 
 /// Copies the bytes to the front of the room, where they fit, and gives how many they are.
 pub fn copy_out(bytes: &[u8], room: &mut [u8]) -> i64
     ensures len { result ≡ pos (length bytes.now) }
-    ensures room { room.new ≡ written bytes.now room.old }
+    ensures room { room.new ≡ room_with bytes.now room.old }
 {
     if bytes.len() <= room.len() {
         room[..bytes.len()].copy_from_slice(bytes);

@@ -42,7 +42,7 @@ fn first_item(bytes: &[u8]) -> Option<Front<'_>>
 }
 
 /// The value of the item number `index` with this tag, from 0 and from the front, of bytes that are one well-formed item.
-pub fn found(bytes: &[u8], tag: u32, index: usize) -> Option<&[u8]>
+pub fn find_value(bytes: &[u8], tag: u32, index: usize) -> Option<&[u8]>
     ensures found { (tree : Tree) → Parses tree 1 bytes.now →
         option_map (λ value. value.now) result ≡ value_at tag index tree bytes.now }
     ensures none { ((tree : Tree) → Parses tree 1 bytes.now → ⊥) → result ≡ None }

@@ -19,10 +19,10 @@ mod find;
 #[cfg(test)]
 mod tests;
 
-use answer::{status_of, told};
+use answer::{answer_line, status_of};
 use call::{call_of, settings_of};
 use copy::copy_out;
-use find::found;
+use find::find_value;
 use kmip_wire::{Config, HeadError, OutOfMemory, head};
 use kmip_words::request_of;
 use std::alloc::Global;
@@ -122,7 +122,7 @@ pub extern "C" fn kmip_answer(
         IsAnswered (call_of call.now) response.now result into.old length.new into.new }
     ensures memory { result ≡ pos 5 → (length.new ≡ pos 0) × (into.new ≡ into.old) }
 {
-    match told(alloc, call, response) {
+    match answer_line(alloc, call, response) {
         Ok(Some(told)) => {
             *length = copy_out(told.line.as_str().as_bytes(), into);
             status_of(told.ending)
@@ -150,7 +150,7 @@ pub extern "C" fn kmip_value(response: &[u8], tag: u32, index: usize, into: &mut
     ensures none { ((tree : Tree) → Parses tree 1 response.now → ⊥) → (result ≡ not_a_message) ×
         (into.new ≡ into.old) }
 {
-    match found(response, tag, index) {
+    match find_value(response, tag, index) {
         Some(value) => copy_out(value, into),
         None => NOT_A_MESSAGE,
     }

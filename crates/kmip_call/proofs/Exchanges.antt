@@ -14,7 +14,7 @@ use Rattle.kmip_client.specs.declared.error.Error.TheVariants.{RequestWriteError
 use Rattle.kmip_client.proofs.Messages.{message_short, message_refused, message_cut, message_whole}
 use Rattle.kmip_words.specs.Streams.{Gives, GivesPart, WroteProperPart}
 use Rattle.kmip_words.specs.Calls.{typed_call}
-use Rattle.kmip_words.specs.Exchange.{Settings, asked, or_empty, ending_of, loses_link, json_line, call_outcome}
+use Rattle.kmip_words.specs.Exchange.{Settings, request_asked, or_empty, ending_of, loses_link, json_line, call_outcome}
 use Rattle.kmip_words.specs.declared.call.Call.{Call}
 use Rattle.kmip_words.specs.declared.ending.Ending.{Ending}
 use Rattle.kmip_words.specs.declared.ending.Ending.TheVariants.{Lost, Refused}
@@ -64,11 +64,11 @@ same_message rest limit = elim (nat_lt (length rest) 8) as (λ b. nat_lt (length
 
 -- the outcome of a call, by its message
 
-outcome_by : (settings : Settings) (call : Call) (message : Option (List ℕ)) (rest : List ℕ) → message ≡ (asked call settings.credential).message →
-    call_outcome settings call rest ≡ outcome_of message (asked call settings.credential).operation settings.limit rest
-outcome_by settings call message rest is = ap (λ (m : Option (List ℕ)). outcome_of m (asked call settings.credential).operation settings.limit rest) (sym is)
+outcome_by : (settings : Settings) (call : Call) (message : Option (List ℕ)) (rest : List ℕ) → message ≡ (request_asked call settings.credential).message →
+    call_outcome settings call rest ≡ outcome_of message (request_asked call settings.credential).operation settings.limit rest
+outcome_by settings call message rest is = ap (λ (m : Option (List ℕ)). outcome_of m (request_asked call settings.credential).operation settings.limit rest) (sym is)
 
-bytes_by : (settings : Settings) (call : Call) (message : Option (List ℕ)) → message ≡ (asked call settings.credential).message → or_empty message ≡ request_bytes settings call
+bytes_by : (settings : Settings) (call : Call) (message : Option (List ℕ)) → message ≡ (request_asked call settings.credential).message → or_empty message ≡ request_bytes settings call
 bytes_by settings call message is = ap or_empty is
 
 gives_none : (s : SourceState) → Gives s s 0
@@ -78,11 +78,11 @@ one_none : (limit : Option ℕ) → IsOneAtMost limit []
 one_none limit = ap (λ m. taken_for [] m) (message_short [] limit (omega arith))
 
 -- a call without a wire form
-pub not_sent : (settings : Settings) (words : List (List ℕ)) (call : Call) (w : SinkState) (s : SourceState) (by : Bool) (response old new : List ℕ) (ending : Ending) → typed_call words ≡ Some call → None ≡ (asked call settings.credential).message → response ≡ [] → by ≡ true →
+pub not_sent : (settings : Settings) (words : List (List ℕ)) (call : Call) (w : SinkState) (s : SourceState) (by : Bool) (response old new : List ℕ) (ending : Ending) → typed_call words ≡ Some call → None ≡ (request_asked call settings.credential).message → response ≡ [] → by ≡ true →
     new ≡ old ++ json_line call (call_outcome settings call response).answer → ending ≡ ending_of (call_outcome settings call response).answer →
     Exchanges settings words w w s s (response_if by response) old new ending
 not_sent settings words call w s by response old new ending call_is none empty true_is text ends =
-    let at : List ℕ → Outcome = λ l. outcome_of None (asked call settings.credential).operation settings.limit l in
+    let at : List ℕ → Outcome = λ l. outcome_of None (request_asked call settings.credential).operation settings.limit l in
     let is : (l : List ℕ) → call_outcome settings call l ≡ at l = λ l. outcome_by settings call None l none in
     record {
       call = call;
@@ -99,13 +99,13 @@ not_sent settings words call w s by response old new ending call_is none empty t
     }
 
 -- a call whose request was sent, and whose message was read
-pub sent : (settings : Settings) (words : List (List ℕ)) (call : Call) (w0 w1 : SinkState) (s0 s1 : SourceState) (by : Bool) (request response old new : List ℕ) (ending : Ending) → typed_call words ≡ Some call → Some request ≡ (asked call settings.credential).message → by ≡ true →
+pub sent : (settings : Settings) (words : List (List ℕ)) (call : Call) (w0 w1 : SinkState) (s0 s1 : SourceState) (by : Bool) (request response old new : List ℕ) (ending : Ending) → typed_call words ≡ Some call → Some request ≡ (request_asked call settings.credential).message → by ≡ true →
     (IsTrue w0.tells → w1.sent ≡ w0.sent ++ request) → IsOneAtMost settings.limit response →
     (IsTrue s0.tells → Gives s0 s1 (taken_at (source_left s0) settings.limit) × (response ≡ take (taken_at (source_left s0) settings.limit) (source_left s0))) →
     new ≡ old ++ json_line call (call_outcome settings call response).answer → ending ≡ ending_of (call_outcome settings call response).answer →
     Exchanges settings words w0 w1 s0 s1 (response_if by response) old new ending
 sent settings words call w0 w1 s0 s1 by request response old new ending call_is some true_is writes one reads text ends =
-    let is : (l : List ℕ) → call_outcome settings call l ≡ outcome_of (Some request) (asked call settings.credential).operation settings.limit l = λ l. outcome_by settings call (Some request) l some in
+    let is : (l : List ℕ) → call_outcome settings call l ≡ outcome_of (Some request) (request_asked call settings.credential).operation settings.limit l = λ l. outcome_by settings call (Some request) l some in
     let left : List ℕ = source_left s0 in
     let taken : taken_by settings call left ≡ taken_at left settings.limit = ap (λ (o : Outcome). o.taken) (is left) in
     record {
@@ -120,14 +120,14 @@ sent settings words call w0 w1 s0 s1 by request response old new ending call_is 
           let here : message_at response settings.limit ≡ message_at left settings.limit = ap (λ l. message_at l settings.limit) it.1 ∙ same_message left settings.limit in (
             subst P (sym taken) it.0,
             it.1 ∙ ap (λ n. take n left) (sym taken),
-            ap (λ (o : Outcome). o.answer) (is response) ∙ ap (λ m. answer_of (asked call settings.credential).operation m) here ∙ sym (ap (λ (o : Outcome). o.answer) (is left)),
+            ap (λ (o : Outcome). o.answer) (is response) ∙ ap (λ m. answer_of (request_asked call settings.credential).operation m) here ∙ sym (ap (λ (o : Outcome). o.answer) (is left)),
           ));
       line = text;
       ending_is = ends;
     }
 
 -- the sink failed
-pub write_fault : (settings : Settings) (words : List (List ℕ)) (call : Call) (w0 w1 : SinkState) (s0 s1 : SourceState) (by : Bool) (request response old new error_text : List ℕ) (ending : Ending) → typed_call words ≡ Some call → Some request ≡ (asked call settings.credential).message → by ≡ false → error_text ≡ codes "link failed" →
+pub write_fault : (settings : Settings) (words : List (List ℕ)) (call : Call) (w0 w1 : SinkState) (s0 s1 : SourceState) (by : Bool) (request response old new error_text : List ℕ) (ending : Ending) → typed_call words ≡ Some call → Some request ≡ (request_asked call settings.credential).message → by ≡ false → error_text ≡ codes "link failed" →
     Rose w0.faults w1.faults → (IsTrue w0.tells → WroteProperPart w0 w1 request) → s1 ≡ s0 →
     new ≡ old ++ json_line call (answer_err (RequestWriteError error_text)) → ending ≡ Lost →
     Exchanges settings words w0 w1 s0 s1 (response_if by response) old new ending
@@ -142,7 +142,7 @@ write_fault settings words call w0 w1 s0 s1 by request response old new error_te
 }
 
 -- the source failed
-pub read_fault : (settings : Settings) (words : List (List ℕ)) (call : Call) (w0 w1 : SinkState) (s0 s1 : SourceState) (by : Bool) (request response old new error_text : List ℕ) (ending : Ending) → typed_call words ≡ Some call → Some request ≡ (asked call settings.credential).message → by ≡ false → error_text ≡ codes "link failed" →
+pub read_fault : (settings : Settings) (words : List (List ℕ)) (call : Call) (w0 w1 : SinkState) (s0 s1 : SourceState) (by : Bool) (request response old new error_text : List ℕ) (ending : Ending) → typed_call words ≡ Some call → Some request ≡ (request_asked call settings.credential).message → by ≡ false → error_text ≡ codes "link failed" →
     Rose s0.faults s1.faults → (IsTrue w0.tells → w1.sent ≡ w0.sent ++ request) → (IsTrue s0.tells → GivesPart s0 s1 (taken_at (source_left s0) settings.limit)) →
     new ≡ old ++ json_line call (answer_err (ResponseReadError error_text)) → ending ≡ Lost →
     Exchanges settings words w0 w1 s0 s1 (response_if by response) old new ending

@@ -4,15 +4,15 @@ use Rattle.std.specs.Option.{option_map}
 use Rattle.kmip_client.specs.Client.{credential_for}
 use Rattle.kmip_types.specs.declared.auth.CredentialType.{CredentialType}
 use Rattle.kmip_words.specs.Values.{number_of}
-use Rattle.kmip_words.specs.Options.{given, given_after}
+use Rattle.kmip_words.specs.Options.{option_given, given_after}
 use Rattle.kmip_call.specs.Commands.{first_of, order_with, order_limited, order_of, one_word, command_of}
 use Rattle.kmip_call.specs.declared.command.Command.TheVariants.{Make}
 
 pub order_of_is : (environment : Option (List ℕ)) (words : List (List ℕ)) (user password limit file first : Option (List ℕ)) (after_user after_password after_limit rest : List (List ℕ)) →
-    user ≡ (given (codes "user=") words).value → after_user ≡ (given (codes "user=") words).rest →
+    user ≡ (option_given (codes "user=") words).value → after_user ≡ (option_given (codes "user=") words).rest →
     password ≡ (given_after user (codes "password=") after_user).value → after_password ≡ (given_after user (codes "password=") after_user).rest →
-    limit ≡ (given (codes "limit=") after_password).value → after_limit ≡ (given (codes "limit=") after_password).rest →
-    file ≡ (given (codes "record=") after_limit).value → rest ≡ (given (codes "record=") after_limit).rest → first ≡ first_of password environment →
+    limit ≡ (option_given (codes "limit=") after_password).value → after_limit ≡ (option_given (codes "limit=") after_password).rest →
+    file ≡ (option_given (codes "record=") after_limit).value → rest ≡ (option_given (codes "record=") after_limit).rest → first ≡ first_of password environment →
     order_of environment words ≡ order_limited (credential_for user first) limit file rest
 unfolding order_of
 order_of_is environment words user password limit file first after_user after_password after_limit rest u ur p pr l lr f fr first_is = rw (first_is, fr, f, lr, l, pr, p, ur, u) refl

@@ -4,7 +4,7 @@ use Rattle.std.specs.Option.{option_map}
 use Rattle.kmip_client.specs.Client.{credential_for}
 use Rattle.kmip_types.specs.declared.auth.CredentialType.{CredentialType}
 use Rattle.kmip_words.specs.Values.{number_of}
-use Rattle.kmip_words.specs.Options.{Given, given, given_after}
+use Rattle.kmip_words.specs.Options.{Given, option_given, given_after}
 use Rattle.kmip_call.specs.declared.command.Order.{Order}
 use Rattle.kmip_call.specs.declared.command.Command.{Command}
 use Rattle.kmip_call.specs.declared.command.Command.TheVariants.{Help, Version, Make}
@@ -37,10 +37,10 @@ order_limited credential (Some limit) file words =
 -- after a user; without `password=P` it is that of the environment
 unfoldable pub order_of : Option (List ℕ) → List (List ℕ) → Option Order
 order_of environment words =
-    let user : Given = given (codes "user=") words in
+    let user : Given = option_given (codes "user=") words in
     let password : Given = given_after user.value (codes "password=") user.rest in
-    let limit : Given = given (codes "limit=") password.rest in
-    let file : Given = given (codes "record=") limit.rest in
+    let limit : Given = option_given (codes "limit=") password.rest in
+    let file : Given = option_given (codes "record=") limit.rest in
     order_limited (credential_for user.value (first_of password.value environment)) limit.value
     file.value file.rest
 

@@ -6,7 +6,7 @@ use Rattle.kmip_client.specs.declared.error.Error.{Error}
 use Rattle.kmip_client.specs.declared.error.Error.TheVariants.{RequestWriteError, ResponseReadError}
 use Rattle.kmip_words.specs.Streams.{Gives, GivesPart, WroteProperPart}
 use Rattle.kmip_words.specs.Calls.{typed_call}
-use Rattle.kmip_words.specs.Exchange.{Settings, asked, or_empty, ending_of, json_line, call_outcome}
+use Rattle.kmip_words.specs.Exchange.{Settings, request_asked, or_empty, ending_of, json_line, call_outcome}
 use Rattle.kmip_words.specs.declared.call.Call.{Call}
 use Rattle.kmip_words.specs.declared.ending.Ending.{Ending}
 use Rattle.kmip_call.specs.Wire.{IsOneAtMost}
@@ -21,7 +21,7 @@ response_if false response = None
 
 -- the one canonical message of a call, and nothing where it has no wire form
 abbrev pub request_bytes : Settings → Call → List ℕ
-request_bytes settings call = or_empty (asked call settings.credential).message
+request_bytes settings call = or_empty (request_asked call settings.credential).message
 
 -- how many of the bytes left a call takes
 abbrev pub taken_by : Settings → Call → List ℕ → ℕ
@@ -56,7 +56,7 @@ pub record Requests (settings : Settings) (words : List (List ℕ))
     (request : Option (List ℕ)) : Type 0 where
   pub call : Call
   pub is : typed_call words ≡ Some call
-  pub message : request ≡ (asked call settings.credential).message
+  pub message : request ≡ (request_asked call settings.credential).message
 
 -- The call of these words was carried, and the line of its answer was added.
 pub record Exchanges (settings : Settings) (words : List (List ℕ)) (w0 w1 : SinkState)

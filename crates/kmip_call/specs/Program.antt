@@ -8,7 +8,7 @@ use Rattle.kmip_words.specs.Exchange.{ending_of, json_line}
 use Rattle.kmip_words.specs.declared.call.Call.{Call}
 use Rattle.kmip_words.specs.declared.ending.Ending.{Ending}
 use Rattle.kmip_words.specs.declared.ending.Ending.TheVariants.{Answered, Refused, Lost}
-use Rattle.kmip_call.specs.Record.{is_recordable, recorded}
+use Rattle.kmip_call.specs.Record.{is_recordable, record_of}
 use Rattle.kmip_call.specs.Exchange.{Carried}
 use Rattle.kmip_call.specs.declared.command.Order.{Order}
 
@@ -45,8 +45,8 @@ pub record Ran (order : Order) (w0 w1 : SinkState) (s0 s1 : SourceState) (f0 f1 
   pub answer : Answer
   pub response : Option (List ℕ)
   pub carried : Carried order.settings call w0 w1 s0 s1 response answer
-  pub recorded : status ≢ 4 → IsTrue f0.tells →
-      f1.sent ≡ f0.sent ++ recorded order.file order.words response
+  pub record_of : status ≢ 4 → IsTrue f0.tells →
+      f1.sent ≡ f0.sent ++ record_of order.file order.words response
   pub told : status ≢ 4 → IsTrue k0.tells → k1.sent ≡ k0.sent ++ json_line call answer
   pub part : IsTrue k0.tells → WrotePart k0 k1 (json_line call answer)
   pub status_is : status ≢ 4 → status ≡ status_of (ending_of answer)

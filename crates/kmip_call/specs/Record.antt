@@ -5,9 +5,9 @@ use Rattle.kmip_words.specs.Calls.{call_of}
 use Rattle.kmip_words.specs.declared.call.Recorded.{Recorded}
 
 -- the words, each with a space after it
-abbrev pub spaced : List (List ℕ) → List ℕ
-spaced [] = []
-spaced (word ∷ words) = word ++ 32 ∷ spaced words
+abbrev pub with_spaces : List (List ℕ) → List ℕ
+with_spaces [] = []
+with_spaces (word ∷ words) = word ++ 32 ∷ with_spaces words
 
 -- a response as a word: `-` where there is none, or else upper-case hex
 abbrev pub response_word : List ℕ → List ℕ
@@ -15,7 +15,7 @@ response_word [] = codes "-"
 response_word (byte ∷ response) = encode_upper (byte ∷ response)
 
 abbrev pub record_line : List (List ℕ) → List ℕ → List ℕ
-record_line words response = spaced words ++ response_word response
+record_line words response = with_spaces words ++ response_word response
 
 abbrev pub record_text : List (List ℕ) → List ℕ → List ℕ
 record_text words response = record_line words response ++ codes "\n"
@@ -29,6 +29,6 @@ abbrev pub is_recordable : List (List ℕ) → Bool
 is_recordable words = is_call (call_of (record_line words []))
 
 -- what is recorded of a call with this response, where a file for it is given
-abbrev pub recorded : Option (List ℕ) → List (List ℕ) → Option (List ℕ) → List ℕ
-recorded (Some file) words (Some response) = record_text words response
-recorded file words response = []
+abbrev pub record_of : Option (List ℕ) → List (List ℕ) → Option (List ℕ) → List ℕ
+record_of (Some file) words (Some response) = record_text words response
+record_of file words response = []

@@ -5,7 +5,7 @@ ghost use Rattle.kmip_call.specs.Commands.{first_of, order_with, order_of, one_w
 ghost use Rattle.kmip_call.specs.declared.command.Command.TheVariants.{Make};
 
 use kmip_wire::{List, OutOfMemory, Text, clone_items};
-use kmip_words::{Settings, copied, given, given_after, number_of};
+use kmip_words::{Settings, copy_text, given_after, number_of, option_given};
 use std::alloc::Global;
 
 /// A call that is to be made.
@@ -56,9 +56,9 @@ fn order_with(
         (option_map (λ text. text.now) password.entry))
         limit (option_map (λ text. text.now) file.entry) words.now)) }
 {
-    let user = copied(alloc, user)?;
-    let password = copied(alloc, password)?;
-    let file = copied(alloc, file)?;
+    let user = copy_text(alloc, user)?;
+    let password = copy_text(alloc, password)?;
+    let file = copy_text(alloc, file)?;
     let words = clone_items(words, alloc)?;
     Ok(Some(Order {
         settings: Settings::new(user, password, limit),
@@ -77,10 +77,10 @@ fn order_of(
     ensures { IfOk result
         (λ order. order ≡ order_of (option_map (λ text. text.now) environment.entry) words.now) }
 {
-    let (user, words) = given("user=", words);
+    let (user, words) = option_given("user=", words);
     let (password, words) = given_after(user, "password=", words);
-    let (limit, words) = given("limit=", words);
-    let (file, words) = given("record=", words);
+    let (limit, words) = option_given("limit=", words);
+    let (file, words) = option_given("record=", words);
     let password = first_of(password, environment);
     match limit {
         Some(limit) => match number_of(limit) {
@@ -92,7 +92,7 @@ fn order_of(
 }
 
 /// The command of a call, where there is one.
-fn made(order: Option<Order>) -> Option<Command>
+fn make_command(order: Option<Order>) -> Option<Command>
     ensures { result ≡ option_map Make order }
 {
     match order {
@@ -115,7 +115,7 @@ fn one_word(
     match word {
         "--help" => Ok(Some(Command::Help)),
         "--version" => Ok(Some(Command::Version)),
-        _ => Ok(made(order_of(alloc, environment, words)?)),
+        _ => Ok(make_command(order_of(alloc, environment, words)?)),
     }
 }
 
@@ -131,6 +131,6 @@ pub fn command_of(
 {
     match words {
         [word] => one_word(alloc, environment, word.as_str(), words),
-        _ => Ok(made(order_of(alloc, environment, words)?)),
+        _ => Ok(make_command(order_of(alloc, environment, words)?)),
     }
 }

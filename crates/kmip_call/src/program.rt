@@ -3,7 +3,7 @@ ghost use Rattle.std.specs.Prelude.{◌≡◌, ◌≢◌, ◌≤◌, ◌++◌, �
 ghost use Rattle.kmip_link.specs.State.{Rose};
 ghost use Rattle.kmip_words.specs.Streams.{WrotePart};
 ghost use Rattle.kmip_call.specs.Exchange.{response_if, Requests};
-ghost use Rattle.kmip_call.specs.Record.{recorded};
+ghost use Rattle.kmip_call.specs.Record.{record_of};
 ghost use Rattle.kmip_call.specs.Program.{is_allowed, call_for, status_of, Makes, Ran};
 
 use crate::command::Order;
@@ -97,7 +97,7 @@ fn keep<F: Sink>(
 ) -> Result<(), LinkError>
     ensures ok { OnOk result (IsTrue (F.state kept.old).tells →
         (F.state kept.new).sent ≡ (F.state kept.old).sent
-        ++ recorded order.now.file order.now.words (response_if by_response response.now)) }
+        ++ record_of order.now.file order.now.words (response_if by_response response.now)) }
     ensures cause { IsErrOf result LinkError.Fault →
         Rose (F.state kept.old).faults (F.state kept.new).faults }
 {
@@ -118,9 +118,9 @@ fn report<F: Sink, K: Sink>(
     told: &mut K,
 ) -> u8
     ensures status { (result ≡ status_of end.ending) ⊎ ((result ≡ 4) ⊎ (result ≡ 5)) }
-    ensures recorded { result ≢ 4 → result ≢ 5 → IsTrue (F.state kept.old).tells →
+    ensures record_of { result ≢ 4 → result ≢ 5 → IsTrue (F.state kept.old).tells →
         (F.state kept.new).sent ≡ (F.state kept.old).sent
-        ++ recorded order.now.file order.now.words (response_if end.by_response response.now) }
+        ++ record_of order.now.file order.now.words (response_if end.by_response response.now) }
     ensures told { result ≢ 4 → result ≢ 5 → IsTrue (K.state told.old).tells →
         (K.state told.new).sent ≡ (K.state told.old).sent ++ line.now }
     ensures part { IsTrue (K.state told.old).tells →

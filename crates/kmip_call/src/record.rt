@@ -2,7 +2,7 @@
 ghost use Rattle.std.specs.Prelude.{◌≡◌, ◌++◌, [], codes, IfOk, OnOk, IsErrOf, IsTrue};
 ghost use Rattle.kmip_link.specs.State.{Rose};
 ghost use Rattle.kmip_call.specs.Exchange.{response_if};
-ghost use Rattle.kmip_call.specs.Record.{spaced, response_word, record_line, is_recordable, record_text, recorded};
+ghost use Rattle.kmip_call.specs.Record.{with_spaces, response_word, record_line, is_recordable, record_text, record_of};
 
 use kmip_link::{LinkError, Sink};
 use kmip_wire::{OutOfMemory, Text};
@@ -11,7 +11,7 @@ use std::alloc::Global;
 
 /// Adds the words, each with a space after it.
 fn push_spaced(words: &[Text], line: &mut Text) -> Result<(), OutOfMemory>
-    ensures { OnOk result (line.new ≡ line.old ++ spaced words.now) }
+    ensures { OnOk result (line.new ≡ line.old ++ with_spaces words.now) }
 {
     for word in words {
         line.push_str(word.as_str())?;

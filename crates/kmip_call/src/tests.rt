@@ -8,7 +8,7 @@ use kmip_link::{MemoryLink, MemorySink, MemorySource};
 use kmip_shape::Style;
 use kmip_wire::{Blob, List, Text};
 use kmip_words::{
-    Call, Ending, RawRequest, Settings, answer, answer_of, bytes_of, call_of, client_of, copied,
+    Call, Ending, RawRequest, Settings, answer, answer_of, bytes_of, call_of, client_of, copy_text,
     read_up_to, request_of, show_error, typed_call, words_of, write_out,
 };
 use std::alloc::Global;
@@ -650,7 +650,7 @@ fn words_are_read(rt: HostRuntime) -> Result<(), Fail> {
     assert!(rt; call_of(alloc, b"rng 16 -".as_slice())?.is_some());
     assert!(rt; call_of(alloc, b"rng 16".as_slice())?.is_none());
     assert!(rt; typed(alloc)?.is_some());
-    assert!(rt; matches!(copied(alloc, Some("a"))?, Some(copy) if copy.as_str() == "a"));
+    assert!(rt; matches!(copy_text(alloc, Some("a"))?, Some(copy) if copy.as_str() == "a"));
     Ok(())
 }
 

@@ -6,7 +6,7 @@ ghost use Rattle.kmip_call.specs.Wire.{taken_at, contents_of, IsOneAtMost};
 
 use kmip_link::{LinkError, Sink, Source};
 use kmip_wire::head;
-use kmip_words::{limited, read_up_to, write_out};
+use kmip_words::{config_of_limit, read_up_to, write_out};
 use std::alloc::Global;
 
 /// Why a request was not sent, or no message was read.
@@ -24,7 +24,7 @@ fn contents_of(bytes: &[u8], limit: Option<u32>) -> Option<u32>
     ensures { result ≡ contents_of bytes.now limit }
 {
     let first = bytes.first_chunk::<8>()?;
-    match head(first, &limited(limit)) {
+    match head(first, &config_of_limit(limit)) {
         Ok(count) => Some(count),
         Err(_) => None,
     }

@@ -10,7 +10,7 @@ use Rattle.kmip_client.specs.declared.message.MessageStop.{MessageStop}
 use Rattle.kmip_client.specs.Transfer.{Takes, WritesPart}
 use Rattle.kmip_client.specs.Message.{Message, message_at, taken_for, Comes, ReadsMessage, IsRead}
 use Rattle.kmip_client.specs.Client.{lacks_memory}
-use Rattle.kmip_client.specs.Outcome.{Answer, seen_by, Outcome, outcome_of, answer_of, left_for, Moves, Exchanged, completed, write_failed, read_failed, sending_cut, reading_cut, Gives, said, Caused, not_valid, given, no_memory, FailsReading, reading_failed, read_answer}
+use Rattle.kmip_client.specs.Outcome.{Answer, seen_by, Outcome, outcome_of, answer_of, left_for, Moves, Exchanged, completed, write_failed, read_failed, sending_cut, reading_cut, Gives, reading_answer, Caused, not_valid, given, no_memory, FailsReading, reading_failed, read_answer}
 use Rattle.kmip_client.proofs.Messages.{message_short}
 use Rattle.kmip_client.proofs.Said.{OfMessages, message_says}
 
@@ -90,7 +90,7 @@ came_to {before = before} {between = between} {after = after} request operation 
 -- the reading ended
 pub read_ended : {before between after : LinkState} (request : List ℕ) (operation : Operation) (limit : Option ℕ) (taken : List ℕ) (read : Result (Unit {0}) MessageStop) (answer : Answer) →
     Keeps before between → Writes before between request → ReadsMessage between after limit taken read → (IsErrOf read MessageStop.Fault → Rose between.faults after.faults) →
-    Gives (said operation taken read) answer →
+    Gives (reading_answer operation taken read) answer →
     Exchanged (outcome_of (Some request) operation limit (left_for before after)) before after answer
 read_ended request operation limit taken (Ok u) answer keeps writes reads rose gives =
     came_to request operation limit taken (Message.Whole taken) answer writes reads (gives_cases _ answer gives)
@@ -129,7 +129,7 @@ memory_caused before after request operation limit answer (inr is) = no_memory i
 
 -- why the reading ended so, over any link
 pub read_caused : (before after : ℕ) (request : List ℕ) (operation : Operation) (limit : Option ℕ) (taken : List ℕ) (read : Result (Unit {0}) MessageStop) (answer : Answer) →
-    IsRead limit taken read → (IsErrOf read MessageStop.Fault → Rose before after) → Gives (said operation taken read) answer → Caused (Some request) operation limit before after answer
+    IsRead limit taken read → (IsErrOf read MessageStop.Fault → Rose before after) → Gives (reading_answer operation taken read) answer → Caused (Some request) operation limit before after answer
 read_caused before after request operation limit taken (Ok u) answer front rose gives = bytes_given before after request operation limit taken (Message.Whole taken) answer front (gives_cases _ answer gives)
 read_caused before after request operation limit taken (Err MessageStop.Ended) answer front rose gives = bytes_given before after request operation limit [] Message.Ended answer (message_short [] limit (omega arith)) (gives_cases _ answer gives)
 read_caused before after request operation limit taken (Err (MessageStop.Refused error)) answer front rose gives = bytes_given before after request operation limit taken (Message.Refused error) answer front (gives_cases _ answer gives)
@@ -143,7 +143,7 @@ taken_is {before = before} {between = between} {after = after} {n = n} taken wri
     is ∙ ap (λ k. take k (left between)) passed ∙ ap (λ l. take (after.pos - before.pos) l) (left_same writes takes)
 
 pub read_bytes : {before between : LinkState} (after : LinkState) (request : List ℕ) (operation : Operation) (limit : Option ℕ) (taken : List ℕ) (read : Result (Unit {0}) MessageStop) (answer : Answer) →
-    Writes before between request → ReadsMessage between after limit taken read → Gives (said operation taken read) answer → lacks_memory answer ≡ false →
+    Writes before between request → ReadsMessage between after limit taken read → Gives (reading_answer operation taken read) answer → lacks_memory answer ≡ false →
     taken ≡ take (after.pos - before.pos) (left_for before after)
 read_bytes after request operation limit taken (Ok u) answer writes reads gives room = taken_is taken writes reads.takes reads.bytes
 read_bytes after request operation limit taken (Err MessageStop.Ended) answer writes reads gives room = taken_is taken writes reads.takes reads.bytes
@@ -245,7 +245,7 @@ gives_not_reading expected answer not gives =
 
 -- a reading that answers so failed
 pub fails_reading : {T : Type 0} (state : T → LinkState) (before between after : T) (request : List ℕ) (operation : Operation) (taken : List ℕ) (read : Result (Unit {0}) MessageStop) (answer : Answer) →
-    Writes (state before) (state between) request → (IsErrOf read MessageStop.Fault → Rose (state between).faults (state after).faults) → Gives (said operation taken read) answer →
+    Writes (state before) (state between) request → (IsErrOf read MessageStop.Fault → Rose (state between).faults (state after).faults) → Gives (reading_answer operation taken read) answer →
     answer ≡ reading_failed → FailsReading state (Some request) before after
 fails_reading state before between after request operation taken (Ok u) answer writes rose gives is =
     absurd (gives_not_reading (read_answer operation taken) answer (message_says messages_not_reading operation taken) gives is)

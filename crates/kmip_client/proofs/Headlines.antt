@@ -13,7 +13,7 @@ use Rattle.kmip_client.specs.declared.error.Error.{Error}
 use Rattle.kmip_client.specs.declared.error.Error.TheVariants.{OutOfMemory}
 use Rattle.kmip_client.specs.declared.message.MessageStop.{MessageStop}
 use Rattle.kmip_client.specs.Message.{Message, message_at, taken_for}
-use Rattle.kmip_client.specs.Outcome.{Answer, outcome_of, answer_of, tree_answer, value_answer, response_tag, left_for, seen_by, Gives, said, Exchanged, completed, write_failed, read_failed, sending_cut, reading_cut, Caused, not_valid, given, no_memory}
+use Rattle.kmip_client.specs.Outcome.{Answer, outcome_of, answer_of, tree_answer, value_answer, response_tag, left_for, seen_by, Gives, reading_answer, Exchanged, completed, write_failed, read_failed, sending_cut, reading_cut, Caused, not_valid, given, no_memory}
 use Rattle.kmip_client.specs.Client.{IsOfOperation}
 use Rattle.kmip_client.proofs.Variants.{variant_of}
 use Rattle.kmip_client.specs.Headline.{IsValidResponse, IsSound, IsAnswered, Headline}
@@ -99,7 +99,7 @@ given_variant operation Message.Ended payload answers = error_payload answers
 given_variant operation (Message.Refused error) payload answers = error_payload answers
 given_variant operation (Message.Whole m) payload answers = read_variant operation (item_of 64 m) payload answers
 
-said_variant : (operation : Operation) (taken : List ℕ) (read : Result (Unit {0}) MessageStop) (payload : Val) → said operation taken read ≡ Ok payload → IsOfOperation operation payload
+said_variant : (operation : Operation) (taken : List ℕ) (read : Result (Unit {0}) MessageStop) (payload : Val) → reading_answer operation taken read ≡ Ok payload → IsOfOperation operation payload
 said_variant operation taken (Ok _) payload answers = read_variant operation (item_of 64 taken) payload answers
 said_variant operation taken (Err MessageStop.Ended) payload answers = error_payload answers
 said_variant operation taken (Err (MessageStop.Refused error)) payload answers = error_payload answers
@@ -107,7 +107,7 @@ said_variant operation taken (Err MessageStop.Fault) payload answers = error_pay
 said_variant operation taken (Err MessageStop.OutOfMemory) payload answers = error_payload answers
 
 pub told_variant : {P : Type 0} (val : P → Val) (operation : Operation) (taken : List ℕ) (read : Result (Unit {0}) MessageStop) (result : Result P Error) →
-    Gives (said operation taken read) (seen_by val result) → IfOk result (λ payload. IsOfOperation operation (val payload))
+    Gives (reading_answer operation taken read) (seen_by val result) → IfOk result (λ payload. IsOfOperation operation (val payload))
 told_variant val operation taken read (Ok payload) gives = said_variant operation taken read (val payload) (sym gives)
 told_variant val operation taken read (Err error) gives = tt
 

@@ -12,7 +12,7 @@ use Rattle.kmip_client.specs.declared.error.Error.{Error}
 use Rattle.kmip_client.specs.declared.error.Error.TheVariants.{OutOfMemory}
 use Rattle.kmip_client.specs.Outcome.{Answer, seen_by, Exchanged, Caused, FailsReading, reading_failed, outcome, left_for}
 use Rattle.kmip_client.specs.Headline.{Headline}
-use Rattle.kmip_client.specs.Client.{ClientState, loses_connection, counted}
+use Rattle.kmip_client.specs.Client.{ClientState, loses_connection, count_after}
 use Rattle.kmip_client.specs.Diagnostics.{IsRequestText, IsResponseText}
 
 -- `do_request` was called for this request, and answered so; `state` is what the link means
@@ -28,21 +28,21 @@ pub record IsCall {T : Type 0} (state : T → LinkState) (payload : RequestPaylo
   pub credential : after.credential ≡ before.credential
   pub limit : after.limit ≡ before.limit
   pub buffered : after.buffered ≡ before.buffered
-  pub count : after.errors ≡ counted before.errors (loses_connection answer)
+  pub count : after.errors ≡ count_after before.errors (loses_connection answer)
   pub request_text : IsRequestText before.buffered (request_bytes payload before.credential) answer after.request_text
   pub response_text : IsTrue (state before.link).tells →
       IsResponseText before.buffered (take ((state after.link).pos - (state before.link).pos) (left_for (state before.link) (state after.link))) answer after.response_text
   pub quiet : before.buffered ≡ false → after.response_text ≡ None
 
 -- a part of the payload, errors passed on
-abbrev pub projected : {P R : Type 0} → (P → R) → Result P Error → Result R Error
-projected part (Ok payload) = Ok (part payload)
-projected part (Err error) = Err error
+abbrev pub part_of : {P R : Type 0} → (P → R) → Result P Error → Result R Error
+part_of part (Ok payload) = Ok (part payload)
+part_of part (Err error) = Err error
 
 -- What a helper did that makes this request: its result is a part of what `do_request` answered, whose payload is of this variant.
 pub data Helped {T P R : Type 0} (state : T → LinkState) (request : RequestPayload) (variant : P → ResponsePayload) (part : P → R) (before after : ClientState T) (result : Result R Error) : Type 0 where
   called : (answer : Result P Error) → IsCall state request before after (seen_by (λ payload. response_payload_val (variant payload)) answer) →
-      result ≡ projected part answer → Helped state request variant part before after result
+      result ≡ part_of part answer → Helped state request variant part before after result
   -- memory ran out before the request was made, and nothing changed
   not_made : result ≡ Err OutOfMemory → after ≡ before → Helped state request variant part before after result
 

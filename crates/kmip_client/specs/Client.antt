@@ -46,9 +46,9 @@ loses_connection (Ok payload) = false
 loses_connection (Err error) = is_connection_error error
 
 -- the count of connection errors after a call, modulo 256
-abbrev pub counted : ℕ → Bool → ℕ
-counted errors true = (errors + 1) % 256
-counted errors false = errors
+abbrev pub count_after : ℕ → Bool → ℕ
+count_after errors true = (errors + 1) % 256
+count_after errors false = errors
 
 abbrev pub lacks_memory : Answer → Bool
 lacks_memory (Err OutOfMemory) = true

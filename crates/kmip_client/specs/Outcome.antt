@@ -33,8 +33,8 @@ seen_by val (Ok payload) = Ok (val payload)
 seen_by val (Err error) = Err error
 
 -- and where it holds the payload of any operation
-abbrev pub seen : Result ResponsePayload Error → Answer
-seen = seen_by response_payload_val
+abbrev pub answer_with_payload : Result ResponsePayload Error → Answer
+answer_with_payload = seen_by response_payload_val
 
 -- the tag of a response message (KMIP 1.0, 9.1.3.1)
 abbrev pub response_tag : ℕ
@@ -124,12 +124,12 @@ Gives expected (Err OutOfMemory) = Unit {0}
 Gives expected answer = answer ≡ expected
 
 -- what is answered after a reading
-abbrev pub said : Operation → List ℕ → Result (Unit {0}) MessageStop → Answer
-said operation taken (Ok _) = read_answer operation taken
-said operation taken (Err MessageStop.Ended) = answer_of operation Message.Ended
-said operation taken (Err (MessageStop.Refused error)) = answer_of operation (Message.Refused error)
-said operation taken (Err MessageStop.Fault) = Err (ResponseReadError (codes "link failed"))
-said operation taken (Err MessageStop.OutOfMemory) = Err OutOfMemory
+abbrev pub reading_answer : Operation → List ℕ → Result (Unit {0}) MessageStop → Answer
+reading_answer operation taken (Ok _) = read_answer operation taken
+reading_answer operation taken (Err MessageStop.Ended) = answer_of operation Message.Ended
+reading_answer operation taken (Err (MessageStop.Refused error)) = answer_of operation (Message.Refused error)
+reading_answer operation taken (Err MessageStop.Fault) = Err (ResponseReadError (codes "link failed"))
+reading_answer operation taken (Err MessageStop.OutOfMemory) = Err OutOfMemory
 
 -- Why a call answered so, over any link, which may tell nothing.
 pub data Caused (request : Option (List ℕ)) (operation : Operation) (limit : Option ℕ) (before after : ℕ) (answer : Answer) : Type 0 where

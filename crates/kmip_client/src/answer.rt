@@ -1,6 +1,6 @@
 //! What a reading off the link answers.
 ghost use Rattle.std.specs.Prelude.{◌≡◌, ◌++◌, IfOk, IfErr, Some, Err};
-ghost use Rattle.kmip_client.specs.Outcome.{Gives, seen, said, read_answer, refused_text};
+ghost use Rattle.kmip_client.specs.Outcome.{Gives, answer_with_payload, reading_answer, read_answer, refused_text};
 ghost use Rattle.kmip_client.specs.declared.error.Error.TheVariants.{DeserializeError, OutOfMemory};
 
 use crate::check::check_message;
@@ -15,7 +15,7 @@ use std::alloc::Global;
 
 /// What a whole message answers.
 fn answer_whole(alloc: Global, operation: Operation, m: &[u8]) -> Result<ResponsePayload, Error>
-    ensures { Gives (read_answer operation m.now) (seen result) }
+    ensures { Gives (read_answer operation m.now) (answer_with_payload result) }
 {
     let Some(item) = ItemRef::root(m) else {
         return Err(Error::DeserializeError(Text::of(alloc, "malformed TTLV")?));
@@ -30,8 +30,8 @@ fn answer_whole(alloc: Global, operation: Operation, m: &[u8]) -> Result<Respons
 }
 
 /// Why a head was refused.
-fn refused(alloc: Global, error: HeadError) -> Result<ResponsePayload, Error>
-    ensures { Gives (Err (DeserializeError (refused_text error))) (seen result) }
+fn head_error(alloc: Global, error: HeadError) -> Result<ResponsePayload, Error>
+    ensures { Gives (Err (DeserializeError (refused_text error))) (answer_with_payload result) }
 {
     match error {
         HeadError::NotStructure => {
@@ -51,14 +51,14 @@ pub fn answer_read(
     taken: &[u8],
     read: Result<(), MessageStop>,
 ) -> Result<ResponsePayload, Error>
-    ensures { Gives (said operation taken.now read) (seen result) }
+    ensures { Gives (reading_answer operation taken.now read) (answer_with_payload result) }
 {
     match read {
         Ok(()) => answer_whole(alloc, operation, taken),
         Err(MessageStop::Ended) => {
             Err(Error::ResponseReadError(Text::of(alloc, "end of input")?))
         }
-        Err(MessageStop::Refused(error)) => refused(alloc, error),
+        Err(MessageStop::Refused(error)) => head_error(alloc, error),
         Err(MessageStop::Fault) => {
             Err(Error::ResponseReadError(Text::of(alloc, "link failed")?))
         }

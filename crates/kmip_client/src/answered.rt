@@ -5,7 +5,7 @@ ghost use Rattle.kmip_enums.specs.Operations.{operation_line};
 ghost use Rattle.kmip_enums.specs.declared.operation.Operation.{Operation as TheOperation};
 ghost use Rattle.kmip_response.specs.Values.{response_payload_val, query_payload_val, create_key_pair_payload_val, rng_retrieve_payload_val, sign_payload_val, unique_identifier_payload_val, attribute_edit_payload_val, get_payload_val};
 ghost use Rattle.kmip_client.specs.Client.{IsOfOperation};
-ghost use Rattle.kmip_client.specs.Outcome.{Gives, seen, seen_by, said};
+ghost use Rattle.kmip_client.specs.Outcome.{Gives, answer_with_payload, seen_by, reading_answer};
 
 use crate::answer::answer_read;
 use crate::error::Error;
@@ -173,7 +173,7 @@ fn part<P: Answered>(
 ) -> Result<P, Error>
     requires answers { P.Answers operation }
     requires own { IfOk answer (λ payload. IsOfOperation operation (response_payload_val payload)) }
-    ensures { seen_by (P.val operation) result ≡ seen answer }
+    ensures { seen_by (P.val operation) result ≡ answer_with_payload answer }
 {
     match answer {
         Ok(payload) => Ok(P::of(operation, payload)),
@@ -189,7 +189,7 @@ pub fn answer_to<P: Answered>(
     read: Result<(), MessageStop>,
 ) -> Result<P, Error>
     requires { P.Answers operation }
-    ensures { Gives (said operation taken.now read) (seen_by (P.val operation) result) }
+    ensures { Gives (reading_answer operation taken.now read) (seen_by (P.val operation) result) }
 {
     part(operation, answer_read(alloc, operation, taken, read))
 }

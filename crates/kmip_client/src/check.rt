@@ -9,7 +9,7 @@ ghost use Rattle.kmip_enums.specs.ResultReasons.{result_reason_line};
 ghost use Rattle.kmip_response.specs.Values.{batch_item_val, response_message_val, response_payload_val};
 ghost use Rattle.kmip_enums.specs.declared.result_reason.ResultReason.{ResultReason};
 ghost use Rattle.kmip_client.specs.Check.{check_response, check_item, is_number, text_in, one_of, operation_shown, count_text, failed_text, failure, mismatch_text, payload_answer};
-ghost use Rattle.kmip_client.specs.Outcome.{Gives, seen};
+ghost use Rattle.kmip_client.specs.Outcome.{Gives, answer_with_payload};
 ghost use Rattle.kmip_client.specs.declared.error.Error.TheVariants.{ServerError, InternalError, OutOfMemory};
 
 use crate::error::Error;
@@ -45,7 +45,7 @@ fn is_not_found(reason: Option<ResultReason>) -> bool
 
 /// That there is not one batch item, but this many.
 fn not_single(alloc: Global, count: usize) -> Result<ResponsePayload, Error>
-    ensures { Gives (Err (ServerError (count_text count))) (seen result) }
+    ensures { Gives (Err (ServerError (count_text count))) (answer_with_payload result) }
 {
     let text = format!(in alloc; "Expected one batch item in response but received {count}")?;
     Err(Error::ServerError(Text::of_string(text)))
@@ -60,7 +60,7 @@ fn failure(
 ) -> Result<ResponsePayload, Error>
     ensures { Gives (failure operation
         (one_of (optional (enumeration_val result_reason_line) reason))
-        (one_of (optional text_val message.now))) (seen result) }
+        (one_of (optional text_val message.now))) (answer_with_payload result) }
 {
     let message = match message {
         Some(message) => message.as_str(),
@@ -82,7 +82,7 @@ fn mismatch(
 ) -> Result<ResponsePayload, Error>
     ensures { Gives (Err (InternalError
         (mismatch_text asked (operation_shown
-        (one_of (optional (enumeration_val operation_line) answered)))))) (seen result) }
+        (one_of (optional (enumeration_val operation_line) answered)))))) (answer_with_payload result) }
 {
     let text = match answered {
         Some(answered) => {
@@ -100,7 +100,7 @@ fn mismatch(
 /// The payload of a batch item, where there is one.
 fn payload_of(alloc: Global, payload: Option<ResponsePayload>) -> Result<ResponsePayload, Error>
     ensures { Gives (payload_answer (one_of (optional response_payload_val payload)))
-        (seen result) }
+        (answer_with_payload result) }
 {
     match payload {
         Some(payload) => Ok(payload),
@@ -118,7 +118,7 @@ fn check_item(
     operation: Operation,
     item: &mut BatchItem,
 ) -> Result<ResponsePayload, Error>
-    ensures { Gives (check_item operation (batch_item_val item.old)) (seen result) }
+    ensures { Gives (check_item operation (batch_item_val item.old)) (answer_with_payload result) }
 {
     match item.result_status {
         ResultStatus::OperationFailed => {
@@ -155,7 +155,7 @@ pub fn check_message(
     operation: Operation,
     message: ResponseMessage,
 ) -> Result<ResponsePayload, Error>
-    ensures { Gives (check_response operation (response_message_val message)) (seen result) }
+    ensures { Gives (check_response operation (response_message_val message)) (answer_with_payload result) }
 {
     let ResponseMessage {
         header,

@@ -5,8 +5,8 @@ ghost use Rattle.kmip_request.specs.Message.{request_bytes, operation_of, creden
 ghost use Rattle.kmip_request.specs.Held.{AreTexts};
 ghost use Rattle.kmip_shape.specs.Val.{Val};
 ghost use Rattle.kmip_response.specs.Values.{response_payload_val};
-ghost use Rattle.kmip_client.specs.Client.{ClientState, loses_connection, lacks_memory, counted, IsOfOperation};
-ghost use Rattle.kmip_client.specs.Outcome.{Exchanged, Caused, FailsReading, reading_failed, outcome, left_for, seen, seen_by};
+ghost use Rattle.kmip_client.specs.Client.{ClientState, loses_connection, lacks_memory, count_after, IsOfOperation};
+ghost use Rattle.kmip_client.specs.Outcome.{Exchanged, Caused, FailsReading, reading_failed, outcome, left_for, answer_with_payload, seen_by};
 ghost use Rattle.kmip_client.specs.Headline.{Headline};
 ghost use Rattle.kmip_client.specs.Calls.{IsCall};
 ghost use Rattle.kmip_client.specs.Diagnostics.{IsRequestText, IsResponseText};
@@ -171,29 +171,29 @@ impl<T: Link> Client<T> {
         ensures exchange { IsTrue (T.state self.old.link).tells →
             Exchanged (outcome payload self.old.credential self.old.limit
             (left_for (T.state self.old.link) (T.state self.new.link)))
-            (T.state self.old.link) (T.state self.new.link) (seen result) }
+            (T.state self.old.link) (T.state self.new.link) (answer_with_payload result) }
         ensures caused { Caused (request_bytes payload self.old.credential) (operation_of payload)
             self.old.limit
-            (T.state self.old.link).faults (T.state self.new.link).faults (seen result) }
-        ensures reading { IsTrue (T.state self.old.link).tells → seen result ≡ reading_failed →
+            (T.state self.old.link).faults (T.state self.new.link).faults (answer_with_payload result) }
+        ensures reading { IsTrue (T.state self.old.link).tells → answer_with_payload result ≡ reading_failed →
             FailsReading T.state (request_bytes payload self.old.credential) self.old.link
             self.new.link }
         ensures headline { IsTrue (T.state self.old.link).tells →
             Headline (request_bytes payload self.old.credential) (operation_of payload)
-            self.old.limit (T.state self.old.link) (T.state self.new.link) (seen result) }
+            self.old.limit (T.state self.old.link) (T.state self.new.link) (answer_with_payload result) }
         ensures variant { IfOk result
             (λ answer. IsOfOperation (operation_of payload) (response_payload_val answer)) }
         ensures keeps { Keeps (T.state self.old.link) (T.state self.new.link) }
         ensures settings { (self.new.credential ≡ self.old.credential) ×
             (self.new.limit ≡ self.old.limit) ×
             (self.new.buffered ≡ self.old.buffered) }
-        ensures count { self.new.errors ≡ counted self.old.errors (loses_connection (seen result)) }
+        ensures count { self.new.errors ≡ count_after self.old.errors (loses_connection (answer_with_payload result)) }
         ensures request_text { IsRequestText self.old.buffered
-            (request_bytes payload self.old.credential) (seen result) self.new.request_text }
+            (request_bytes payload self.old.credential) (answer_with_payload result) self.new.request_text }
         ensures response_text { IsTrue (T.state self.old.link).tells →
             IsResponseText self.old.buffered
             (take ((T.state self.new.link).pos - (T.state self.old.link).pos)
-            (left_for (T.state self.old.link) (T.state self.new.link))) (seen result)
+            (left_for (T.state self.old.link) (T.state self.new.link))) (answer_with_payload result)
             self.new.response_text }
         ensures quiet { self.old.buffered ≡ false → self.new.response_text ≡ None }
     {
@@ -227,7 +227,7 @@ impl<T: Link> Client<T> {
             room,
         );
         keep(&mut self.room);
-        self.errors = counted(self.errors, loses_connection(&answer));
+        self.errors = count_after(self.errors, loses_connection(&answer));
         answer
     }
 }
@@ -253,8 +253,8 @@ pub(crate) fn lacks_memory<P: Drop>(answer: &Result<P, Error>) -> bool
 }
 
 /// The count of connection errors after a call.
-fn counted(errors: u8, lost: bool) -> u8
-    ensures { result ≡ counted errors lost }
+fn count_after(errors: u8, lost: bool) -> u8
+    ensures { result ≡ count_after errors lost }
 {
     if lost { errors.wrapping_add(1) } else { errors }
 }

@@ -1,7 +1,7 @@
 //! The helpers: each makes one request, calls `do_request`, passes its errors on and projects its payload.
 ghost use Rattle.std.specs.Prelude.{◌≡◌, IfOk};
 ghost use Rattle.kmip_response.specs.declared.payload.ResponsePayload.TheVariants as payloads;
-ghost use Rattle.kmip_client.specs.Calls.{IsCall, Helped, Asked, projected, nothing_of, identifiers_of};
+ghost use Rattle.kmip_client.specs.Calls.{IsCall, Helped, Asked, part_of, nothing_of, identifiers_of};
 ghost use Rattle.kmip_response.specs.Values.{response_payload_val};
 ghost use Rattle.kmip_client.specs.Outcome.{seen_by};
 ghost use Rattle.kmip_helpers.specs.Requests as requests;
@@ -80,7 +80,7 @@ impl<T: Link> Client<T> {
         ensures { Helped T.state (requests.activate_request private_key_id.now) payloads.Activate
             nothing_of self.old self.new result }
     {
-        done(self.ask(alloc, activate_request(alloc, private_key_id)))
+        without_payload(self.ask(alloc, activate_request(alloc, private_key_id)))
     }
 
     /// Takes a key out of use, since it is no longer needed: KMIP 1.0, 4.19.
@@ -88,7 +88,7 @@ impl<T: Link> Client<T> {
         ensures { Helped T.state (requests.revoke_request private_key_id.now) payloads.Revoke
             nothing_of self.old self.new result }
     {
-        done(self.ask(alloc, revoke_request(alloc, private_key_id)))
+        without_payload(self.ask(alloc, revoke_request(alloc, private_key_id)))
     }
 
     /// Destroys a key: KMIP 1.0, 4.20.
@@ -96,7 +96,7 @@ impl<T: Link> Client<T> {
         ensures { Helped T.state (requests.destroy_request key_id.now) payloads.Destroy nothing_of
             self.old self.new result }
     {
-        done(self.ask(alloc, destroy_request(alloc, key_id)))
+        without_payload(self.ask(alloc, destroy_request(alloc, key_id)))
     }
 
     /// Gives a key another name: KMIP 1.0, 4.14.
@@ -137,8 +137,8 @@ impl<T: Link> Client<T> {
 }
 
 /// An answer without its payload.
-fn done(answer: Result<UniqueIdentifierResponsePayload>) -> Result<()>
-    ensures { result ≡ projected nothing_of answer }
+fn without_payload(answer: Result<UniqueIdentifierResponsePayload>) -> Result<()>
+    ensures { result ≡ part_of nothing_of answer }
 {
     match answer {
         Ok(_) => Ok(()),
@@ -148,7 +148,7 @@ fn done(answer: Result<UniqueIdentifierResponsePayload>) -> Result<()>
 
 /// The identifiers of the private key and the public key of a pair.
 fn identifiers(answer: Result<CreateKeyPairResponsePayload>) -> Result<(Text, Text)>
-    ensures { result ≡ projected identifiers_of answer }
+    ensures { result ≡ part_of identifiers_of answer }
 {
     match answer {
         Ok(payload) => {

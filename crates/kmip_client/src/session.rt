@@ -2,7 +2,7 @@
 ghost use Rattle.std.specs.Prelude.{◌≡◌, ◌+◌, ◌<◌, map, IfOk, IfErr, OnErr, IsTrue};
 ghost use Rattle.kmip_link.specs.State.{Keeps, left};
 ghost use Rattle.kmip_response.specs.Values.{response_payload_val};
-ghost use Rattle.kmip_client.specs.Client.{counted};
+ghost use Rattle.kmip_client.specs.Client.{count_after};
 ghost use Rattle.kmip_client.specs.Session.{session, exchange_told, Ran, Stops, Calls, CutOff, held_texts, last_texts, AreRequestTexts, ends_lost};
 ghost use Rattle.kmip_client.specs.declared.error.Error.TheVariants.{OutOfMemory as no_memory};
 
@@ -61,7 +61,7 @@ pub fn exchange_all<T: Link>(
         (client.new.limit ≡ client.old.limit) ×
         (client.new.buffered ≡ client.old.buffered) }
     ensures count { IfOk result (λ answers. client.new.errors ≡
-        counted client.old.errors (ends_lost (map (exchange_told response_payload_val) answers))) }
+        count_after client.old.errors (ends_lost (map (exchange_told response_payload_val) answers))) }
     ensures memory { IfErr result (λ e. e ≡ no_memory) }
 {
     exchanges(alloc, client, payloads.into_vec())
@@ -93,7 +93,7 @@ fn exchanges<T: Link, P: AnsweredByAny>(
         (client.new.limit ≡ client.old.limit) ×
         (client.new.buffered ≡ client.old.buffered) }
     ensures count { IfOk result (λ answers. client.new.errors ≡
-        counted client.old.errors (ends_lost (map (exchange_told P.whole) answers))) }
+        count_after client.old.errors (ends_lost (map (exchange_told P.whole) answers))) }
     ensures memory { IfErr result (λ e. e ≡ no_memory) }
 {
     P::answers_any();
@@ -104,7 +104,7 @@ fn exchanges<T: Link, P: AnsweredByAny>(
             return Err(Error::OutOfMemory);
         }
         let lost = loses_connection(&answer);
-        exchanges.push(told(alloc, client, answer)?)?;
+        exchanges.push(exchange_of(alloc, client, answer)?)?;
         if lost {
             return Ok(exchanges);
         }
@@ -113,7 +113,7 @@ fn exchanges<T: Link, P: AnsweredByAny>(
 }
 
 /// An answer beside copies of the diagnostics of its call.
-fn told<T, P: Drop>(
+fn exchange_of<T, P: Drop>(
     alloc: Global,
     client: &Client<T>,
     answer: Result<P>,

@@ -13,7 +13,7 @@ use Rattle.kmip_diag.specs.declared.token.Token.TheVariants.{Scalar, Open, Close
 use Rattle.kmip_diag.specs.Skeleton.{Skeletons, scalar, structure, none, more}
 use Rattle.kmip_diag.specs.Printed.{two, six, has_prefix, printed_tag, printed_mark, printed_all}
 use Rattle.kmip_diag.specs.Tokens.{token_text, IsToken, AreSkeletons}
-use Rattle.kmip_diag.specs.Reading.{hex_value, numeral, tag_of, numbered, by_letter, tagged, after_digits, read_token, first, around, by_token, read_all}
+use Rattle.kmip_diag.specs.Reading.{hex_value, numeral, tag_of, number_token, by_letter, tag_token, after_digits, read_token, first, around, by_token, read_all}
 
 glyph_read : (d : ℕ) → d < 16 → hex_value (digit_glyph true d) ≡ Some d
 glyph_read zero h = refl
@@ -82,30 +82,30 @@ number_read n cs w = ap (λ t. numeral 0 t) (digits_after 64 n [] (58 ∷ cs)) �
 abbrev IsLetter : ℕ → Type 0
 IsLetter c = (hex_value c ≡ None) × ((c == 93) ≡ false)
 
-two_tag : (p : Option ℕ) (tag c : ℕ) (cs : List ℕ) → has_prefix p tag ≡ true → IsLetter c → read_token p (two tag ++ (c ∷ cs)) ≡ tagged tag c cs
+two_tag : (p : Option ℕ) (tag c : ℕ) (cs : List ℕ) → has_prefix p tag ≡ true → IsLetter c → read_token p (two tag ++ (c ∷ cs)) ≡ tag_token tag c cs
 two_tag None tag c cs h l = absurd (false≢true h)
 two_tag (Some q) tag c cs h l =
     let n : numeral 0 (two tag ++ (c ∷ cs)) ≡ (0 * 256 + tag % 256, c ∷ cs) = two_read 0 tag (c ∷ cs) (omega arith) ∙ letter_stops (0 * 256 + tag % 256) c cs l.0
     in let two_long : (length (two tag ++ (c ∷ cs)) - length (c ∷ cs)) ≡ 2 = omega arith
     in let whole : q * 256 + (0 * 256 + tag % 256) % 256 ≡ tag = omega (arith, (unsigned_Decides (tag / 256) q).0 h)
     in ap (after_digits (Some q) (two tag ++ (c ∷ cs))) n
-    ∙ ap (λ x. if x then Some (Close, cs) else tagged (tag_of (Some q) (length (two tag ++ (c ∷ cs)) - length (c ∷ cs)) (0 * 256 + tag % 256)) c cs) l.1
-    ∙ ap (λ k. tagged (tag_of (Some q) k (0 * 256 + tag % 256)) c cs) two_long
-    ∙ ap (λ k. tagged k c cs) whole
+    ∙ ap (λ x. if x then Some (Close, cs) else tag_token (tag_of (Some q) (length (two tag ++ (c ∷ cs)) - length (c ∷ cs)) (0 * 256 + tag % 256)) c cs) l.1
+    ∙ ap (λ k. tag_token (tag_of (Some q) k (0 * 256 + tag % 256)) c cs) two_long
+    ∙ ap (λ k. tag_token k c cs) whole
 
-six_tag : (p : Option ℕ) (tag c : ℕ) (cs : List ℕ) → tag < 2 ^ 24 → IsLetter c → read_token p (six tag ++ (c ∷ cs)) ≡ tagged tag c cs
+six_tag : (p : Option ℕ) (tag c : ℕ) (cs : List ℕ) → tag < 2 ^ 24 → IsLetter c → read_token p (six tag ++ (c ∷ cs)) ≡ tag_token tag c cs
 unfolding six
 six_tag p tag c cs h l =
     let n : numeral 0 (six tag ++ (c ∷ cs)) ≡ (tag, c ∷ cs) = six_read tag (c ∷ cs) h ∙ letter_stops tag c cs l.0
     in let six_long : (length (six tag ++ (c ∷ cs)) - length (c ∷ cs)) ≡ 6 = omega arith
     in ap (after_digits p (six tag ++ (c ∷ cs))) n
-    ∙ ap (λ x. if x then Some (Close, cs) else tagged (tag_of p (length (six tag ++ (c ∷ cs)) - length (c ∷ cs)) tag) c cs) l.1
-    ∙ ap (λ k. tagged (tag_of p k tag) c cs) six_long
+    ∙ ap (λ x. if x then Some (Close, cs) else tag_token (tag_of p (length (six tag ++ (c ∷ cs)) - length (c ∷ cs)) tag) c cs) l.1
+    ∙ ap (λ k. tag_token (tag_of p k tag) c cs) six_long
 
 tag_read : (p : Option ℕ) (tag c : ℕ) (cs : List ℕ) → tag < 2 ^ 24 → IsLetter c → read_token p (printed_tag p tag ++ (c ∷ cs)) ≡ by_letter tag c cs
 tag_read p tag c cs h l = by_prefix (has_prefix p tag) refl ∙ ap (λ x. if x then by_letter tag c cs else None) (lt-ltb tag (2 ^ 24) h)
   where
-    by_prefix : (b : Bool) → has_prefix p tag ≡ b → read_token p ((if b then two tag else six tag) ++ (c ∷ cs)) ≡ tagged tag c cs
+    by_prefix : (b : Bool) → has_prefix p tag ≡ b → read_token p ((if b then two tag else six tag) ++ (c ∷ cs)) ≡ tag_token tag c cs
     by_prefix true e = two_tag p tag c cs e l
     by_prefix false e = six_tag p tag c cs h l
 
@@ -124,8 +124,8 @@ token_read p (Scalar tag Interval) rest h = ap (read_token p) (append_assoc (pri
 token_read p (Scalar tag (Enumeration n)) rest h =
     ap (read_token p) (append_assoc (printed_tag p tag) (101 ∷ (digits 16 true n ++ (58 ∷ []))) rest)
     ∙ tag_read p tag 101 ((digits 16 true n ++ (58 ∷ [])) ++ rest) h.0 (refl, refl)
-    ∙ ap (λ t. numbered tag (numeral 0 t)) (append_assoc (digits 16 true n) (58 ∷ []) rest)
-    ∙ ap (numbered tag) (number_read n rest h.1)
+    ∙ ap (λ t. number_token tag (numeral 0 t)) (append_assoc (digits 16 true n) (58 ∷ []) rest)
+    ∙ ap (number_token tag) (number_read n rest h.1)
 
 -- ---- skeletons
 

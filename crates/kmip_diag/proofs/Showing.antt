@@ -12,7 +12,7 @@ use Rattle.kmip_diag.specs.declared.token.Token.TheVariants.{Open}
 use Rattle.kmip_diag.specs.Skeleton.{skeleton}
 use Rattle.kmip_diag.specs.Printed.{printed, printed_tag}
 use Rattle.kmip_diag.specs.Tokens.{token_text}
-use Rattle.kmip_diag.specs.Diagnostic.{Shown, ended, stopped, item, torn, OpensAt, Shows, shown_text, IsDiagnostic, opened, shown_by, shown_at, shown, diagnostic}
+use Rattle.kmip_diag.specs.Diagnostic.{Shown, ended, stopped, item, torn, OpensAt, Shows, shown_text, IsDiagnostic, opening_tag, shown_by, shown_at, shown, diagnostic}
 use Rattle.kmip_diag.proofs.Wire.{front_rule, value_shorter}
 
 -- fuel above the length is enough
@@ -25,9 +25,9 @@ same_fuel (suc f) (suc g) level (x ∷ xs) h k =
     in let shorter = value_shorter (x ∷ xs) (omega arith)
     in let rest = same_fuel f g level (drop (size_at (x ∷ xs)) (x ∷ xs)) (omega (arith, h, short)) (omega (arith, k, short))
     in let inner = same_fuel f g (level + 1) (value_of (x ∷ xs)) (omega (arith, h, shorter)) (omega (arith, k, shorter))
-    in λ i. shown_by (front_at level (x ∷ xs)) (opened level (x ∷ xs)) (rest i) (inner i)
+    in λ i. shown_by (front_at level (x ∷ xs)) (opening_tag level (x ∷ xs)) (rest i) (inner i)
 
-shown_step : (level : ℕ) (b : List ℕ) → 0 < length b → shown level b ≡ shown_by (front_at level b) (opened level b) (shown level (drop (size_at b) b)) (shown (level + 1) (value_of b))
+shown_step : (level : ℕ) (b : List ℕ) → 0 < length b → shown level b ≡ shown_by (front_at level b) (opening_tag level b) (shown level (drop (size_at b) b)) (shown (level + 1) (value_of b))
 unfolding shown
 shown_step level [] some = absurd (omega (arith, some))
 shown_step level (x ∷ xs) some =
@@ -35,7 +35,7 @@ shown_step level (x ∷ xs) some =
     in let shorter = value_shorter (x ∷ xs) some
     in let rest = same_fuel (length (x ∷ xs)) (suc (length (drop (size_at (x ∷ xs)) (x ∷ xs)))) level (drop (size_at (x ∷ xs)) (x ∷ xs)) (omega (arith, short)) (omega arith)
     in let inner = same_fuel (length (x ∷ xs)) (suc (length (value_of (x ∷ xs)))) (level + 1) (value_of (x ∷ xs)) (omega (arith, shorter)) (omega arith)
-    in λ i. shown_by (front_at level (x ∷ xs)) (opened level (x ∷ xs)) (rest i) (inner i)
+    in λ i. shown_by (front_at level (x ∷ xs)) (opening_tag level (x ∷ xs)) (rest i) (inner i)
 
 shown_end : (level : ℕ) (b : List ℕ) → b ≡ [] → shown level b ≡ ended
 unfolding shown
@@ -45,14 +45,14 @@ both : (x y : Bool) → (x && y) ≡ true → (x ≡ true) × (y ≡ true)
 both true y e = (refl, e)
 both false y e = absurd cc
 
-pub opened_says : (level : ℕ) (b : List ℕ) (tag : ℕ) → opened level b ≡ Some tag → OpensAt level b × (tag ≡ head_tag b)
+pub opened_says : (level : ℕ) (b : List ℕ) (tag : ℕ) → opening_tag level b ≡ Some tag → OpensAt level b × (tag ≡ head_tag b)
 opened_says level b tag e =
     let w = cond_some _ (head_tag b) tag e
     in let l = both (leb level 64) _ w.0
     in let r = both (leb 8 (length b)) _ l.1
     in ((leb-true level 64 l.0, leb-true 8 (length b) r.0, eqb-true _ _ r.1), sym w.1)
 
-pub opened_where : (level : ℕ) (b : List ℕ) → OpensAt level b → opened level b ≡ Some (head_tag b)
+pub opened_where : (level : ℕ) (b : List ℕ) → OpensAt level b → opening_tag level b ≡ Some (head_tag b)
 opened_where level b o = rw (le-leb level 64 o.0) (rw (le-leb 8 (length b) o.1) (rw (eq-eqb (head_code b) 1 o.2) refl))
 
 opened_none : (o : Option ℕ) → None ≡ option_map Open o → None ≡ o
@@ -76,17 +76,17 @@ module _ (p : Option ℕ) (whole text b : List ℕ) (level : ℕ) (is_torn : Boo
   pub diag_item : (t : Tree) (after rest : List ℕ) → 0 < length b → Some t ≡ front_at level b → after ≡ text ++ printed p (skeleton t) → rest ≡ drop (size_at b) b
       → whole ≡ after ++ shown_text p is_torn (shown level rest)
   diag_item t after rest some front pushed dropped =
-      let step = shown_step level b some ∙ ap (λ o. shown_by o (opened level b) (shown level (drop (size_at b) b)) (shown (level + 1) (value_of b))) (sym front)
+      let step = shown_step level b some ∙ ap (λ o. shown_by o (opening_tag level b) (shown level (drop (size_at b) b)) (shown (level + 1) (value_of b))) (sym front)
       in shows (item t (shown level (drop (size_at b) b))) step
       ∙ sym (append_assoc text (printed p (skeleton t)) (shown_text p is_torn (shown level (drop (size_at b) b))))
       ∙ ap (λ x. x ++ shown_text p is_torn (shown level (drop (size_at b) b))) (sym pushed)
       ∙ ap (λ r. after ++ shown_text p is_torn (shown level r)) (sym dropped)
 
-  diag_opened : (tag : ℕ) (after rest : List ℕ) → 0 < length b → None ≡ front_at level b → opened level b ≡ Some tag → after ≡ text ++ (printed_tag p tag ++ (91 ∷ [])) → rest ≡ value_of b
+  diag_opened : (tag : ℕ) (after rest : List ℕ) → 0 < length b → None ≡ front_at level b → opening_tag level b ≡ Some tag → after ≡ text ++ (printed_tag p tag ++ (91 ∷ [])) → rest ≡ value_of b
       → whole ≡ after ++ shown_text p true (shown (level + 1) rest)
   diag_opened tag after rest some front opens pushed inside =
       let step = shown_step level b some
-      ∙ ap (λ o. shown_by o (opened level b) (shown level (drop (size_at b) b)) (shown (level + 1) (value_of b))) (sym front)
+      ∙ ap (λ o. shown_by o (opening_tag level b) (shown level (drop (size_at b) b)) (shown (level + 1) (value_of b))) (sym front)
       ∙ ap (λ o. shown_by None o (shown level (drop (size_at b) b)) (shown (level + 1) (value_of b))) opens
       in let more = shown_text p true (shown (level + 1) (value_of b))
       in shows (torn tag (shown (level + 1) (value_of b))) step
@@ -95,15 +95,15 @@ module _ (p : Option ℕ) (whole text b : List ℕ) (level : ℕ) (is_torn : Boo
       ∙ ap (λ x. x ++ more) (sym pushed)
       ∙ ap (λ r. after ++ shown_text p true (shown (level + 1) r)) (sym inside)
 
-  pub diag_torn : (token : Token) (after rest : List ℕ) → 0 < length b → None ≡ front_at level b → Some token ≡ option_map Open (opened level b) → after ≡ text ++ token_text p token → rest ≡ value_of b
+  pub diag_torn : (token : Token) (after rest : List ℕ) → 0 < length b → None ≡ front_at level b → Some token ≡ option_map Open (opening_tag level b) → after ≡ text ++ token_text p token → rest ≡ value_of b
       → (level ≤ 64) × (whole ≡ after ++ shown_text p true (shown (level + 1) rest))
-  diag_torn token after rest some front opens pushed inside = let o = opened_token (opened level b) token opens in ((opened_says level b o.0 o.1).0.0, diag_opened o.0 after rest some front o.1 (pushed ∙ ap (λ k. text ++ token_text p k) o.2) inside)
+  diag_torn token after rest some front opens pushed inside = let o = opened_token (opening_tag level b) token opens in ((opened_says level b o.0 o.1).0.0, diag_opened o.0 after rest some front o.1 (pushed ∙ ap (λ k. text ++ token_text p k) o.2) inside)
 
-  pub diag_stop : (after : List ℕ) → 0 < length b → None ≡ front_at level b → None ≡ option_map Open (opened level b) → after ≡ text ++ (33 ∷ []) → after ≡ whole
+  pub diag_stop : (after : List ℕ) → 0 < length b → None ≡ front_at level b → None ≡ option_map Open (opening_tag level b) → after ≡ text ++ (33 ∷ []) → after ≡ whole
   diag_stop after some front opens pushed =
       let step = shown_step level b some
-      ∙ ap (λ o. shown_by o (opened level b) (shown level (drop (size_at b) b)) (shown (level + 1) (value_of b))) (sym front)
-      ∙ ap (λ o. shown_by None o (shown level (drop (size_at b) b)) (shown (level + 1) (value_of b))) (sym (opened_none (opened level b) opens))
+      ∙ ap (λ o. shown_by o (opening_tag level b) (shown level (drop (size_at b) b)) (shown (level + 1) (value_of b))) (sym front)
+      ∙ ap (λ o. shown_by None o (shown level (drop (size_at b) b)) (shown (level + 1) (value_of b))) (sym (opened_none (opening_tag level b) opens))
       in pushed ∙ sym (shows stopped step)
 
   pub diag_end_torn : (after : List ℕ) → b ≡ [] → is_torn ≡ true → after ≡ text ++ (33 ∷ []) → after ≡ whole
@@ -116,7 +116,7 @@ module _ (p : Option ℕ) (whole text b : List ℕ) (level : ℕ) (is_torn : Boo
 
 shows_step : (level : ℕ) (b : List ℕ) (rest inner : Shown) → 0 < length b → Shows rest level (drop (size_at b) b) → Shows inner (level + 1) (value_of b)
     → (o : Option Tree) → MatchOption o (NoFront level b) (λ t. (size_at b ≤ length b) × Parses t level (take (size_at b) b))
-    → (w : Option ℕ) → opened level b ≡ w → Shows (shown_by o w rest inner) level b
+    → (w : Option ℕ) → opening_tag level b ≡ w → Shows (shown_by o w rest inner) level b
 shows_step level b rest inner some r i (Some t) m w e = (size_at b, m.0, m.1, r)
 shows_step level b rest inner some r i None m (Some tag) e = let o = opened_says level b tag e in (m, o.0, o.1, i)
 shows_step level b rest inner some r i None m None e = (some, m, λ o. none-some _ (sym e ∙ opened_where level b o))
@@ -130,7 +130,7 @@ shows_at (suc fuel) level (x ∷ xs) low h =
     in shows_step level (x ∷ xs) (shown_at fuel level (drop (size_at (x ∷ xs)) (x ∷ xs))) (shown_at fuel (level + 1) (value_of (x ∷ xs))) (omega arith)
     (shows_at fuel level (drop (size_at (x ∷ xs)) (x ∷ xs)) low (omega (arith, h, short)))
     (shows_at fuel (level + 1) (value_of (x ∷ xs)) (omega arith) (omega (arith, h, shorter)))
-    (front_at level (x ∷ xs)) (front_rule level (x ∷ xs) low) (opened level (x ∷ xs)) refl
+    (front_at level (x ∷ xs)) (front_rule level (x ∷ xs) low) (opening_tag level (x ∷ xs)) refl
 
 pub is_diagnostic : (p : Option ℕ) (b : List ℕ) → IsDiagnostic p b (diagnostic p b)
 unfolding diagnostic shown

@@ -39,8 +39,8 @@ IsDiagnostic prefix b text = (s : Shown) × Shows s 1 b × (text ≡ shown_text 
 -- the same by computing
 
 -- the tag of the structure whose whole head begins `b`
-abbrev pub opened : ℕ → List ℕ → Option ℕ
-opened level b = if nat_le level 64 && (nat_le 8 (length b) && (head_code b == 1)) then Some (head_tag b) else None
+abbrev pub opening_tag : ℕ → List ℕ → Option ℕ
+opening_tag level b = if nat_le level 64 && (nat_le 8 (length b) && (head_code b == 1)) then Some (head_tag b) else None
 
 abbrev pub shown_by : Option Tree → Option ℕ → Shown → Shown → Shown
 shown_by (Some t) opens rest inner = item t rest
@@ -52,7 +52,7 @@ abbrev pub shown_at : ℕ → ℕ → List ℕ → Shown
 shown_at zero level b = ended
 shown_at (suc fuel) level [] = ended
 shown_at (suc fuel) level (x ∷ xs) =
-    shown_by (front_at level (x ∷ xs)) (opened level (x ∷ xs)) (shown_at fuel level (drop (size_at (x ∷ xs)) (x ∷ xs))) (shown_at fuel (level + 1) (value_of (x ∷ xs)))
+    shown_by (front_at level (x ∷ xs)) (opening_tag level (x ∷ xs)) (shown_at fuel level (drop (size_at (x ∷ xs)) (x ∷ xs))) (shown_at fuel (level + 1) (value_of (x ∷ xs)))
 
 unfoldable pub shown : ℕ → List ℕ → Shown
 shown level b = shown_at (suc (length b)) level b

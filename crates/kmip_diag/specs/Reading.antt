@@ -28,9 +28,9 @@ abbrev pub tag_of : Option ℕ → ℕ → ℕ → ℕ
 tag_of prefix digits n = if digits == 2 then with_prefix prefix n else n
 
 -- an enumeration's number, and what ends it
-abbrev pub numbered : ℕ → ℕ × List ℕ → Option (Token × List ℕ)
-numbered tag (n, []) = None
-numbered tag (n, c ∷ cs) = Some (Scalar tag (Enumeration n), cs)
+abbrev pub number_token : ℕ → ℕ × List ℕ → Option (Token × List ℕ)
+number_token tag (n, []) = None
+number_token tag (n, c ∷ cs) = Some (Scalar tag (Enumeration n), cs)
 
 abbrev pub mark_at : ℕ → Option Mark
 mark_at c =
@@ -38,14 +38,14 @@ mark_at c =
 
 -- the piece of the tag and the letter after it
 abbrev pub by_letter : ℕ → ℕ → List ℕ → Option (Token × List ℕ)
-by_letter tag c cs = if c == 91 then Some (Open tag, cs) else (if c == 101 then numbered tag (numeral 0 cs) else option_map (λ mark. (Scalar tag mark, cs)) (mark_at c))
+by_letter tag c cs = if c == 91 then Some (Open tag, cs) else (if c == 101 then number_token tag (numeral 0 cs) else option_map (λ mark. (Scalar tag mark, cs)) (mark_at c))
 
-abbrev pub tagged : ℕ → ℕ → List ℕ → Option (Token × List ℕ)
-tagged tag c cs = if nat_lt tag (2 ^ 24) then by_letter tag c cs else None
+abbrev pub tag_token : ℕ → ℕ → List ℕ → Option (Token × List ℕ)
+tag_token tag c cs = if nat_lt tag (2 ^ 24) then by_letter tag c cs else None
 
 abbrev pub after_digits : Option ℕ → List ℕ → ℕ × List ℕ → Option (Token × List ℕ)
 after_digits prefix text (n, []) = None
-after_digits prefix text (n, c ∷ cs) = if c == 93 then Some (Close, cs) else tagged (tag_of prefix (length text - length (c ∷ cs)) n) c cs
+after_digits prefix text (n, c ∷ cs) = if c == 93 then Some (Close, cs) else tag_token (tag_of prefix (length text - length (c ∷ cs)) n) c cs
 
 -- the piece at the front of a printed text, and the rest
 abbrev pub read_token : Option ℕ → List ℕ → Option (Token × List ℕ)

@@ -1,6 +1,6 @@
 // Reading the pieces of a printed text. What is read is compared with the text afterwards.
 ghost use Rattle.std.specs.Prelude.{◌≡◌, ◌≤◌, ◌<◌, IfSome, length, option_map};
-ghost use Rattle.kmip_diag.specs.Reading.{hex_value, numeral, tag_of, mark_at, numbered, by_letter, read_token};
+ghost use Rattle.kmip_diag.specs.Reading.{hex_value, numeral, tag_of, mark_at, number_token, by_letter, read_token};
 ghost use Rattle.kmip_diag.specs.Tokens.{IsToken};
 
 use crate::printer::PrettyPrinter;
@@ -62,8 +62,8 @@ fn mark_at(letter: u8) -> Option<Mark>
 }
 
 // An enumeration's number, and what ends it.
-fn numbered(tag: Tag, text: &[u8]) -> Option<(Token, &[u8])>
-    ensures value { option_map (λ p. (p.0, p.1.now)) result ≡ numbered tag (numeral 0 text.now) }
+fn number_token(tag: Tag, text: &[u8]) -> Option<(Token, &[u8])>
+    ensures value { option_map (λ p. (p.0, p.1.now)) result ≡ number_token tag (numeral 0 text.now) }
     ensures shorter { IfSome result (λ p. length p.1.now ≤ length text.now) }
 {
     let (number, rest) = numeral(text);
@@ -80,7 +80,7 @@ fn by_letter(tag: Tag, letter: u8, rest: &[u8]) -> Option<(Token, &[u8])>
 {
     match letter {
         b'[' => Some((Token::Open(tag), rest)),
-        b'e' => numbered(tag, rest),
+        b'e' => number_token(tag, rest),
         _ => Some((Token::Scalar(tag, mark_at(letter)?), rest)),
     }
 }

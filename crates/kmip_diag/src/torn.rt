@@ -4,7 +4,7 @@ ghost use Rattle.kmip_wire.specs.Head.{head_tag, head_length, size_at, value_of}
 ghost use Rattle.kmip_wire.specs.Items.{item_tree};
 ghost use Rattle.kmip_wire.specs.Reading.{front_at};
 ghost use Rattle.kmip_diag.specs.declared.token.Token.TheVariants.{Open};
-ghost use Rattle.kmip_diag.specs.Diagnostic.{opened, diagnostic};
+ghost use Rattle.kmip_diag.specs.Diagnostic.{opening_tag, diagnostic};
 
 use crate::printer::PrettyPrinter;
 use crate::token::Token;
@@ -48,7 +48,7 @@ fn contents(bytes: &[u8]) -> &[u8]
 
 // The opening of the structure whose whole head begins the bytes, and what is there of its contents.
 fn opening(bytes: &[u8], level: u32) -> Option<(Token, &[u8])>
-    ensures token { option_map (λ p. p.0) result ≡ option_map Open (opened level bytes.now) }
+    ensures token { option_map (λ p. p.0) result ≡ option_map Open (opening_tag level bytes.now) }
     ensures contents { IfSome result (λ p. p.1.now ≡ value_of bytes.now) }
 {
     if level > 64 || bytes.len() < 8 || bytes[3] != 1 {

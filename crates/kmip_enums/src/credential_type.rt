@@ -4,8 +4,8 @@ ghost use Rattle.std.specs.Prelude.{◌≡◌, Some, refl};
 ghost use Rattle.kmip_enums.specs.CredentialTypes.{credential_type_line, credential_type_variants, credential_type_found};
 
 use kmip_shape::Enumeration;
-use kmip_shape::columns::Chooses;
 use kmip_shape::read::Outer;
+use kmip_shape::row_readers::Chooses;
 use std::fmt::{self, Display, Formatter, Write};
 
 /// What kind of credential it is: KMIP 1.0, 9.1.3.2.1.

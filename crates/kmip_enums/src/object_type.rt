@@ -4,8 +4,8 @@ ghost use Rattle.std.specs.Prelude.{◌≡◌, Some, refl};
 ghost use Rattle.kmip_enums.specs.ObjectTypes.{object_type_line, object_type_variants, object_type_found};
 
 use kmip_shape::Enumeration;
-use kmip_shape::columns::Chooses;
 use kmip_shape::read::Outer;
+use kmip_shape::row_readers::Chooses;
 use std::fmt::{self, Display, Formatter, Write};
 
 /// What kind of managed object it is: KMIP 1.0, 9.1.3.2.11.

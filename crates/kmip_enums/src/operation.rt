@@ -4,8 +4,8 @@ ghost use Rattle.std.specs.Prelude.{◌≡◌, Some, refl};
 ghost use Rattle.kmip_enums.specs.Operations.{operation_line, operation_variants, operation_found};
 
 use kmip_shape::Enumeration;
-use kmip_shape::columns::Chooses;
 use kmip_shape::read::Outer;
+use kmip_shape::row_readers::Chooses;
 use std::fmt::{self, Display, Formatter, Write};
 
 /// What a request asks for: KMIP 1.0, 9.1.3.2.26, with those that KMIP 1.1 and 1.2 add.

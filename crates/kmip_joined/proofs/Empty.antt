@@ -2,7 +2,7 @@
 use Rattle.std.proofs.Common.{◌≡◌, List, [], ◌∷◌, pos, refl, sym, subst, Bool, true, false, Some, IfOk, slice_get}
 use Rattle.kmip_store.specs.Plain.{PlainMemory}
 use Rattle.kmip_server.specs.Link.{ServerLinkState}
-use Rattle.kmip_server.specs.Split.{split}
+use Rattle.kmip_server.specs.Split.{messages_in}
 use Rattle.kmip_server.specs.declared.answers.CallAnswer.{CallAnswer}
 use Rattle.kmip_joined.specs.Told.{IsJoined, IsSuited, is_pair}
 
@@ -19,7 +19,7 @@ link_over maker = record {
 }
 
 joined_over : (maker : PlainMemory) → IsJoined (link_over maker)
-unfolding split
+unfolding messages_in
 joined_over maker = record { is_open = record { fed = refl; sound = refl; whole = refl; tells = refl }; time = refl }
 
 pub joined_new : (link : ServerLinkState PlainMemory) (maker : PlainMemory) → link ≡ link_over maker → IsJoined link

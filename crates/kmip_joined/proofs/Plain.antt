@@ -7,7 +7,7 @@ use Rattle.kmip_store.specs.declared.maker.Asked.{Asked}
 use Rattle.kmip_store.specs.declared.maker.Made.{Made}
 use Rattle.kmip_store.specs.declared.object.Object.{Object}
 use Rattle.kmip_store.proofs.Plains.{as_many}
-use Rattle.kmip_server.specs.Split.{split}
+use Rattle.kmip_server.specs.Split.{messages_in}
 use Rattle.kmip_server.specs.Machine.{Run, fresh, run_of}
 use Rattle.kmip_server.specs.Link.{ServerLinkState, server_link_state, IsOpen, IsKnown}
 use Rattle.kmip_server.specs.Joined.{Between}
@@ -18,11 +18,11 @@ use Rattle.kmip_joined.proofs.Own.{Own, owned, own_of, own_serve, asked_by, aske
 
 -- what the server did so far, by the messages alone
 before_own : (link : ServerLinkState PlainMemory) → IsOpen plain_state link → IsKnown plain_state link → IsPlain link →
-    owned link.server.objects link.server.maker.asked ≡ fold (own_serve link.server.time) (owned [] []) (split link.sent).whole
+    owned link.server.objects link.server.maker.asked ≡ fold (own_serve link.server.time) (owned [] []) (messages_in link.sent).whole
 unfolding run_of
 before_own link opened known plain =
     let t : ℤ = link.server.time in
-    let ws : List (List ℕ) = (split link.sent).whole in
+    let ws : List (List ℕ) = (messages_in link.sent).whole in
     let given : List Made = link.server.maker.given ++ [] in
     let served : run_of t given ws ≡ record { objects = link.server.objects; ever = Some link.ever; asked = link.server.maker.asked; given = [] } = (known.serves opened.fed refl opened.sound).run [] in
     let all : asked_by t (fresh given) ws ++ [] ≡ link.server.maker.asked =
@@ -59,8 +59,8 @@ pub stands : (link : ServerLinkState PlainMemory) (given : List Made) (asked ext
     given ≡ plain_answers 0 asked → asked ≡ (between link.server.time given (server_link_state plain_state link)).asked ++ extra →
     Stands link (between link.server.time given (server_link_state plain_state link)) extra
 stands link given asked extra opened known plain plain_after is =
-    let own = after_own link.server.time (split link.sent).whole given asked extra plain_after is in
-    let same : owned link.server.objects link.server.maker.asked ≡ own_of (run_of link.server.time given (split link.sent).whole) = before_own link opened known plain ∙ sym own.same in
+    let own = after_own link.server.time (messages_in link.sent).whole given asked extra plain_after is in
+    let same : owned link.server.objects link.server.maker.asked ≡ own_of (run_of link.server.time given (messages_in link.sent).whole) = before_own link opened known plain ∙ sym own.same in
     record {
       world = world_same _ _ _ _ (left (server_link_state plain_state link)) _ (ap (λ (o : Own). o.objects) same)
           (ap length plain ∙ as_many 0 link.server.maker.asked ∙ ap (λ (o : Own). length o.asked) same) refl;

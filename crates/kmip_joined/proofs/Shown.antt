@@ -1,7 +1,7 @@
 -- What a helper returned is shown as the payload that answered its call.
 use Rattle.std.proofs.Common.{◌≡◌, ℕ, ◌==◌, if◌then◌else◌, List, [], refl, ◌∙◌, ap, true, Result, Ok, Err, IfOk}
 use Rattle.kmip_shape.specs.Val.{Val, Number, Text, Bytes, Truth, Record, Case}
-use Rattle.kmip_shape.specs.Shown.{styled}
+use Rattle.kmip_shape.specs.Shown.{text_in}
 use Rattle.kmip_shape.specs.declared.style.Style.TheVariants.{Bare}
 use Rattle.kmip_enums.specs.Operations.{operation_line}
 use Rattle.kmip_enums.specs.declared.operation.Operation.{Operation}
@@ -12,7 +12,7 @@ use Rattle.kmip_store.specs.declared.call.Call.{Call}
 use Rattle.kmip_store.specs.declared.call.Call.TheVariants.{Query, CreateRsaKeyPair, RngRetrieve, Sign, ActivateKey, RevokeKey, DestroyKey, RenameKey, GetKey}
 use Rattle.kmip_response.specs.Tables.{query_payload, rng_retrieve_payload, sign_payload, attribute_edit_payload, get_payload}
 use Rattle.kmip_served.specs.Requests.{call_operation}
-use Rattle.kmip_server.specs.Joined.{helped, part_for, no_val}
+use Rattle.kmip_server.specs.Joined.{helper_answer, part_for, no_val}
 use Rattle.kmip_server.specs.Calls.{answered_val, answered_seen}
 use Rattle.kmip_server.specs.declared.answers.Answered.{Answered}
 use Rattle.kmip_server.specs.declared.answers.Answered.TheVariants as answered
@@ -23,11 +23,11 @@ use Rattle.kmip_joined.specs.Told.{answered_shown, makes_pair, is_pair}
 -- the payload of each operation that is returned whole, by its number
 abbrev shown_by : ℕ → Val → List ℕ
 shown_by n v =
-    if n == 24 then styled query_payload v Bare
-    else if n == 37 then styled rng_retrieve_payload v Bare
-    else if n == 33 then styled sign_payload v Bare
-    else if n == 14 then styled attribute_edit_payload v Bare
-    else styled get_payload v Bare
+    if n == 24 then text_in query_payload v Bare
+    else if n == 37 then text_in rng_retrieve_payload v Bare
+    else if n == 33 then text_in sign_payload v Bare
+    else if n == 14 then text_in attribute_edit_payload v Bare
+    else text_in get_payload v Bare
 
 abbrev shown_in : Val → List ℕ
 shown_in (Case n v) = shown_by n v
@@ -98,7 +98,7 @@ err_same : (a b : Error) → err a ≡ err b → a ≡ b
 err_same a b e = cc
 
 -- so is the line of the answer, and it is an error where the answer is one
-pub shown_is : (call : Call) (answer : Answer) (result : Result Answered Error) → answered_seen result ≡ helped call answer → IfOk answer (IsOfOperation (call_operation call)) →
+pub shown_is : (call : Call) (answer : Answer) (result : Result Answered Error) → answered_seen result ≡ helper_answer call answer → IfOk answer (IsOfOperation (call_operation call)) →
     (makes_pair call ≡ true → IfOk result (λ x. is_pair x ≡ true)) →
     (answer_line answered_shown Bare result ≡ answer_line (λ payload. value_styled (line_call call) payload Bare) Bare answer) × (is_error result ≡ is_error answer)
 shown_is call (Ok payload) (Ok x) same own pair = (ap (λ (t : List ℕ). value_line t Bare) (is_shown call payload own x (ok_same _ _ same) pair), refl)

@@ -7,10 +7,10 @@ use Rattle.kmip_store.specs.Plain.{PlainMemory, plain_answer, plain_state}
 use Rattle.kmip_store.specs.declared.maker.Asked.{Asked}
 use Rattle.kmip_store.specs.declared.maker.Made.{Made}
 use Rattle.kmip_store.specs.declared.object.Object.{Object}
-use Rattle.kmip_served.specs.Answering.{listed}
+use Rattle.kmip_served.specs.Answering.{list_of_option}
 use Rattle.kmip_served.specs.Served.{served, asks}
 use Rattle.kmip_server.specs.Link.{ServerLinkState, server_link_state}
-use Rattle.kmip_words.specs.Exchange.{Settings, Step, step, asked, or_empty}
+use Rattle.kmip_words.specs.Exchange.{Settings, Step, step, request_asked, or_empty}
 use Rattle.kmip_words.specs.declared.call.Call.{Call}
 
 pub record World : Type 0 where
@@ -36,7 +36,7 @@ after_request world request =
     let s = served world.objects request (next_made world question) (pos 0) in
     record {
       objects = s.objects;
-      answers = world.answers + length (listed question);
+      answers = world.answers + length (list_of_option question);
       rest = world.rest ++ or_empty (response_bytes s.message);
     }
 
@@ -57,7 +57,7 @@ step_on settings call world =
 
 -- what a call comes to: its step on the bytes left, after which the response to its request was added
 unfoldable pub joined_step : Settings → Call → World → Joined
-joined_step settings call world = step_on settings call (after_sending world (asked call settings.credential).message)
+joined_step settings call world = step_on settings call (after_sending world (request_asked call settings.credential).message)
 
 -- what stands where the link stands so
 abbrev pub world_of : ServerLinkState PlainMemory → World

@@ -12,7 +12,7 @@ use kmip_words::{Ending, push_pair, push_payload, show_done, show_error};
 use std::alloc::Global;
 
 /// How a call ended whose payload was added.
-fn answered(added: Result<(), OutOfMemory>) -> Result<Ending, OutOfMemory>
+fn ending_after(added: Result<(), OutOfMemory>) -> Result<Ending, OutOfMemory>
     ensures { result ≡ ended_so added }
 {
     match added {
@@ -31,18 +31,38 @@ pub fn show_answer(
 {
     match answer {
         Ok(Answered::Unit) => show_done(alloc, Style::Bare, Ok(()), line),
-        Ok(Answered::Pair(first, second)) => answered(push_pair(
+        Ok(Answered::Pair(first, second)) => ending_after(push_pair(
             alloc,
             Style::Bare,
             first,
             second,
             line,
         )),
-        Ok(Answered::Query(payload)) => answered(push_payload(alloc, Style::Bare, payload, line)),
-        Ok(Answered::Random(payload)) => answered(push_payload(alloc, Style::Bare, payload, line)),
-        Ok(Answered::Signed(payload)) => answered(push_payload(alloc, Style::Bare, payload, line)),
-        Ok(Answered::Renamed(payload)) => answered(push_payload(alloc, Style::Bare, payload, line)),
-        Ok(Answered::Got(payload)) => answered(push_payload(alloc, Style::Bare, payload, line)),
+        Ok(Answered::Query(payload)) => ending_after(push_payload(
+            alloc,
+            Style::Bare,
+            payload,
+            line,
+        )),
+        Ok(Answered::Random(payload)) => ending_after(push_payload(
+            alloc,
+            Style::Bare,
+            payload,
+            line,
+        )),
+        Ok(Answered::Signed(payload)) => ending_after(push_payload(
+            alloc,
+            Style::Bare,
+            payload,
+            line,
+        )),
+        Ok(Answered::Renamed(payload)) => ending_after(push_payload(
+            alloc,
+            Style::Bare,
+            payload,
+            line,
+        )),
+        Ok(Answered::Got(payload)) => ending_after(push_payload(alloc, Style::Bare, payload, line)),
         Err(error) => show_error(alloc, Style::Bare, error, line),
     }
 }

@@ -9,7 +9,7 @@ use Rattle.kmip_shape.specs.declared.style.Style.TheVariants.{Bare, Json}
 use Rattle.kmip_shape.specs.Val.{Val, Vals, Field, Fields, Number, Text, Bytes, Truth, Record, Case, Absent, One, Many, NoField, AndField, NoVal, AndVal}
 use Rattle.kmip_shape.specs.Shape.{Shape, RowList, Cases, Entry, Found, Scalar, OneOf, Rows, RowsOrBytes, Choice, Custom, NoRow, AndRow, NoCase, OfName, case_at}
 use Rattle.kmip_shape.specs.Fits.{AreBytes, kind_fits, leaf_fits, fits_in, fields_fit, field_fits, vals_fit}
-use Rattle.kmip_shape.specs.Shown.{hex_digit, hex_byte, control_mark, escaped, text_styled, bytes_styled, truth_shown, word, name_mark, entry_styled, leaf_styled, comma, case_styled, styled_in, fields_styled, row_styled, list_styled, members_styled}
+use Rattle.kmip_shape.specs.Shown.{hex_digit, hex_byte, control_mark, escape, text_styled, bytes_styled, truth_shown, word, name_mark, entry_styled, leaf_styled, comma, case_styled, styled_in, fields_styled, row_styled, list_styled, members_styled}
 use Rattle.kmip_json.specs.JsonTexts.{IsHexDigit, AreCharacters, NoCharacter, AsItIs, Quote, Backslash, Coded, IsJson, AString, ANumber, True, False, NoMember, AnObject, NoElement, AnArray, AreMembers, AMember, AndMembers, AreElements, AnElement, AndElements}
 
 digit_is_hex : (m : ℕ) → m < 16 → IsHexDigit (hex_digit m)
@@ -24,7 +24,7 @@ coded n s l h =
     let zero : IsHexDigit 48 = inl (omega arith, omega arith) in
     Coded 48 48 (hex_digit (n / 16)) (hex_digit (n % 16)) s zero zero (digit_is_hex (n / 16) (omega arith)) (digit_is_hex (n % 16) (omega arith)) h
 
-character_is : (n : ℕ) (s : List ℕ) → AreCharacters s → AreCharacters (escaped Json n ++ s)
+character_is : (n : ℕ) (s : List ℕ) → AreCharacters s → AreCharacters (escape Json n ++ s)
 character_is n s h = go (nat_eq n 34) (nat_eq n 92) (nat_lt n 32) (nat_eq n 127) refl refl refl refl
   where
     go : (a b c d : Bool) → nat_eq n 34 ≡ a → nat_eq n 92 ≡ b → nat_lt n 32 ≡ c → nat_eq n 127 ≡ d
@@ -39,9 +39,9 @@ character_is n s h = go (nat_eq n 34) (nat_eq n 92) (nat_lt n 32) (nat_eq n 127)
         let k : n ≡ 92 → ⊥ = grind (arith, nat_tests) in
         AsItIs n s l q k h
 
-text_is : (s : List ℕ) → AreCharacters (flat_map (escaped Json) s)
+text_is : (s : List ℕ) → AreCharacters (flat_map (escape Json) s)
 text_is [] = NoCharacter
-text_is (n ∷ s) = character_is n (flat_map (escaped Json) s) (text_is s)
+text_is (n ∷ s) = character_is n (flat_map (escape Json) s) (text_is s)
 
 digit_is : (m : ℕ) (s : List ℕ) → IsHexDigit m → AreCharacters s → AreCharacters (m ∷ s)
 digit_is m s (inl p) h = let l = p.0 in let u = p.1 in AsItIs m s (omega arith) (λ e. omega arith) (λ e. omega arith) h
@@ -94,7 +94,7 @@ leaf_is Custom z = ANumber z
 -- a name, a colon and a value
 member_is : (name value : List ℕ) → IsJson value → AreMembers (word name Json ++ (name_mark Json ++ value))
 member_is name value h =
-    subst AreMembers (ap (λ z. 34 ∷ z) (sym (append_assoc (flat_map (escaped Json) name) (34 ∷ []) (58 ∷ value)))) (AMember _ value (text_is name) h)
+    subst AreMembers (ap (λ z. 34 ∷ z) (sym (append_assoc (flat_map (escape Json) name) (34 ∷ []) (58 ∷ value)))) (AMember _ value (text_is name) h)
 
 case_is : (val : Val) (name : List ℕ) (text : Style → List ℕ) → IsJson (text Json) → IsJson (case_styled val name text Json)
 case_is val name text h = go val

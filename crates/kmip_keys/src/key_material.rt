@@ -9,7 +9,7 @@ use crate::transparent_keys::{
     TransparentSymmetricKey,
 };
 use kmip_shape::{
-    Item, Outer, ReadError, ReadItem, ShowItem, Sink, WriteItem, show_case, show_in_brackets,
+    Item, Outer, ReadError, ReadItem, ShowItem, TextWriter, WriteItem, show_case, show_in_brackets,
 };
 use kmip_wire::{Blob, Buffer, ItemRef, OutOfMemory, Tag, TryClone};
 use std::alloc::Global;
@@ -158,7 +158,7 @@ impl ReadItem for KeyMaterial {
 }
 
 impl ShowItem for KeyMaterial {
-    fn show_into(&self, out: &mut Sink) {
+    fn show_into(&self, out: &mut TextWriter) {
         match self {
             KeyMaterial::Bytes(bytes) => show_in_brackets("Bytes", bytes, out),
             KeyMaterial::TransparentSymmetricKey(key) => show_case(

@@ -6,10 +6,10 @@
 ghost use Rattle.std.specs.Prelude.{◌≡◌};
 ghost use Rattle.kmip_keys.specs.TransparentKeys.{transparent_symmetric_key, transparent_dsa_private_key, transparent_dsa_public_key, transparent_rsa_private_key, transparent_rsa_public_key, transparent_dh_private_key, transparent_dh_public_key, transparent_symmetric_key_val, transparent_dsa_private_key_val, transparent_dsa_public_key_val, transparent_rsa_private_key_val, transparent_rsa_public_key_val, transparent_dh_private_key_val, transparent_dh_public_key_val, transparent_symmetric_key_same, transparent_dsa_private_key_same, transparent_dsa_public_key_same, transparent_rsa_private_key_same, transparent_rsa_public_key_same, transparent_dh_private_key_same, transparent_dh_public_key_same};
 
-use kmip_shape::columns::One;
 use kmip_shape::record::{End, Row};
+use kmip_shape::row_readers::One;
 use kmip_shape::{
-    BigOne, BigOpt, Item, Outer, ReadError, ReadItem, ShowItem, Sink, WriteItem, fields,
+    BigOne, BigOpt, Item, Outer, ReadError, ReadItem, ShowItem, TextWriter, WriteItem, fields,
     known_record, read_record, record_len, show_record, write_record,
 };
 use kmip_tags::tags::{
@@ -66,7 +66,7 @@ impl ReadItem for TransparentSymmetricKey {
 }
 
 impl ShowItem for TransparentSymmetricKey {
-    fn show_into(&self, out: &mut Sink) {
+    fn show_into(&self, out: &mut TextWriter) {
         show_record::<TransparentSymmetricKeyRows>(fields![&self.key], fields!["key"], out);
     }
 }
@@ -134,7 +134,7 @@ impl ReadItem for TransparentDSAPrivateKey {
 }
 
 impl ShowItem for TransparentDSAPrivateKey {
-    fn show_into(&self, out: &mut Sink) {
+    fn show_into(&self, out: &mut TextWriter) {
         show_record::<TransparentDSAPrivateKeyRows>(
             fields![&self.p, &self.q, &self.g, &self.x],
             fields!["p", "q", "g", "x"],
@@ -206,7 +206,7 @@ impl ReadItem for TransparentDSAPublicKey {
 }
 
 impl ShowItem for TransparentDSAPublicKey {
-    fn show_into(&self, out: &mut Sink) {
+    fn show_into(&self, out: &mut TextWriter) {
         show_record::<TransparentDSAPublicKeyRows>(
             fields![&self.p, &self.q, &self.g, &self.y],
             fields!["p", "q", "g", "y"],
@@ -350,7 +350,7 @@ impl ReadItem for TransparentRSAPrivateKey {
 }
 
 impl ShowItem for TransparentRSAPrivateKey {
-    fn show_into(&self, out: &mut Sink) {
+    fn show_into(&self, out: &mut TextWriter) {
         show_record::<TransparentRSAPrivateKeyRows>(
             fields![
                 &self.modulus,
@@ -436,7 +436,7 @@ impl ReadItem for TransparentRSAPublicKey {
 }
 
 impl ShowItem for TransparentRSAPublicKey {
-    fn show_into(&self, out: &mut Sink) {
+    fn show_into(&self, out: &mut TextWriter) {
         show_record::<TransparentRSAPublicKeyRows>(
             fields![&self.modulus, &self.public_exponent],
             fields!["modulus", "public_exponent"],
@@ -517,7 +517,7 @@ impl ReadItem for TransparentDHPrivateKey {
 }
 
 impl ShowItem for TransparentDHPrivateKey {
-    fn show_into(&self, out: &mut Sink) {
+    fn show_into(&self, out: &mut TextWriter) {
         show_record::<TransparentDHPrivateKeyRows>(
             fields![&self.p, &self.q, &self.g, &self.j, &self.x],
             fields!["p", "q", "g", "j", "x"],
@@ -596,7 +596,7 @@ impl ReadItem for TransparentDHPublicKey {
 }
 
 impl ShowItem for TransparentDHPublicKey {
-    fn show_into(&self, out: &mut Sink) {
+    fn show_into(&self, out: &mut TextWriter) {
         show_record::<TransparentDHPublicKeyRows>(
             fields![&self.p, &self.q, &self.g, &self.j, &self.y],
             fields!["p", "q", "g", "j", "y"],

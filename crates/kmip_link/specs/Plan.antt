@@ -16,9 +16,9 @@ place_of [] k = 0
 place_of (size ∷ sizes) k = k % length (size ∷ sizes)
 
 -- the most that call number k moves, of a number that it could; a size of 0 counts as 1
-abbrev pub planned : List ℕ → ℕ → ℕ → ℕ
-planned [] k most = most
-planned (size ∷ sizes) k most = min (max 1 (slice_index (size ∷ sizes) (place_of (size ∷ sizes) k))) most
+abbrev pub planned_size : List ℕ → ℕ → ℕ → ℕ
+planned_size [] k most = most
+planned_size (size ∷ sizes) k most = min (max 1 (slice_index (size ∷ sizes) (place_of (size ∷ sizes) k))) most
 
 -- The next call is number k since the plan.
 abbrev pub IsCall : MemoryState → ℕ → Type 0
@@ -26,7 +26,7 @@ IsCall link k = link.place ≡ place_of link.sizes k
 
 -- The next call moves n of the bytes that it could move, as the plan has it.
 abbrev pub HasSize : MemoryState → ℕ → ℕ → Type 0
-HasSize link most n = (k : ℕ) → IsCall link k → n ≡ planned link.sizes k most
+HasSize link most n = (k : ℕ) → IsCall link k → n ≡ planned_size link.sizes k most
 
 -- One call went by, under the same plan.
 pub record CountsCall (before after : MemoryState) : Type 0 where
@@ -50,8 +50,8 @@ abbrev pub planned_state : PlannedState → LinkState
 planned_state it = record (memory_state it.link) { faults = it.faults }
 
 -- a count that stops at its last value, the greatest `u64`
-abbrev pub counted : ℕ → ℕ
-counted n = min (n + 1) (2 ^ 64 - 1)
+abbrev pub next_count : ℕ → ℕ
+next_count n = min (n + 1) (2 ^ 64 - 1)
 
 -- bytes to read, where the calls with these numbers fail
 pub record SourceMemory : Type 0 where

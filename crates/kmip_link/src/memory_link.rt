@@ -1,7 +1,7 @@
 //! A link in memory, which cuts what it moves into planned pieces.
 ghost use Rattle.std.specs.Prelude.{◌≡◌, ◌⊎◌, ◌+◌, ◌-◌, ◌<◌, ◌≤◌, ◌++◌, [], ℕ, length, take, drop, min, IsOk, IfOk, IfErr, OnErr, OnOk, IsErrOf, IsTrue};
 ghost use Rattle.kmip_link.specs.State.{Keeps, IsIdle, Reads, Writes, Rose, left};
-ghost use Rattle.kmip_link.specs.Plan.{MemoryState, HasSize, CountsCall, IsCall, planned, place_of, memory_state};
+ghost use Rattle.kmip_link.specs.Plan.{MemoryState, HasSize, CountsCall, IsCall, planned_size, place_of, memory_state};
 
 use crate::link::{Link, LinkError};
 use std::alloc::Global;
@@ -98,7 +98,7 @@ impl MemoryLink {
 /// The most that the call at this place moves, of what it could.
 fn planned_size(sizes: &[usize], place: usize, most: usize) -> usize
     requires { (length sizes.now ≡ 0) ⊎ (place < length sizes.now) }
-    ensures planned { (k : ℕ) → place ≡ place_of sizes.now k → result ≡ planned sizes.now k most }
+    ensures planned_size { (k : ℕ) → place ≡ place_of sizes.now k → result ≡ planned_size sizes.now k most }
     ensures within { result ≤ most }
     ensures some { 0 < most → 0 < result }
 {

@@ -1,7 +1,7 @@
 //! A source and a sink in memory, which fail at planned calls.
 ghost use Rattle.std.specs.Prelude.{◌≡◌, ◌⊎◌, ◌↔◌, ◌+◌, ◌-◌, ◌<◌, ◌≤◌, ◌++◌, [], ℕ, length, take, drop, min, Ok, IfOk, IfErr, OnErr, OnOk, IsErrOf, IsTrue, Contains};
 ghost use Rattle.kmip_link.specs.State.{source_left, SourceKeeps, SourceIsIdle, SourceReads, SinkKeeps, Rose};
-ghost use Rattle.kmip_link.specs.Plan.{SourceMemory, SinkMemory, source_state, sink_state, counted};
+ghost use Rattle.kmip_link.specs.Plan.{SourceMemory, SinkMemory, source_state, sink_state, next_count};
 
 use crate::link::{LinkError, Sink, Source};
 use std::alloc::Global;
@@ -69,9 +69,9 @@ impl Source for MemorySource {
         ensures other { IfErr result (λ e. e ≡ LinkError.Fault) }
         ensures size { IfOk result (λ n. n ≡
             min (length into.old) (length (source_left (source_state self.old)))) }
-        ensures number { self.new.number ≡ counted self.old.number }
+        ensures number { self.new.number ≡ next_count self.old.number }
         ensures steady { OnOk result (self.new.faults ≡ self.old.faults) }
-        ensures rises { OnErr result (self.new.faults ≡ counted self.old.faults) }
+        ensures rises { OnErr result (self.new.faults ≡ next_count self.old.faults) }
         ensures failing { self.new.failing ≡ self.old.failing }
     {
         let fails = self.failing.contains(&self.number);
@@ -146,10 +146,10 @@ impl Sink for MemorySink {
         ensures idle { OnErr result (self.new.sent ≡ self.old.sent) }
         ensures cause { IsErrOf result LinkError.Fault → Rose self.old.faults self.new.faults }
         ensures fails { IsErrOf result LinkError.Fault ↔ Contains self.old.failing self.old.number }
-        ensures number { self.new.number ≡ counted self.old.number }
+        ensures number { self.new.number ≡ next_count self.old.number }
         ensures size { IfOk result (λ n. n ≡ length bytes.now) }
         ensures steady { OnOk result (self.new.faults ≡ self.old.faults) }
-        ensures rises { IsErrOf result LinkError.Fault → self.new.faults ≡ counted self.old.faults }
+        ensures rises { IsErrOf result LinkError.Fault → self.new.faults ≡ next_count self.old.faults }
         ensures memory { IsErrOf result LinkError.OutOfMemory → self.new.faults ≡ self.old.faults }
         ensures failing { self.new.failing ≡ self.old.failing }
     {

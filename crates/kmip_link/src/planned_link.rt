@@ -1,7 +1,7 @@
 //! A link in memory that fails at planned calls.
 ghost use Rattle.std.specs.Prelude.{◌≡◌, ◌⊎◌, ◌↔◌, ◌+◌, ◌-◌, ◌<◌, ◌≤◌, ◌++◌, [], ℕ, length, take, drop, min, Ok, IfOk, IfErr, OnErr, OnOk, IsErrOf, IsTrue, Contains};
 ghost use Rattle.kmip_link.specs.State.{Keeps, IsIdle, Reads, Writes, Rose, left};
-ghost use Rattle.kmip_link.specs.Plan.{PlannedState, HasSize, CountsCall, planned_state, memory_state, counted};
+ghost use Rattle.kmip_link.specs.Plan.{PlannedState, HasSize, CountsCall, planned_state, memory_state, next_count};
 
 use crate::link::{Link, LinkError};
 use crate::memory_link::MemoryLink;
@@ -60,11 +60,11 @@ impl PlannedLink {
 
     /// Counts a call, and fails where it is to fail.
     fn begin(&mut self) -> Result<(), LinkError>
-        ensures ok { OnOk result (self.new ≡ record self.old { number = counted self.old.number }) }
+        ensures ok { OnOk result (self.new ≡ record self.old { number = next_count self.old.number }) }
         ensures err { OnErr result (self.new ≡
             record self.old {
-              number = counted self.old.number;
-              faults = counted self.old.faults;
+              number = next_count self.old.number;
+              faults = next_count self.old.faults;
             }) }
         ensures fails { IsErrOf result LinkError.Fault ↔ Contains self.old.failing self.old.number }
         ensures cause { IfErr result (λ e. e ≡ LinkError.Fault) }
@@ -99,9 +99,9 @@ impl Link for PlannedLink {
             (λ n. HasSize self.old.link
             (min (length into.old) (length (left (memory_state self.old.link)))) n) }
         ensures counts { OnOk result (CountsCall self.old.link self.new.link) }
-        ensures number { self.new.number ≡ counted self.old.number }
+        ensures number { self.new.number ≡ next_count self.old.number }
         ensures steady { OnOk result (self.new.faults ≡ self.old.faults) }
-        ensures rises { OnErr result (self.new.faults ≡ counted self.old.faults) }
+        ensures rises { OnErr result (self.new.faults ≡ next_count self.old.faults) }
         ensures failing { self.new.failing ≡ self.old.failing }
     {
         self.begin()?;
@@ -121,9 +121,9 @@ impl Link for PlannedLink {
         ensures below { OnErr result (self.new.link ≡ self.old.link) }
         ensures size { IfOk result (λ n. HasSize self.old.link (length bytes.now) n) }
         ensures counts { OnOk result (CountsCall self.old.link self.new.link) }
-        ensures number { self.new.number ≡ counted self.old.number }
+        ensures number { self.new.number ≡ next_count self.old.number }
         ensures steady { OnOk result (self.new.faults ≡ self.old.faults) }
-        ensures rises { IsErrOf result LinkError.Fault → self.new.faults ≡ counted self.old.faults }
+        ensures rises { IsErrOf result LinkError.Fault → self.new.faults ≡ next_count self.old.faults }
         ensures memory { IsErrOf result LinkError.OutOfMemory → self.new.faults ≡ self.old.faults }
         ensures failing { self.new.failing ≡ self.old.failing }
     {

@@ -3,15 +3,15 @@
 //! They tell nothing of their content. Each has a count of faults, which rises at each error of the reader
 //! or writer, and at a write that takes nothing of a piece that is not empty, up to the greatest `u64`.
 ghost use Rattle.std.specs.Prelude.{◌≡◌, ◌<◌, ◌≤◌, false, [], length, take, IfOk, IfErr, OnOk, OnErr, IsErrOf, IsTrue};
-ghost use Rattle.kmip_link.specs.State.{Keeps, IsIdle, Reads, Writes, Rose, SourceKeeps, SourceIsIdle, SourceReads, SinkKeeps, silent, silent_source, silent_sink};
-ghost use Rattle.kmip_link.specs.Plan.{counted};
+ghost use Rattle.kmip_link.specs.State.{Keeps, IsIdle, Reads, Writes, Rose, SourceKeeps, SourceIsIdle, SourceReads, SinkKeeps, silent_link, silent_source, silent_sink};
+ghost use Rattle.kmip_link.specs.Plan.{next_count};
 
 use crate::link::{Link, LinkError, Sink, Source};
 use std::io::{Read, Write};
 
 /// Raises a count of faults, up to the greatest `u64`.
 fn fault(faults: &mut u64) -> LinkError
-    ensures count { faults.new ≡ counted faults.old }
+    ensures count { faults.new ≡ next_count faults.old }
     ensures later { faults.old ≤ faults.new }
     ensures error { result ≡ LinkError.Fault }
 {
@@ -41,19 +41,19 @@ impl<R, W> StreamLink<R, W> {
 }
 
 impl<R: Read, W: Write> Link for StreamLink<R, W> {
-    ghost state = { λ s. silent s.faults };
+    ghost state = { λ s. silent_link s.faults };
 
     /// Reads once from the reader.
     fn read(&mut self, into: &mut [u8]) -> Result<usize, LinkError>
-        ensures keeps { Keeps (silent self.old.faults) (silent self.new.faults) }
+        ensures keeps { Keeps (silent_link self.old.faults) (silent_link self.new.faults) }
         ensures bound { IfOk result (λ n. n ≤ length into.new) }
-        ensures moved { IfOk result (λ n. IsTrue (silent self.old.faults).tells →
-            Reads (silent self.old.faults) (silent self.new.faults) into.new n) }
-        ensures idle { OnErr result (IsTrue (silent self.old.faults).tells →
-            IsIdle (silent self.old.faults) (silent self.new.faults)) }
+        ensures moved { IfOk result (λ n. IsTrue (silent_link self.old.faults).tells →
+            Reads (silent_link self.old.faults) (silent_link self.new.faults) into.new n) }
+        ensures idle { OnErr result (IsTrue (silent_link self.old.faults).tells →
+            IsIdle (silent_link self.old.faults) (silent_link self.new.faults)) }
         ensures cause { IsErrOf result LinkError.Fault → Rose self.old.faults self.new.faults }
         ensures steady { OnOk result (self.new.faults ≡ self.old.faults) }
-        ensures rises { OnErr result (self.new.faults ≡ counted self.old.faults) }
+        ensures rises { OnErr result (self.new.faults ≡ next_count self.old.faults) }
         ensures other { IfErr result (λ e. e ≡ LinkError.Fault) }
     {
         match self.reader.read(into) {
@@ -64,16 +64,16 @@ impl<R: Read, W: Write> Link for StreamLink<R, W> {
 
     /// Writes once to the writer.
     fn write(&mut self, bytes: &[u8]) -> Result<usize, LinkError>
-        ensures keeps { Keeps (silent self.old.faults) (silent self.new.faults) }
+        ensures keeps { Keeps (silent_link self.old.faults) (silent_link self.new.faults) }
         ensures bound { IfOk result (λ n. n ≤ length bytes.now) }
         ensures some { IfOk result (λ n. 0 < length bytes.now → 0 < n) }
-        ensures moved { IfOk result (λ n. IsTrue (silent self.old.faults).tells →
-            Writes (silent self.old.faults) (silent self.new.faults) (take n bytes.now)) }
-        ensures idle { OnErr result (IsTrue (silent self.old.faults).tells →
-            IsIdle (silent self.old.faults) (silent self.new.faults)) }
+        ensures moved { IfOk result (λ n. IsTrue (silent_link self.old.faults).tells →
+            Writes (silent_link self.old.faults) (silent_link self.new.faults) (take n bytes.now)) }
+        ensures idle { OnErr result (IsTrue (silent_link self.old.faults).tells →
+            IsIdle (silent_link self.old.faults) (silent_link self.new.faults)) }
         ensures cause { IsErrOf result LinkError.Fault → Rose self.old.faults self.new.faults }
         ensures steady { OnOk result (self.new.faults ≡ self.old.faults) }
-        ensures rises { OnErr result (self.new.faults ≡ counted self.old.faults) }
+        ensures rises { OnErr result (self.new.faults ≡ next_count self.old.faults) }
         ensures other { IfErr result (λ e. e ≡ LinkError.Fault) }
     {
         match self.writer.write(bytes) {
@@ -114,7 +114,7 @@ impl<R: Read> Source for StdSource<R> {
             SourceIsIdle (silent_source self.old.faults) (silent_source self.new.faults)) }
         ensures cause { IsErrOf result LinkError.Fault → Rose self.old.faults self.new.faults }
         ensures steady { OnOk result (self.new.faults ≡ self.old.faults) }
-        ensures rises { OnErr result (self.new.faults ≡ counted self.old.faults) }
+        ensures rises { OnErr result (self.new.faults ≡ next_count self.old.faults) }
         ensures other { IfErr result (λ e. e ≡ LinkError.Fault) }
     {
         match self.reader.read(into) {
@@ -154,7 +154,7 @@ impl<W: Write> Sink for StdSink<W> {
             (silent_sink self.new.faults).sent ≡ (silent_sink self.old.faults).sent) }
         ensures cause { IsErrOf result LinkError.Fault → Rose self.old.faults self.new.faults }
         ensures steady { OnOk result (self.new.faults ≡ self.old.faults) }
-        ensures rises { OnErr result (self.new.faults ≡ counted self.old.faults) }
+        ensures rises { OnErr result (self.new.faults ≡ next_count self.old.faults) }
         ensures other { IfErr result (λ e. e ≡ LinkError.Fault) }
     {
         match self.writer.write(bytes) {

@@ -80,12 +80,12 @@ protocol_version_same x y h =
     ap version (and_row (one_row major_same) (and_row (one_row minor_same) no_row)
     (x.0, (x.1, tt)) (y.0, (y.1, tt)) (same_record h))
 
-abbrev named : Username × (Option Password × Unit {0}) → CredentialValue
-named t = UsernameAndPassword t.0 (t.1).0
+abbrev password_credential : Username × (Option Password × Unit {0}) → CredentialValue
+password_credential t = UsernameAndPassword t.0 (t.1).0
 
 pub credential_value_same : IsFaithful credential_value_val
 credential_value_same (UsernameAndPassword u p) (UsernameAndPassword v q) h =
-    ap named (and_row (one_row username_same) (and_row (optional_row password_same) no_row)
+    ap password_credential (and_row (one_row username_same) (and_row (optional_row password_same) no_row)
     (u, (p, tt)) (v, (q, tt)) (same_record (same_case h).1))
 
 abbrev typed : CredentialType × (CredentialValue × Unit {0}) → Credential
@@ -96,12 +96,12 @@ credential_same x y h =
     ap typed (and_row (one_row credential_type_same) (and_row (one_row credential_value_same) no_row)
     (x.0, (x.1, tt)) (y.0, (y.1, tt)) (same_record h))
 
-abbrev authenticated : Credential × Unit {0} → Authentication
-authenticated t = record { 0 = t.0 }
+abbrev authentication_of : Credential × Unit {0} → Authentication
+authentication_of t = record { 0 = t.0 }
 
 pub authentication_same : IsFaithful authentication_val
 authentication_same x y h =
-    ap authenticated (and_row (one_row credential_same) no_row
+    ap authentication_of (and_row (one_row credential_same) no_row
     (x.0, tt) (y.0, tt) (same_record h))
 
 abbrev header : ProtocolVersion × (Option MaximumResponseSize × (Option Authentication × (BatchCount × Unit {0}))) → RequestHeader

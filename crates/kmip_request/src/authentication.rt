@@ -9,8 +9,8 @@ ghost use Rattle.kmip_request.specs.Values.{username_val, password_val, authenti
 ghost use Rattle.kmip_request.specs.Same.{username_same, password_same, authentication_same, credential_same, credential_value_same};
 
 use kmip_enums::CredentialType;
-use kmip_shape::columns::{ChosenOne, One, Opt};
 use kmip_shape::record::{Choosing, End, Row};
+use kmip_shape::row_readers::{ChosenOne, One, Opt};
 use kmip_shape::{
     Item, Outer, ReadError, ReadItem, WriteItem, fields, known_record, read_record, record_len,
     write_record,

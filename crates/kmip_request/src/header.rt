@@ -7,8 +7,8 @@ ghost use Rattle.kmip_request.specs.Same.{protocol_version_same, request_header_
 
 use crate::authentication::Authentication;
 use crate::numbers::{BatchCount, MaximumResponseSize, ProtocolVersionMajor, ProtocolVersionMinor};
-use kmip_shape::columns::{One, Opt};
 use kmip_shape::record::{End, Row};
+use kmip_shape::row_readers::{One, Opt};
 use kmip_shape::{
     Item, Outer, ReadError, ReadItem, WriteItem, fields, known_record, read_record, record_len,
     write_record,

@@ -9,8 +9,8 @@ ghost use Rattle.kmip_request.specs.Same.{batch_item_same, request_message_same}
 use crate::header::RequestHeader;
 use crate::payload::RequestPayload;
 use kmip_enums::Operation;
-use kmip_shape::columns::{ChosenOne, Many, One, Opt};
 use kmip_shape::record::{Choosing, End, Row};
+use kmip_shape::row_readers::{ChosenOne, Many, One, Opt};
 use kmip_shape::{
     Item, Outer, ReadError, ReadItem, ReadRoot, WriteItem, fields, known_record, read_record,
     record_len, write_record,

@@ -10,5 +10,5 @@ abbrev pub attribute_of : List ℕ → AttributeValue → Attribute
 attribute_of name value = record { 0 = record { 0 = name }; 1 = None; 2 = value }
 
 -- a name that is an uninterpreted text (KMIP 1.0, 3.2)
-abbrev pub uninterpreted : List ℕ → Name
-uninterpreted name = record { 0 = record { 0 = name }; 1 = UninterpretedTextString }
+abbrev pub uninterpreted_name : List ℕ → Name
+uninterpreted_name name = record { 0 = record { 0 = name }; 1 = UninterpretedTextString }

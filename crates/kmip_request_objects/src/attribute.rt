@@ -5,8 +5,8 @@ ghost use Rattle.kmip_request_objects.specs.Tables.{attribute, name};
 ghost use Rattle.kmip_request_objects.specs.Values.{attribute_val};
 ghost use Rattle.kmip_request_objects.specs.Same.{attribute_same};
 
-use kmip_shape::columns::{ChosenOne, One, Opt};
 use kmip_shape::record::{Choosing, End, Row};
+use kmip_shape::row_readers::{ChosenOne, One, Opt};
 use kmip_shape::{
     Item, Outer, ReadError, ReadItem, WriteItem, fields, known_record, read_record, record_len,
     write_record,

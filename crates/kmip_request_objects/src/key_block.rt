@@ -7,8 +7,8 @@ ghost use Rattle.kmip_request_objects.specs.Same.{key_value_same, key_block_same
 
 use crate::attribute::Attribute;
 use crate::key_wrapping::KeyWrappingData;
-use kmip_shape::columns::{ChosenOpt, One, Opt, OptMany};
 use kmip_shape::record::{Choosing, End, Row};
+use kmip_shape::row_readers::{ChosenOpt, One, Opt, OptMany};
 use kmip_shape::{
     Item, Outer, ReadError, ReadItem, WriteItem, fields, known_record, read_record, record_len,
     write_record,

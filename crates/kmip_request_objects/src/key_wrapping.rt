@@ -7,8 +7,8 @@ ghost use Rattle.kmip_request_objects.specs.Same.{encryption_key_information_sam
 
 use crate::attribute::Attribute;
 use crate::byte_strings::{IVOrCounterOrNonce, MACOrSignature};
-use kmip_shape::columns::{One, Opt, OptMany};
 use kmip_shape::record::{End, Row};
+use kmip_shape::row_readers::{One, Opt, OptMany};
 use kmip_shape::{
     Item, Outer, ReadError, ReadItem, WriteItem, fields, known_record, read_record, record_len,
     write_record,

@@ -9,8 +9,8 @@ ghost use Rattle.kmip_request_objects.specs.Same.{symmetric_key_same, public_key
 
 use crate::attribute::Attribute;
 use crate::key_block::KeyBlock;
-use kmip_shape::columns::{Many, One};
 use kmip_shape::record::{End, Row};
+use kmip_shape::row_readers::{Many, One};
 use kmip_shape::{
     Item, OfTag, Outer, ReadError, ReadItem, WriteItem, fields, known_record, read_record,
     record_len, write_record,

@@ -7,8 +7,8 @@ ghost use Rattle.kmip_request_objects.specs.Values.{name_val};
 ghost use Rattle.kmip_request_objects.specs.Same.{name_same};
 
 use kmip_enums::NameType;
-use kmip_shape::columns::One;
 use kmip_shape::record::{End, Row};
+use kmip_shape::row_readers::One;
 use kmip_shape::{
     Item, Outer, ReadError, ReadItem, WriteItem, fields, known_record, read_record, record_len,
     write_record,

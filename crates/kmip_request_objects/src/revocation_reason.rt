@@ -6,8 +6,8 @@ ghost use Rattle.kmip_request_objects.specs.Values.{revocation_reason_val};
 ghost use Rattle.kmip_request_objects.specs.Same.{revocation_reason_same};
 
 use kmip_enums::RevocationReasonCode;
-use kmip_shape::columns::{One, Opt};
 use kmip_shape::record::{End, Row};
+use kmip_shape::row_readers::{One, Opt};
 use kmip_shape::{
     Item, Outer, ReadError, ReadItem, WriteItem, fields, known_record, read_record, record_len,
     write_record,

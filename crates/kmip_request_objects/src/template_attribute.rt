@@ -2,7 +2,7 @@
 
 ghost use Rattle.std.specs.Prelude.{◌≡◌};
 ghost use Rattle.std.specs.Prelude.{◌∷◌, [], IfOk, None, Some};
-ghost use Rattle.kmip_request_objects.specs.Constructors.{uninterpreted};
+ghost use Rattle.kmip_request_objects.specs.Constructors.{uninterpreted_name};
 ghost use Rattle.kmip_request_objects.specs.Tables.{name, template_attribute};
 ghost use Rattle.kmip_request_objects.specs.Values.{template_attribute_val, common_template_attribute_val, private_key_template_attribute_val, public_key_template_attribute_val};
 ghost use Rattle.kmip_request_objects.specs.Same.{template_attribute_same, common_template_attribute_same, private_key_template_attribute_same, public_key_template_attribute_same};
@@ -10,8 +10,8 @@ ghost use Rattle.kmip_request_objects.specs.Same.{template_attribute_same, commo
 use crate::attribute::Attribute;
 use crate::name::Name;
 use kmip_enums::NameType;
-use kmip_shape::columns::OptMany;
 use kmip_shape::record::{End, Row};
+use kmip_shape::row_readers::OptMany;
 use kmip_shape::{
     Item, Outer, ReadError, ReadItem, WriteItem, fields, known_record, read_record, record_len,
     write_record,
@@ -23,7 +23,7 @@ use std::alloc::Global;
 
 /// A list of one name, an uninterpreted text.
 fn one_name(alloc: Global, name: Text) -> Result<List<Name>, OutOfMemory>
-    ensures { IfOk result (λ made. made ≡ uninterpreted name ∷ []) }
+    ensures { IfOk result (λ made. made ≡ uninterpreted_name name ∷ []) }
 {
     let mut names = List::new(alloc);
     names.push(Name(NameValue(name), NameType::UninterpretedTextString))?;
@@ -49,7 +49,7 @@ impl TemplateAttribute {
         attributes: List<Attribute>,
     ) -> Result<Self, OutOfMemory>
         ensures { IfOk result (λ made. made ≡
-            record { 0 = Some (uninterpreted name ∷ []); 1 = Some attributes }) }
+            record { 0 = Some (uninterpreted_name name ∷ []); 1 = Some attributes }) }
     {
         Ok(TemplateAttribute(Some(one_name(alloc, name)?), Some(attributes)))
     }
@@ -117,7 +117,7 @@ impl CommonTemplateAttribute {
         attributes: List<Attribute>,
     ) -> Result<Self, OutOfMemory>
         ensures { IfOk result (λ made. made ≡
-            record { 0 = Some (uninterpreted name ∷ []); 1 = Some attributes }) }
+            record { 0 = Some (uninterpreted_name name ∷ []); 1 = Some attributes }) }
     {
         Ok(CommonTemplateAttribute(Some(one_name(alloc, name)?), Some(attributes)))
     }
@@ -190,7 +190,7 @@ impl PrivateKeyTemplateAttribute {
         attributes: List<Attribute>,
     ) -> Result<Self, OutOfMemory>
         ensures { IfOk result (λ made. made ≡
-            record { 0 = Some (uninterpreted name ∷ []); 1 = Some attributes }) }
+            record { 0 = Some (uninterpreted_name name ∷ []); 1 = Some attributes }) }
     {
         Ok(PrivateKeyTemplateAttribute(Some(one_name(alloc, name)?), Some(attributes)))
     }
@@ -263,7 +263,7 @@ impl PublicKeyTemplateAttribute {
         attributes: List<Attribute>,
     ) -> Result<Self, OutOfMemory>
         ensures { IfOk result (λ made. made ≡
-            record { 0 = Some (uninterpreted name ∷ []); 1 = Some attributes }) }
+            record { 0 = Some (uninterpreted_name name ∷ []); 1 = Some attributes }) }
     {
         Ok(PublicKeyTemplateAttribute(Some(one_name(alloc, name)?), Some(attributes)))
     }

@@ -5,7 +5,7 @@ use Rattle.std.specs.Option.{option_map, option_and_then}
 use Rattle.std.proofs.lemmas.Nat.{from_be_bytes-to_be_bytes_4}
 use Rattle.kmip_wire.specs.Tree.{Tree, Trees, scalar, structure, trees_of, enumeration}
 use Rattle.kmip_wire.specs.Head.{head_length}
-use Rattle.kmip_wire.specs.Bytes.{bytes, all_bytes, framed, item_bytes}
+use Rattle.kmip_wire.specs.Bytes.{bytes, all_bytes, structure_bytes, item_bytes}
 use Rattle.kmip_shape.proofs.Aligned.{IsAligned, trees_aligned, item_len}
 use Rattle.kmip_shape.proofs.Parts.{none_some, some_same}
 use Rattle.kmip_shape.specs.Trees.{tree_of}
@@ -30,7 +30,7 @@ item_is tag v h even =
     let says = head_of tag v h in
     (omega (arith, long), omega (arith, long, says, even))
 
-contents_are : (tag : ℕ) (o : Option (List ℕ)) (b : List ℕ) → IsAligned o → framed tag o ≡ Some b → IsMessage b
+contents_are : (tag : ℕ) (o : Option (List ℕ)) (b : List ℕ) → IsAligned o → structure_bytes tag o ≡ Some b → IsMessage b
 contents_are tag None b even h = none_some _ h
 contents_are tag (Some v) b even h = go (nat_lt (length v) (2 ^ 32)) refl h
   where

@@ -14,13 +14,13 @@ use Rattle.kmip_enums.specs.declared.result_status.ResultStatus.{ResultStatus}
 use Rattle.kmip_enums.specs.declared.result_reason.ResultReason.{ResultReason}
 use Rattle.kmip_enums.specs.ObjectTypes.{object_type_same}
 use Rattle.kmip_types.specs.Texts.{unique_identifier_same}
-use Rattle.kmip_objects.specs.Same.{attribute_same, template_attribute_same, managed_object_same}
+use Rattle.kmip_response_objects.specs.Same.{attribute_same, template_attribute_same, managed_object_same}
 use Rattle.kmip_types.specs.AttributeNames.{attribute_name_same}
 use Rattle.kmip_enums.specs.declared.object_type.ObjectType.{ObjectType}
 use Rattle.kmip_types.specs.TheUniqueIdentifier.{UniqueIdentifier}
-use Rattle.kmip_objects.specs.declared.attribute.Attribute.{Attribute}
-use Rattle.kmip_objects.specs.declared.template_attribute.TemplateAttribute.{TemplateAttribute}
-use Rattle.kmip_objects.specs.declared.managed_object.ManagedObject.{ManagedObject}
+use Rattle.kmip_response_objects.specs.declared.attribute.Attribute.{Attribute}
+use Rattle.kmip_response_objects.specs.declared.template_attribute.TemplateAttribute.{TemplateAttribute}
+use Rattle.kmip_response_objects.specs.declared.managed_object.ManagedObject.{ManagedObject}
 use Rattle.kmip_types.specs.TheAttributeName.{AttributeName}
 use Rattle.kmip_response.specs.Values.{protocol_version_val, response_header_val, message_extension_val, batch_item_val, response_message_val, create_payload_val, create_key_pair_payload_val, register_payload_val, locate_payload_val, get_payload_val, get_attributes_payload_val, get_attribute_list_payload_val, attribute_edit_payload_val, unique_identifier_payload_val, query_payload_val, discover_versions_payload_val, sign_payload_val, rng_retrieve_payload_val, response_payload_val}
 use Rattle.kmip_response.specs.Skipped.{IsSkipped}

@@ -7,7 +7,7 @@ use Rattle.kmip_enums.specs.Operations.{operations}
 use Rattle.kmip_enums.specs.ResultStatuses.{result_statuses}
 use Rattle.kmip_enums.specs.ResultReasons.{result_reasons}
 use Rattle.kmip_enums.specs.ObjectTypes.{object_types}
-use Rattle.kmip_objects.specs.Tables.{attribute, template_attribute, managed_objects}
+use Rattle.kmip_response_objects.specs.Tables.{attribute, template_attribute, managed_objects}
 
 -- Protocol Version (KMIP 1.0, 6.1)
 abbrev pub protocol_version : Shape

@@ -7,7 +7,7 @@ use Rattle.kmip_enums.specs.ResultStatuses.{result_status_val}
 use Rattle.kmip_enums.specs.ResultReasons.{result_reason_val}
 use Rattle.kmip_enums.specs.ObjectTypes.{object_type_val}
 use Rattle.kmip_types.specs.Texts.{unique_identifier_val}
-use Rattle.kmip_objects.specs.Values.{attribute_val, template_attribute_val, managed_object_val}
+use Rattle.kmip_response_objects.specs.Values.{attribute_val, template_attribute_val, managed_object_val}
 use Rattle.kmip_types.specs.AttributeNames.{attribute_name_val}
 use Rattle.kmip_enums.specs.Operations.{operation_val}
 use Rattle.kmip_response.specs.declared.payloads.identifiers.CreateResponsePayload.{CreateResponsePayload}

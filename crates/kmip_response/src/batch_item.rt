@@ -9,8 +9,8 @@ ghost use Rattle.kmip_response.specs.Same.{batch_item_same};
 use crate::extension::MessageExtension;
 use crate::payload::ResponsePayload;
 use kmip_enums::{Operation, ResultReason, ResultStatus};
-use kmip_shape::columns::{ChosenOpt, One, Opt};
 use kmip_shape::record::{Choosing, End, Row};
+use kmip_shape::row_readers::{ChosenOpt, One, Opt};
 use kmip_shape::{Item, Outer, ReadError, ReadItem, ReadRoot, fields, known_record, read_record};
 use kmip_tags::tags::{
     BATCH_ITEM, MESSAGE_EXTENSION, OPERATION, RESPONSE_PAYLOAD, RESULT_MESSAGE, RESULT_REASON,

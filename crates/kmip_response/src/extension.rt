@@ -6,8 +6,8 @@ ghost use Rattle.kmip_response.specs.Tables.{message_extension};
 ghost use Rattle.kmip_response.specs.Values.{message_extension_val};
 ghost use Rattle.kmip_response.specs.Same.{message_extension_same};
 
-use kmip_shape::columns::One;
 use kmip_shape::record::{End, Row};
+use kmip_shape::row_readers::One;
 use kmip_shape::{Item, Outer, ReadError, ReadItem, ReadRoot, fields, known_record, read_record};
 use kmip_tags::tags::{CRITICALITY_INDICATOR, MESSAGE_EXTENSION, VENDOR_IDENTIFICATION};
 use kmip_wire::{ItemRef, OutOfMemory, Tag, Text, TryClone};

@@ -6,11 +6,11 @@ ghost use Rattle.kmip_response.specs.Tables.{protocol_version, response_header};
 ghost use Rattle.kmip_response.specs.Values.{protocol_version_val, response_header_val};
 ghost use Rattle.kmip_response.specs.Same.{protocol_version_same, response_header_same};
 
-use kmip_shape::columns::One;
 use kmip_shape::record::{End, Row};
+use kmip_shape::row_readers::One;
 use kmip_shape::{
-    Item, Outer, ReadError, ReadItem, ReadRoot, ShowItem, Sink, Timestamp, fields, known_record,
-    read_record, show_record,
+    Item, Outer, ReadError, ReadItem, ReadRoot, ShowItem, TextWriter, Timestamp, fields,
+    known_record, read_record, show_record,
 };
 use kmip_tags::tags::{
     BATCH_COUNT, PROTOCOL_VERSION, PROTOCOL_VERSION_MAJOR, PROTOCOL_VERSION_MINOR, RESPONSE_HEADER,
@@ -53,7 +53,7 @@ impl ReadItem for ProtocolVersion {
 }
 
 impl ShowItem for ProtocolVersion {
-    fn show_into(&self, out: &mut Sink) {
+    fn show_into(&self, out: &mut TextWriter) {
         show_record::<ProtocolVersionRows>(
             fields![&self.major, &self.minor],
             fields!["major", "minor"],

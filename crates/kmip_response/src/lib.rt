@@ -25,7 +25,7 @@ mod reading;
 pub use batch_item::BatchItem;
 pub use extension::{MessageExtension, VendorExtension};
 pub use header::{ProtocolVersion, ResponseHeader};
-pub use kmip_objects::{
+pub use kmip_response_objects::{
     Attribute, Certificate, EncryptionKeyInformation, KeyBlock, KeyValue, KeyWrappingData,
     MACOrSignatureKeyInformation, ManagedObject, Name, PrivateKey, PublicKey, SymmetricKey,
     TemplateAttribute,

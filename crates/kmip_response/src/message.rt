@@ -8,8 +8,8 @@ ghost use Rattle.kmip_response.specs.Same.{response_message_same};
 
 use crate::batch_item::BatchItem;
 use crate::header::ResponseHeader;
-use kmip_shape::columns::{NonEmpty, One};
 use kmip_shape::record::{End, Row};
+use kmip_shape::row_readers::{NonEmpty, One};
 use kmip_shape::{Item, Outer, ReadError, ReadItem, ReadRoot, fields, known_record, read_record};
 use kmip_tags::tags::{BATCH_ITEM, RESPONSE_HEADER, RESPONSE_MESSAGE};
 use kmip_wire::{ItemRef, List, OutOfMemory, Tag, TryClone};

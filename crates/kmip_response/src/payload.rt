@@ -16,7 +16,7 @@ use crate::payloads::identifiers::{
 };
 use crate::payloads::query::DiscoverVersionsResponsePayload;
 use crate::payloads::server::QueryResponsePayload;
-use kmip_shape::{Item, Outer, ReadError, ReadItem, ShowItem, Sink, show_case};
+use kmip_shape::{Item, Outer, ReadError, ReadItem, ShowItem, TextWriter, show_case};
 use kmip_wire::{Boxed, ItemRef, OutOfMemory, TryClone};
 use std::alloc::Global;
 
@@ -197,7 +197,7 @@ impl ReadItem for ResponsePayload {
 }
 
 impl ShowItem for ResponsePayload {
-    fn show_into(&self, out: &mut Sink) {
+    fn show_into(&self, out: &mut TextWriter) {
         match self {
             ResponsePayload::Create(payload) => show_case("Create", payload, out),
             ResponsePayload::CreateKeyPair(payload) => show_case("CreateKeyPair", payload, out),

@@ -1,4 +1,4 @@
-//! Tests of kmip_response and kmip_objects: responses in hex, and what they show as. They stand above those crates, so
+//! Tests of kmip_response and kmip_response_objects: responses in hex, and what they show as. They stand above those crates, so
 //! that each crate is proved once.
 #![tactic(auto)]
 

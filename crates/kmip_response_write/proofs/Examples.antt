@@ -13,8 +13,8 @@ use Rattle.kmip_types.specs.TheKeyFormatType.{KeyFormatType}
 use Rattle.kmip_types.specs.TheKeyFormatType.TheVariants as formats
 use Rattle.kmip_types.specs.TheKeyMaterial.{KeyMaterial}
 use Rattle.kmip_types.specs.TheKeyMaterial.TheVariants as materials
-use Rattle.kmip_objects.specs.declared.attribute.Attribute.{Attribute}
-use Rattle.kmip_objects.specs.declared.managed_object.ManagedObject.TheVariants.{SymmetricKey}
+use Rattle.kmip_response_objects.specs.declared.attribute.Attribute.{Attribute}
+use Rattle.kmip_response_objects.specs.declared.managed_object.ManagedObject.TheVariants.{SymmetricKey}
 use Rattle.kmip_response.specs.declared.batch_item.BatchItem.{BatchItem}
 use Rattle.kmip_response.specs.declared.message.ResponseMessage.{ResponseMessage}
 use Rattle.kmip_response.specs.declared.payload.ResponsePayload.{ResponsePayload}

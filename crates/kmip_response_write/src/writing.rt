@@ -48,7 +48,7 @@ fn to_blob<T: WriteResponse>(alloc: Global, item: &T, tag: Tag) -> Result<Blob, 
 }
 
 /// The canonical bytes of a message.
-fn written(alloc: Global, message: &ResponseMessage) -> Result<Blob, WireError>
+fn message_bytes(alloc: Global, message: &ResponseMessage) -> Result<Blob, WireError>
     ensures { Writes result (response_bytes message.now) }
 {
     to_blob(alloc, message, Tag::of(RESPONSE_MESSAGE))
@@ -71,5 +71,5 @@ pub fn to_vec(alloc: Global, message: &ResponseMessage) -> Result<Blob, WireErro
         response_read b ≡ Some (response_message_val message.now)) }
 {
     message.known();
-    written(alloc, message)
+    message_bytes(alloc, message)
 }

@@ -4,35 +4,35 @@ use Rattle.std.specs.Str.{is_utf8, IsUtf8}
 use Rattle.std.proofs.lemmas.Str.{is_utf8-from_IsUtf8}
 use Rattle.kmip_diag.specs.Expansion.{expansion}
 use Rattle.kmip_run.specs.Script.{lines_of}
-use Rattle.kmip_run.specs.Transcript.{Transcript, only_text, bad_line, then_text, expanded, explained}
+use Rattle.kmip_run.specs.Transcript.{Transcript, only_text, bad_line, then_text, line_expansion, explanations_from}
 use Rattle.kmip_words.proofs.Calls.{not_utf8}
 use Rattle.kmip_run.proofs.Runs.{append_none, no_lines}
 
-pub expanded_utf8 : (line : List ℕ) → IsUtf8 line → expanded line ≡ expansion (Some 0x4200) line
-unfolding expanded
+pub expanded_utf8 : (line : List ℕ) → IsUtf8 line → line_expansion line ≡ expansion (Some 0x4200) line
+unfolding line_expansion
 expanded_utf8 line utf8 = rw (is_utf8-from_IsUtf8 line utf8) refl
 
-pub expanded_other : (line : List ℕ) → (IsUtf8 line → ⊥) → expanded line ≡ None
-unfolding expanded
+pub expanded_other : (line : List ℕ) → (IsUtf8 line → ⊥) → line_expansion line ≡ None
+unfolding line_expansion
 expanded_other line not = rw (not_utf8 line not) refl
 
-pub explained_line : (line : List ℕ) (lines : List (List ℕ)) (number : ℕ) (text : List ℕ) → Some text ≡ expanded line → explained (line ∷ lines) number ≡ then_text text (explained lines (number + 1))
-unfolding explained
-explained_line line lines number text is = rw (sym is, explained) refl
+pub explained_line : (line : List ℕ) (lines : List (List ℕ)) (number : ℕ) (text : List ℕ) → Some text ≡ line_expansion line → explanations_from (line ∷ lines) number ≡ then_text text (explanations_from lines (number + 1))
+unfolding explanations_from
+explained_line line lines number text is = rw (sym is, explanations_from) refl
 
-pub explained_bad : (line : List ℕ) (lines : List (List ℕ)) (number : ℕ) → None ≡ expanded line → explained (line ∷ lines) number ≡ bad_line number
-unfolding explained
-explained_bad line lines number is = rw (sym is, explained) refl
+pub explained_bad : (line : List ℕ) (lines : List (List ℕ)) (number : ℕ) → None ≡ line_expansion line → explanations_from (line ∷ lines) number ≡ bad_line number
+unfolding explanations_from
+explained_bad line lines number is = rw (sym is, explanations_from) refl
 
-pub explained_none : (lines : List (List ℕ)) (number : ℕ) → lines ≡ [] → explained lines number ≡ only_text [] 0
-unfolding explained
+pub explained_none : (lines : List (List ℕ)) (number : ℕ) → lines ≡ [] → explanations_from lines number ≡ only_text [] 0
+unfolding explanations_from
 explained_none lines number is = rw is refl
 
 -- nothing is on the link
-pub explained_alone : (lines : List (List ℕ)) (number : ℕ) → explained lines number ≡ only_text (explained lines number).text (explained lines number).status
+pub explained_alone : (lines : List (List ℕ)) (number : ℕ) → explanations_from lines number ≡ only_text (explanations_from lines number).text (explanations_from lines number).status
 explained_alone [] number = rw (explained_none [] number refl) refl
 explained_alone (line ∷ lines) number =
-    elim (expanded line) as (λ o. expanded line ≡ o → explained (line ∷ lines) number ≡ only_text (explained (line ∷ lines) number).text (explained (line ∷ lines) number).status) [
+    elim (line_expansion line) as (λ o. line_expansion line ≡ o → explanations_from (line ∷ lines) number ≡ only_text (explanations_from (line ∷ lines) number).text (explanations_from (line ∷ lines) number).status) [
       | None ↦ λ e. rw (explained_bad line lines number (sym e)) refl
       | Some text ↦ λ e. rw (explained_line line lines number text (sym e)) refl
     ] refl
@@ -49,19 +49,19 @@ pub one_more : {all : Transcript} {old now : List ℕ} (text : List ℕ) (later 
 one_more {now = now} text later so_far = record { text = so_far.text ∙ sym (append_assoc now text later.text); status = so_far.status }
 
 -- the next line is a diagnostic
-pub next_line : {all : Transcript} {old now : List ℕ} (script line later : List ℕ) (number : ℕ) (text : List ℕ) → lines_of script ≡ line ∷ lines_of later → Some text ≡ expanded line →
-    SoFar all old now (explained (lines_of script) number) → SoFar all old (now ++ text) (explained (lines_of later) (number + 1))
+pub next_line : {all : Transcript} {old now : List ℕ} (script line later : List ℕ) (number : ℕ) (text : List ℕ) → lines_of script ≡ line ∷ lines_of later → Some text ≡ line_expansion line →
+    SoFar all old now (explanations_from (lines_of script) number) → SoFar all old (now ++ text) (explanations_from (lines_of later) (number + 1))
 next_line script line later number text lines is so_far =
-    one_more text (explained (lines_of later) (number + 1)) (rw (lines, explained_line line (lines_of later) number text is) at so_far)
+    one_more text (explanations_from (lines_of later) (number + 1)) (rw (lines, explained_line line (lines_of later) number text is) at so_far)
 
 -- the next line is no diagnostic
-pub next_bad : {all : Transcript} {old now : List ℕ} (script line later : List ℕ) (number : ℕ) → lines_of script ≡ line ∷ lines_of later → None ≡ expanded line →
-    SoFar all old now (explained (lines_of script) number) → SoFar all old now (bad_line number)
+pub next_bad : {all : Transcript} {old now : List ℕ} (script line later : List ℕ) (number : ℕ) → lines_of script ≡ line ∷ lines_of later → None ≡ line_expansion line →
+    SoFar all old now (explanations_from (lines_of script) number) → SoFar all old now (bad_line number)
 next_bad script line later number lines is so_far = rw (lines, explained_bad line (lines_of later) number is) at so_far
 
 pub ended : {all : Transcript} {old now : List ℕ} {status : ℕ} → SoFar all old now (only_text [] status) → (old ++ all.text ≡ now) × (all.status ≡ status)
 ended {now = now} so_far = (so_far.text ∙ sym (append_none now), so_far.status)
 
 -- no line is left
-pub no_more : {all : Transcript} {old now : List ℕ} (script : List ℕ) (number : ℕ) → length script ≡ 0 → SoFar all old now (explained (lines_of script) number) → (old ++ all.text ≡ now) × (all.status ≡ 0)
+pub no_more : {all : Transcript} {old now : List ℕ} (script : List ℕ) (number : ℕ) → length script ≡ 0 → SoFar all old now (explanations_from (lines_of script) number) → (old ++ all.text ≡ now) × (all.status ≡ 0)
 no_more script number none so_far = ended (rw (explained_none (lines_of script) number (no_lines script none)) at so_far)

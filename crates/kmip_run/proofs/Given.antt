@@ -2,7 +2,7 @@
 use Rattle.std.proofs.Common.{◌<◌, bytes_eq, codes, ◌≡◌, ◌≤◌, ℕ, List, [], ◌∷◌, length, drop, get_or, Option, Some, None, refl, ap, sym, ◌∙◌, arith, Bool, true, false, cond}
 use Rattle.std.proofs.lemmas.Slice.Eq.{bytes_eq-Decides}
 use Rattle.kmip_words.specs.Values.{number_of}
-use Rattle.kmip_words.specs.Options.{given, given_after}
+use Rattle.kmip_words.specs.Options.{option_given, given_after}
 use Rattle.kmip_words.proofs.NamedValues.{first_and_rest}
 use Rattle.kmip_run.specs.Commands.{diag_of, options_with, options_of, replay_of, explain_of, make_of, audit_of, joined_of, command_of}
 
@@ -59,9 +59,9 @@ command_of_none (word ∷ words) none = absurd (omega arith)
 
 -- the options, one after the other
 pub options_of_is : (words : List (List ℕ)) (user password limit : Option (List ℕ)) (after_user after_password rest : List (List ℕ)) (diag : Option Bool) →
-    user ≡ (given (codes "user=") words).value → after_user ≡ (given (codes "user=") words).rest →
+    user ≡ (option_given (codes "user=") words).value → after_user ≡ (option_given (codes "user=") words).rest →
     password ≡ (given_after user (codes "password=") after_user).value → after_password ≡ (given_after user (codes "password=") after_user).rest →
-    limit ≡ (given (codes "limit=") after_password).value → rest ≡ (given (codes "limit=") after_password).rest → diag ≡ diag_of rest →
+    limit ≡ (option_given (codes "limit=") after_password).value → rest ≡ (option_given (codes "limit=") after_password).rest → diag ≡ diag_of rest →
     options_of words ≡ options_with user password limit diag
 unfolding options_of
 options_of_is words user password limit after_user after_password rest diag u ur p pr l lr d = rw (d, lr, l, pr, p, ur, u) refl

@@ -11,9 +11,9 @@ use Rattle.kmip_request.specs.Message.{request_bytes, operation_of}
 use Rattle.kmip_client.specs.Client.{ClientState}
 use Rattle.kmip_client.specs.Message.{Message, Ended, Refused, Whole, message_at, message_by, taken_for}
 use Rattle.kmip_client.specs.Outcome.{Outcome, outcome_of}
-use Rattle.kmip_words.specs.Exchange.{Settings, settings_of, asked, fails, Step, step, Answers}
+use Rattle.kmip_words.specs.Exchange.{Settings, settings_of, request_asked, fails, Step, step, Answers}
 use Rattle.kmip_words.specs.declared.ending.Ending.{Ending}
-use Rattle.kmip_run.specs.Making.{next_of, made_of, Counts, no_counts, one_ok, one_error, then_made, made, made_text, MakesCall, Makes}
+use Rattle.kmip_run.specs.Making.{next_of, made_of, Counts, no_counts, one_ok, one_error, then_made, counts_after, made_text, MakesCall, Makes}
 use Rattle.kmip_run.specs.Transcript.{counted_transcript, Replays}
 use Rattle.kmip_words.specs.declared.call.Call.{Call}
 use Rattle.kmip_words.specs.declared.call.Recorded.{Recorded}
@@ -44,7 +44,7 @@ outcome_within None operation limit rest = omega arith
 outcome_within (Some request) operation limit rest = message_within rest limit
 
 step_within : (settings : Settings) (call : Call) (rest : List ℕ) → (step settings call rest).taken ≤ length rest
-step_within settings call rest = outcome_within (asked call settings.credential).message (asked call settings.credential).operation settings.limit rest
+step_within settings call rest = outcome_within (request_asked call settings.credential).message (request_asked call settings.credential).operation settings.limit rest
 
 -- a call was fed its response, and made
 pub makes_call : (before fed_to after : ClientState MemoryState) {ending : Ending} {old new : List ℕ} (settings : Settings) (it : Recorded) (failed : Bool) (left_before left_after : ℕ) →
@@ -85,10 +85,10 @@ pub record SoMade (all : Counts) (before now : MemoryState) (ok errors taken : �
 nothing_made : (all : Counts) (link : MemoryState) → SoMade all link link 0 0 0 all
 nothing_made all link = record { fed = []; sent = []; all_fed = refl; all_sent = refl; all_taken = omega arith; all_ok = omega arith; all_errors = omega arith; ever = append_none link.ever; sent_is = append_none link.sent; pos = omega arith }
 
-pub none_made : (settings : Settings) (count x : ℕ) (rest : List ℕ) (link : MemoryState) → SoMade (made settings count x rest) link link 0 0 0 (made settings (count - 0) x rest)
+pub none_made : (settings : Settings) (count x : ℕ) (rest : List ℕ) (link : MemoryState) → SoMade (counts_after settings count x rest) link link 0 0 0 (counts_after settings (count - 0) x rest)
 none_made settings count x rest link =
     let same : count - 0 ≡ count = omega arith in
-    rw same (nothing_made (made settings count x rest) link)
+    rw same (nothing_made (counts_after settings count x rest) link)
 
 -- one exchange more
 one_made : {all : Counts} {before now after : MemoryState} {failed : Bool} (ok errors taken did : ℕ) (fed : List ℕ) (s : Step) (rest : Counts) →
@@ -107,22 +107,22 @@ one_made {before = before} {failed = failed} ok errors taken did fed s rest so_f
 }
 
 made_more : (settings : Settings) (count x : ℕ) (rest : List ℕ) →
-    made settings (suc count) x rest ≡
+    counts_after settings (suc count) x rest ≡
     then_made (made_of (next_of x)).response (step settings (made_of (next_of x)).call (rest ++ (made_of (next_of x)).response))
-    (made settings count (next_of x) (drop (step settings (made_of (next_of x)).call (rest ++ (made_of (next_of x)).response)).taken (rest ++ (made_of (next_of x)).response)))
-unfolding made
+    (counts_after settings count (next_of x) (drop (step settings (made_of (next_of x)).call (rest ++ (made_of (next_of x)).response)).taken (rest ++ (made_of (next_of x)).response)))
+unfolding counts_after
 made_more settings count x rest = refl
 
-made_no_more : (settings : Settings) (x : ℕ) (rest : List ℕ) → made settings 0 x rest ≡ no_counts
-unfolding made
+made_no_more : (settings : Settings) (x : ℕ) (rest : List ℕ) → counts_after settings 0 x rest ≡ no_counts
+unfolding counts_after
 made_no_more settings x rest = refl
 
 -- the next exchange
 pub next_made : {all : Counts} {before now after : MemoryState} {failed : Bool} (settings : Settings) (it : Recorded) (left later x y ok errors taken did : ℕ) →
     left ≡ suc later → y ≡ next_of x → it ≡ made_of y →
-    SoMade all before now ok errors taken (made settings left x (drop now.pos now.ever)) →
+    SoMade all before now ok errors taken (counts_after settings left x (drop now.pos now.ever)) →
     MakesCall (step settings it.call (drop now.pos now.ever ++ it.response)) it.response now after failed did →
-    SoMade all before after (ok + one_ok failed) (errors + one_error failed) (taken + did) (made settings later y (drop after.pos after.ever))
+    SoMade all before after (ok + one_ok failed) (errors + one_error failed) (taken + did) (counts_after settings later y (drop after.pos after.ever))
 next_made {now = now} settings it left later x y ok errors taken did more y_is it_is so_far call =
     let here = rw (more, made_more settings later x (drop now.pos now.ever), sym y_is, sym it_is) at so_far in
     rw call.left (one_made ok errors taken did it.response (step settings it.call (drop now.pos now.ever ++ it.response)) _ here call)
@@ -134,7 +134,7 @@ under_same {before = before} {after = after} {failed = failed} {did = did} a b c
 
 -- no exchange is left
 pub all_made : {all : Counts} {before now : MemoryState} (settings : Settings) (left x ok errors taken : ℕ) → left ≡ 0 →
-    SoMade all before now ok errors taken (made settings left x (drop now.pos now.ever)) → Makes all before now ok errors taken
+    SoMade all before now ok errors taken (counts_after settings left x (drop now.pos now.ever)) → Makes all before now ok errors taken
 all_made {all = all} {before = before} {now = now} settings left x ok errors taken none so_far =
     let here : SoMade all before now ok errors taken no_counts = rw (none, made_no_more settings x (drop now.pos now.ever)) at so_far in
     record {

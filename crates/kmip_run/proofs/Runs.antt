@@ -5,7 +5,7 @@ use Rattle.kmip_link.specs.Plan.{MemoryState}
 use Rattle.kmip_run.specs.Script.{lines_of}
 use Rattle.kmip_words.specs.Calls.{call_of}
 use Rattle.kmip_words.specs.Exchange.{Settings, Step, step, call_text}
-use Rattle.kmip_run.specs.Transcript.{Transcript, only_text, status_after, bad_line, then_later, replayed, RunsCall, Replays}
+use Rattle.kmip_run.specs.Transcript.{Transcript, only_text, status_after, bad_line, then_later, replay_from, RunsCall, Replays}
 use Rattle.kmip_words.specs.declared.call.Call.{Call}
 use Rattle.kmip_words.specs.declared.call.Recorded.{Recorded}
 
@@ -51,18 +51,18 @@ one_more {before = before} {now = now} {old = old} fed s rest so_far line = reco
 }
 
 pub replayed_call : (settings : Settings) (line : List ℕ) (lines : List (List ℕ)) (number status : ℕ) (rest : List ℕ) (it : Recorded) → Some it ≡ call_of line →
-    replayed settings (line ∷ lines) number status rest ≡
+    replay_from settings (line ∷ lines) number status rest ≡
     then_later it.response (step settings it.call (rest ++ it.response))
-    (replayed settings lines (number + 1) (status_after status (step settings it.call (rest ++ it.response)).failed) (drop (step settings it.call (rest ++ it.response)).taken (rest ++ it.response)))
-unfolding replayed
-replayed_call settings line lines number status rest it is = rw (sym is, replayed) refl
+    (replay_from settings lines (number + 1) (status_after status (step settings it.call (rest ++ it.response)).failed) (drop (step settings it.call (rest ++ it.response)).taken (rest ++ it.response)))
+unfolding replay_from
+replayed_call settings line lines number status rest it is = rw (sym is, replay_from) refl
 
-pub replayed_bad : (settings : Settings) (line : List ℕ) (lines : List (List ℕ)) (number status : ℕ) (rest : List ℕ) → None ≡ call_of line → replayed settings (line ∷ lines) number status rest ≡ bad_line number
-unfolding replayed
-replayed_bad settings line lines number status rest is = rw (sym is, replayed) refl
+pub replayed_bad : (settings : Settings) (line : List ℕ) (lines : List (List ℕ)) (number status : ℕ) (rest : List ℕ) → None ≡ call_of line → replay_from settings (line ∷ lines) number status rest ≡ bad_line number
+unfolding replay_from
+replayed_bad settings line lines number status rest is = rw (sym is, replay_from) refl
 
-pub replayed_none : (settings : Settings) (lines : List (List ℕ)) (number status : ℕ) (rest : List ℕ) → lines ≡ [] → replayed settings lines number status rest ≡ only_text [] status
-unfolding replayed
+pub replayed_none : (settings : Settings) (lines : List (List ℕ)) (number status : ℕ) (rest : List ℕ) → lines ≡ [] → replay_from settings lines number status rest ≡ only_text [] status
+unfolding replay_from
 replayed_none settings lines number status rest is = rw is refl
 
 -- nothing more is to come but this text
@@ -84,9 +84,9 @@ under {before = before} {after = after} {failed = failed} {old = old} {new = new
 -- the next line is a call
 pub next_call : {all : Transcript} {before now after : MemoryState} {old between new : List ℕ} {failed : Bool} (settings : Settings) (it : Recorded) (script line later : List ℕ) (number status next : ℕ) →
     lines_of script ≡ line ∷ lines_of later → Some it ≡ call_of line → next ≡ status_after status failed →
-    SoFar all before now old between (replayed settings (lines_of script) number status (drop now.pos now.ever)) →
+    SoFar all before now old between (replay_from settings (lines_of script) number status (drop now.pos now.ever)) →
     RunsCall (step settings it.call (drop now.pos now.ever ++ it.response)) it.response now after failed between new →
-    SoFar all before after old new (replayed settings (lines_of later) (number + 1) next (drop after.pos after.ever))
+    SoFar all before after old new (replay_from settings (lines_of later) (number + 1) next (drop after.pos after.ever))
 next_call {now = now} {failed = failed} settings it script line later number status next lines is next_is so_far runs =
     let here = rw (lines, replayed_call settings line (lines_of later) number status (drop now.pos now.ever) it is) at so_far in
     rw (next_is, runs.failed_is, runs.left) (one_more it.response (step settings it.call (drop now.pos now.ever ++ it.response)) _ here runs)
@@ -94,7 +94,7 @@ next_call {now = now} {failed = failed} settings it script line later number sta
 -- the next line is not of the grammar
 pub next_bad : {all : Transcript} {before now : MemoryState} {old between : List ℕ} (settings : Settings) (script line later : List ℕ) (number status : ℕ) →
     lines_of script ≡ line ∷ lines_of later → None ≡ call_of line →
-    SoFar all before now old between (replayed settings (lines_of script) number status (drop now.pos now.ever)) →
+    SoFar all before now old between (replay_from settings (lines_of script) number status (drop now.pos now.ever)) →
     Replays all before now 2 old (between ++ (bad_line number).text)
 next_bad {now = now} settings script line later number status lines is so_far =
     ended (bad_line number).text 2 (rw (lines, replayed_bad settings line (lines_of later) number status (drop now.pos now.ever) is) at so_far)
@@ -105,6 +105,6 @@ no_lines (c ∷ script) none = absurd (omega arith)
 
 -- no line is left
 pub no_more : {all : Transcript} {before now : MemoryState} {old between : List ℕ} (settings : Settings) (script : List ℕ) (number status : ℕ) → length script ≡ 0 →
-    SoFar all before now old between (replayed settings (lines_of script) number status (drop now.pos now.ever)) → Replays all before now status old between
+    SoFar all before now old between (replay_from settings (lines_of script) number status (drop now.pos now.ever)) → Replays all before now status old between
 no_more {now = now} {between = between} settings script number status none so_far =
     rw (append_none between) (ended [] status (rw (replayed_none settings (lines_of script) number status (drop now.pos now.ever) (no_lines script none)) at so_far))

@@ -12,7 +12,7 @@ use Rattle.kmip_run.specs.Commands.{command_of}
 use Rattle.kmip_words.specs.Exchange.{Settings, Step, step}
 use Rattle.kmip_run.specs.Setup.{settings_for}
 use Rattle.kmip_words.specs.Streams.{WrotePart}
-use Rattle.kmip_run.specs.Transcript.{Transcript, only_text, status_after, replayed, expanded, explained, joined, reported, audited, lines_transcript, most_script, reads_script, script_transcript, command_transcript, transcript, IsLineOf, AreLinesOf, IsOfGrammar, Replays}
+use Rattle.kmip_run.specs.Transcript.{Transcript, only_text, status_after, replay_from, line_expansion, explanations_from, joined, report_transcript, audit_transcript, lines_transcript, most_script, reads_script, script_transcript, command_transcript, transcript, IsLineOf, AreLinesOf, IsOfGrammar, Replays}
 use Rattle.kmip_run.specs.Auditing.{captured_in, AreStreams}
 use Rattle.kmip_run.specs.declared.auditing.Captured.{Captured}
 use Rattle.kmip_run.specs.declared.auditing.Captured.TheVariants.{Streams, Bad}
@@ -99,10 +99,10 @@ status_small status true small = omega arith
 status_small status false small = small
 
 -- calls of the grammar end with the status 0 or 1
-replayed_small : (settings : Settings) (lines : List (List ℕ)) (number status : ℕ) (rest : List ℕ) → status < 2 → All (λ line. IsSome (call_of line)) lines → (replayed settings lines number status rest).status < 2
+replayed_small : (settings : Settings) (lines : List (List ℕ)) (number status : ℕ) (rest : List ℕ) → status < 2 → All (λ line. IsSome (call_of line)) lines → (replay_from settings lines number status rest).status < 2
 replayed_small settings [] number status rest small good = rw (replayed_none settings [] number status rest refl) small
 replayed_small settings (line ∷ lines) number status rest small good =
-    elim (call_of line) as (λ o. call_of line ≡ o → IsSome o → (replayed settings (line ∷ lines) number status rest).status < 2) [
+    elim (call_of line) as (λ o. call_of line ≡ o → IsSome o → (replay_from settings (line ∷ lines) number status rest).status < 2) [
       | None ↦ λ e some. cc
       | Some it ↦ λ e some.
           let s : Step = step settings it.call (rest ++ it.response) in
@@ -111,16 +111,16 @@ replayed_small settings (line ∷ lines) number status rest small good =
     ] refl (All-head (λ l. IsSome (call_of l)) line lines good)
 
 -- and diagnostics with the status 0
-explained_small : (lines : List (List ℕ)) (number : ℕ) → All (λ line. IsSome (expanded line)) lines → (explained lines number).status < 2
+explained_small : (lines : List (List ℕ)) (number : ℕ) → All (λ line. IsSome (line_expansion line)) lines → (explanations_from lines number).status < 2
 explained_small [] number good = rw (explained_none [] number refl) (omega arith)
 explained_small (line ∷ lines) number good =
-    elim (expanded line) as (λ o. expanded line ≡ o → IsSome o → (explained (line ∷ lines) number).status < 2) [
+    elim (line_expansion line) as (λ o. line_expansion line ≡ o → IsSome o → (explanations_from (line ∷ lines) number).status < 2) [
       | None ↦ λ e some. cc
-      | Some text ↦ λ e some. rw (explained_line line lines number text (sym e)) (explained_small lines (number + 1) (All-tail (λ l. IsSome (expanded l)) line lines good))
-    ] refl (All-head (λ l. IsSome (expanded l)) line lines good)
+      | Some text ↦ λ e some. rw (explained_line line lines number text (sym e)) (explained_small lines (number + 1) (All-tail (λ l. IsSome (line_expansion l)) line lines good))
+    ] refl (All-head (λ l. IsSome (line_expansion l)) line lines good)
 
 -- and two streams with the status 0
-reported_small : (captured : Captured) → AreStreams captured → (reported captured).status < 2
+reported_small : (captured : Captured) → AreStreams captured → (report_transcript captured).status < 2
 reported_small (Streams sent received) good = omega arith
 reported_small (Bad number) good = absurd good
 
@@ -167,21 +167,21 @@ writes t link (Ok status) old new alone status_is text = text_now t link status 
 writes t link (Err error) old new alone status_is text = tt
 
 pub explains : {E : Type 0} (link : MemoryState) (lines : List (List ℕ)) (result : Result ℕ E) (old new : List ℕ) →
-    IfOk result (λ status. status ≡ (explained lines 1).status) → IfOk result (λ status. new ≡ old ++ (explained lines 1).text) → IfOk result (λ status. Replays (explained lines 1) link link status old new)
-explains link lines result old new = writes (explained lines 1) link result old new (explained_alone lines 1)
+    IfOk result (λ status. status ≡ (explanations_from lines 1).status) → IfOk result (λ status. new ≡ old ++ (explanations_from lines 1).text) → IfOk result (λ status. Replays (explanations_from lines 1) link link status old new)
+explains link lines result old new = writes (explanations_from lines 1) link result old new (explained_alone lines 1)
 
 pub joins : {E : Type 0} (link : MemoryState) (settings : Settings) (lines : List (List ℕ)) (result : Result ℕ E) (old new : List ℕ) →
     IfOk result (λ status. status ≡ (joined settings lines 1 0 nothing_yet).status) → IfOk result (λ status. new ≡ old ++ (joined settings lines 1 0 nothing_yet).text) → IfOk result (λ status. Replays (joined settings lines 1 0 nothing_yet) link link status old new)
 joins link settings lines result old new = writes (joined settings lines 1 0 nothing_yet) link result old new (joined_alone settings lines 1 0 nothing_yet)
 
 -- nothing is on the link
-reported_alone : (captured : Captured) → reported captured ≡ only_text (reported captured).text (reported captured).status
+reported_alone : (captured : Captured) → report_transcript captured ≡ only_text (report_transcript captured).text (report_transcript captured).status
 reported_alone (Streams sent received) = refl
 reported_alone (Bad number) = refl
 
 pub audits : {E : Type 0} (link : MemoryState) (lines : List (List ℕ)) (result : Result ℕ E) (old new : List ℕ) →
-    IfOk result (λ status. status ≡ (audited lines).status) → IfOk result (λ status. new ≡ old ++ (audited lines).text) → IfOk result (λ status. Replays (audited lines) link link status old new)
-audits link lines result old new = writes (audited lines) link result old new (reported_alone (captured_in lines))
+    IfOk result (λ status. status ≡ (audit_transcript lines).status) → IfOk result (λ status. new ≡ old ++ (audit_transcript lines).text) → IfOk result (λ status. Replays (audit_transcript lines) link link status old new)
+audits link lines result old new = writes (audit_transcript lines) link result old new (reported_alone (captured_in lines))
 
 -- the status that is left, where the writing did not end otherwise
 pub status_left : (result status : ℕ) → (result ≡ status) ⊎ ((result ≡ 4) ⊎ (result ≡ 5)) → result ≢ 4 → result ≢ 5 → result ≡ status

@@ -2,7 +2,7 @@
 use Rattle.std.specs.Prelude.{ℕ, nat_lt, List, [], ◌∷◌, Bool, true, false, Option, Some, None, if◌then◌else◌, codes, bytes_eq}
 use Rattle.std.specs.Option.{option_map}
 use Rattle.kmip_words.specs.Values.{number_of}
-use Rattle.kmip_words.specs.Options.{Given, given, given_after}
+use Rattle.kmip_words.specs.Options.{Given, option_given, given_after}
 use Rattle.kmip_run.specs.declared.command.Command.{Command}
 use Rattle.kmip_run.specs.declared.command.Command.TheVariants.{Replay, Explain, Make, Audit, Joined}
 use Rattle.kmip_run.specs.declared.command.Options.{Options}
@@ -25,9 +25,9 @@ options_with user password limit None = None
 -- `[user=U] [password=P] [limit=N] [diag]`, each at most once and in this order, and a password only after a user
 unfoldable pub options_of : List (List ℕ) → Option Options
 options_of words =
-    let user : Given = given (codes "user=") words in
+    let user : Given = option_given (codes "user=") words in
     let password : Given = given_after user.value (codes "password=") user.rest in
-    let limit : Given = given (codes "limit=") password.rest in
+    let limit : Given = option_given (codes "limit=") password.rest in
     options_with user.value password.value limit.value (diag_of limit.rest)
 
 -- `replay` and `joined` take these options

@@ -136,12 +136,12 @@ then_made fed s later = record {
 }
 
 -- so many exchanges, the first of the number after x, with these bytes left before it
-unfoldable pub made : Settings → ℕ → ℕ → List ℕ → Counts
-made settings zero x rest = no_counts
-made settings (suc count) x rest =
+unfoldable pub counts_after : Settings → ℕ → ℕ → List ℕ → Counts
+counts_after settings zero x rest = no_counts
+counts_after settings (suc count) x rest =
     let it : Recorded = made_of (next_of x) in
     let s : Step = step settings it.call (rest ++ it.response) in
-    then_made it.response s (made settings count (next_of x) (drop s.taken (rest ++ it.response)))
+    then_made it.response s (counts_after settings count (next_of x) (drop s.taken (rest ++ it.response)))
 
 -- what an exchange did: to the link, and how many bytes it took
 pub record MakesCall (s : Step) (fed : List ℕ) (before after : MemoryState) (failed : Bool)

@@ -15,7 +15,7 @@ use Rattle.kmip_joined.specs.World.{World, Joined, joined_step, nothing_yet}
 use Rattle.kmip_run.specs.Commands.{command_of}
 use Rattle.kmip_words.specs.Exchange.{Settings, Step, step, call_text}
 use Rattle.kmip_run.specs.Setup.{settings_for}
-use Rattle.kmip_run.specs.Making.{Counts, made, made_settings, made_text}
+use Rattle.kmip_run.specs.Making.{Counts, counts_after, made_settings, made_text}
 use Rattle.kmip_run.specs.declared.auditing.Captured.{Captured}
 use Rattle.kmip_run.specs.declared.auditing.Captured.TheVariants.{Streams, Bad}
 use Rattle.kmip_run.specs.declared.command.Command.{Command}
@@ -53,31 +53,31 @@ then_later fed s later = record {
 }
 
 -- the calls of the lines from this one on: their numbers, the status so far, and the bytes left
-unfoldable pub replayed : Settings → List (List ℕ) → ℕ → ℕ → List ℕ → Transcript
-replayed settings [] number status rest = only_text [] status
-replayed settings (line ∷ lines) number status rest = elim (call_of line) [
+unfoldable pub replay_from : Settings → List (List ℕ) → ℕ → ℕ → List ℕ → Transcript
+replay_from settings [] number status rest = only_text [] status
+replay_from settings (line ∷ lines) number status rest = elim (call_of line) [
   | None ↦ bad_line number
   | Some it ↦
       let s : Step = step settings it.call (rest ++ it.response) in
       then_later it.response s
-      (replayed settings lines (number + 1) (status_after status s.failed)
+      (replay_from settings lines (number + 1) (status_after status s.failed)
       (drop s.taken (rest ++ it.response)))
 ]
 
 -- the expansion of a line that is a diagnostic
-unfoldable pub expanded : List ℕ → Option (List ℕ)
-expanded line = if is_utf8 line then expansion (Some 0x4200) line else None
+unfoldable pub line_expansion : List ℕ → Option (List ℕ)
+line_expansion line = if is_utf8 line then expansion (Some 0x4200) line else None
 
 -- this text and the later one, with the later status
 abbrev pub then_text : List ℕ → Transcript → Transcript
 then_text text later = only_text (text ++ later.text) later.status
 
 -- the expansions of the lines from this one on, by their numbers
-unfoldable pub explained : List (List ℕ) → ℕ → Transcript
-explained [] number = only_text [] 0
-explained (line ∷ lines) number = elim (expanded line) [
+unfoldable pub explanations_from : List (List ℕ) → ℕ → Transcript
+explanations_from [] number = only_text [] 0
+explanations_from (line ∷ lines) number = elim (line_expansion line) [
   | None ↦ bad_line number
-  | Some text ↦ then_text text (explained lines (number + 1))
+  | Some text ↦ then_text text (explanations_from lines (number + 1))
 ]
 
 -- the calls of the lines from this one on, over a server in memory: their numbers, the status so far, and what stands
@@ -92,12 +92,12 @@ joined settings (line ∷ lines) number status world = elim (helper_call line) [
 ]
 
 -- the report on two captured streams
-abbrev pub reported : Captured → Transcript
-reported (Streams sent received) = only_text (report_text (report_of sent received)) 0
-reported (Bad number) = bad_line number
+abbrev pub report_transcript : Captured → Transcript
+report_transcript (Streams sent received) = only_text (report_text (report_of sent received)) 0
+report_transcript (Bad number) = bad_line number
 
-abbrev pub audited : List (List ℕ) → Transcript
-audited lines = reported (captured_in lines)
+abbrev pub audit_transcript : List (List ℕ) → Transcript
+audit_transcript lines = report_transcript (captured_in lines)
 
 -- the lines that count exchanges, and what is fed, sent and taken in these
 abbrev pub counted_transcript : ℕ → Counts → Transcript
@@ -112,14 +112,14 @@ counted_transcript count c =
 
 -- so many exchanges, the first of the number after 1
 abbrev pub made_transcript : ℕ → Transcript
-made_transcript count = counted_transcript count (made made_settings count 1 [])
+made_transcript count = counted_transcript count (counts_after made_settings count 1 [])
 
 -- what a command makes of the lines of its script
 abbrev pub lines_transcript : Command → List (List ℕ) → Transcript
-lines_transcript (Replay options) lines = replayed (settings_for options) lines 1 0 []
-lines_transcript Explain lines = explained lines 1
+lines_transcript (Replay options) lines = replay_from (settings_for options) lines 1 0 []
+lines_transcript Explain lines = explanations_from lines 1
 lines_transcript (Make count) lines = made_transcript count
-lines_transcript Audit lines = audited lines
+lines_transcript Audit lines = audit_transcript lines
 lines_transcript (Command.Joined options) lines = joined (settings_for options) lines 1 0 nothing_yet
 
 -- The command reads a script.
@@ -164,7 +164,7 @@ makes_calls None = false
 -- The line is of the grammar of a command. Of the lines of `audit` it is said of all together.
 abbrev pub IsLineOf : Option Command → List ℕ → Type 0
 IsLineOf (Some (Replay options)) line = IsSome (call_of line)
-IsLineOf (Some Explain) line = IsSome (expanded line)
+IsLineOf (Some Explain) line = IsSome (line_expansion line)
 IsLineOf (Some (Make count)) line = ⊥
 IsLineOf (Some Audit) line = Unit {0}
 IsLineOf (Some (Command.Joined options)) line = IsSome (helper_call line)

@@ -2,7 +2,7 @@
 ghost use Rattle.std.specs.Prelude.{◌≡◌, ◌<◌, ◌++◌, option_map, IfOk};
 ghost use Rattle.kmip_run.specs.Script.{lines_of};
 ghost use Rattle.kmip_run.specs.Auditing.{stream_of, next_stream, captured_in};
-ghost use Rattle.kmip_run.specs.Transcript.{audited};
+ghost use Rattle.kmip_run.specs.Transcript.{audit_transcript};
 
 use crate::script::{first_line, show_bad_line};
 use kmip_audit::audit;
@@ -70,9 +70,9 @@ fn captured_in(alloc: Global, script: &[u8]) -> Result<Captured, OutOfMemory>
 /// Adds the report on the two streams of a script, or the first line that is not of the grammar, and returns the status.
 pub fn audit_script(alloc: Global, script: &[u8], output: &mut Text) -> Result<u8, OutOfMemory>
     ensures bound { IfOk result (λ status. status < 3) }
-    ensures status { IfOk result (λ status. status ≡ (audited (lines_of script.now)).status) }
+    ensures status { IfOk result (λ status. status ≡ (audit_transcript (lines_of script.now)).status) }
     ensures text { IfOk result
-        (λ status. output.new ≡ output.old ++ (audited (lines_of script.now)).text) }
+        (λ status. output.new ≡ output.old ++ (audit_transcript (lines_of script.now)).text) }
 {
     match captured_in(alloc, script)? {
         Captured::Streams(sent, received) => {

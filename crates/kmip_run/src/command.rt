@@ -3,7 +3,7 @@ ghost use Rattle.std.specs.Prelude.{◌≡◌, ◌∷◌, [], map, option_map, I
 ghost use Rattle.kmip_run.specs.Commands.{diag_of, options_of, replay_of, explain_of, make_of, audit_of, joined_of, command_of};
 
 use kmip_wire::{OutOfMemory, Text};
-use kmip_words::{copied, given, given_after, number_of};
+use kmip_words::{copy_text, given_after, number_of, option_given};
 use std::alloc::Global;
 
 /// The most exchanges that `make` makes.
@@ -66,8 +66,8 @@ fn options_with(
       diag = diag;
     })) }
 {
-    let user = copied(alloc, user)?;
-    let password = copied(alloc, password)?;
+    let user = copy_text(alloc, user)?;
+    let password = copy_text(alloc, password)?;
     Ok(Some(Options {
         user,
         password,
@@ -80,9 +80,9 @@ fn options_with(
 fn options_of(alloc: Global, words: &[Text]) -> Result<Option<Options>, OutOfMemory>
     ensures { IfOk result (λ options. options ≡ options_of words.now) }
 {
-    let (user, words) = given("user=", words);
+    let (user, words) = option_given("user=", words);
     let (password, words) = given_after(user, "password=", words);
-    let (limit, words) = given("limit=", words);
+    let (limit, words) = option_given("limit=", words);
     let Some(diag) = diag_of(words) else {
         return Ok(None);
     };

@@ -1,7 +1,7 @@
 //! The lines of a script, each a diagnostic that is expanded.
 ghost use Rattle.std.specs.Prelude.{◌≡◌, ◌<◌, ◌++◌, Some, IfOk};
 ghost use Rattle.kmip_run.specs.Script.{lines_of};
-ghost use Rattle.kmip_run.specs.Transcript.{expanded, explained};
+ghost use Rattle.kmip_run.specs.Transcript.{line_expansion, explanations_from};
 
 use crate::script::{first_line, show_bad_line};
 use kmip_diag::{DiagError, PrettyPrinter};
@@ -10,13 +10,13 @@ use std::alloc::Global;
 use std::str;
 
 /// The expansion of a line, or none where the line is no diagnostic.
-fn expanded(
+fn line_expansion(
     alloc: Global,
     printer: &PrettyPrinter,
     line: &[u8],
 ) -> Result<Option<Text>, OutOfMemory>
     requires { printer.now ≡ Some 0x4200 }
-    ensures { IfOk result (λ text. text ≡ expanded line.now) }
+    ensures { IfOk result (λ text. text ≡ line_expansion line.now) }
 {
     let Ok(line) = str::from_utf8(line) else {
         return Ok(None);
@@ -31,9 +31,9 @@ fn expanded(
 /// Adds the expansions of the lines, up to a line that is no diagnostic, and returns the status.
 pub fn explain(alloc: Global, script: &[u8], output: &mut Text) -> Result<u8, OutOfMemory>
     ensures bound { IfOk result (λ status. status < 3) }
-    ensures status { IfOk result (λ status. status ≡ (explained (lines_of script.now) 1).status) }
+    ensures status { IfOk result (λ status. status ≡ (explanations_from (lines_of script.now) 1).status) }
     ensures text { IfOk result
-        (λ status. output.new ≡ output.old ++ (explained (lines_of script.now) 1).text) }
+        (λ status. output.new ≡ output.old ++ (explanations_from (lines_of script.now) 1).text) }
 {
     let mut printer = PrettyPrinter::new();
     printer.with_tag_prefix(0x4200);
@@ -42,7 +42,7 @@ pub fn explain(alloc: Global, script: &[u8], output: &mut Text) -> Result<u8, Ou
     while !rest.is_empty() {
         let (line, later) = first_line(rest);
         number += 1;
-        let Some(text) = expanded(alloc, &printer, line)? else {
+        let Some(text) = line_expansion(alloc, &printer, line)? else {
             show_bad_line(alloc, number, output)?;
             return Ok(2);
         };

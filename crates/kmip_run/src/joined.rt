@@ -51,7 +51,7 @@ fn joined_lines(
 }
 
 /// Makes the calls of a script on a client that is joined to a server with no objects, and answers the status.
-pub fn joined(
+pub fn run_joined(
     alloc: Global,
     options: Options,
     script: &[u8],

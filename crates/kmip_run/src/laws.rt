@@ -79,7 +79,7 @@ fn known_credential(credential: &Option<CredentialType>)
 }
 
 /// What the types of Rust keep of payloads and a credential.
-fn held(payloads: &[RequestPayload], credential: &Option<CredentialType>)
+fn know_held(payloads: &[RequestPayload], credential: &Option<CredentialType>)
     ensures { AreHeld payloads.now credential.now }
 {
     known_items(payloads);
@@ -110,8 +110,8 @@ pub fn diagnostics_of_whole_sessions(
         ↔ (skeletons_in (session payloads.now credential.now limit rest.now) ≡
         skeletons_in (session others.now other.now most bytes.now)) }
 {
-    held(payloads, credential);
-    held(others, other);
+    know_held(payloads, credential);
+    know_held(others, other);
     bytes_known(rest);
     bytes_known(bytes);
     request_parses();

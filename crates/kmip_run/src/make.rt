@@ -1,7 +1,7 @@
 //! Exchanges that are made from a number, and what they come to.
 ghost use Rattle.std.specs.Prelude.{◌≡◌, ◌+◌, ◌<◌, ◌++◌, ◌^◌, drop, length, IfOk, OnOk};
 ghost use Rattle.kmip_words.specs.Exchange.{settings_of, step};
-ghost use Rattle.kmip_run.specs.Making.{next_of, one_ok, one_error, made, made_text, MakesCall, Makes};
+ghost use Rattle.kmip_run.specs.Making.{next_of, one_ok, one_error, counts_after, made_text, MakesCall, Makes};
 ghost use Rattle.kmip_run.specs.Transcript.{counted_transcript, Replays};
 
 use crate::exchange::{feed, sent_len};
@@ -61,7 +61,7 @@ fn make_call(
 }
 
 /// One exchange more.
-fn counted(tally: Tally, failed: bool, taken: usize) -> Tally
+fn count_exchange(tally: Tally, failed: bool, taken: usize) -> Tally
     requires ok { tally.ok + 1 < 2 ^ 32 }
     requires errors { tally.errors + 1 < 2 ^ 32 }
     requires taken { tally.taken + taken < 2 ^ 128 }
@@ -93,7 +93,7 @@ fn make_calls(
 ) -> Result<Tally, OutOfMemory>
     ensures { IfOk result
         (λ tally. Makes
-        (made (settings_of client.old) count 1 (drop client.old.link.pos client.old.link.ever))
+        (counts_after (settings_of client.old) count 1 (drop client.old.link.pos client.old.link.ever))
         client.old.link client.new.link tally.ok tally.errors tally.taken) }
 {
     let mut tally = Tally {
@@ -108,7 +108,7 @@ fn make_calls(
         x = next_of(x);
         let recorded = exchange_of(alloc, x)?;
         let (failed, taken) = make_call(alloc, client, recorded, &mut line)?;
-        tally = counted(tally, failed, taken);
+        tally = count_exchange(tally, failed, taken);
         done += 1;
     }
     Ok(tally)
@@ -142,7 +142,7 @@ pub fn make(
     ensures bound { IfOk result (λ status. status < 3) }
     ensures replays { IfOk result (λ status. Replays
         (counted_transcript count
-        (made (settings_of client.old) count 1 (drop client.old.link.pos client.old.link.ever)))
+        (counts_after (settings_of client.old) count 1 (drop client.old.link.pos client.old.link.ever)))
         client.old.link client.new.link status output.old output.new) }
 {
     let before = sent_len(client);

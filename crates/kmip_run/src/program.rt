@@ -5,13 +5,13 @@ ghost use Rattle.kmip_run.specs.Script.{lines_of};
 ghost use Rattle.kmip_run.specs.Commands.{command_of};
 ghost use Rattle.kmip_run.specs.Setup.{settings_for};
 ghost use Rattle.kmip_words.specs.Streams.{WrotePart};
-ghost use Rattle.kmip_run.specs.Making.{made, made_settings};
-ghost use Rattle.kmip_run.specs.Transcript.{most_script, reads_script, read_by, makes_calls, replayed, counted_transcript, lines_transcript, script_transcript, transcript, IsOfGrammar, Replays};
+ghost use Rattle.kmip_run.specs.Making.{counts_after, made_settings};
+ghost use Rattle.kmip_run.specs.Transcript.{most_script, reads_script, read_by, makes_calls, replay_from, counted_transcript, lines_transcript, script_transcript, transcript, IsOfGrammar, Replays};
 
 use crate::auditing::audit_script;
 use crate::command::{Command, Options, command_of};
 use crate::explain::explain;
-use crate::joined::joined;
+use crate::joined::run_joined;
 use crate::make::make;
 use crate::replay::replay;
 use crate::setup::client_of;
@@ -60,7 +60,7 @@ fn replay_on(
 ) -> Result<u8, OutOfMemory>
     ensures bound { IfOk result (λ status. status < 3) }
     ensures replays { IfOk result (λ status. Replays
-        (replayed (settings_for options) (lines_of script.now) 1 0
+        (replay_from (settings_for options) (lines_of script.now) 1 0
         (drop link.old.pos link.old.ever))
         link.old link.new status output.old output.new) }
 {
@@ -81,7 +81,7 @@ fn make_on(
 ) -> Result<u8, OutOfMemory>
     ensures bound { IfOk result (λ status. status < 3) }
     ensures replays { IfOk result (λ status. Replays
-        (counted_transcript count (made made_settings count 1 (drop link.old.pos link.old.ever)))
+        (counted_transcript count (counts_after made_settings count 1 (drop link.old.pos link.old.ever)))
         link.old link.new status output.old output.new) }
 {
     let moved = mem::replace(link, MemoryLink::new(alloc));
@@ -117,7 +117,7 @@ fn perform(
         Command::Explain => explain(alloc, script, output),
         Command::Make(count) => make_on(alloc, count, link, output),
         Command::Audit => audit_script(alloc, script, output),
-        Command::Joined(options) => joined(alloc, options, script, output),
+        Command::Joined(options) => run_joined(alloc, options, script, output),
     }
 }
 

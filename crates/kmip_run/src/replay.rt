@@ -2,7 +2,7 @@
 ghost use Rattle.std.specs.Prelude.{◌≡◌, ◌<◌, drop, IfOk};
 ghost use Rattle.kmip_run.specs.Script.{lines_of};
 ghost use Rattle.kmip_words.specs.Exchange.{settings_of};
-ghost use Rattle.kmip_run.specs.Transcript.{status_after, replayed, Replays};
+ghost use Rattle.kmip_run.specs.Transcript.{status_after, replay_from, Replays};
 
 use crate::exchange::exchange;
 use crate::script::{first_line, show_bad_line};
@@ -32,7 +32,7 @@ pub fn replay(
     requires { diag ≡ client.old.buffered }
     ensures bound { IfOk result (λ status. status < 3) }
     ensures replays { IfOk result (λ status. Replays
-        (replayed (settings_of client.old) (lines_of script.now) 1 0
+        (replay_from (settings_of client.old) (lines_of script.now) 1 0
         (drop client.old.link.pos client.old.link.ever))
         client.old.link client.new.link status output.old output.new) }
 {

@@ -60,7 +60,7 @@ fn head(alloc: Global, minor: i32) -> Result<Tree, OutOfMemory>
 }
 
 /// The canonical bytes of a tree, which has such.
-fn written(alloc: Global, tree: &Tree) -> Result<Blob, OutOfMemory>
+fn tree_bytes(alloc: Global, tree: &Tree) -> Result<Blob, OutOfMemory>
     ensures { IfOk result (λ written. written ≡ or_empty (bytes tree.now)) }
 {
     match write_tree(alloc, tree) {
@@ -76,7 +76,7 @@ fn response(alloc: Global, minor: i32, fields: Trees) -> Result<Blob, OutOfMemor
 {
     let head = head(alloc, minor)?;
     let items = vec![in alloc; head, item(BATCH_ITEM, Node::Structure(fields))]?;
-    written(
+    tree_bytes(
         alloc,
         &item(RESPONSE_MESSAGE, Node::Structure(Trees::of_vec(items))),
     )
@@ -90,7 +90,7 @@ fn operation_item(operation: Operation) -> Tree
 }
 
 /// The fields of a batch item of an operation that succeeded.
-fn done(alloc: Global, operation: Operation, payload: Trees) -> Result<Trees, OutOfMemory>
+fn success_fields(alloc: Global, operation: Operation, payload: Trees) -> Result<Trees, OutOfMemory>
     ensures { IfOk result (λ fields. fields ≡ operation_tree operation ∷ done_trees payload) }
 {
     let fields = vec![in alloc;
@@ -130,7 +130,11 @@ fn random(alloc: Global, count: u8, byte: u8) -> Result<Recorded, OutOfMemory>
 {
     let bytes = Blob::of_vec(vec![in alloc; byte; usize::from(count)]?);
     let payload = one(alloc, item(DATA, Node::ByteString(bytes)))?;
-    let response = response(alloc, 2, done(alloc, Operation::RNGRetrieve, payload)?)?;
+    let response = response(
+        alloc,
+        2,
+        success_fields(alloc, Operation::RNGRetrieve, payload)?,
+    )?;
     let call = Call::Rng {
         num_bytes: i32::from(count),
     };
@@ -138,14 +142,18 @@ fn random(alloc: Global, count: u8, byte: u8) -> Result<Recorded, OutOfMemory>
 }
 
 /// `activate` of this key.
-fn activated(alloc: Global, id: &str) -> Result<Recorded, OutOfMemory>
+fn activate_exchange(alloc: Global, id: &str) -> Result<Recorded, OutOfMemory>
     ensures { IfOk result (λ made. made ≡ activated_made id.now) }
 {
     let payload = one(
         alloc,
         item(UNIQUE_IDENTIFIER, Node::TextString(Text::of(alloc, id)?)),
     )?;
-    let response = response(alloc, 0, done(alloc, Operation::Activate, payload)?)?;
+    let response = response(
+        alloc,
+        0,
+        success_fields(alloc, Operation::Activate, payload)?,
+    )?;
     let call = Call::Activate {
         id: Text::of(alloc, id)?,
     };
@@ -153,7 +161,7 @@ fn activated(alloc: Global, id: &str) -> Result<Recorded, OutOfMemory>
 }
 
 /// `query` of a server that knows Create and Query.
-fn queried(alloc: Global) -> Result<Recorded, OutOfMemory>
+fn query_exchange(alloc: Global) -> Result<Recorded, OutOfMemory>
     ensures { IfOk result (λ made. made ≡ queried_made) }
 {
     let payload = vec![in alloc;
@@ -161,7 +169,7 @@ fn queried(alloc: Global) -> Result<Recorded, OutOfMemory>
         operation_item(Operation::Query),
     ]?;
     let payload = Trees::of_vec(payload);
-    let response = response(alloc, 2, done(alloc, Operation::Query, payload)?)?;
+    let response = response(alloc, 2, success_fields(alloc, Operation::Query, payload)?)?;
     Ok(Recorded {
         call: Call::Query,
         response,
@@ -169,7 +177,7 @@ fn queried(alloc: Global) -> Result<Recorded, OutOfMemory>
 }
 
 /// `destroy` of this key, which is not found.
-fn destroyed(alloc: Global, id: &str) -> Result<Recorded, OutOfMemory>
+fn destroy_exchange(alloc: Global, id: &str) -> Result<Recorded, OutOfMemory>
     ensures { IfOk result (λ made. made ≡ destroyed_made id.now) }
 {
     let response = response(alloc, 0, gone(alloc, Operation::Destroy)?)?;
@@ -187,8 +195,8 @@ pub fn exchange_of(alloc: Global, x: u64) -> Result<Recorded, OutOfMemory>
     let v = x >> 34;
     match (x >> 32) % 4 {
         0 => random(alloc, (v % 64) as u8, (x % 256) as u8),
-        1 => activated(alloc, Buffer::new().format(v % 1000)),
-        2 => queried(alloc),
-        _ => destroyed(alloc, Buffer::new().format(v % 1000)),
+        1 => activate_exchange(alloc, Buffer::new().format(v % 1000)),
+        2 => query_exchange(alloc),
+        _ => destroy_exchange(alloc, Buffer::new().format(v % 1000)),
     }
 }

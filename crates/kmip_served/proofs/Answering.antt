@@ -21,7 +21,7 @@ use Rattle.kmip_store.specs.declared.object.Object.{Object}
 use Rattle.kmip_served.specs.Requests.{is_served, call_of}
 use Rattle.kmip_served.specs.Items.{item_for, invalid_item, unsupported_item, unhelped_item, message_with}
 use Rattle.kmip_served.specs.Served.{Served, served_call, served_request, served, asks_request, asks}
-use Rattle.kmip_served.specs.Answering.{listed, Took, IsGiven, IsWritten, AnswersBy, answered, no_form, no_memory, told, Tells, Serves}
+use Rattle.kmip_served.specs.Answering.{list_of_option, Took, IsGiven, IsWritten, AnswersBy, answered, no_form, no_memory, answer_of, Tells, Serves}
 
 -- the same, where the question and what is served are seen otherwise
 pub answers_as : (q q' : Option Asked) (s s' : Option Made → Served) (objects : List Object) (before after : MakerState) (new : List Object) (result : Result (List ℕ) WireError) →
@@ -65,7 +65,7 @@ grew_took None (Some made) before after g = absurd g
 grew_took (Some asked) None before after g = absurd g
 
 pub step_given : (objects : List Object) (call : Call) (new : List Object) (answer : Answer) (before after : MakerState) (s : IsStep objects call new answer before after) → IsGiven (question objects call) s.made before after
-step_given objects call new answer before after s = record { suits_it = s.asks; took = λ tells. grew_took (question objects call) s.made before after (s.told tells) }
+step_given objects call new answer before after s = record { suits_it = s.asks; took = λ tells. grew_took (question objects call) s.made before after (s.answer_of tells) }
 
 -- ---- items and messages
 
@@ -85,7 +85,7 @@ objects_told objects call made time = refl
 -- ---- calls that ask the maker, and change no objects
 
 asked_step : {T : Type 0} (answer : T → Answer) (objects : List Object) (call : Call) (new : List Object) (before after : MakerState) (r : Result T StoreError) (a : Answer) →
-    Asks answer objects call new before after r → told answer r ≡ Some a → IsStep objects call new a before after
+    Asks answer objects call new before after r → answer_of answer r ≡ Some a → IsStep objects call new a before after
 asked_step answer objects call new before after (Ok x) a s h = subst (λ y. IsStep objects call new y before after) (some_same (answer x) a h) s
 asked_step answer objects call new before after (Err errors.ItemNotFound) a s h = subst (λ y. IsStep objects call new y before after) (some_same Answer.NotFound a h) s
 asked_step answer objects call new before after (Err errors.PermissionDenied) a s h = subst (λ y. IsStep objects call new y before after) (some_same Answer.Denied a h) s
@@ -104,7 +104,7 @@ step_serves objects new call time before after a item result s stays item_is w =
 pub asking_serves : {T : Type 0} (answer : T → Answer) (objects new : List Object) (call : Call) (time : ℤ) (before after : MakerState) (r : Result T StoreError) (item : BatchItem) (result : Result (List ℕ) WireError) →
     Asks answer objects call new before after r → new ≡ objects → Tells answer call r item → IsWritten (message_with time item) result → Serves call time objects before after new result
 asking_serves answer objects new call time before after r item result asks stays tells w =
-    let t = tells_item call (told answer r) item tells in
+    let t = tells_item call (answer_of answer r) item tells in
     step_serves objects new call time before after t.0 item result (asked_step answer objects call new before after r t.0 asks t.1) stays t.2 w
 
 -- ---- calls that ask nobody, and change no objects

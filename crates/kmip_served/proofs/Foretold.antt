@@ -8,8 +8,8 @@ use Rattle.kmip_response.specs.declared.batch_item.BatchItem.{BatchItem}
 use Rattle.kmip_response_write.specs.Settled.{IsHeld, response_bytes}
 use Rattle.kmip_store.specs.Answers.{Steps}
 use Rattle.kmip_store.specs.Makers.{MakerState}
-use Rattle.kmip_store.specs.Objects.{found, object_of, is_pre_active, is_active, is_destroyed}
-use Rattle.kmip_store.specs.Steps.{Answer, Done, Denied, Stepped, stay, allowed, on_found, activate, revoke, destroy, rename, get, step, question}
+use Rattle.kmip_store.specs.Objects.{find_in, object_of, is_pre_active, is_active, is_destroyed}
+use Rattle.kmip_store.specs.Steps.{Answer, Done, Denied, Stepped, stay, step_where, on_found, activate, revoke, destroy, rename, get, step, question}
 use Rattle.kmip_store.specs.declared.call.Call.{Call}
 use Rattle.kmip_store.specs.declared.call.Call.TheVariants.{ActivateKey, RevokeKey, DestroyKey, RenameKey, GetKey}
 use Rattle.kmip_store.specs.declared.error.StoreError.{StoreError}
@@ -17,39 +17,39 @@ use Rattle.kmip_store.specs.declared.error.StoreError.TheVariants as errors
 use Rattle.kmip_store.specs.declared.object.Object.{Object}
 use Rattle.kmip_served.specs.Items.{item_for, message_with}
 use Rattle.kmip_served.specs.Served.{served_call}
-use Rattle.kmip_served.specs.Answering.{IsGiven, IsWritten, AnswersBy, answered, no_memory, told, Tells, Serves, foretold, responded}
+use Rattle.kmip_served.specs.Answering.{IsGiven, IsWritten, AnswersBy, answered, no_memory, answer_of, Tells, Serves, change_answer, response_of}
 use Rattle.kmip_served.proofs.Answering.{no_question, message_told, objects_told, unwritten}
 
 -- ---- what is foretold is what the step answers
 
-allowed_told : (b : Bool) (objects : List Object) (s : Stepped) → s.answer ≡ Done → cond b Done Denied ≡ (allowed b objects s).answer
+allowed_told : (b : Bool) (objects : List Object) (s : Stepped) → s.answer ≡ Done → cond b Done Denied ≡ (step_where b objects s).answer
 allowed_told true objects s h = sym h
 allowed_told false objects s h = refl
 
 found_told : (f : Option (ℕ × Object)) (objects : List Object) (allows : Object → Bool) (act : ℕ → Object → Stepped) →
-    ((place : ℕ) (object : Object) → cond (allows object) Done Denied ≡ (act place object).answer) → foretold allows (option_map object_of f) ≡ (on_found f objects act).answer
+    ((place : ℕ) (object : Object) → cond (allows object) Done Denied ≡ (act place object).answer) → change_answer allows (option_map object_of f) ≡ (on_found f objects act).answer
 found_told None objects allows act h = refl
 found_told (Some at) objects allows act h = h at.0 at.1
 
-pub activate_told : (objects : List Object) (id : List ℕ) → foretold (λ object. is_pre_active object.state) (option_map object_of (found objects id)) ≡ (step objects (ActivateKey id) None).answer
-activate_told objects id = found_told (found objects id) objects (λ object. is_pre_active object.state) (activate objects) (λ place object. allowed_told (is_pre_active object.state) objects _ refl)
+pub activate_told : (objects : List Object) (id : List ℕ) → change_answer (λ object. is_pre_active object.state) (option_map object_of (find_in objects id)) ≡ (step objects (ActivateKey id) None).answer
+activate_told objects id = found_told (find_in objects id) objects (λ object. is_pre_active object.state) (activate objects) (λ place object. allowed_told (is_pre_active object.state) objects _ refl)
 
-pub revoke_told : (objects : List Object) (id : List ℕ) → foretold (λ object. is_active object.state) (option_map object_of (found objects id)) ≡ (step objects (RevokeKey id) None).answer
-revoke_told objects id = found_told (found objects id) objects (λ object. is_active object.state) (revoke objects) (λ place object. allowed_told (is_active object.state) objects _ refl)
+pub revoke_told : (objects : List Object) (id : List ℕ) → change_answer (λ object. is_active object.state) (option_map object_of (find_in objects id)) ≡ (step objects (RevokeKey id) None).answer
+revoke_told objects id = found_told (find_in objects id) objects (λ object. is_active object.state) (revoke objects) (λ place object. allowed_told (is_active object.state) objects _ refl)
 
-pub destroy_told : (objects : List Object) (id : List ℕ) → foretold (λ object. not (is_active object.state || is_destroyed object.state)) (option_map object_of (found objects id)) ≡ (step objects (DestroyKey id) None).answer
-destroy_told objects id = found_told (found objects id) objects (λ object. not (is_active object.state || is_destroyed object.state)) (destroy objects) (λ place object. allowed_told (not (is_active object.state || is_destroyed object.state)) objects _ refl)
+pub destroy_told : (objects : List Object) (id : List ℕ) → change_answer (λ object. not (is_active object.state || is_destroyed object.state)) (option_map object_of (find_in objects id)) ≡ (step objects (DestroyKey id) None).answer
+destroy_told objects id = found_told (find_in objects id) objects (λ object. not (is_active object.state || is_destroyed object.state)) (destroy objects) (λ place object. allowed_told (not (is_active object.state || is_destroyed object.state)) objects _ refl)
 
-pub rename_told : (objects : List Object) (id name : List ℕ) → foretold (λ object. not (is_destroyed object.state)) (option_map object_of (found objects id)) ≡ (step objects (RenameKey id name) None).answer
-rename_told objects id name = found_told (found objects id) objects (λ object. not (is_destroyed object.state)) (rename name objects) (λ place object. allowed_told (not (is_destroyed object.state)) objects _ refl)
+pub rename_told : (objects : List Object) (id name : List ℕ) → change_answer (λ object. not (is_destroyed object.state)) (option_map object_of (find_in objects id)) ≡ (step objects (RenameKey id name) None).answer
+rename_told objects id name = found_told (find_in objects id) objects (λ object. not (is_destroyed object.state)) (rename name objects) (λ place object. allowed_told (not (is_destroyed object.state)) objects _ refl)
 
 -- an object that is told stays
-allowed_stays : (b : Bool) (objects : List Object) (answer : Answer) → (allowed b objects (stay objects answer)).objects ≡ objects
+allowed_stays : (b : Bool) (objects : List Object) (answer : Answer) → (step_where b objects (stay objects answer)).objects ≡ objects
 allowed_stays true objects answer = refl
 allowed_stays false objects answer = refl
 
 pub get_stays : (objects : List Object) (id : List ℕ) → (step objects (GetKey id) None).objects ≡ objects
-get_stays objects id = go (found objects id)
+get_stays objects id = go (find_in objects id)
   where
     go : (f : Option (ℕ × Object)) → (on_found f objects (get objects)).objects ≡ objects
     go None = refl
@@ -58,7 +58,7 @@ get_stays objects id = go (found objects id)
 -- ---- what is answered
 
 -- the item tells the step's answer, where that was foretold
-foretold_item : (call : Call) (f : Result (Unit {0}) StoreError) (answer : Answer) (item : BatchItem) → told (λ _. Done) f ≡ Some answer → Tells (λ _. Done) call f item → item ≡ item_for call answer
+foretold_item : (call : Call) (f : Result (Unit {0}) StoreError) (answer : Answer) (item : BatchItem) → answer_of (λ _. Done) f ≡ Some answer → Tells (λ _. Done) call f item → item ≡ item_for call answer
 foretold_item call f answer item says tells =
     let h : option_map (item_for call) (Some answer) ≡ Some item = subst (λ o. option_map (item_for call) o ≡ Some item) says tells in
     sym (some_same (item_for call answer) item h)
@@ -73,8 +73,8 @@ done_serves objects new call time maker item bytes none item_is w news =
 
 -- a call that the store then did, or refused, or lacked memory for
 pub changing_serves : (objects new : List Object) (call : Call) (time : ℤ) (maker : MakerState) (f r : Result (Unit {0}) StoreError) (item : BatchItem) (bytes : List ℕ) → question objects call ≡ None →
-    told (λ _. Done) f ≡ Some (step objects call None).answer → Tells (λ _. Done) call f item → IsWritten (message_with time item) (Ok bytes) →
-    Steps (λ _. Done) objects call new r → Serves call time objects maker maker new (responded r bytes)
+    answer_of (λ _. Done) f ≡ Some (step objects call None).answer → Tells (λ _. Done) call f item → IsWritten (message_with time item) (Ok bytes) →
+    Steps (λ _. Done) objects call new r → Serves call time objects maker maker new (response_of r bytes)
 changing_serves objects new call time maker f (Ok x) item bytes none says tells w s = done_serves objects new call time maker item bytes none (foretold_item call f _ item says tells) w (ap (λ (x : Stepped). x.objects) s)
 changing_serves objects new call time maker f (Err errors.ItemNotFound) item bytes none says tells w s = done_serves objects new call time maker item bytes none (foretold_item call f _ item says tells) w (ap (λ (x : Stepped). x.objects) s)
 changing_serves objects new call time maker f (Err errors.PermissionDenied) item bytes none says tells w s = done_serves objects new call time maker item bytes none (foretold_item call f _ item says tells) w (ap (λ (x : Stepped). x.objects) s)
@@ -83,7 +83,7 @@ changing_serves objects new call time maker f (Err errors.OutOfMemory) item byte
 
 -- a call whose message was not written
 pub unchanged_serves : (objects : List Object) (call : Call) (time : ℤ) (maker : MakerState) (f : Result (Unit {0}) StoreError) (item : BatchItem) (error : WireError) → question objects call ≡ None →
-    told (λ _. Done) f ≡ Some (step objects call None).answer → Tells (λ _. Done) call f item → IsWritten (message_with time item) (Err error) →
+    answer_of (λ _. Done) f ≡ Some (step objects call None).answer → Tells (λ _. Done) call f item → IsWritten (message_with time item) (Err error) →
     Serves call time objects maker maker objects (Err error)
 unchanged_serves objects call time maker f item error none says tells w =
     unwritten (question objects call) (λ made. served_call objects call made time) objects maker maker None error

@@ -16,7 +16,7 @@ use Rattle.kmip_store.specs.declared.maker.Made.TheVariants as answers
 use Rattle.kmip_store.specs.declared.object.Object.{Object}
 use Rattle.kmip_served.specs.Items.{item_for, message_with}
 use Rattle.kmip_served.specs.Served.{served_call}
-use Rattle.kmip_served.specs.Answering.{IsTold, answered, no_memory, Serves, chosen}
+use Rattle.kmip_served.specs.Answering.{IsTold, answered, no_memory, Serves, response_of_pair}
 use Rattle.kmip_served.proofs.Answering.{step_given, message_told, objects_told}
 
 -- a pair that was made has the next two identifiers
@@ -51,7 +51,7 @@ pub pair_serves : (objects new : List Object) (bits : ℤ) (private public : Lis
     Asks (λ pair. Created pair.0 pair.1) objects (CreateRsaKeyPair bits private public) new before after r →
     IsTold time (item_for (CreateRsaKeyPair bits private public) (Created (identifier (length objects)) (identifier (length objects + 1)))) made →
     IsTold time (item_for (CreateRsaKeyPair bits private public) Failed) refused →
-    Serves (CreateRsaKeyPair bits private public) time objects before after new (chosen r made refused)
+    Serves (CreateRsaKeyPair bits private public) time objects before after new (response_of_pair r made refused)
 pair_serves objects new bits private public time before after (Ok pair) made refused s t f =
     told_serves objects new (CreateRsaKeyPair bits private public) time before after (Created pair.0 pair.1) (Created (identifier (length objects)) (identifier (length objects + 1))) made s
     (created_is objects bits private public s.made pair.0 pair.1 (ap (λ (x : Stepped). x.answer) s.step_is)) t

@@ -17,7 +17,7 @@ use Rattle.kmip_request_read.specs.Matched.{IsMatched}
 use Rattle.kmip_request_read.specs.Reading.{Request, request_for, request_read}
 use Rattle.kmip_store.specs.declared.call.Call.{Call}
 use Rattle.kmip_store.specs.declared.call.Call.TheVariants.{Query, CreateRsaKeyPair, RngRetrieve, Sign, ActivateKey, RevokeKey, DestroyKey, RenameKey, GetKey}
-use Rattle.kmip_served.specs.Picked.{picked}
+use Rattle.kmip_served.specs.Picked.{candidate_call}
 use Rattle.kmip_served.specs.Requests.{request_of, candidate, if_request, call_of}
 use Rattle.kmip_served.proofs.Matched.{helper_is_matched}
 
@@ -37,7 +37,7 @@ own_call (DestroyKey id) = own (DestroyKey id)
 own_call (RenameKey id name) = own (RenameKey id name)
 own_call (GetKey id) = own (GetKey id)
 
-pub picked_own : (call : Call) → picked (request_of call) ≡ Some call
+pub picked_own : (call : Call) → candidate_call (request_of call) ≡ Some call
 picked_own Query = refl
 picked_own (CreateRsaKeyPair bits private public) = refl
 picked_own (RngRetrieve n) = refl
@@ -77,14 +77,14 @@ none_called p never = go (call_of (request_for p)) refl
     go None e = refl
     go (Some c) e = absurd (never c (request_payload_same (request_of c) p (call_payload (request_for p) c e)))
 
-pub no_candidate : (p : RequestPayload) → picked p ≡ None → None ≡ call_of (request_for p)
-no_candidate p none = none_called p (λ c h. none_some ⊥ (sym none ∙ (ap picked (sym h) ∙ picked_own c)))
+pub no_candidate : (p : RequestPayload) → candidate_call p ≡ None → None ≡ call_of (request_for p)
+no_candidate p none = none_called p (λ c h. none_some ⊥ (sym none ∙ (ap candidate_call (sym h) ∙ picked_own c)))
 
-pub other_request : (p : RequestPayload) (c : Call) → picked p ≡ Some c → (request_of c ≡ p → ⊥) → None ≡ call_of (request_for p)
-other_request p c some other = none_called p (λ d h. other (ap request_of (some_same c d (sym some ∙ (ap picked (sym h) ∙ picked_own d))) ∙ h))
+pub other_request : (p : RequestPayload) (c : Call) → candidate_call p ≡ Some c → (request_of c ≡ p → ⊥) → None ≡ call_of (request_for p)
+other_request p c some other = none_called p (λ d h. other (ap request_of (some_same c d (sym some ∙ (ap candidate_call (sym h) ∙ picked_own d))) ∙ h))
 
 -- bytes of the payload that are not those of the one call whose request it may be
-pub other_bytes : (b : List ℕ) (p : RequestPayload) (credential : Option CredentialType) (c : Call) → picked p ≡ Some c → request_bytes p credential ≡ Some b → (request_bytes (request_of c) credential ≡ Some b → ⊥) → None ≡ call_of (request_for p)
+pub other_bytes : (b : List ℕ) (p : RequestPayload) (credential : Option CredentialType) (c : Call) → candidate_call p ≡ Some c → request_bytes p credential ≡ Some b → (request_bytes (request_of c) credential ≡ Some b → ⊥) → None ≡ call_of (request_for p)
 other_bytes b p credential c some written other = other_request p c some (λ h. other (ap (λ x. request_bytes x credential) h ∙ written))
 
 -- ---- what the code writes

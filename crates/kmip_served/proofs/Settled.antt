@@ -12,14 +12,14 @@ use Rattle.kmip_enums.specs.declared.operation.Operation.{Operation}
 use Rattle.kmip_enums.specs.declared.operation.Operation.TheVariants as operations
 use Rattle.kmip_enums.specs.declared.result_reason.ResultReason.{ResultReason}
 use Rattle.kmip_enums.specs.declared.result_reason.ResultReason.TheVariants as reasons
-use Rattle.kmip_objects.specs.declared.managed_object.ManagedObject.{ManagedObject}
+use Rattle.kmip_response_objects.specs.declared.managed_object.ManagedObject.{ManagedObject}
 use Rattle.kmip_response.specs.Tables.{response_message, batch_item}
 use Rattle.kmip_response.specs.Values.{batch_item_val, protocol_version_val}
 use Rattle.kmip_response.specs.declared.batch_item.BatchItem.{BatchItem}
 use Rattle.kmip_response.specs.declared.payload.ResponsePayload.{ResponsePayload}
 use Rattle.kmip_response_write.specs.Settled.{IsHeld, IsSettled}
 use Rattle.kmip_store.specs.Objects.{is_public}
-use Rattle.kmip_store.specs.Steps.{Answer, NotFound, Denied, Failed, Done, Supports, Created, Random, Signed, Got, supported, step}
+use Rattle.kmip_store.specs.Steps.{Answer, NotFound, Denied, Failed, Done, Supports, Created, Random, Signed, Got, supported_operations, step}
 use Rattle.kmip_store.specs.declared.call.Call.{Call}
 use Rattle.kmip_store.specs.declared.call.Call.TheVariants.{Query, CreateRsaKeyPair, RngRetrieve, Sign, ActivateKey, RevokeKey, DestroyKey, RenameKey, GetKey}
 use Rattle.kmip_store.specs.declared.maker.Made.{Made}
@@ -139,7 +139,7 @@ getkey_settled time id _ held = untold_settled time (call_operation (GetKey id))
 
 pub served_is_settled : (objects : List Object) (call : Call) (made : Option Made) (time : ℤ) → IsHeld (served_call objects call made time).message → IsSettled (served_call objects call made time).message
 unfolding served_call
-served_is_settled objects Query made time held = settled time (item_for Query (Supports supported (types.PublicKey ∷ types.PrivateKey ∷ []))) held (λ n. refl) (tt, tt, (tt, tt, (tt, tt, (tt, tt, (tt, tt, (tt, (refl, (tt, (tt, (tt, (tt, (tt, (tt, (tt, (tt, (tt, (tt, tt))))))))), (tt, (tt, (tt, tt)), (tt, tt, tt)))), (tt, tt, tt)))))))
+served_is_settled objects Query made time held = settled time (item_for Query (Supports supported_operations (types.PublicKey ∷ types.PrivateKey ∷ []))) held (λ n. refl) (tt, tt, (tt, tt, (tt, tt, (tt, tt, (tt, tt, (tt, (refl, (tt, (tt, (tt, (tt, (tt, (tt, (tt, (tt, (tt, (tt, tt))))))))), (tt, (tt, (tt, tt)), (tt, tt, tt)))), (tt, tt, tt)))))))
 served_is_settled objects (ActivateKey id) made time held = activatekey_settled time id (step objects (ActivateKey id) made).answer held
 served_is_settled objects (RevokeKey id) made time held = revokekey_settled time id (step objects (RevokeKey id) made).answer held
 served_is_settled objects (DestroyKey id) made time held = destroykey_settled time id (step objects (DestroyKey id) made).answer held

@@ -18,14 +18,14 @@ use Rattle.kmip_store.specs.declared.object.Object.{Object}
 use Rattle.kmip_served.specs.Items.{item_for, message_with}
 use Rattle.kmip_served.specs.Served.{Served, served_call}
 
-abbrev pub listed : {T : Type 0} → Option T → List T
-listed None = []
-listed (Some x) = x ∷ []
+abbrev pub list_of_option : {T : Type 0} → Option T → List T
+list_of_option None = []
+list_of_option (Some x) = x ∷ []
 
 -- a maker's lists grew by the question, and by the answer to it, where there is one
 pub record Took (question : Option Asked) (made : Option Made) (before after : MakerState) : Type 0 where
-  pub asked : after.asked ≡ before.asked ++ listed question
-  pub given : after.given ≡ before.given ++ listed made
+  pub asked : after.asked ≡ before.asked ++ list_of_option question
+  pub given : after.given ≡ before.given ++ list_of_option made
 
 -- The answer is one to the question: there is one exactly where there is a question, of the question's kind or a
 -- refusal. A maker that tells was asked the question and gave the answer, and nothing else.
@@ -67,13 +67,13 @@ refusal_of errors.CryptographicFailure = Some Failed
 refusal_of errors.OutOfMemory = None
 
 -- a result as the answer of a step; none where memory ran out
-abbrev pub told : {T : Type 0} → (T → Answer) → Result T StoreError → Option Answer
-told answer (Ok x) = Some (answer x)
-told answer (Err error) = refusal_of error
+abbrev pub answer_of : {T : Type 0} → (T → Answer) → Result T StoreError → Option Answer
+answer_of answer (Ok x) = Some (answer x)
+answer_of answer (Err error) = refusal_of error
 
 -- the item tells what a call of the store answered
 abbrev pub Tells : {T : Type 0} → (T → Answer) → Call → Result T StoreError → BatchItem → Type 0
-Tells answer call result item = option_map (item_for call) (told answer result) ≡ Some item
+Tells answer call result item = option_map (item_for call) (answer_of answer result) ≡ Some item
 
 -- ---- a helper's call
 
@@ -88,17 +88,17 @@ ServesAlone call time objects new result =
     (maker : MakerState) → Serves call time objects maker maker new result
 
 -- what a store answers to a call that changes an object, by whether it has the object, and its state allows the call
-abbrev pub foretold : (Object → Bool) → Option Object → Answer
-foretold allows None = NotFound
-foretold allows (Some object) = cond (allows object) Done Denied
+abbrev pub change_answer : (Object → Bool) → Option Object → Answer
+change_answer allows None = NotFound
+change_answer allows (Some object) = cond (allows object) Done Denied
 
 -- the response, unless the store lacked memory for what it tells
-abbrev pub responded : Result (Unit {0}) StoreError → List ℕ → Result (List ℕ) WireError
-responded (Err errors.OutOfMemory) response = Err OutOfMemory
-responded _ response = Ok response
+abbrev pub response_of : Result (Unit {0}) StoreError → List ℕ → Result (List ℕ) WireError
+response_of (Err errors.OutOfMemory) response = Err OutOfMemory
+response_of _ response = Ok response
 
 -- of the response that tells of a pair and the one that refuses it, the one that the store's answer wants
-abbrev pub chosen : Result (List ℕ × List ℕ) StoreError → List ℕ → List ℕ → Result (List ℕ) WireError
-chosen (Ok pair) made refused = Ok made
-chosen (Err errors.CryptographicFailure) made refused = Ok refused
-chosen (Err _) made refused = Err OutOfMemory
+abbrev pub response_of_pair : Result (List ℕ × List ℕ) StoreError → List ℕ → List ℕ → Result (List ℕ) WireError
+response_of_pair (Ok pair) made refused = Ok made
+response_of_pair (Err errors.CryptographicFailure) made refused = Ok refused
+response_of_pair (Err _) made refused = Err OutOfMemory

@@ -11,9 +11,9 @@ use Rattle.kmip_types.specs.TheCryptographicAlgorithm.{CryptographicAlgorithm}
 use Rattle.kmip_types.specs.TheKeyFormatType.{KeyFormatType}
 use Rattle.kmip_types.specs.TheKeyMaterial.{KeyMaterial}
 use Rattle.kmip_types.specs.declared.attribute_value.AttributeValue.TheVariants as values
-use Rattle.kmip_objects.specs.declared.attribute.Attribute.{Attribute}
-use Rattle.kmip_objects.specs.declared.key_block.KeyBlock.{KeyBlock}
-use Rattle.kmip_objects.specs.declared.managed_object.ManagedObject.{ManagedObject}
+use Rattle.kmip_response_objects.specs.declared.attribute.Attribute.{Attribute}
+use Rattle.kmip_response_objects.specs.declared.key_block.KeyBlock.{KeyBlock}
+use Rattle.kmip_response_objects.specs.declared.managed_object.ManagedObject.{ManagedObject}
 use Rattle.kmip_response.specs.declared.payload.ResponsePayload.{ResponsePayload}
 use Rattle.kmip_response.specs.declared.batch_item.BatchItem.{BatchItem}
 use Rattle.kmip_response.specs.declared.message.ResponseMessage.{ResponseMessage}

@@ -47,16 +47,16 @@ public_name None = []
 public_name (Some template) = first_name template.1
 
 -- the one call whose request may be this payload
-abbrev pub picked : RequestPayload → Option Call
-picked (payloads.Query functions) = Some Query
-picked (payloads.CreateKeyPair common private public) =
+abbrev pub candidate_call : RequestPayload → Option Call
+candidate_call (payloads.Query functions) = Some Query
+candidate_call (payloads.CreateKeyPair common private public) =
     Some (CreateRsaKeyPair (length_in common) (private_name private) (public_name public))
-picked (payloads.RNGRetrieve length) = Some (RngRetrieve length.0)
-picked (payloads.Sign id parameters contents) = Some (Sign (id_text id) contents.0)
-picked (payloads.Activate id) = Some (ActivateKey (id_text id))
-picked (payloads.Revoke id reason date) = Some (RevokeKey (id_text id))
-picked (payloads.Destroy id) = Some (DestroyKey (id_text id))
-picked (payloads.ModifyAttribute id attribute) =
+candidate_call (payloads.RNGRetrieve length) = Some (RngRetrieve length.0)
+candidate_call (payloads.Sign id parameters contents) = Some (Sign (id_text id) contents.0)
+candidate_call (payloads.Activate id) = Some (ActivateKey (id_text id))
+candidate_call (payloads.Revoke id reason date) = Some (RevokeKey (id_text id))
+candidate_call (payloads.Destroy id) = Some (DestroyKey (id_text id))
+candidate_call (payloads.ModifyAttribute id attribute) =
     Some (RenameKey (id_text id) (value_name attribute.2))
-picked (payloads.Get id format compression specification) = Some (GetKey (id_text id))
-picked _ = None
+candidate_call (payloads.Get id format compression specification) = Some (GetKey (id_text id))
+candidate_call _ = None

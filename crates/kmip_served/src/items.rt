@@ -3,7 +3,7 @@
 ghost use Rattle.std.specs.Prelude.{◌≡◌, ◌∷◌, [], ℕ, ℤ, List, Some, None, IfOk};
 ghost use Rattle.std.specs.Option.{option_map};
 ghost use Rattle.kmip_enums.specs.declared.object_type.ObjectType.TheVariants as types;
-ghost use Rattle.kmip_store.specs.Steps.{Supports, Created, Random, Signed, Done, step, supported};
+ghost use Rattle.kmip_store.specs.Steps.{Supports, Created, Random, Signed, Done, step, supported_operations};
 ghost use Rattle.kmip_store.specs.declared.call.Call.{Call};
 ghost use Rattle.kmip_store.specs.declared.call.Call.TheVariants as calls;
 ghost use Rattle.kmip_served.specs.Answering.{refusal_of, Tells};
@@ -26,7 +26,7 @@ use kmip_wire::{Blob, Boxed, List, OutOfMemory, Text, TryClone};
 use std::alloc::Global;
 
 /// An item that tells of a failure.
-pub fn failed(
+pub fn failure_item(
     alloc: Global,
     operation: Option<Operation>,
     reason: ResultReason,
@@ -46,7 +46,7 @@ pub fn failed(
 }
 
 /// An item that tells of a success.
-fn done(operation: Operation, payload: ResponsePayload) -> BatchItem
+fn success_item(operation: Operation, payload: ResponsePayload) -> BatchItem
     ensures { result ≡ done_item operation (Some payload) }
 {
     BatchItem {
@@ -70,19 +70,19 @@ pub fn refusal(
         option_map (item_for call) (refusal_of error) ≡ Some item) }
 {
     match error {
-        StoreError::ItemNotFound => failed(
+        StoreError::ItemNotFound => failure_item(
             alloc,
             Some(operation),
             ResultReason::ItemNotFound,
             "no such object",
         ),
-        StoreError::PermissionDenied => failed(
+        StoreError::PermissionDenied => failure_item(
             alloc,
             Some(operation),
             ResultReason::PermissionDenied,
             "not allowed in this state",
         ),
-        StoreError::CryptographicFailure => failed(
+        StoreError::CryptographicFailure => failure_item(
             alloc,
             Some(operation),
             ResultReason::CryptographicFailure,
@@ -94,7 +94,7 @@ pub fn refusal(
 
 /// The operations of the helpers.
 fn operations(alloc: Global) -> Result<List<Operation>, OutOfMemory>
-    ensures { IfOk result (λ operations. operations ≡ supported) }
+    ensures { IfOk result (λ operations. operations ≡ supported_operations) }
 {
     let mut operations = List::new(alloc);
     operations.push(Operation::CreateKeyPair)?;
@@ -123,7 +123,7 @@ fn object_types(alloc: Global) -> Result<List<ObjectType>, OutOfMemory>
 /// The item that tells what the server can do, and with which objects.
 pub fn query_item(alloc: Global) -> Result<BatchItem, OutOfMemory>
     ensures { IfOk result (λ item. item ≡ item_for calls.Query
-        (Supports supported (types.PublicKey ∷ types.PrivateKey ∷ []))) }
+        (Supports supported_operations (types.PublicKey ∷ types.PrivateKey ∷ []))) }
 {
     let payload = QueryResponsePayload {
         operations: Some(operations(alloc)?),
@@ -132,14 +132,14 @@ pub fn query_item(alloc: Global) -> Result<BatchItem, OutOfMemory>
         server_information: None,
     };
     let payload = Boxed::new(alloc, payload)?;
-    Ok(done(Operation::Query, ResponsePayload::Query(payload)))
+    Ok(success_item(Operation::Query, ResponsePayload::Query(payload)))
 }
 
 /// The item that tells the identifiers of a new pair.
 pub fn pair_item(private_id: Text, public_id: Text) -> BatchItem
     ensures { result ≡ pair_item (Created private_id public_id) }
 {
-    done(
+    success_item(
         Operation::CreateKeyPair,
         ResponsePayload::CreateKeyPair(CreateKeyPairResponsePayload {
             private_key_unique_identifier: UniqueIdentifier(private_id),
@@ -153,7 +153,7 @@ pub fn rng_item(alloc: Global, answer: Result<Blob, StoreError>) -> Result<Batch
     ensures { IfOk result (λ item. (n : ℤ) → Tells Random (calls.RngRetrieve n) answer item) }
 {
     match answer {
-        Ok(random_bytes) => Ok(done(
+        Ok(random_bytes) => Ok(success_item(
             Operation::RNGRetrieve,
             ResponsePayload::RNGRetrieve(RNGRetrieveResponsePayload { random_bytes }),
         )),
@@ -171,7 +171,7 @@ pub fn sign_item(
         Tells Signed (calls.Sign id.now contents) answer item) }
 {
     match answer {
-        Ok(signature_data) => Ok(done(
+        Ok(signature_data) => Ok(success_item(
             Operation::Sign,
             ResponsePayload::Sign(SignResponsePayload {
                 unique_identifier: UniqueIdentifier(id.try_clone(alloc)?),
@@ -183,7 +183,10 @@ pub fn sign_item(
 }
 
 /// A payload that names an object.
-fn named(alloc: Global, id: &Text) -> Result<UniqueIdentifierResponsePayload, OutOfMemory>
+fn identifier_payload(
+    alloc: Global,
+    id: &Text,
+) -> Result<UniqueIdentifierResponsePayload, OutOfMemory>
     ensures { IfOk result (λ payload.
         payload ≡ record { unique_identifier = record { 0 = id.now } }) }
 {
@@ -201,9 +204,9 @@ pub fn activate_item(
     ensures { IfOk result (λ item. Tells (λ _. Done) (calls.ActivateKey id.now) answer item) }
 {
     match answer {
-        Ok(()) => Ok(done(
+        Ok(()) => Ok(success_item(
             Operation::Activate,
-            ResponsePayload::Activate(named(alloc, id)?),
+            ResponsePayload::Activate(identifier_payload(alloc, id)?),
         )),
         Err(error) => refusal(alloc, Operation::Activate, error),
     }
@@ -218,9 +221,9 @@ pub fn revoke_item(
     ensures { IfOk result (λ item. Tells (λ _. Done) (calls.RevokeKey id.now) answer item) }
 {
     match answer {
-        Ok(()) => Ok(done(
+        Ok(()) => Ok(success_item(
             Operation::Revoke,
-            ResponsePayload::Revoke(named(alloc, id)?),
+            ResponsePayload::Revoke(identifier_payload(alloc, id)?),
         )),
         Err(error) => refusal(alloc, Operation::Revoke, error),
     }
@@ -235,9 +238,9 @@ pub fn destroy_item(
     ensures { IfOk result (λ item. Tells (λ _. Done) (calls.DestroyKey id.now) answer item) }
 {
     match answer {
-        Ok(()) => Ok(done(
+        Ok(()) => Ok(success_item(
             Operation::Destroy,
-            ResponsePayload::Destroy(named(alloc, id)?),
+            ResponsePayload::Destroy(identifier_payload(alloc, id)?),
         )),
         Err(error) => refusal(alloc, Operation::Destroy, error),
     }
@@ -273,7 +276,7 @@ pub fn rename_item(
                 unique_identifier: UniqueIdentifier(id.try_clone(alloc)?),
                 attribute: Boxed::new(alloc, name(alloc, new_name)?)?,
             };
-            Ok(done(
+            Ok(success_item(
                 Operation::ModifyAttribute,
                 ResponsePayload::ModifyAttribute(payload),
             ))
@@ -331,7 +334,7 @@ pub fn get_item(alloc: Global, store: &Store, id: &Text) -> Result<BatchItem, Ou
     match store.get_key(id.as_str()) {
         Ok(object) => {
             let payload = Boxed::new(alloc, key_payload(alloc, id, object)?)?;
-            Ok(done(Operation::Get, ResponsePayload::Get(payload)))
+            Ok(success_item(Operation::Get, ResponsePayload::Get(payload)))
         }
         Err(error) => refusal(alloc, Operation::Get, error),
     }

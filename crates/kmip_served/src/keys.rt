@@ -2,10 +2,10 @@
 
 ghost use Rattle.std.specs.Prelude.{◌≡◌, not, ◌||◌, Some, None, Ok, Err, cond};
 ghost use Rattle.std.specs.Option.{option_map};
-ghost use Rattle.kmip_store.specs.Objects.{found, object_of, is_pre_active, is_active, is_destroyed};
+ghost use Rattle.kmip_store.specs.Objects.{find_in, object_of, is_pre_active, is_active, is_destroyed};
 ghost use Rattle.kmip_store.specs.Steps.{Done, Denied};
 ghost use Rattle.kmip_store.specs.declared.call.Call.TheVariants as calls;
-ghost use Rattle.kmip_served.specs.Answering.{told, foretold, responded, ServesAlone};
+ghost use Rattle.kmip_served.specs.Answering.{answer_of, change_answer, response_of, ServesAlone};
 
 use crate::items::{activate_item, destroy_item, rename_item, revoke_item};
 use crate::stamp::Stamp;
@@ -13,8 +13,8 @@ use kmip_store::{Store, StoreError};
 use kmip_wire::{Blob, Text, WireError};
 
 /// What the store will answer where it has the object.
-fn permitted(allowed: bool) -> Result<(), StoreError>
-    ensures { told (λ _. Done) result ≡ Some (cond allowed Done Denied) }
+fn permission(allowed: bool) -> Result<(), StoreError>
+    ensures { answer_of (λ _. Done) result ≡ Some (cond allowed Done Denied) }
 {
     if allowed {
         Ok(())
@@ -25,53 +25,53 @@ fn permitted(allowed: bool) -> Result<(), StoreError>
 
 /// What the store will answer to a call that makes the object Active.
 fn activates(store: &Store, id: &str) -> Result<(), StoreError>
-    ensures { told (λ _. Done) result ≡ Some (foretold (λ object. is_pre_active object.state)
-        (option_map object_of (found store.now id.now))) }
+    ensures { answer_of (λ _. Done) result ≡ Some (change_answer (λ object. is_pre_active object.state)
+        (option_map object_of (find_in store.now id.now))) }
 {
     match store.find(id) {
-        Some(object) => permitted(object.is_pre_active()),
+        Some(object) => permission(object.is_pre_active()),
         None => Err(StoreError::ItemNotFound),
     }
 }
 
 /// What the store will answer to a call that makes the object Deactivated.
 fn revokes(store: &Store, id: &str) -> Result<(), StoreError>
-    ensures { told (λ _. Done) result ≡ Some (foretold (λ object. is_active object.state)
-        (option_map object_of (found store.now id.now))) }
+    ensures { answer_of (λ _. Done) result ≡ Some (change_answer (λ object. is_active object.state)
+        (option_map object_of (find_in store.now id.now))) }
 {
     match store.find(id) {
-        Some(object) => permitted(object.is_active()),
+        Some(object) => permission(object.is_active()),
         None => Err(StoreError::ItemNotFound),
     }
 }
 
 /// What the store will answer to a call that makes the object Destroyed.
 fn destroys(store: &Store, id: &str) -> Result<(), StoreError>
-    ensures { told (λ _. Done) result ≡ Some (foretold
+    ensures { answer_of (λ _. Done) result ≡ Some (change_answer
         (λ object. not (is_active object.state || is_destroyed object.state))
-        (option_map object_of (found store.now id.now))) }
+        (option_map object_of (find_in store.now id.now))) }
 {
     match store.find(id) {
-        Some(object) => permitted(!(object.is_active() || object.is_destroyed())),
+        Some(object) => permission(!(object.is_active() || object.is_destroyed())),
         None => Err(StoreError::ItemNotFound),
     }
 }
 
 /// What the store will answer to a call that gives the object another name, memory aside.
 fn renames(store: &Store, id: &str) -> Result<(), StoreError>
-    ensures { told (λ _. Done) result ≡ Some (foretold
+    ensures { answer_of (λ _. Done) result ≡ Some (change_answer
         (λ object. not (is_destroyed object.state))
-        (option_map object_of (found store.now id.now))) }
+        (option_map object_of (find_in store.now id.now))) }
 {
     match store.find(id) {
-        Some(object) => permitted(!object.is_destroyed()),
+        Some(object) => permission(!object.is_destroyed()),
         None => Err(StoreError::ItemNotFound),
     }
 }
 
 /// The response, unless the store lacked memory for what it tells.
 fn respond(answer: Result<(), StoreError>, response: Blob) -> Result<Blob, WireError>
-    ensures { result ≡ responded answer response }
+    ensures { result ≡ response_of answer response }
 {
     match answer {
         Err(StoreError::OutOfMemory) => Err(WireError::OutOfMemory),

@@ -5,10 +5,10 @@ ghost use Rattle.kmip_store.specs.Makers.{MakerKeeps};
 ghost use Rattle.kmip_store.specs.Objects.{identifier};
 ghost use Rattle.kmip_store.specs.Steps.{Created, Failed};
 ghost use Rattle.kmip_store.specs.declared.call.Call.TheVariants.{CreateRsaKeyPair};
-ghost use Rattle.kmip_served.specs.Answering.{Serves, IsTold, chosen};
+ghost use Rattle.kmip_served.specs.Answering.{Serves, IsTold, response_of_pair};
 ghost use Rattle.kmip_served.specs.Items.{pair_item as item_of_pair};
 
-use crate::items::{failed, pair_item};
+use crate::items::{failure_item, pair_item};
 use crate::stamp::Stamp;
 use kmip_enums::{Operation, ResultReason};
 use kmip_response::BatchItem;
@@ -28,7 +28,7 @@ fn tell(stamp: &Stamp, item: BatchItem) -> Result<Blob, OutOfMemory>
 }
 
 /// The bytes of the response that tells the identifiers of the next pair.
-fn created(stamp: &Stamp, store: &Store) -> Result<Blob, OutOfMemory>
+fn created_bytes(stamp: &Stamp, store: &Store) -> Result<Blob, OutOfMemory>
     ensures { IfOk result (λ bytes. IsTold stamp.now.time (item_of_pair
         (Created (identifier (length store.now)) (identifier (length store.now + 1)))) bytes) }
 {
@@ -42,10 +42,10 @@ fn created(stamp: &Stamp, store: &Store) -> Result<Blob, OutOfMemory>
 }
 
 /// The bytes of the response that refuses a pair.
-fn refused(stamp: &Stamp) -> Result<Blob, OutOfMemory>
+fn refusal_bytes(stamp: &Stamp) -> Result<Blob, OutOfMemory>
     ensures { IfOk result (λ bytes. IsTold stamp.now.time (item_of_pair Failed) bytes) }
 {
-    let item = failed(
+    let item = failure_item(
         stamp.alloc,
         Some(Operation::CreateKeyPair),
         ResultReason::CryptographicFailure,
@@ -60,7 +60,7 @@ fn choose(
     created: Blob,
     refused: Blob,
 ) -> Result<Blob, WireError>
-    ensures { result ≡ chosen answer created refused }
+    ensures { result ≡ response_of_pair answer created refused }
 {
     match answer {
         Ok(_) => Ok(created),
@@ -83,8 +83,8 @@ pub fn create<M: Maker>(
         stamp.now.time store.old (M.state maker.old) (M.state maker.new) store.new result }
     ensures keeps { MakerKeeps (M.state maker.old) (M.state maker.new) }
 {
-    let created = created(stamp, store)?;
-    let refused = refused(stamp)?;
+    let created = created_bytes(stamp, store)?;
+    let refused = refusal_bytes(stamp)?;
     let answer = store.create_rsa_key_pair(
         maker,
         key_length,

@@ -3,7 +3,7 @@
 ghost use Rattle.std.specs.Prelude.{◌≡◌, Some, IfOk};
 ghost use Rattle.kmip_request.specs.Message.{request_bytes};
 ghost use Rattle.kmip_request_read.specs.Reading.{request_for, request_read};
-ghost use Rattle.kmip_served.specs.Picked.{id_text, value_name, value_number, first_name, second_number, length_in, private_name, public_name, picked};
+ghost use Rattle.kmip_served.specs.Picked.{id_text, value_name, value_number, first_name, second_number, length_in, private_name, public_name, candidate_call};
 ghost use Rattle.kmip_served.specs.Requests as calls;
 
 use crate::own::is_made_by;
@@ -110,8 +110,8 @@ fn key_length(template: &Option<CommonTemplateAttribute>) -> i32
 }
 
 /// The one call whose request may be this payload.
-fn picked(alloc: Global, payload: &RequestPayload) -> Result<Option<Call>, OutOfMemory>
-    ensures { IfOk result (λ found. found ≡ picked payload.now) }
+fn candidate_call(alloc: Global, payload: &RequestPayload) -> Result<Option<Call>, OutOfMemory>
+    ensures { IfOk result (λ found. found ≡ candidate_call payload.now) }
 {
     let call = match payload {
         RequestPayload::Query(_) => Call::Query,
@@ -154,7 +154,7 @@ pub fn call_of(
     requires written { request_bytes payload.now credential ≡ Some bytes.now }
     ensures { IfOk result (λ found. found ≡ calls.call_of (request_for payload.now)) }
 {
-    let found = picked(alloc, payload)?;
+    let found = candidate_call(alloc, payload)?;
     match found {
         Some(call) => {
             let same = is_made_by(alloc, &call, credential, bytes)?;

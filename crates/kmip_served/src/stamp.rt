@@ -4,7 +4,7 @@ ghost use Rattle.kmip_served.specs.Answering.{IsWritten};
 ghost use Rattle.kmip_served.specs.Items.{minor_of, message_with, failed_item};
 ghost use Rattle.std.specs.Prelude.{◌≡◌};
 
-use crate::items::failed;
+use crate::items::failure_item;
 use kmip_enums::{Operation, ResultReason};
 use kmip_response::{BatchItem, ProtocolVersion, ResponseHeader, ResponseMessage};
 use kmip_response_write::to_vec;
@@ -66,7 +66,7 @@ impl Stamp {
         ensures { IsWritten (message_with self.now.time
             (failed_item operation reason text.now)) result }
     {
-        let item = failed(self.alloc, operation, reason, text)?;
+        let item = failure_item(self.alloc, operation, reason, text)?;
         self.write(item)
     }
 }

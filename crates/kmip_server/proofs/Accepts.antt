@@ -11,10 +11,10 @@ use Rattle.kmip_store.specs.declared.object.Object.{Object}
 use Rattle.kmip_store.specs.declared.maker.Made.{Made}
 use Rattle.kmip_store.specs.declared.maker.Asked.{Asked}
 use Rattle.kmip_store.specs.Makers.{MakerState}
-use Rattle.kmip_served.specs.Answering.{listed, Took, AnswersBy, answered, no_form, no_memory}
+use Rattle.kmip_served.specs.Answering.{list_of_option, Took, AnswersBy, answered, no_form, no_memory}
 use Rattle.kmip_store.specs.Answers.{suits}
 use Rattle.kmip_served.specs.Served.{Served, served, asks}
-use Rattle.kmip_server.specs.Split.{Split, is_message, took, nothing_sent, split, Takes}
+use Rattle.kmip_server.specs.Split.{Split, is_message, took, nothing_sent, messages_in, Takes}
 use Rattle.kmip_server.specs.Machine.{Run, first_for, rest_for, then_bytes, serve, fresh, run_of}
 use Rattle.kmip_server.specs.Serving.{IsHeldTo, AreHeld}
 use Rattle.kmip_served.specs.State.{ServerState, Answers}
@@ -45,28 +45,28 @@ accepted_as ever ever' more sent sent' begun bytes message whole t sent_is ever_
     }
 
 -- what was sent, split, after a write
-split_on : (sent begun bytes message : List ℕ) (whole : Bool) (t : Takes begun bytes message whole) → begun ≡ (split sent).begun →
-    split (sent ++ take t.n bytes) ≡ fold took (record { whole = (split sent).whole; begun = begun }) (take t.n bytes)
-unfolding split
+split_on : (sent begun bytes message : List ℕ) (whole : Bool) (t : Takes begun bytes message whole) → begun ≡ (messages_in sent).begun →
+    messages_in (sent ++ take t.n bytes) ≡ fold took (record { whole = (messages_in sent).whole; begun = begun }) (take t.n bytes)
+unfolding messages_in
 split_on sent begun bytes message whole t is =
     fold-append took nothing_sent sent (take t.n bytes)
     ∙ ap (λ (b : List ℕ). fold took (record { whole = (fold took nothing_sent sent).whole; begun = b }) (take t.n bytes)) (sym is)
 
-pub split_begun : (sent begun bytes message : List ℕ) (t : Takes begun bytes message false) → begun ≡ (split sent).begun →
-    split (sent ++ take t.n bytes) ≡ record { whole = (split sent).whole; begun = message }
-split_begun sent begun bytes message t is = split_on sent begun bytes message false t is ∙ t.split_is (split sent).whole
+pub split_begun : (sent begun bytes message : List ℕ) (t : Takes begun bytes message false) → begun ≡ (messages_in sent).begun →
+    messages_in (sent ++ take t.n bytes) ≡ record { whole = (messages_in sent).whole; begun = message }
+split_begun sent begun bytes message t is = split_on sent begun bytes message false t is ∙ t.split_is (messages_in sent).whole
 
-pub split_whole : (sent begun bytes message : List ℕ) (t : Takes begun bytes message true) → begun ≡ (split sent).begun →
-    split (sent ++ take t.n bytes) ≡ record { whole = (split sent).whole ++ message ∷ []; begun = [] }
-split_whole sent begun bytes message t is = split_on sent begun bytes message true t is ∙ t.split_is (split sent).whole
+pub split_whole : (sent begun bytes message : List ℕ) (t : Takes begun bytes message true) → begun ≡ (messages_in sent).begun →
+    messages_in (sent ++ take t.n bytes) ≡ record { whole = (messages_in sent).whole ++ message ∷ []; begun = [] }
+split_whole sent begun bytes message t is = split_on sent begun bytes message true t is ∙ t.split_is (messages_in sent).whole
 
-first_is : (q : Option Asked) (made : Option Made) (more : List Made) → suits q made ≡ true → first_for q (listed made ++ more) ≡ made
+first_is : (q : Option Asked) (made : Option Made) (more : List Made) → suits q made ≡ true → first_for q (list_of_option made ++ more) ≡ made
 first_is None None more h = refl
 first_is None (Some a) more h = absurd (cc)
 first_is (Some q) None more h = absurd (cc)
 first_is (Some q) (Some a) more h = refl
 
-rest_is : (q : Option Asked) (made : Option Made) (more : List Made) → suits q made ≡ true → rest_for q (listed made ++ more) ≡ more
+rest_is : (q : Option Asked) (made : Option Made) (more : List Made) → suits q made ≡ true → rest_for q (list_of_option made ++ more) ≡ more
 rest_is None None more h = refl
 rest_is None (Some a) more h = absurd (cc)
 rest_is (Some q) None more h = absurd (cc)
@@ -78,20 +78,20 @@ same_run o o' e e' a a' g g' p q r s = rw (p, q, r, s) refl
 
 -- a message more was served
 pub served_on : (t : ℤ) (objects objects' : List Object) (maker maker' : MakerState) (ever sent begun bytes message response : List ℕ) (takes : Takes begun bytes message true) (made : Option Made) →
-    begun ≡ (split sent).begun → IsServed t objects maker ever sent → suits (asks objects message) made ≡ true → Took (asks objects message) made maker maker' →
+    begun ≡ (messages_in sent).begun → IsServed t objects maker ever sent → suits (asks objects message) made ≡ true → Took (asks objects message) made maker maker' →
     response_bytes (served objects message made t).message ≡ Some response → objects' ≡ (served objects message made t).objects →
     IsServed t objects' maker' (ever ++ response) (sent ++ take takes.n bytes)
 unfolding serve
 served_on t objects objects' maker maker' ever sent begun bytes message response takes made is held kind took' formed objects_is more =
     let q : Option Asked = asks objects message in
-    let w : List (List ℕ) = (split sent).whole in
-    let first : first_for q (listed made ++ more) ≡ made = first_is q made more kind in
-    let givens : maker'.given ++ more ≡ maker.given ++ (listed made ++ more) = ap (λ l. l ++ more) took'.given ∙ append_assoc maker.given (listed made) more in
-    let before : Run = record { objects = objects; ever = Some ever; asked = maker.asked; given = listed made ++ more } in
+    let w : List (List ℕ) = (messages_in sent).whole in
+    let first : first_for q (list_of_option made ++ more) ≡ made = first_is q made more kind in
+    let givens : maker'.given ++ more ≡ maker.given ++ (list_of_option made ++ more) = ap (λ l. l ++ more) took'.given ∙ append_assoc maker.given (list_of_option made) more in
+    let before : Run = record { objects = objects; ever = Some ever; asked = maker.asked; given = list_of_option made ++ more } in
     ap (λ (s : Split). run_of t (maker'.given ++ more) s.whole) (split_whole sent begun bytes message takes is)
     ∙ ap (λ l. run_of t l (w ++ message ∷ [])) givens
-    ∙ run_on t (maker.given ++ (listed made ++ more)) w message
-    ∙ ap (λ (r : Run). serve t r message) (held (listed made ++ more))
+    ∙ run_on t (maker.given ++ (list_of_option made ++ more)) w message
+    ∙ ap (λ (r : Run). serve t r message) (held (list_of_option made ++ more))
     ∙ same_run _ _ _ _ _ _ _ _
     (ap (λ m. (served objects message m t).objects) first ∙ sym objects_is)
     (ap (λ m. then_bytes (Some ever) (response_bytes (served objects message m t).message)) first ∙ ap (then_bytes (Some ever)) formed)
@@ -100,23 +100,23 @@ served_on t objects objects' maker maker' ever sent begun bytes message response
 
 -- and its response is a message that Rust can hold
 held_served : (t : ℤ) (objects : List Object) (maker maker' : MakerState) (ever sent begun bytes message : List ℕ) (takes : Takes begun bytes message true) (made : Option Made) →
-    begun ≡ (split sent).begun → Serves t objects maker ever sent → suits (asks objects message) made ≡ true → Took (asks objects message) made maker maker' →
-    IsHeldResponse (served objects message made t).message → (more : List Made) → AreHeld t (fresh (maker'.given ++ more)) (split (sent ++ take takes.n bytes)).whole
+    begun ≡ (messages_in sent).begun → Serves t objects maker ever sent → suits (asks objects message) made ≡ true → Took (asks objects message) made maker maker' →
+    IsHeldResponse (served objects message made t).message → (more : List Made) → AreHeld t (fresh (maker'.given ++ more)) (messages_in (sent ++ take takes.n bytes)).whole
 held_served t objects maker maker' ever sent begun bytes message takes made is serves kind took' holds more =
     let q : Option Asked = asks objects message in
-    let w : List (List ℕ) = (split sent).whole in
-    let later : List Made = listed made ++ more in
+    let w : List (List ℕ) = (messages_in sent).whole in
+    let later : List Made = list_of_option made ++ more in
     let before : Run = record { objects = objects; ever = Some ever; asked = maker.asked; given = later } in
     let first : first_for q later ≡ made = first_is q made more kind in
-    let givens : maker'.given ++ more ≡ maker.given ++ later = ap (λ l. l ++ more) took'.given ∙ append_assoc maker.given (listed made) more in
+    let givens : maker'.given ++ more ≡ maker.given ++ later = ap (λ l. l ++ more) took'.given ∙ append_assoc maker.given (list_of_option made) more in
     let one : IsHeldTo t before message = λ response formed. subst (λ m. IsHeldResponse (served objects message m t).message) (sym first) holds in
     let one' : IsHeldTo t (run_of t (maker.given ++ later) w) message = subst (λ (r : Run). IsHeldTo t r message) (sym (serves.run later)) one in
     let all : AreHeld t (fresh (maker.given ++ later)) (w ++ message ∷ []) = held_on t (maker.given ++ later) w message (serves.held later) one' in
-    subst (λ l. AreHeld t (fresh l) (split (sent ++ take takes.n bytes)).whole) (sym givens)
+    subst (λ l. AreHeld t (fresh l) (messages_in (sent ++ take takes.n bytes)).whole) (sym givens)
     (subst (λ (s : Split). AreHeld t (fresh (maker.given ++ later)) s.whole) (sym (split_whole sent begun bytes message takes is)) all)
 
 pub serves_on : (t : ℤ) (objects objects' : List Object) (maker maker' : MakerState) (ever sent begun bytes message response : List ℕ) (takes : Takes begun bytes message true) (made : Option Made) →
-    begun ≡ (split sent).begun → Serves t objects maker ever sent → suits (asks objects message) made ≡ true → Took (asks objects message) made maker maker' →
+    begun ≡ (messages_in sent).begun → Serves t objects maker ever sent → suits (asks objects message) made ≡ true → Took (asks objects message) made maker maker' →
     response_bytes (served objects message made t).message ≡ Some response → IsHeldResponse (served objects message made t).message → objects' ≡ (served objects message made t).objects →
     Serves t objects' maker' (ever ++ response) (sent ++ take takes.n bytes)
 serves_on t objects objects' maker maker' ever sent begun bytes message response takes made is serves kind took' formed holds objects_is = record {
@@ -130,12 +130,12 @@ alone (x ∷ xs) = ap (λ l. x ∷ l) (alone xs)
 
 -- a message came whose response has no wire form
 pub cut_on : (t : ℤ) (objects objects' : List Object) (maker maker' : MakerState) (ever sent begun bytes message : List ℕ) (takes : Takes begun bytes message true) (made : Option Made) →
-    begun ≡ (split sent).begun → Serves t objects maker ever sent → suits (asks objects message) made ≡ true → Took (asks objects message) made maker maker' →
+    begun ≡ (messages_in sent).begun → Serves t objects maker ever sent → suits (asks objects message) made ≡ true → Took (asks objects message) made maker maker' →
     response_bytes (served objects message made t).message ≡ None → objects' ≡ objects → IsCut t objects' maker' ever sent message
 cut_on t objects objects' maker maker' ever sent begun bytes message takes made is serves kind took' none objects_is =
     let q : Option Asked = asks objects message in
-    let w : List (List ℕ) = (split sent).whole in
-    let later : List Made = listed made in
+    let w : List (List ℕ) = (messages_in sent).whole in
+    let later : List Made = list_of_option made in
     let given : maker'.given ≡ maker.given ++ later = took'.given in
     let plus : later ++ [] ≡ later = alone later in
     let first : first_for q later ≡ made = ap (first_for q) (sym plus) ∙ first_is q made [] kind in
@@ -160,9 +160,9 @@ cut_on t objects objects' maker maker' ever sent begun bytes message takes made 
 
 -- a part of a message more was sent
 pub begun_on : (t : ℤ) (objects : List Object) (maker : MakerState) (ever sent begun bytes message : List ℕ) (takes : Takes begun bytes message false) →
-    begun ≡ (split sent).begun → Serves t objects maker ever sent → Serves t objects maker ever (sent ++ take takes.n bytes)
+    begun ≡ (messages_in sent).begun → Serves t objects maker ever sent → Serves t objects maker ever (sent ++ take takes.n bytes)
 begun_on t objects maker ever sent begun bytes message takes is serves =
-    let same : (split (sent ++ take takes.n bytes)).whole ≡ (split sent).whole = ap (λ (s : Split). s.whole) (split_begun sent begun bytes message takes is) in
+    let same : (messages_in (sent ++ take takes.n bytes)).whole ≡ (messages_in sent).whole = ap (λ (s : Split). s.whole) (split_begun sent begun bytes message takes is) in
     record {
       run = λ more. ap (run_of t (maker.given ++ more)) same ∙ serves.run more;
       held = λ more. subst (AreHeld t (fresh (maker.given ++ more))) (sym same) (serves.held more);
@@ -172,9 +172,9 @@ begun_on t objects maker ever sent begun bytes message takes is serves =
 
 -- where the message is not whole
 pub not_whole : (sent sent' begun bytes message : List ℕ) (whole : Bool) → Takes begun bytes message whole → whole ≡ false → sent' ≡ sent ++ take (length message - length begun) bytes →
-    begun ≡ (split sent).begun → split sent' ≡ record { whole = (split sent).whole; begun = message }
+    begun ≡ (messages_in sent).begun → messages_in sent' ≡ record { whole = (messages_in sent).whole; begun = message }
 not_whole sent sent' begun bytes message false takes not sent_is is =
-    ap split (sent_is ∙ ap (λ n. sent ++ take n bytes) (count_is begun bytes message false takes)) ∙ split_begun sent begun bytes message takes is
+    ap messages_in (sent_is ∙ ap (λ n. sent ++ take n bytes) (count_is begun bytes message false takes)) ∙ split_begun sent begun bytes message takes is
 not_whole sent sent' begun bytes message true takes not sent_is is = absurd (let e : true ≡ false = not in cc)
 
 pub held_not_whole : {M : Type 0} (state : M → MakerState) (server : ServerState M) (ever sent sent' begun bytes message : List ℕ) (whole : Bool) → Takes begun bytes message whole → whole ≡ false →
@@ -190,9 +190,9 @@ held_not_whole state server ever sent sent' begun bytes message true takes not s
 
 -- where it is whole
 pub is_whole : (sent sent' begun bytes message : List ℕ) (whole : Bool) → Takes begun bytes message whole → whole ≡ true → sent' ≡ sent ++ take (length message - length begun) bytes →
-    begun ≡ (split sent).begun → split sent' ≡ record { whole = (split sent).whole ++ message ∷ []; begun = [] }
+    begun ≡ (messages_in sent).begun → messages_in sent' ≡ record { whole = (messages_in sent).whole ++ message ∷ []; begun = [] }
 is_whole sent sent' begun bytes message true takes not sent_is is =
-    ap split (sent_is ∙ ap (λ n. sent ++ take n bytes) (count_is begun bytes message true takes)) ∙ split_whole sent begun bytes message takes is
+    ap messages_in (sent_is ∙ ap (λ n. sent ++ take n bytes) (count_is begun bytes message true takes)) ∙ split_whole sent begun bytes message takes is
 is_whole sent sent' begun bytes message false takes not sent_is is = absurd (let e : false ≡ true = not in cc)
 
 -- the answer that a server gave
@@ -247,18 +247,18 @@ cut_whole state server server' ever sent begun bytes message false takes not tim
 -- ---- the rules of a write
 
 pub did_not_whole : {M : Type 0} (state : M → MakerState) (server : ServerState M) (ever sent sent' begun bytes message : List ℕ) (whole : Bool) (n : ℕ) → Takes begun bytes message whole → whole ≡ false → n ≡ length message - length begun →
-    sent' ≡ sent ++ take (length message - length begun) bytes → begun ≡ (split sent).begun → Did state server server ever ever sent sent' bytes (Ok n)
+    sent' ≡ sent ++ take (length message - length begun) bytes → begun ≡ (messages_in sent).begun → Did state server server ever ever sent sent' bytes (Ok n)
 did_not_whole state server ever sent sent' begun bytes message whole n takes not count sent_is is =
     Did.goes_on n refl (count ∙ count_is begun bytes message whole takes ∙ takes.all not) (ap (λ (s : Split). s.whole) (not_whole sent sent' begun bytes message whole takes not sent_is is)) refl refl
 
 pub did_whole : {M : Type 0} (state : M → MakerState) (server server' : ServerState M) (ever ever' sent sent' begun bytes message response : List ℕ) (whole : Bool) (n : ℕ) → Takes begun bytes message whole → whole ≡ true →
-    sent' ≡ sent ++ take (length message - length begun) bytes → begun ≡ (split sent).begun → Answers state server server' message (Ok response) → ever' ≡ ever ++ response →
+    sent' ≡ sent ++ take (length message - length begun) bytes → begun ≡ (messages_in sent).begun → Answers state server server' message (Ok response) → ever' ≡ ever ++ response →
     Did state server server' ever ever' sent sent' bytes (Ok n)
 did_whole state server server' ever ever' sent sent' begun bytes message response whole n takes so sent_is is answers ever_is =
     Did.ends n message response refl (is_whole sent sent' begun bytes message whole takes so sent_is is) answers ever_is
 
 pub did_formless : {M : Type 0} (state : M → MakerState) (server server' : ServerState M) (ever ever' sent sent' begun bytes message : List ℕ) (whole : Bool) (refusal : Refusal) → Takes begun bytes message whole → whole ≡ true →
-    begun ≡ (split sent).begun → kept_in refusal ≡ message → is_memory refusal ≡ false → Answers state server server' message (Err NoForm) →
+    begun ≡ (messages_in sent).begun → kept_in refusal ≡ message → is_memory refusal ≡ false → Answers state server server' message (Err NoForm) →
     Did state server server' ever ever' sent sent' bytes (Err refusal)
 did_formless state server server' ever ever' sent sent' begun bytes message whole refusal takes so is kept kind answers =
     Did.formless takes.n refusal refl (ap is_message kept ∙ (takes.ends so).1) (kept ∙ takes.is ∙ ap (λ (b : List ℕ). b ++ take takes.n bytes) is)

@@ -2,7 +2,7 @@
 use Rattle.std.proofs.Common.{◌≡◌, ℕ, ℤ, pos, not, ◌+◌, ◌<◌, ◌≤◌, List, [], ◌∷◌, ◌++◌, length, take, drop, refl, ◌∙◌, ap, sym, subst, arith, Option, Some, None, Bool, true, false, cond, Result, Ok, Err, IsTrue, codes}
 use Rattle.std.proofs.Math.Seq.{drop-append_seam}
 use Rattle.kmip_shape.specs.Val.{Val, Vals, NoVal, AndVal}
-use Rattle.kmip_server.specs.Split.{IsMessage, Split, split}
+use Rattle.kmip_server.specs.Split.{IsMessage, Split, messages_in}
 use Rattle.kmip_wire.specs.Tree.{Tree}
 use Rattle.kmip_request.specs.Message.{request_bytes, operation_of}
 use Rattle.kmip_request_read.specs.Reading.{request_read, request_for}
@@ -28,12 +28,12 @@ use Rattle.kmip_store.specs.declared.object.Object.{Object}
 use Rattle.kmip_store.specs.declared.maker.Made.{Made}
 use Rattle.kmip_store.specs.declared.maker.Asked.{Asked}
 use Rattle.kmip_store.specs.Makers.{MakerState}
-use Rattle.kmip_served.specs.Answering.{listed}
+use Rattle.kmip_served.specs.Answering.{list_of_option}
 use Rattle.kmip_served.specs.Served.{Served, served, served_request, asks, asks_request}
 use Rattle.kmip_served.specs.Requests.{request_of}
 use Rattle.kmip_server.specs.Machine.{Run, first_for, rest_for, then_bytes, serve, fresh, run_of}
 use Rattle.kmip_server.specs.Serving.{AreHeld}
-use Rattle.kmip_server.specs.Joined.{Settings, Between, CallTold, IsReadBack, Next, next, helped, IsUnsent}
+use Rattle.kmip_server.specs.Joined.{Settings, Between, CallTold, IsReadBack, Next, next, helper_answer, IsUnsent}
 use Rattle.kmip_server.specs.Link.{ServerLinkState, server_link_state, IsCut, IsKnown, IsOpen}
 use Rattle.kmip_server.specs.Came.{between, standing, Agrees, WasCut, IsCalled, IsRequestOf, fails_writing}
 use Rattle.kmip_server.specs.Calls.{settings_of}
@@ -154,12 +154,12 @@ append_none (x ∷ xs) = ap (λ l. x ∷ l) (append_none xs)
 unsent_of : (settings : Settings) (call : Call) (before after : LinkState) (answer : Answer) (a b : Option (List ℕ)) (request : Option (List ℕ)) (broke : Broke request before after answer) →
     IsRequestText settings.buffered request answer a → ((taken : List ℕ) → IsResponseText settings.buffered taken answer b → b ≡ None) → (taken : List ℕ) → IsResponseText settings.buffered taken answer b →
     (answer ≡ Err (RequestWriteError (codes "link failed")) → a ≡ diagnostic_of settings.buffered request) →
-    IsUnsent settings broke.bytes (code_told before after (helped call answer) a b)
+    IsUnsent settings broke.bytes (code_told before after (helper_answer call answer) a b)
 unsent_of settings call before after answer a b request broke p none taken q text = record {
   n = broke.n;
   part = broke.part;
   sent = ap (λ l. drop (length before.sent) l) broke.moves.sent_is ∙ drop-append_seam before.sent (take broke.n broke.bytes);
-  answer = ap (helped call) broke.answer_is;
+  answer = ap (helper_answer call) broke.answer_is;
   request_text = text broke.answer_is ∙ ap (diagnostic_of settings.buffered) broke.valid;
   response_text = none taken q;
 }
@@ -178,12 +178,12 @@ pub cut_of : AreMessages → AreRequests → {M : Type 0} (state : M → MakerSt
 cut_of responses requests state settings call before after told b n valid reads part moves ready faults kept_is cut unsent =
     let t : ℤ = settings.time in
     let given : List Made = (state after.server.maker).given in
-    let w : List (List ℕ) = (split before.sent).whole in
+    let w : List (List ℕ) = (messages_in before.sent).whole in
     let run : Run = run_of t given w in
     let more : List ℕ = moves.ever.more in
-    let split_is : split after.sent ≡ with_begun w (take n b) = ap split moves.sent_is ∙ split_part before.sent b n ready.whole (requests (request_of call) settings.credential b valid) part in
-    let wholes : (split after.sent).whole ≡ w = ap (λ (s : Split). s.whole) split_is in
-    let runs : run_of t given (split after.sent).whole ≡ run = ap (run_of t given) wholes in
+    let split_is : messages_in after.sent ≡ with_begun w (take n b) = ap messages_in moves.sent_is ∙ split_part before.sent b n ready.whole (requests (request_of call) settings.credential b valid) part in
+    let wholes : (messages_in after.sent).whole ≡ w = ap (λ (s : Split). s.whole) split_is in
+    let runs : run_of t given (messages_in after.sent).whole ≡ run = ap (run_of t given) wholes in
     let ever : run.ever ≡ Some after.ever = ap (λ (r : Run). r.ever) (sym runs) ∙ cut.ever_is in
     let same : before.ever ≡ after.ever =
     same_frames (length w) before.ever after.ever more [] (run_framed responses t ready.given w before.ever ready.agrees.ever) (run_framed responses t given w after.ever ever)
@@ -195,8 +195,8 @@ cut_of responses requests state settings call before after told b n valid reads 
     let asked_same : asks run.objects after.kept ≡ asks run.objects b = asks_same run.objects b after.kept reads_same in
     let givens : rest_for (asks run.objects b) run.given ≡ [] =
     ap (λ q. rest_for q run.given) (sym asked_same) ∙ sym (serve_given t run after.kept) ∙ ap (λ (r : Run). (serve t r after.kept).given) (sym runs) ∙ cut.given in
-    let askeds : run.asked ++ listed (asks run.objects b) ≡ (state after.server.maker).asked =
-    ap (λ q. run.asked ++ listed q) (sym asked_same) ∙ sym (serve_asked t run after.kept) ∙ ap (λ (r : Run). (serve t r after.kept).asked) (sym runs) ∙ cut.asked in
+    let askeds : run.asked ++ list_of_option (asks run.objects b) ≡ (state after.server.maker).asked =
+    ap (λ q. run.asked ++ list_of_option q) (sym asked_same) ∙ sym (serve_asked t run after.kept) ∙ ap (λ (r : Run). (serve t r after.kept).asked) (sym runs) ∙ cut.asked in
     let objects : run.objects ≡ after.server.objects = ap (λ (r : Run). r.objects) (sym runs) ∙ cut.objects_are in
     let stays : after.pos ≡ before.pos = let e : after.pos ≡ before.pos + 0 = moves.pos in omega (arith, e) in
     let rest : left before ≡ left (server_link_state state after) = ap (λ l. drop before.pos l) same ∙ ap (λ p. drop p after.ever) (sym stays) in
@@ -221,7 +221,7 @@ pub cut_called : AreMessages → AreRequests → {M : Type 0} (state : M → Mak
     IsCall (server_link_state state) (request_of call) before after answer → fails_writing answer ≡ true → IsOpen state before.link → IsKnown state before.link → IsKnown state after.link →
     after.link.starved ≡ false → 0 < after.link.faults → IsRequestOf call after.link.kept →
     IsCalled state (settings_of before) call before.link after.link
-    (code_told (server_link_state state before.link) (server_link_state state after.link) (helped call answer) after.request_text after.response_text) (loses_connection answer)
+    (code_told (server_link_state state before.link) (server_link_state state after.link) (helper_answer call answer) after.request_text after.response_text) (loses_connection answer)
 cut_called responses requests state before after call answer reads is_call so opened known known' fed faults kept_is =
     let settings : Settings = settings_of before in
     let lb : LinkState = server_link_state state before.link in
@@ -231,7 +231,7 @@ cut_called responses requests state before after call answer reads is_call so op
     let tells : IsTrue (state after.link.server.maker).tells = rw (tells_same state before.link after.link is_call.keeps.mark) opened.tells in
     let time : after.link.server.time ≡ before.link.server.time = time_same state before.link after.link is_call.keeps.mark in
     let cut : IsCut before.link.server.time after.link.server.objects (state after.link.server.maker) after.link.ever after.link.sent after.link.kept = rw (← time) (known'.cut fed tells faults) in
-    let unsent : IsUnsent settings broke.bytes (code_told lb la (helped call answer) after.request_text after.response_text) =
+    let unsent : IsUnsent settings broke.bytes (code_told lb la (helper_answer call answer) after.request_text after.response_text) =
     unsent_of settings call lb la answer after.request_text after.response_text request broke is_call.request_text (response_text_is before.buffered answer after.response_text broke.answer_is) _ (is_call.response_text refl)
     (request_text_is before.buffered request answer after.request_text is_call.request_text) in
     IsCalled.was_cut (ap loses_connection broke.answer_is)

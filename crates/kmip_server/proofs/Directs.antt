@@ -23,7 +23,7 @@ use Rattle.kmip_store.specs.declared.call.Call.TheVariants.{Query, CreateRsaKeyP
 use Rattle.kmip_store.specs.declared.object.Object.{Object}
 use Rattle.kmip_store.specs.declared.maker.Made.{Made}
 use Rattle.kmip_store.specs.declared.maker.Asked.{Asked}
-use Rattle.kmip_served.specs.Answering.{listed}
+use Rattle.kmip_served.specs.Answering.{list_of_option}
 use Rattle.kmip_store.specs.Steps.{Answer as Reply, NotFound, Denied, Failed, Done, Supports, Created, Random, Signed, Got, question, step}
 use Rattle.kmip_served.specs.Served.{Served, served_call, served_request, asks_request, served, asks}
 use Rattle.kmip_served.specs.Requests.{request_of, call_of, is_served, call_operation}
@@ -31,7 +31,7 @@ use Rattle.kmip_response.specs.declared.batch_item.BatchItem.{BatchItem}
 use Rattle.kmip_response.specs.declared.payload.ResponsePayload.{ResponsePayload}
 use Rattle.kmip_served.specs.Items.{payload_for, done_item, item_for, message_with}
 use Rattle.kmip_server.specs.Machine.{first_for, rest_for}
-use Rattle.kmip_server.specs.Joined.{Settings, Between, CallTold, Expected, Told', Next, IsHeldNext, Unless, AreHeldNext, helped, turn_call_told, turn_with, next_with, next, expected, Meets, Meet, finish, has_unsent}
+use Rattle.kmip_server.specs.Joined.{Settings, Between, CallTold, Expected, Told', Next, IsHeldNext, Unless, AreHeldNext, helper_answer, turn_call_told, turn_with, next_with, next, expected_calls, Meets, Meet, finish, has_unsent}
 use Rattle.kmip_server.specs.Direct.{done_answer, reply_answer, direct, IsWithin, Fits', AllFit, answers_of}
 use Rattle.kmip_server.proofs.Steps.{after_bytes, next_formed, same_next, same_between}
 use Rattle.kmip_client.specs.declared.error.Error.{Error}
@@ -74,7 +74,7 @@ abbrev said : Call → BatchItem → ℤ → Answer
 said call item t = check_response (call_operation call) (response_message_val (message_with t item))
 
 -- a call that was done
-done_is : (call : Call) (payload : Option ResponsePayload) (t : ℤ) → helped call (said call (done_item (call_operation call) payload) t) ≡ done_answer call payload
+done_is : (call : Call) (payload : Option ResponsePayload) (t : ℤ) → helper_answer call (said call (done_item (call_operation call) payload) t) ≡ done_answer call payload
 unfolding check_item
 done_is Query None t = refl
 done_is Query (Some payload) t = refl
@@ -95,7 +95,7 @@ done_is (RenameKey id name) (Some payload) t = refl
 done_is (GetKey id) None t = refl
 done_is (GetKey id) (Some payload) t = refl
 
-pub said_is : (call : Call) (reply : Reply) (t : ℤ) → helped call (said call (item_for call reply) t) ≡ reply_answer call reply
+pub said_is : (call : Call) (reply : Reply) (t : ℤ) → helper_answer call (said call (item_for call reply) t) ≡ reply_answer call reply
 unfolding check_item
 said_is call NotFound t = refl
 said_is call Denied t = refl
@@ -123,7 +123,7 @@ replies_keep call (Random bytes) = done_keeps call (payload_for call (Random byt
 replies_keep call (Signed bytes) = done_keeps call (payload_for call (Signed bytes))
 replies_keep call (Got object) = done_keeps call (payload_for call (Got object))
 
-helped_keeps : (call : Call) (answer : Answer) → loses_connection (helped call answer) ≡ loses_connection answer
+helped_keeps : (call : Call) (answer : Answer) → loses_connection (helper_answer call answer) ≡ loses_connection answer
 helped_keeps call (Ok val) = refl
 helped_keeps call (Err error) = refl
 
@@ -138,9 +138,9 @@ record Own (settings : Settings) (objects : List Object) (given : List Made) (as
   pub told : CallTold
   pub answer : told.answer ≡ reply_answer call (step objects call (first_for (question objects call) given)).answer
   pub next_is : next settings (starts objects given asked) call ≡ record {
-    expected = Told' told;
+    expected_calls = Told' told;
     stops = false;
-    after = starts (step objects call (first_for (question objects call) given)).objects (rest_for (question objects call) given) (asked ++ listed (question objects call));
+    after = starts (step objects call (first_for (question objects call) given)).objects (rest_for (question objects call) given) (asked ++ list_of_option (question objects call));
   }
 
 served_call_objects : (objects : List Object) (call : Call) (made : Option Made) (t : ℤ) → (served_call objects call made t).objects ≡ (step objects call made).objects
@@ -171,12 +171,12 @@ own_next laws settings objects given askeds call fits held =
     let message : m ≡ message_with t (item_for call (step objects call made).answer) = served_call_message objects call made t in
     let answered : turn.outcome.answer ≡ check_response (call_operation call) (response_message_val (message_with t (item_for call (step objects call made).answer))) =
     answer_is (call_operation call) m r settings.limit back fits.within ∙ ap (λ (x : ResponseMessage). check_response (call_operation call) (response_message_val x)) message in
-    let helped_is : helped call turn.outcome.answer ≡ reply_answer call (step objects call made).answer = ap (helped call) answered ∙ said_is call (step objects call made).answer t in
+    let helped_is : helper_answer call turn.outcome.answer ≡ reply_answer call (step objects call made).answer = ap (helper_answer call) answered ∙ said_is call (step objects call made).answer t in
     let stops : loses_connection turn.outcome.answer ≡ false = sym (helped_keeps call turn.outcome.answer) ∙ ap loses_connection helped_is ∙ replies_keep call (step objects call made).answer in
     let rests : drop turn.outcome.taken r ≡ [] = ap (λ n. drop n r) (taken_is r settings.limit m back fits.within) ∙ drop-length r in
     let objects_is : (after_bytes settings now b).objects ≡ (step objects call made).objects = ap (λ (s : Served). s.objects) is_served_so ∙ served_call_objects objects call made t in
     let given_is : (after_bytes settings now b).given ≡ rest_for (question objects call) given = ap (λ q. rest_for q given) asked in
-    let asked_is : (after_bytes settings now b).asked ≡ askeds ++ listed (question objects call) = ap (λ q. askeds ++ listed q) asked in
+    let asked_is : (after_bytes settings now b).asked ≡ askeds ++ list_of_option (question objects call) = ap (λ q. askeds ++ list_of_option q) asked in
     record {
       told = turn_call_told settings call turn;
       answer = helped_is;
@@ -185,20 +185,20 @@ own_next laws settings objects given askeds call fits held =
 
 -- ---- all calls
 
-expected_on : (settings : Settings) (now : Between) (call : Call) (calls : List Call) (told : CallTold) (after : Between) → next settings now call ≡ record { expected = Told' told; stops = false; after = after } →
-    expected settings now (call ∷ calls) ≡ Told' told ∷ expected settings after calls
-unfolding expected
+expected_on : (settings : Settings) (now : Between) (call : Call) (calls : List Call) (told : CallTold) (after : Between) → next settings now call ≡ record { expected_calls = Told' told; stops = false; after = after } →
+    expected_calls settings now (call ∷ calls) ≡ Told' told ∷ expected_calls settings after calls
+unfolding expected_calls
 expected_on settings now call calls told after e = rw e refl
 
-expected_end : (settings : Settings) (now : Between) → expected settings now [] ≡ []
-unfolding expected
+expected_end : (settings : Settings) (now : Between) → expected_calls settings now [] ≡ []
+unfolding expected_calls
 expected_end settings now = refl
 
 held_first : (settings : Settings) (now : Between) (call : Call) (calls : List Call) → AreHeldNext settings now (call ∷ calls) → IsHeldNext settings now call
 unfolding AreHeldNext
 held_first settings now call calls held = held.0
 
-held_later : (settings : Settings) (now : Between) (call : Call) (calls : List Call) (told : CallTold) (after : Between) → next settings now call ≡ record { expected = Told' told; stops = false; after = after } →
+held_later : (settings : Settings) (now : Between) (call : Call) (calls : List Call) (told : CallTold) (after : Between) → next settings now call ≡ record { expected_calls = Told' told; stops = false; after = after } →
     AreHeldNext settings now (call ∷ calls) → AreHeldNext settings after calls
 unfolding AreHeldNext
 held_later settings now call calls told after e held = let later : Unless (next settings now call).stops (AreHeldNext settings (next settings now call).after calls) = held.1 in
@@ -206,23 +206,23 @@ held_later settings now call calls told after e held = let later : Unless (next 
 
 -- Client and server joined answer as the object map.
 pub joined_is_direct : Laws → (settings : Settings) (objects : List Object) (given : List Made) (asked : List Asked) (calls : List Call) (xs : List CallTold) → AllFit settings objects given calls →
-    AreHeldNext settings (starts objects given asked) calls → Meet settings (expected settings (starts objects given asked) calls) xs → answers_of xs ≡ direct objects given calls
+    AreHeldNext settings (starts objects given asked) calls → Meet settings (expected_calls settings (starts objects given asked) calls) xs → answers_of xs ≡ direct objects given calls
 joined_is_direct laws settings objects given asked [] xs fit held meet = go xs (subst (λ es. Meet settings es xs) (expected_end settings _) meet)
   where
     go : (ys : List CallTold) → Meet settings [] ys → answers_of ys ≡ []
     go [] m = refl
     go (y ∷ ys) m = absurd m
 joined_is_direct laws settings objects given asked (call ∷ calls) xs fit held meet =
-    go (λ ys m. joined_is_direct laws settings (step objects call (first_for (question objects call) given)).objects (rest_for (question objects call) given) (asked ++ listed (question objects call)) calls ys fit.1
+    go (λ ys m. joined_is_direct laws settings (step objects call (first_for (question objects call) given)).objects (rest_for (question objects call) given) (asked ++ list_of_option (question objects call)) calls ys fit.1
     (held_later settings _ call calls own.told _ own.next_is held) m)
     xs (subst (λ es. Meet settings es xs) (expected_on settings _ call calls own.told _ own.next_is) meet)
   where
     own : Own settings objects given asked call
     own = own_next laws settings objects given asked call fit.0 (held_first settings _ call calls held)
 
-    go : ((ys : List CallTold) → Meet settings (expected settings (starts (step objects call (first_for (question objects call) given)).objects (rest_for (question objects call) given) (asked ++ listed (question objects call))) calls) ys →
+    go : ((ys : List CallTold) → Meet settings (expected_calls settings (starts (step objects call (first_for (question objects call) given)).objects (rest_for (question objects call) given) (asked ++ list_of_option (question objects call))) calls) ys →
         answers_of ys ≡ direct (step objects call (first_for (question objects call) given)).objects (rest_for (question objects call) given) calls) →
-        (ys : List CallTold) → Meet settings (Told' own.told ∷ expected settings (starts (step objects call (first_for (question objects call) given)).objects (rest_for (question objects call) given) (asked ++ listed (question objects call))) calls) ys →
+        (ys : List CallTold) → Meet settings (Told' own.told ∷ expected_calls settings (starts (step objects call (first_for (question objects call) given)).objects (rest_for (question objects call) given) (asked ++ list_of_option (question objects call))) calls) ys →
         answers_of ys ≡ direct objects given (call ∷ calls)
     go hypothesis [] m = absurd m
     go hypothesis (y ∷ ys) m =
@@ -232,9 +232,9 @@ joined_is_direct laws settings objects given asked (call ∷ calls) xs fit held 
 
 -- over a link that was just made
 pub direct_new : Laws → (settings : Settings) (now : Between) (given : List Made) (calls : List Call) (xs : List CallTold) → now ≡ record { objects = []; given = given; asked = []; rest = [] } → AllFit settings [] given calls →
-    AreHeldNext settings now calls → Meet settings (expected settings now calls) xs → answers_of xs ≡ direct [] given calls
+    AreHeldNext settings now calls → Meet settings (expected_calls settings now calls) xs → answers_of xs ≡ direct [] given calls
 direct_new laws settings now given calls xs is fit held meet =
-    joined_is_direct laws settings [] given [] calls xs fit (subst (λ n. AreHeldNext settings n calls) is held) (subst (λ n. Meet settings (expected settings n calls) xs) is meet)
+    joined_is_direct laws settings [] given [] calls xs fit (subst (λ n. AreHeldNext settings n calls) is held) (subst (λ n. Meet settings (expected_calls settings n calls) xs) is meet)
 
 pub if_ok : {A E : Type 0} (P Q : A → Type 0) (r : Result A E) → ((x : A) → P x → Q x) → IfOk r P → IfOk r Q
 if_ok P Q (Ok x) on h = on x h
@@ -246,7 +246,7 @@ abbrev pub Ends : {M : Type 0} → (M → MakerState) → Settings → ServerLin
 Ends state settings before after calls result = IfOk result (λ answers. IsOpen state before → IsEnded state settings (server_link_state state before) after calls (map call_told answers))
 
 pub meets_of : {M : Type 0} (state : M → MakerState) (settings : Settings) (before after : ServerLinkState M) (calls : List Call) (result : Result (List CallAnswer) Error) → Ends state settings before after calls result →
-    IfOk result (λ answers. IsOpen state before → Meet settings (expected settings (between settings.time (state after.server.maker).given (server_link_state state before)) calls) (map call_told answers))
+    IfOk result (λ answers. IsOpen state before → Meet settings (expected_calls settings (between settings.time (state after.server.maker).given (server_link_state state before)) calls) (map call_told answers))
 meets_of state settings before after calls (Ok answers) h = λ opened. (h opened).meet
 meets_of state settings before after calls (Err error) h = h
 
@@ -256,11 +256,11 @@ ends_of state settings before after calls (Ok answers) h = λ opened. (h opened)
 ends_of state settings before after calls (Err error) h = h
 
 pub opened_of : {M : Type 0} (state : M → MakerState) (settings : Settings) (before after : ServerLinkState M) (calls : List Call) (result : Result (List CallAnswer) Error) → Ends state settings before after calls result →
-    IfOk result (λ answers. IsOpen state before → has_unsent (expected settings (between settings.time (state after.server.maker).given (server_link_state state before)) calls) ≡ false → IsOpen state after)
+    IfOk result (λ answers. IsOpen state before → has_unsent (expected_calls settings (between settings.time (state after.server.maker).given (server_link_state state before)) calls) ≡ false → IsOpen state after)
 opened_of state settings before after calls (Ok answers) h = λ opened. (h opened).opened
 opened_of state settings before after calls (Err error) h = h
 
 pub faulted_of : {M : Type 0} (state : M → MakerState) (settings : Settings) (before after : ServerLinkState M) (calls : List Call) (result : Result (List CallAnswer) Error) → Ends state settings before after calls result →
-    IfOk result (λ answers. IsOpen state before → has_unsent (expected settings (between settings.time (state after.server.maker).given (server_link_state state before)) calls) ≡ true → 0 < after.faults)
+    IfOk result (λ answers. IsOpen state before → has_unsent (expected_calls settings (between settings.time (state after.server.maker).given (server_link_state state before)) calls) ≡ true → 0 < after.faults)
 faulted_of state settings before after calls (Ok answers) h = λ opened. (h opened).faulted
 faulted_of state settings before after calls (Err error) h = h

@@ -9,10 +9,10 @@ use Rattle.std.proofs.lemmas.Grind.{common_steps}
 use Rattle.kmip_store.specs.Makers.{MakerState}
 use Rattle.kmip_client.specs.Client.{loses_connection}
 use Rattle.kmip_server.specs.Link.{ServerLinkState, server_link_state, IsServed, Serves, IsKnown, IsOpen, IsNew, IsUnused}
-use Rattle.kmip_server.specs.Split.{split}
+use Rattle.kmip_server.specs.Split.{messages_in}
 use Rattle.kmip_server.specs.Machine.{Run, fresh, run_of}
 use Rattle.kmip_server.specs.Serving.{AreHeld}
-use Rattle.kmip_server.specs.Joined.{Settings, Between, CallTold, Expected, Told', Unsent, next, expected, finish, has_unsent, IsHeldNext, Unless, AreHeldNext, Meets, Meet, ends_lost}
+use Rattle.kmip_server.specs.Joined.{Settings, Between, CallTold, Expected, Told', Unsent, next, expected_calls, finish, has_unsent, IsHeldNext, Unless, AreHeldNext, Meets, Meet, ends_lost}
 use Rattle.kmip_server.specs.Direct.{AllFit, direct}
 use Rattle.kmip_server.specs.Came.{between, standing, Agrees, Came, CameAll, WasCut, IsCalled, went, was_cut, IsEnded}
 use Rattle.kmip_server.specs.Calls.{call_told}
@@ -23,9 +23,9 @@ use Rattle.kmip_server.proofs.Opened.{serves_agree}
 -- with these answers of the maker, what is expected of the calls that are left completes what was told
 pub record GoesOn (settings : Settings) (start now : LinkState) (all later : List Call) (xs : List CallTold) (given : List Made) : Type 0 where
   pub agrees : Agrees settings.time given start
-  pub meets : (ys : List CallTold) → Meet settings (expected settings (between settings.time given now) later) ys → Meet settings (expected settings (between settings.time given start) all) (xs ++ ys)
+  pub meets : (ys : List CallTold) → Meet settings (expected_calls settings (between settings.time given now) later) ys → Meet settings (expected_calls settings (between settings.time given start) all) (xs ++ ys)
   pub ends : finish settings (between settings.time given now) later ≡ finish settings (between settings.time given start) all
-  pub cuts : has_unsent (expected settings (between settings.time given now) later) ≡ has_unsent (expected settings (between settings.time given start) all)
+  pub cuts : has_unsent (expected_calls settings (between settings.time given now) later) ≡ has_unsent (expected_calls settings (between settings.time given start) all)
   pub holds : AreHeldNext settings (between settings.time given now) later → AreHeldNext settings (between settings.time given start) all
 
 -- whatever the maker's answers are in the end, where they agree with the link now
@@ -35,17 +35,17 @@ Going settings start now all later xs = (given : List Made) → Agrees settings.
 pub going_none : (settings : Settings) (start : LinkState) (all : List Call) → Going settings start start all all []
 going_none settings start all given agrees = record { agrees = agrees; meets = λ ys m. m; ends = refl; cuts = refl; holds = λ h. h }
 
-expected_cons : (settings : Settings) (now : Between) (call : Call) (calls : List Call) (e : Expected) (stops : Bool) (after : Between) → next settings now call ≡ record { expected = e; stops = stops; after = after } →
-    expected settings now (call ∷ calls) ≡ e ∷ cond stops [] (expected settings after calls)
-unfolding expected
+expected_cons : (settings : Settings) (now : Between) (call : Call) (calls : List Call) (e : Expected) (stops : Bool) (after : Between) → next settings now call ≡ record { expected_calls = e; stops = stops; after = after } →
+    expected_calls settings now (call ∷ calls) ≡ e ∷ cond stops [] (expected_calls settings after calls)
+unfolding expected_calls
 expected_cons settings now call calls x stops after e = rw e refl
 
-finish_cons : (settings : Settings) (now : Between) (call : Call) (calls : List Call) (x : Expected) (stops : Bool) (after : Between) → next settings now call ≡ record { expected = x; stops = stops; after = after } →
+finish_cons : (settings : Settings) (now : Between) (call : Call) (calls : List Call) (x : Expected) (stops : Bool) (after : Between) → next settings now call ≡ record { expected_calls = x; stops = stops; after = after } →
     finish settings now (call ∷ calls) ≡ cond stops after (finish settings after calls)
 unfolding finish
 finish_cons settings now call calls x stops after e = rw e refl
 
-held_cons : (settings : Settings) (now : Between) (call : Call) (calls : List Call) (x : Expected) (stops : Bool) (after : Between) → next settings now call ≡ record { expected = x; stops = stops; after = after } →
+held_cons : (settings : Settings) (now : Between) (call : Call) (calls : List Call) (x : Expected) (stops : Bool) (after : Between) → next settings now call ≡ record { expected_calls = x; stops = stops; after = after } →
     IsHeldNext settings now call → Unless stops (AreHeldNext settings after calls) → AreHeldNext settings now (call ∷ calls)
 unfolding AreHeldNext
 held_cons settings now call calls x stops after e one later = (one, rw e later)
@@ -63,14 +63,14 @@ pub going_more : (settings : Settings) (start now after : LinkState) (all : List
 going_more settings start now after all call later xs told going came given agrees =
     let one : Came settings call now after told false given = came.came given agrees in
     let before : GoesOn settings start now all (call ∷ later) xs given = going given one.agrees in
-    let cons : expected settings (between settings.time given now) (call ∷ later) ≡ Told' told ∷ expected settings (between settings.time given after) later =
+    let cons : expected_calls settings (between settings.time given now) (call ∷ later) ≡ Told' told ∷ expected_calls settings (between settings.time given after) later =
     expected_cons settings (between settings.time given now) call later (Told' told) false (between settings.time given after) one.next_is in
     record {
       agrees = before.agrees;
       meets = λ ys m.
-          let m' : Meet settings (Told' told ∷ expected settings (between settings.time given after) later) (told ∷ ys) = (refl, m) in
-          let m'' : Meet settings (expected settings (between settings.time given now) (call ∷ later)) (told ∷ ys) = subst (λ es. Meet settings es (told ∷ ys)) (sym cons) m' in
-          subst (λ zs. Meet settings (expected settings (between settings.time given start) all) zs) (sym (append_assoc xs (told ∷ []) ys)) (before.meets (told ∷ ys) m'');
+          let m' : Meet settings (Told' told ∷ expected_calls settings (between settings.time given after) later) (told ∷ ys) = (refl, m) in
+          let m'' : Meet settings (expected_calls settings (between settings.time given now) (call ∷ later)) (told ∷ ys) = subst (λ es. Meet settings es (told ∷ ys)) (sym cons) m' in
+          subst (λ zs. Meet settings (expected_calls settings (between settings.time given start) all) zs) (sym (append_assoc xs (told ∷ []) ys)) (before.meets (told ∷ ys) m'');
       ends = sym (finish_cons settings (between settings.time given now) call later (Told' told) false (between settings.time given after) one.next_is) ∙ before.ends;
       cuts = ap has_unsent (sym cons) ∙ before.cuts;
       holds = λ h. before.holds (held_cons settings (between settings.time given now) call later (Told' told) false (between settings.time given after) one.next_is one.held h);
@@ -82,18 +82,18 @@ append_none (x ∷ xs) = ap (λ l. x ∷ l) (append_none xs)
 
 -- what the calls came to, with these answers of the maker
 pub record Ended (settings : Settings) (start : LinkState) (all : List Call) (xs : List CallTold) (given : List Made) (after : Between) (cut : Bool) : Type 0 where
-  pub meet : Meet settings (expected settings (between settings.time given start) all) xs
+  pub meet : Meet settings (expected_calls settings (between settings.time given start) all) xs
   pub ends : after ≡ finish settings (between settings.time given start) all
-  pub cuts : has_unsent (expected settings (between settings.time given start) all) ≡ cut
+  pub cuts : has_unsent (expected_calls settings (between settings.time given start) all) ≡ cut
   pub held : AreHeldNext settings (between settings.time given start) all
 
 -- the last call, after which none is made
 pub going_stop : (settings : Settings) (start now : LinkState) (all : List Call) (call : Call) (later : List Call) (xs : List CallTold) (told : CallTold) (given : List Made) (x : Expected) (after : Between) →
-    Going settings start now all (call ∷ later) xs → Agrees settings.time given now → next settings (between settings.time given now) call ≡ record { expected = x; stops = true; after = after } →
+    Going settings start now all (call ∷ later) xs → Agrees settings.time given now → next settings (between settings.time given now) call ≡ record { expected_calls = x; stops = true; after = after } →
     IsHeldNext settings (between settings.time given now) call → Meets settings x told → Ended settings start all (xs ++ told ∷ []) given after (has_unsent (x ∷ []))
 going_stop settings start now all call later xs told given x after going agrees next_is held meets =
     let before : GoesOn settings start now all (call ∷ later) xs given = going given agrees in
-    let cons : expected settings (between settings.time given now) (call ∷ later) ≡ x ∷ [] = expected_cons settings (between settings.time given now) call later x true after next_is in
+    let cons : expected_calls settings (between settings.time given now) (call ∷ later) ≡ x ∷ [] = expected_cons settings (between settings.time given now) call later x true after next_is in
     let m' : Meet settings (x ∷ []) (told ∷ []) = (meets, tt) in
     record {
       meet = before.meets (told ∷ []) (subst (λ es. Meet settings es (told ∷ [])) (sym cons) m');
@@ -102,8 +102,8 @@ going_stop settings start now all call later xs told given x after going agrees 
       held = before.holds (held_cons settings (between settings.time given now) call later x true after next_is held tt);
     }
 
-expected_end : (settings : Settings) (now : Between) → expected settings now [] ≡ []
-unfolding expected
+expected_end : (settings : Settings) (now : Between) → expected_calls settings now [] ≡ []
+unfolding expected_calls
 expected_end settings now = refl
 
 pub going_end : (settings : Settings) (start now : LinkState) (all : List Call) (xs : List CallTold) (given : List Made) → Going settings start now all [] xs → Agrees settings.time given now →
@@ -112,7 +112,7 @@ going_end settings start now all xs given going agrees =
     let before : GoesOn settings start now all [] xs given = going given agrees in
     let none = expected_end settings (between settings.time given now) in
     record {
-      meet = subst (λ zs. Meet settings (expected settings (between settings.time given start) all) zs) (append_none xs) (before.meets [] (subst (λ es. Meet settings es []) (sym none) tt));
+      meet = subst (λ zs. Meet settings (expected_calls settings (between settings.time given start) all) zs) (append_none xs) (before.meets [] (subst (λ es. Meet settings es []) (sym none) tt));
       ends = sym (finish_end settings (between settings.time given now)) ∙ before.ends;
       cuts = sym before.cuts ∙ ap has_unsent none;
       held = before.holds (held_end settings (between settings.time given now));
@@ -124,7 +124,7 @@ pushed xs x = map-append call_told xs (x ∷ [])
 
 -- over a link that was just made, the objects are none and nothing is left
 pub between_new : (t : ℤ) (given : List Made) (link : LinkState) → link.sent ≡ [] → link.ever ≡ [] → link.pos ≡ 0 → between t given link ≡ record { objects = []; given = given; asked = []; rest = [] }
-unfolding split run_of
+unfolding messages_in run_of
 between_new t given link sent ever pos = rw (sent, ever, pos) refl
 
 -- ---- as the code makes them
@@ -175,7 +175,7 @@ standing_is : {M : Type 0} (state : M → MakerState) (t : ℤ) (link : ServerLi
 standing_is state t link opened known same =
     let serves : Serves t link.server.objects (state link.server.maker) link.ever link.sent = subst (λ x. Serves x link.server.objects (state link.server.maker) link.ever link.sent) (sym same) (known.serves opened.fed opened.tells opened.sound) in
     let none : (state link.server.maker).given ++ [] ≡ (state link.server.maker).given = append_none (state link.server.maker).given in
-    let run = ap (λ l. run_of t l (split link.sent).whole) (sym none) ∙ serves.run [] in
+    let run = ap (λ l. run_of t l (messages_in link.sent).whole) (sym none) ∙ serves.run [] in
     same_between _ _ _ _ _ _ _ _ (ap (λ (r : Run). r.objects) (sym run)) (ap (λ (r : Run). r.given) (sym run)) (ap (λ (r : Run). r.asked) (sym run)) refl
 
 ended_open : {M : Type 0} (state : M → MakerState) (settings : Settings) (start : LinkState) (now : ServerLinkState M) (all : List Call) (xs : List CallTold) → IsOpen state now → IsKnown state now → settings.time ≡ now.server.time →
@@ -238,7 +238,7 @@ going_all state settings start now items i answers h opened known time going =
     drop_all xs n k = grind (arith, common_steps)
 
 pub open_new : {M : Type 0} (state : M → MakerState) (link : ServerLinkState M) → IsNew state link → IsOpen state link
-unfolding split
+unfolding messages_in
 open_new state link n = record { fed = n.fed; sound = n.sound; whole = rw n.sent refl; tells = n.tells }
 
 -- the last answer told is that of the last call
@@ -252,12 +252,12 @@ ends_with answers answers' x lost is lost_is = ap ends_lost (told_on answers ans
 
 -- nothing was served over a link that was just made
 pub serves_none : (t : ℤ) (maker : MakerState) (ever sent : List ℕ) → IsUnused maker → ever ≡ [] → sent ≡ [] → Serves t [] maker ever sent
-unfolding split run_of
+unfolding messages_in run_of
 serves_none t maker ever sent unused e s = record {
   run = λ more. rw (e, s, unused.given, unused.asked) refl;
   held = λ more. rw s tt;
 }
 
-pub begun_none : (begun sent : List ℕ) → begun ≡ [] → sent ≡ [] → begun ≡ (split sent).begun
-unfolding split
+pub begun_none : (begun sent : List ℕ) → begun ≡ [] → sent ≡ [] → begun ≡ (messages_in sent).begun
+unfolding messages_in
 begun_none begun sent e s = rw (e, s) refl

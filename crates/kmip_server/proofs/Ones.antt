@@ -3,7 +3,7 @@ use Rattle.std.proofs.Common.{◌≡◌, ◌⊎◌, inl, inr, ℕ, ◌<◌, List
 use Rattle.kmip_shape.specs.Val.{Val}
 use Rattle.kmip_link.specs.State.{LinkState, Keeps}
 use Rattle.kmip_client.specs.Calls.{IsCall}
-use Rattle.kmip_client.specs.Client.{ClientState, loses_connection, lacks_memory, counted}
+use Rattle.kmip_client.specs.Client.{ClientState, loses_connection, lacks_memory, count_after}
 use Rattle.kmip_client.specs.Outcome.{Answer}
 use Rattle.kmip_client.proofs.Transfers.{keeps_self}
 use Rattle.kmip_client.specs.declared.error.Error.{Error}
@@ -11,7 +11,7 @@ use Rattle.kmip_client.specs.declared.error.Error.TheVariants.{OutOfMemory}
 use Rattle.kmip_store.specs.declared.call.Call.{Call}
 use Rattle.kmip_store.specs.Makers.{MakerState}
 use Rattle.kmip_served.specs.Requests.{request_of}
-use Rattle.kmip_server.specs.Joined.{Settings, CallTold, IsReadBack, helped}
+use Rattle.kmip_server.specs.Joined.{Settings, CallTold, IsReadBack, helper_answer}
 use Rattle.kmip_server.specs.Link.{ServerLinkState, server_link_state, IsKnown, IsOpen}
 use Rattle.kmip_server.specs.Came.{IsCalled, IsSettledBy, IsRequestOf, fails_writing}
 use Rattle.kmip_server.specs.Calls.{IsAsked, called, not_made, answered_seen, call_told, settings_of}
@@ -21,15 +21,15 @@ use Rattle.kmip_server.proofs.Frames.{AreMessages}
 use Rattle.kmip_server.proofs.Opened.{AreRequests, code_told, called_of, time_same}
 use Rattle.kmip_server.proofs.Cuts.{cut_called}
 
-helped_keeps : (call : Call) (answer : Answer) → loses_connection (helped call answer) ≡ loses_connection answer
+helped_keeps : (call : Call) (answer : Answer) → loses_connection (helper_answer call answer) ≡ loses_connection answer
 helped_keeps call (Ok val) = refl
 helped_keeps call (Err error) = refl
 
-helped_room : (call : Call) (answer : Answer) → lacks_memory (helped call answer) ≡ lacks_memory answer
+helped_room : (call : Call) (answer : Answer) → lacks_memory (helper_answer call answer) ≡ lacks_memory answer
 helped_room call (Ok val) = refl
 helped_room call (Err error) = refl
 
-helped_fails : (call : Call) (answer : Answer) → fails_writing (helped call answer) ≡ fails_writing answer
+helped_fails : (call : Call) (answer : Answer) → fails_writing (helper_answer call answer) ≡ fails_writing answer
 helped_fails call (Ok val) = refl
 helped_fails call (Err error) = refl
 
@@ -37,7 +37,7 @@ called_by : AreMessages → AreRequests → {M : Type 0} (state : M → MakerSta
     IsCall (server_link_state state) (request_of call) before after answer → lacks_memory answer ≡ false → IsOpen state before.link → IsKnown state before.link → IsKnown state after.link →
     IsSettledBy call answer after.link →
     IsCalled state (settings_of before) call before.link after.link
-    (code_told (server_link_state state before.link) (server_link_state state after.link) (helped call answer) after.request_text after.response_text) (loses_connection answer)
+    (code_told (server_link_state state before.link) (server_link_state state after.link) (helper_answer call answer) after.request_text after.response_text) (loses_connection answer)
 called_by responses requests state before after call answer reads is_call room opened known known' (fed, inl sound) = called_of responses requests state before after call answer reads is_call room opened known known' fed sound
 called_by responses requests state before after call answer reads is_call room opened known known' (fed, inr cut) = cut_called responses requests state before after call answer reads is_call cut.1.0 opened known known' fed cut.0 cut.1.1
 
@@ -52,7 +52,7 @@ called_as responses requests state before after call result reads (called answer
     let R : Bool → Type 0 = λ f. (after.link.starved ≡ false) × ((after.link.faults ≡ 0) ⊎ ((0 < after.link.faults) × ((f ≡ true) × IsRequestOf call after.link.kept))) in
     let got = called_by responses requests state before after call answer reads is_call room' opened known known' (subst R fails settled) in
     let P : Answer → Type 0 = λ a. IsCalled state (settings_of before) call before.link after.link (code_told (server_link_state state before.link) (server_link_state state after.link) a after.request_text after.response_text) (loses_connection a) in
-    let Q : Bool → Type 0 = λ s. IsCalled state (settings_of before) call before.link after.link (code_told (server_link_state state before.link) (server_link_state state after.link) (helped call answer) after.request_text after.response_text) s in
+    let Q : Bool → Type 0 = λ s. IsCalled state (settings_of before) call before.link after.link (code_told (server_link_state state before.link) (server_link_state state after.link) (helper_answer call answer) after.request_text after.response_text) s in
     subst P (sym is) (subst Q (sym (helped_keeps call answer)) got)
 called_as responses requests state before after call result reads (not_made is stays) room opened known known' settled =
     absurd (let e : lacks_memory (answered_seen result) ≡ true = ap (λ r. lacks_memory (answered_seen r)) is in cc)
@@ -73,11 +73,11 @@ called_so responses requests state before looked after settled_client told_clien
 -- the count of connection errors, and whether this call raised it
 pub counted_so : {T : Type 0} {state : T → LinkState} (before looked after closed told_client : ClientState T) (call : Call) (result : Result Answered Error) (lost lacks : Bool) →
     looked ≡ before → IsAsked state call looked after result → lacks ≡ lacks_memory (answered_seen result) → lacks ≡ false → closed ≡ after → told_client ≡ closed → lost ≡ loses_connection (answered_seen result) →
-    told_client.errors ≡ counted before.errors lost
+    told_client.errors ≡ count_after before.errors lost
 counted_so before looked after closed told_client call result lost lacks same (called answer is_call is) lacks_is room closed_is told_is lost_is =
     ap (λ (c : ClientState _). c.errors) (told_is ∙ closed_is) ∙ is_call.count
-    ∙ ap (λ (b : Bool). counted looked.errors b) (sym (helped_keeps call answer) ∙ ap loses_connection (sym is) ∙ sym lost_is)
-    ∙ ap (λ (c : ClientState _). counted c.errors lost) same
+    ∙ ap (λ (b : Bool). count_after looked.errors b) (sym (helped_keeps call answer) ∙ ap loses_connection (sym is) ∙ sym lost_is)
+    ∙ ap (λ (c : ClientState _). count_after c.errors lost) same
 counted_so before looked after closed told_client call result lost lacks same (not_made is stays) lacks_is room closed_is told_is lost_is =
     absurd (let e : lacks_memory (answered_seen result) ≡ true = ap (λ r. lacks_memory (answered_seen r)) is in let f : lacks_memory (answered_seen result) ≡ false = sym lacks_is ∙ room in cc)
 

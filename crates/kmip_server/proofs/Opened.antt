@@ -2,7 +2,7 @@
 use Rattle.std.proofs.Common.{◌≡◌, ℕ, ℤ, pos, negsuc, suc, ◌+◌, ◌-◌, ◌*◌, ◌<◌, ◌≤◌, List, [], ◌∷◌, ◌++◌, length, take, drop, refl, ◌∙◌, ap, sym, subst, arith, append_assoc, Option, Some, None, Bool, true, false, Result, Ok, Err, IsTrue, codes}
 use Rattle.std.proofs.Math.Seq.{drop-append_seam}
 use Rattle.kmip_shape.specs.Val.{Val}
-use Rattle.kmip_server.specs.Split.{IsMessage, Split, split}
+use Rattle.kmip_server.specs.Split.{IsMessage, Split, messages_in}
 use Rattle.kmip_request.specs.Message.{request_bytes, operation_of}
 use Rattle.kmip_types.specs.declared.auth.CredentialType.{CredentialType}
 use Rattle.kmip_request.specs.declared.payload.RequestPayload.{RequestPayload}
@@ -20,7 +20,7 @@ use Rattle.kmip_store.specs.Makers.{MakerState}
 use Rattle.kmip_served.specs.Requests.{request_of}
 use Rattle.kmip_server.specs.Machine.{Run, fresh, run_of}
 use Rattle.kmip_server.specs.Serving.{AreHeld}
-use Rattle.kmip_server.specs.Joined.{Settings, CallTold, IsReadBack, helped, turn_with, turn_call_told}
+use Rattle.kmip_server.specs.Joined.{Settings, CallTold, IsReadBack, helper_answer, turn_with, turn_call_told}
 use Rattle.kmip_served.specs.State.{ServerState}
 use Rattle.kmip_server.specs.Link.{ServerLinkState, time_number, bit_of, server_link_state, IsServed, Serves, IsKnown, IsOpen}
 use Rattle.kmip_server.specs.Came.{Agrees, CameAll, IsCalled}
@@ -90,13 +90,13 @@ told_as : (settings : Settings) (call : Call) (before after : LinkState) (reques
     let turn = turn_for settings call request before after in
     answer ≡ turn.outcome.answer → Moves before after turn.outcome.sent turn.outcome.taken →
     IsRequestText settings.buffered request answer a → IsResponseText settings.buffered (take (after.pos - before.pos) (left_for before after)) answer b → lacks_memory answer ≡ false →
-    code_told before after (helped call answer) a b ≡ turn_call_told settings call turn
+    code_told before after (helper_answer call answer) a b ≡ turn_call_told settings call turn
 told_as settings call before after request answer a b is moves p q room =
     let turn : Turn = turn_for settings call request before after in
     let passed : after.pos - before.pos ≡ turn.outcome.taken = omega (arith, moves.pos) in
     same_told _ _ _ _ _ _ _ _
     (ap (λ l. drop (length before.sent) l) moves.sent_is ∙ drop-append_seam before.sent turn.outcome.sent)
-    (ap (helped call) is)
+    (ap (helper_answer call) is)
     (request_is settings.buffered request answer a p room)
     (response_is settings.buffered (take (after.pos - before.pos) (left_for before after)) answer b q room
     ∙ ap (λ n. response_text_of settings.buffered (take n (left_for before after)) answer) passed
@@ -110,8 +110,8 @@ came_with : AreMessages → AreRequests → (settings : Settings) (call : Call) 
     request_bytes (request_of call) settings.credential ≡ request → IsReadBack call settings.credential → IsReady settings.time before → (after.sent ≡ before.sent → IsReady settings.time (record after { sent = before.sent })) →
     let turn = turn_for settings call request before after in
     answer ≡ turn.outcome.answer → Moves before after turn.outcome.sent turn.outcome.taken →
-    code_told before after (helped call answer) a b ≡ turn_call_told settings call turn →
-    CameAll settings call before after (code_told before after (helped call answer) a b) (loses_connection answer)
+    code_told before after (helper_answer call answer) a b ≡ turn_call_told settings call turn →
+    CameAll settings call before after (code_told before after (helper_answer call answer) a b) (loses_connection answer)
 came_with responses requests settings call before after (Some bytes) answer a b valid reads ready ready' is moves told =
     let P : CallTold → Type 0 = λ x. CameAll settings call before after x (loses_connection answer) in
     let Q : Bool → Type 0 = λ s. CameAll settings call before after (turn_call_told settings call (turn_for settings call (Some bytes) before after)) s in
@@ -133,7 +133,7 @@ pub came_by : AreMessages → AreRequests → (settings : Settings) (call : Call
     IsReadBack call settings.credential → IsReady settings.time before → (after.sent ≡ before.sent → IsReady settings.time (record after { sent = before.sent })) → before.faults ≡ 0 → after.faults ≡ 0 → lacks_memory answer ≡ false →
     Exchanged (outcome (request_of call) settings.credential settings.limit (left_for before after)) before after answer →
     IsRequestText settings.buffered (request_bytes (request_of call) settings.credential) answer a → IsResponseText settings.buffered (take (after.pos - before.pos) (left_for before after)) answer b →
-    CameAll settings call before after (code_told before after (helped call answer) a b) (loses_connection answer)
+    CameAll settings call before after (code_told before after (helper_answer call answer) a b) (loses_connection answer)
 came_by responses requests settings call before after answer a b reads ready ready' sound sound' room (completed is moves) p q =
     came_with responses requests settings call before after (request_bytes (request_of call) settings.credential) answer a b refl reads ready ready' is moves
     (told_as settings call before after (request_bytes (request_of call) settings.credential) answer a b is moves p q room)
@@ -153,8 +153,8 @@ pub serves_agree : (t : ℤ) (link : LinkState) (objects : List Object) (maker :
 serves_agree t link objects maker serves =
     let none : maker.given ++ [] ≡ maker.given = append_nothing maker.given in
     record {
-      ever = ap (λ l. (run_of t l (split link.sent).whole).ever) (sym none) ∙ ap (λ (r : Run). r.ever) (serves.run []);
-      held = subst (λ l. AreHeld t (fresh l) (split link.sent).whole) none (serves.held []);
+      ever = ap (λ l. (run_of t l (messages_in link.sent).whole).ever) (sym none) ∙ ap (λ (r : Run). r.ever) (serves.run []);
+      held = subst (λ l. AreHeld t (fresh l) (messages_in link.sent).whole) none (serves.held []);
     }
 
 pub ready_of : {M : Type 0} (state : M → MakerState) (link : ServerLinkState M) → IsOpen state link → IsKnown state link → IsReady link.server.time (server_link_state state link)
@@ -177,7 +177,7 @@ pub called_of : AreMessages → AreRequests → {M : Type 0} (state : M → Make
     IsCall (server_link_state state) (request_of call) before after answer → lacks_memory answer ≡ false → IsOpen state before.link → IsKnown state before.link → IsKnown state after.link →
     after.link.starved ≡ false → after.link.faults ≡ 0 →
     IsCalled state (settings_of before) call before.link after.link
-    (code_told (server_link_state state before.link) (server_link_state state after.link) (helped call answer) after.request_text after.response_text) (loses_connection answer)
+    (code_told (server_link_state state before.link) (server_link_state state after.link) (helper_answer call answer) after.request_text after.response_text) (loses_connection answer)
 called_of responses requests state before after call answer reads is_call room opened known known' fed sound =
     let settings : Settings = settings_of before in
     let lb : LinkState = server_link_state state before.link in

@@ -4,7 +4,7 @@ use Rattle.std.specs.Option.{option_and_then}
 use Rattle.std.proofs.lemmas.Nat.{from_be_bytes-to_be_bytes_4}
 use Rattle.kmip_wire.specs.Tree.{Tree, Trees, trees_of}
 use Rattle.kmip_wire.specs.Head.{head_length, head_code}
-use Rattle.kmip_wire.specs.Bytes.{bytes, all_bytes, framed, item_bytes}
+use Rattle.kmip_wire.specs.Bytes.{bytes, all_bytes, structure_bytes, item_bytes}
 use Rattle.kmip_wire.specs.Reading.{item_of}
 use Rattle.kmip_wire.specs.Parses.{Parses}
 use Rattle.kmip_wire.proofs.Written.{written_parses}
@@ -39,7 +39,7 @@ item_is tag v h even =
     let says = head_of tag v h in
     record { message = record { head = omega (arith, long); size = omega (arith, long, says, even) }; code = code_of_item tag v }
 
-contents_are : (tag : ℕ) (o : Option (List ℕ)) (b : List ℕ) → IsAligned o → framed tag o ≡ Some b → IsStructure b
+contents_are : (tag : ℕ) (o : Option (List ℕ)) (b : List ℕ) → IsAligned o → structure_bytes tag o ≡ Some b → IsStructure b
 contents_are tag None b even h = none_some _ h
 contents_are tag (Some v) b even h = go (nat_lt (length v) (2 ^ 32)) refl h
   where

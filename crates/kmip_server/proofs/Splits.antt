@@ -6,7 +6,7 @@ use Rattle.std.proofs.lemmas.List.{length-append, take-append-drop}
 use Rattle.std.proofs.lemmas.List.Sums.{fold-append}
 use Rattle.std.proofs.lemmas.Bool.Decides.{nat_tests}
 use Rattle.kmip_wire.specs.Head.{head_length}
-use Rattle.kmip_server.specs.Split.{IsMessage, is_message, Split, took, nothing_sent, split}
+use Rattle.kmip_server.specs.Split.{IsMessage, is_message, Split, took, nothing_sent, messages_in}
 
 -- the length that a head tells is that of the first eight bytes
 pub head_same : (b rest : List ℕ) → 8 ≤ length b → head_length (b ++ rest) ≡ head_length b
@@ -54,8 +54,8 @@ taken w m x (y ∷ rest) whole =
     ∙ ap (λ (b : List ℕ). with_begun (w ++ b ∷ []) []) e
 
 -- a message after whole messages
-pub split_message : (sent b : List ℕ) → (split sent).begun ≡ [] → IsMessage b → split (sent ++ b) ≡ with_begun ((split sent).whole ++ b ∷ []) []
-unfolding split
+pub split_message : (sent b : List ℕ) → (messages_in sent).begun ≡ [] → IsMessage b → messages_in (sent ++ b) ≡ with_begun ((messages_in sent).whole ++ b ∷ []) []
+unfolding messages_in
 split_message sent [] none whole = absurd (omega (arith, whole.head))
 split_message sent (x ∷ b) none whole =
     fold-append took nothing_sent sent (x ∷ b)
@@ -75,8 +75,8 @@ begun_grows w m (x ∷ xs) rest whole some =
     ∙ ap (with_begun w) (append_assoc m (x ∷ []) xs)
 
 -- a proper first part of a message after whole messages
-pub split_part : (sent b : List ℕ) (n : ℕ) → (split sent).begun ≡ [] → IsMessage b → n < length b → split (sent ++ take n b) ≡ with_begun (split sent).whole (take n b)
-unfolding split
+pub split_part : (sent b : List ℕ) (n : ℕ) → (messages_in sent).begun ≡ [] → IsMessage b → n < length b → messages_in (sent ++ take n b) ≡ with_begun (messages_in sent).whole (take n b)
+unfolding messages_in
 split_part sent b n none whole part =
     let cut : take n b ++ drop n b ≡ b = take-append-drop n b in
     let l : length (drop n b) ≡ length b - n = length-drop n b in

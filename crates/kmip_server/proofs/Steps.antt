@@ -1,7 +1,7 @@
 -- One call over a server: from what the client did to its link, to what was expected of the call.
 use Rattle.std.proofs.Common.{◌≡◌, ℕ, ℤ, ◌+◌, ◌-◌, ◌<◌, ◌≤◌, List, [], ◌∷◌, ◌++◌, length, take, drop, refl, ◌∙◌, ap, sym, subst, arith, append_assoc, Option, Some, None, Bool, true, false}
 use Rattle.std.proofs.lemmas.List.{drop-append-le, drop-drop}
-use Rattle.kmip_server.specs.Split.{IsMessage, Split, split}
+use Rattle.kmip_server.specs.Split.{IsMessage, Split, messages_in}
 use Rattle.kmip_request.specs.Message.{request_bytes, operation_of}
 use Rattle.kmip_response_write.specs.Settled.{response_bytes}
 use Rattle.kmip_response.specs.declared.message.ResponseMessage.{ResponseMessage}
@@ -15,12 +15,12 @@ use Rattle.kmip_store.specs.declared.call.Call.{Call}
 use Rattle.kmip_store.specs.declared.object.Object.{Object}
 use Rattle.kmip_store.specs.declared.maker.Asked.{Asked}
 use Rattle.kmip_store.specs.declared.maker.Made.{Made}
-use Rattle.kmip_served.specs.Answering.{listed}
+use Rattle.kmip_served.specs.Answering.{list_of_option}
 use Rattle.kmip_served.specs.Served.{Served, served, asks}
 use Rattle.kmip_served.specs.Requests.{request_of}
 use Rattle.kmip_server.specs.Machine.{Run, first_for, rest_for, serve, fresh, run_of}
 use Rattle.kmip_server.specs.Serving.{IsHeldTo, AreHeld}
-use Rattle.kmip_server.specs.Joined.{Settings, Between, CallTold, Expected, Told', Next, IsReadBack, IsHeldNext, turn_call_told, turn_with, next_with, answered_with, sent_with, next, expected}
+use Rattle.kmip_server.specs.Joined.{Settings, Between, CallTold, Expected, Told', Next, IsReadBack, IsHeldNext, turn_call_told, turn_with, next_with, answered_with, sent_with, next, expected_calls}
 use Rattle.kmip_server.specs.Came.{between, Agrees, Came, CameAll}
 use Rattle.kmip_server.proofs.Splits.{split_message}
 use Rattle.kmip_server.proofs.Frames.{AreMessages, Framed, same_frames, response_to, run_framed, run_on, serve_objects, serve_given, serve_asked, Back, back_from}
@@ -40,7 +40,7 @@ abbrev pub after_bytes : Settings → Between → List ℕ → Between
 after_bytes settings now b = record {
   objects = (served now.objects b (first_for (asks now.objects b) now.given) settings.time).objects;
   given = rest_for (asks now.objects b) now.given;
-  asked = now.asked ++ listed (asks now.objects b);
+  asked = now.asked ++ list_of_option (asks now.objects b);
   rest = now.rest;
 }
 
@@ -52,13 +52,13 @@ next_formed settings now call b response valid formed = rw (valid, formed) refl
 
 pub next_unformed : (settings : Settings) (now : Between) (call : Call) (b : List ℕ) → request_bytes (request_of call) settings.credential ≡ Some b →
     response_bytes (served now.objects b (first_for (asks now.objects b) now.given) settings.time).message ≡ None →
-    next settings now call ≡ record { expected = Expected.Unsent b; stops = true; after = record (after_bytes settings now b) { objects = now.objects } }
+    next settings now call ≡ record { expected_calls = Expected.Unsent b; stops = true; after = record (after_bytes settings now b) { objects = now.objects } }
 unfolding next
 next_unformed settings now call b valid none = rw (valid, none) refl
 
 -- what is known of the link before a call
 pub record IsReady (t : ℤ) (link : LinkState) : Type 0 where
-  pub whole : (split link.sent).begun ≡ []
+  pub whole : (messages_in link.sent).begun ≡ []
   pub given : List Made
   pub agrees : Agrees t given link
   pub within : link.pos ≤ length link.ever
@@ -71,7 +71,7 @@ left_more before after more h e = ap (λ l. drop before.pos l) e ∙ drop-append
 left_after : (before after : LinkState) (taken : ℕ) → after.pos ≡ before.pos + taken → left after ≡ drop taken (left_for before after)
 left_after before after taken e = ap (λ n. drop n after.ever) e ∙ sym (drop-drop taken before.pos after.ever)
 
-pub same_next : (e e' : Expected) (s s' : Bool) (a a' : Between) → e ≡ e' → s ≡ s' → a ≡ a' → let x : Next = record { expected = e; stops = s; after = a } in let y : Next = record { expected = e'; stops = s'; after = a' } in x ≡ y
+pub same_next : (e e' : Expected) (s s' : Bool) (a a' : Between) → e ≡ e' → s ≡ s' → a ≡ a' → let x : Next = record { expected_calls = e; stops = s; after = a } in let y : Next = record { expected_calls = e'; stops = s'; after = a' } in x ≡ y
 same_next e e' s s' a a' p q r = rw (p, q, r) refl
 
 pub same_between : (o o' : List Object) (g g' : List Made) (a a' : List Asked) (r r' : List ℕ) → o ≡ o' → g ≡ g' → a ≡ a' → r ≡ r' →
@@ -80,12 +80,12 @@ same_between o o' g g' a a' r r' p q k s = rw (p, q, k, s) refl
 
 -- the response to the request of a call was a message that Rust can hold
 held_next : (settings : Settings) (call : Call) (b : List ℕ) (t : ℤ) (given : List Made) (link : LinkState) → t ≡ settings.time → request_bytes (request_of call) settings.credential ≡ Some b →
-    IsReadBack call settings.credential → IsHeldTo t (run_of t given (split link.sent).whole) b → IsHeldNext settings (between t given link) call
+    IsReadBack call settings.credential → IsHeldTo t (run_of t given (messages_in link.sent).whole) b → IsHeldNext settings (between t given link) call
 held_next settings call b t given link time valid reads one = record {
   reads = reads;
   holds = λ request response valid' formed.
       let same : b ≡ request = let e : Some b ≡ Some request = sym valid ∙ valid' in cc in
-      let one' : IsHeldTo settings.time (run_of t given (split link.sent).whole) request = subst (λ x. IsHeldTo x (run_of t given (split link.sent).whole) request) time (subst (IsHeldTo t (run_of t given (split link.sent).whole)) same one) in
+      let one' : IsHeldTo settings.time (run_of t given (messages_in link.sent).whole) request = subst (λ x. IsHeldTo x (run_of t given (messages_in link.sent).whole) request) time (subst (IsHeldTo t (run_of t given (messages_in link.sent).whole)) same one) in
       one' response formed;
 }
 
@@ -96,22 +96,22 @@ pub valid_call : AreMessages → (settings : Settings) (call : Call) (before aft
     CameAll settings call before after (turn_call_told settings call turn) (loses_connection turn.outcome.answer)
 valid_call law settings call before after b valid message reads ready moves =
     let t : ℤ = settings.time in
-    let w : List (List ℕ) = (split before.sent).whole in
+    let w : List (List ℕ) = (messages_in before.sent).whole in
     let more : List ℕ = moves.ever.more in
-    let split_is : split after.sent ≡ record { whole = w ++ b ∷ []; begun = [] } = ap split moves.sent_is ∙ split_message before.sent b ready.whole message in
+    let split_is : messages_in after.sent ≡ record { whole = w ++ b ∷ []; begun = [] } = ap messages_in moves.sent_is ∙ split_message before.sent b ready.whole message in
     let turn : Turn = turn_with settings call (Some b) (left_for before after) in
     let rests : left_for before after ≡ left before ++ more = left_more before after more ready.within moves.ever.is in
     record {
       whole = ap (λ (s : Split). s.begun) split_is;
       came = λ given agrees.
-          let runs : run_of t given (split after.sent).whole ≡ serve t (run_of t given w) b = ap (λ (s : Split). run_of t given s.whole) split_is ∙ run_on t given w b in
+          let runs : run_of t given (messages_in after.sent).whole ≡ serve t (run_of t given w) b = ap (λ (s : Split). run_of t given s.whole) split_is ∙ run_on t given w b in
           let back : Back t (run_of t given w) b before.ever more =
           back_from law t given w b before.ever more (run_framed law t ready.given w before.ever ready.agrees.ever) (ap (λ (r : Run). r.ever) (sym runs) ∙ agrees.ever ∙ ap Some moves.ever.is) in
           let holds : AreHeld t (fresh given) w × IsHeldTo t (run_of t given w) b = held_last t given w b (subst (λ (s : Split). AreHeld t (fresh given) s.whole) split_is agrees.held) in
           let now : Between = between t given before in
-          let objects : (run_of t given (split after.sent).whole).objects ≡ (after_bytes settings now b).objects = ap (λ (r : Run). r.objects) runs ∙ serve_objects t (run_of t given w) b in
-          let givens : (run_of t given (split after.sent).whole).given ≡ (after_bytes settings now b).given = ap (λ (r : Run). r.given) runs ∙ serve_given t (run_of t given w) b in
-          let askeds : (run_of t given (split after.sent).whole).asked ≡ (after_bytes settings now b).asked = ap (λ (r : Run). r.asked) runs ∙ serve_asked t (run_of t given w) b in
+          let objects : (run_of t given (messages_in after.sent).whole).objects ≡ (after_bytes settings now b).objects = ap (λ (r : Run). r.objects) runs ∙ serve_objects t (run_of t given w) b in
+          let givens : (run_of t given (messages_in after.sent).whole).given ≡ (after_bytes settings now b).given = ap (λ (r : Run). r.given) runs ∙ serve_given t (run_of t given w) b in
+          let askeds : (run_of t given (messages_in after.sent).whole).asked ≡ (after_bytes settings now b).asked = ap (λ (r : Run). r.asked) runs ∙ serve_asked t (run_of t given w) b in
           let after_is : record (after_bytes settings now b) { rest = drop turn.outcome.taken turn.rest } ≡ between t given after =
           same_between _ _ _ _ _ _ _ _ (sym objects) (sym givens) (sym askeds) (sym (left_after before after turn.outcome.taken moves.pos)) in
           record {
@@ -130,7 +130,7 @@ pub invalid_call : AreMessages → (settings : Settings) (call : Call) (before a
     CameAll settings call before after (turn_call_told settings call turn) (loses_connection turn.outcome.answer)
 invalid_call law settings call before after none ready now_ready moves =
     let t : ℤ = settings.time in
-    let w : List (List ℕ) = (split before.sent).whole in
+    let w : List (List ℕ) = (messages_in before.sent).whole in
     let more : List ℕ = moves.ever.more in
     let sent : after.sent ≡ before.sent = moves.sent_is ∙ sym (append_none before.sent) in
     let ever : before.ever ≡ after.ever =
@@ -138,14 +138,14 @@ invalid_call law settings call before after none ready now_ready moves =
     (sym moves.ever.is ∙ append_none after.ever) in
     let rests : left_for before after ≡ left before = ap (λ l. drop before.pos l) (sym ever) in
     record {
-      whole = ap (λ l. (split l).begun) sent ∙ ready.whole;
+      whole = ap (λ l. (messages_in l).begun) sent ∙ ready.whole;
       came = λ given agrees.
-          let runs : run_of t given (split after.sent).whole ≡ run_of t given w = ap (λ l. run_of t given (split l).whole) sent in
+          let runs : run_of t given (messages_in after.sent).whole ≡ run_of t given w = ap (λ l. run_of t given (messages_in l).whole) sent in
           let now : Between = between t given before in
           let after_is : record now { rest = left_for before after } ≡ between t given after =
           same_between _ _ _ _ _ _ _ _ (ap (λ (r : Run). r.objects) (sym runs)) (ap (λ (r : Run). r.given) (sym runs)) (ap (λ (r : Run). r.asked) (sym runs)) (sym (left_after before after 0 moves.pos)) in
           record {
-            agrees = record { ever = ap (λ (r : Run). r.ever) (sym runs) ∙ agrees.ever ∙ ap Some (sym ever); held = subst (λ l. AreHeld t (fresh given) (split l).whole) sent agrees.held };
+            agrees = record { ever = ap (λ (r : Run). r.ever) (sym runs) ∙ agrees.ever ∙ ap Some (sym ever); held = subst (λ l. AreHeld t (fresh given) (messages_in l).whole) sent agrees.held };
             next_is = next_invalid settings now call none
                 ∙ ap (λ (r : List ℕ). next_with settings call (turn_with settings call None r) now) (sym rests)
                 ∙ same_next _ _ _ _ _ _ refl refl after_is;

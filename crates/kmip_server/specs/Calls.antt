@@ -12,7 +12,7 @@ use Rattle.kmip_client.specs.declared.error.Error.TheVariants.{OutOfMemory}
 use Rattle.kmip_store.specs.declared.call.Call.{Call}
 use Rattle.kmip_served.specs.Requests.{request_of}
 use Rattle.kmip_store.specs.Makers.{MakerState}
-use Rattle.kmip_server.specs.Joined.{Settings, Between, Expected, no_val, helped, CallTold, expected, finish}
+use Rattle.kmip_server.specs.Joined.{Settings, Between, Expected, no_val, helper_answer, CallTold, expected_calls, finish}
 use Rattle.kmip_server.specs.Came.{between}
 use Rattle.kmip_server.specs.Link.{ServerLinkState, server_link_state}
 use Rattle.kmip_server.specs.declared.answers.Answered.{Answered}
@@ -38,7 +38,7 @@ call_told x = record { sent = x.sent; answer = answered_seen x.answer; request_t
 
 -- What a helper's call did: its request went over the link, and its answer is a part of what that came to.
 pub data IsAsked {T : Type 0} (state : T → LinkState) (call : Call) (before after : ClientState T) (result : Result Answered Error) : Type 0 where
-  called : (answer : Answer) → IsCall state (request_of call) before after answer → answered_seen result ≡ helped call answer → IsAsked state call before after result
+  called : (answer : Answer) → IsCall state (request_of call) before after answer → answered_seen result ≡ helper_answer call answer → IsAsked state call before after result
   not_made : result ≡ Err OutOfMemory → after ≡ before → IsAsked state call before after result
 
 abbrev pub settings_of : {M : Type 0} → ClientState (ServerLinkState M) → Settings
@@ -50,7 +50,7 @@ before_all state client after = between client.link.server.time (state after.ser
 
 -- what is to come of the calls, and what they leave
 abbrev pub expected_of : {M : Type 0} → (M → MakerState) → ClientState (ServerLinkState M) → ServerLinkState M → List Call → List Expected
-expected_of state client after calls = expected (settings_of client) (before_all state client after) calls
+expected_of state client after calls = expected_calls (settings_of client) (before_all state client after) calls
 
 abbrev pub finish_of : {M : Type 0} → (M → MakerState) → ClientState (ServerLinkState M) → ServerLinkState M → List Call → Between
 finish_of state client after calls = finish (settings_of client) (before_all state client after) calls

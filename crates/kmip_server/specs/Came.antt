@@ -8,19 +8,19 @@ use Rattle.kmip_store.specs.declared.call.Call.{Call}
 use Rattle.kmip_store.specs.declared.maker.Made.{Made}
 use Rattle.kmip_store.specs.Makers.{MakerState}
 use Rattle.kmip_served.specs.Requests.{request_of}
-use Rattle.kmip_server.specs.Split.{split}
+use Rattle.kmip_server.specs.Split.{messages_in}
 use Rattle.kmip_server.specs.Machine.{Run, fresh, run_of}
 use Rattle.kmip_server.specs.Serving.{AreHeld}
-use Rattle.kmip_server.specs.Joined.{Settings, Between, CallTold, Expected, Told', Unsent, Next, next, expected, finish, has_unsent, IsUnsent, IsHeldNext, AreHeldNext, Meet}
+use Rattle.kmip_server.specs.Joined.{Settings, Between, CallTold, Expected, Told', Unsent, Next, next, expected_calls, finish, has_unsent, IsUnsent, IsHeldNext, AreHeldNext, Meet}
 use Rattle.kmip_server.specs.Link.{ServerLinkState, server_link_state, IsOpen}
 use Rattle.kmip_server.specs.declared.called.Left.{Left}
 
 -- a server and its client by the state of the link and all answers of the maker
 abbrev pub between : ℤ → List Made → LinkState → Between
 between t given link = record {
-  objects = (run_of t given (split link.sent).whole).objects;
-  given = (run_of t given (split link.sent).whole).given;
-  asked = (run_of t given (split link.sent).whole).asked;
+  objects = (run_of t given (messages_in link.sent).whole).objects;
+  given = (run_of t given (messages_in link.sent).whole).given;
+  asked = (run_of t given (messages_in link.sent).whole).asked;
   rest = left link;
 }
 
@@ -30,18 +30,18 @@ standing state link = record { objects = link.server.objects; given = []; asked 
 
 -- The responses to the whole messages that were sent are all that there ever was to read, with these answers of the maker.
 pub record Agrees (t : ℤ) (given : List Made) (link : LinkState) : Type 0 where
-  pub ever : (run_of t given (split link.sent).whole).ever ≡ Some link.ever
-  pub held : AreHeld t (fresh given) (split link.sent).whole
+  pub ever : (run_of t given (messages_in link.sent).whole).ever ≡ Some link.ever
+  pub held : AreHeld t (fresh given) (messages_in link.sent).whole
 
 -- with these answers of the maker, the call came as expected
 pub record Came (settings : Settings) (call : Call) (before after : LinkState) (told : CallTold) (stops : Bool) (given : List Made) : Type 0 where
   pub agrees : Agrees settings.time given before
-  pub next_is : next settings (between settings.time given before) call ≡ record { expected = Told' told; stops = stops; after = between settings.time given after }
+  pub next_is : next settings (between settings.time given before) call ≡ record { expected_calls = Told' told; stops = stops; after = between settings.time given after }
   pub held : IsHeldNext settings (between settings.time given before) call
 
 -- whatever the maker's answers are in the end, where they agree with the link after the call
 pub record CameAll (settings : Settings) (call : Call) (before after : LinkState) (told : CallTold) (stops : Bool) : Type 0 where
-  pub whole : (split after.sent).begun ≡ []
+  pub whole : (messages_in after.sent).begun ≡ []
   pub came : (given : List Made) → Agrees settings.time given after → Came settings call before after told stops given
 
 -- The call's request was not sent whole, since the response to it has no wire form, with the maker's answers as they stand.
@@ -49,7 +49,7 @@ pub record WasCut {M : Type 0} (state : M → MakerState) (settings : Settings) 
   pub faults : 0 < after.faults
   pub agrees : Agrees settings.time (state after.server.maker).given before
   pub request : List ℕ
-  pub next_is : next settings (between settings.time (state after.server.maker).given before) call ≡ record { expected = Unsent request; stops = true; after = standing state after }
+  pub next_is : next settings (between settings.time (state after.server.maker).given before) call ≡ record { expected_calls = Unsent request; stops = true; after = standing state after }
   pub unsent : IsUnsent settings request told
   pub held : IsHeldNext settings (between settings.time (state after.server.maker).given before) call
 
@@ -82,8 +82,8 @@ IsSettledBy call answer link = (link.starved ≡ false) × ((link.faults ≡ 0) 
 -- What calls came to, with the maker's answers as they stand in the end: they were told as expected, and this is where they left
 -- client and server.
 pub record IsEnded {M : Type 0} (state : M → MakerState) (settings : Settings) (before : LinkState) (after : ServerLinkState M) (calls : List Call) (xs : List CallTold) : Type 0 where
-  pub meet : Meet settings (expected settings (between settings.time (state after.server.maker).given before) calls) xs
+  pub meet : Meet settings (expected_calls settings (between settings.time (state after.server.maker).given before) calls) xs
   pub ends : standing state after ≡ finish settings (between settings.time (state after.server.maker).given before) calls
-  pub opened : has_unsent (expected settings (between settings.time (state after.server.maker).given before) calls) ≡ false → IsOpen state after
-  pub faulted : has_unsent (expected settings (between settings.time (state after.server.maker).given before) calls) ≡ true → 0 < after.faults
+  pub opened : has_unsent (expected_calls settings (between settings.time (state after.server.maker).given before) calls) ≡ false → IsOpen state after
+  pub faulted : has_unsent (expected_calls settings (between settings.time (state after.server.maker).given before) calls) ≡ true → 0 < after.faults
   pub held : AreHeldNext settings (between settings.time (state after.server.maker).given before) calls

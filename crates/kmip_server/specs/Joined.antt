@@ -16,7 +16,7 @@ use Rattle.kmip_store.specs.declared.call.Call.TheVariants.{CreateRsaKeyPair, Ac
 use Rattle.kmip_store.specs.declared.object.Object.{Object}
 use Rattle.kmip_store.specs.declared.maker.Asked.{Asked}
 use Rattle.kmip_store.specs.declared.maker.Made.{Made}
-use Rattle.kmip_served.specs.Answering.{listed}
+use Rattle.kmip_served.specs.Answering.{list_of_option}
 use Rattle.kmip_served.specs.Served.{Served, served, asks}
 use Rattle.kmip_served.specs.Requests.{request_of}
 use Rattle.kmip_server.specs.Machine.{first_for, rest_for}
@@ -53,9 +53,9 @@ part_for (RevokeKey id) val = no_val
 part_for (DestroyKey id) val = no_val
 part_for call val = val
 
-abbrev pub helped : Call → Answer → Answer
-helped call (Ok val) = Ok (part_for call val)
-helped call (Err error) = Err error
+abbrev pub helper_answer : Call → Answer → Answer
+helper_answer call (Ok val) = Ok (part_for call val)
+helper_answer call (Err error) = Err error
 
 -- a call as it is told
 pub record CallTold : Type 0 where
@@ -67,7 +67,7 @@ pub record CallTold : Type 0 where
 abbrev pub turn_call_told : Settings → Call → Turn → CallTold
 turn_call_told settings call turn =
     let told = told_of settings.buffered turn.request turn.outcome.answer (take turn.outcome.taken turn.rest) in
-    record { sent = turn.outcome.sent; answer = helped call turn.outcome.answer; request_text = told.request_text; response_text = told.response_text }
+    record { sent = turn.outcome.sent; answer = helper_answer call turn.outcome.answer; request_text = told.request_text; response_text = told.response_text }
 
 -- what is to come of a call
 pub data Expected : Type 0 where
@@ -77,7 +77,7 @@ pub data Expected : Type 0 where
   Unsent : List ℕ → Expected
 
 pub record Next : Type 0 where
-  pub expected : Expected
+  pub expected_calls : Expected
   -- whether it was the last call
   pub stops : Bool
   pub after : Between
@@ -88,14 +88,14 @@ turn_with settings call request rest = record { request = request; rest = rest; 
 
 abbrev pub next_with : Settings → Call → Turn → Between → Next
 next_with settings call turn after = record {
-  expected = Told' (turn_call_told settings call turn);
+  expected_calls = Told' (turn_call_told settings call turn);
   stops = loses_connection turn.outcome.answer;
   after = record after { rest = drop turn.outcome.taken turn.rest };
 }
 
 -- where the response has no wire form the objects stay
 abbrev pub answered_with : Settings → Call → Between → Between → List ℕ → Option (List ℕ) → Next
-answered_with settings call now after request None = record { expected = Unsent request; stops = true; after = record after { objects = now.objects } }
+answered_with settings call now after request None = record { expected_calls = Unsent request; stops = true; after = record after { objects = now.objects } }
 answered_with settings call now after request (Some response) =
     next_with settings call (turn_with settings call (Some request) (after.rest ++ response)) after
 
@@ -104,17 +104,17 @@ sent_with settings call now None = next_with settings call (turn_with settings c
 sent_with settings call now (Some request) =
     let q = asks now.objects request in
     let s = served now.objects request (first_for q now.given) settings.time in
-    answered_with settings call now (record { objects = s.objects; given = rest_for q now.given; asked = now.asked ++ listed q; rest = now.rest }) request (response_bytes s.message)
+    answered_with settings call now (record { objects = s.objects; given = rest_for q now.given; asked = now.asked ++ list_of_option q; rest = now.rest }) request (response_bytes s.message)
 
 -- one call: for a valid request the response is added to the bytes left, and the call comes to its outcome on these
 unfoldable pub next : Settings → Between → Call → Next
 next settings now call = sent_with settings call now (request_bytes (request_of call) settings.credential)
 
 -- the calls in order, none after a lost connection
-unfoldable pub expected : Settings → Between → List Call → List Expected
-expected settings now [] = []
-expected settings now (call ∷ calls) = (next settings now call).expected ∷
-    (if (next settings now call).stops then [] else expected settings (next settings now call).after calls)
+unfoldable pub expected_calls : Settings → Between → List Call → List Expected
+expected_calls settings now [] = []
+expected_calls settings now (call ∷ calls) = (next settings now call).expected_calls ∷
+    (if (next settings now call).stops then [] else expected_calls settings (next settings now call).after calls)
 
 -- what stands between the last of the calls that are made and the next
 unfoldable pub finish : Settings → Between → List Call → Between

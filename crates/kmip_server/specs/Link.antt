@@ -8,7 +8,7 @@ use Rattle.kmip_store.specs.declared.object.Object.{Object}
 use Rattle.kmip_store.specs.declared.maker.Made.{Made}
 use Rattle.kmip_store.specs.Makers.{MakerState}
 use Rattle.kmip_served.specs.State.{ServerState, Answers}
-use Rattle.kmip_server.specs.Split.{is_message, split}
+use Rattle.kmip_server.specs.Split.{is_message, messages_in}
 use Rattle.kmip_server.specs.Machine.{Run, fresh, serve, run_of}
 use Rattle.kmip_server.specs.Serving.{AreHeld}
 use Rattle.kmip_server.specs.declared.link.Refusal.{Refusal}
@@ -49,30 +49,30 @@ server_link_state state link = record {
 -- in order; and so it stays, whatever answers come later.
 abbrev pub IsServed : ℤ → List Object → MakerState → List ℕ → List ℕ → Type 0
 IsServed time objects maker ever sent = (more : List Made) →
-    run_of time (maker.given ++ more) (split sent).whole ≡ record { objects = objects; ever = Some ever; asked = maker.asked; given = more }
+    run_of time (maker.given ++ more) (messages_in sent).whole ≡ record { objects = objects; ever = Some ever; asked = maker.asked; given = more }
 
 -- and each response was a message that Rust can hold
 pub record Serves (time : ℤ) (objects : List Object) (maker : MakerState) (ever sent : List ℕ) : Type 0 where
   pub run : IsServed time objects maker ever sent
-  pub held : (more : List Made) → AreHeld time (fresh (maker.given ++ more)) (split sent).whole
+  pub held : (more : List Made) → AreHeld time (fresh (maker.given ++ more)) (messages_in sent).whole
 
 -- What holds once a message came whose response has no wire form: the same, but for the question and the answer of that
 -- message, where it takes one; these are the last. The message begins with what was sent of it, and is longer.
 pub record IsCut (time : ℤ) (objects : List Object) (maker : MakerState) (ever sent kept : List ℕ) : Type 0 where
-  pub objects_are : (run_of time maker.given (split sent).whole).objects ≡ objects
-  pub ever_is : (run_of time maker.given (split sent).whole).ever ≡ Some ever
-  pub held : AreHeld time (fresh maker.given) (split sent).whole
-  pub none : (serve time (run_of time maker.given (split sent).whole) kept).ever ≡ None
-  pub asked : (serve time (run_of time maker.given (split sent).whole) kept).asked ≡ maker.asked
-  pub given : (serve time (run_of time maker.given (split sent).whole) kept).given ≡ []
+  pub objects_are : (run_of time maker.given (messages_in sent).whole).objects ≡ objects
+  pub ever_is : (run_of time maker.given (messages_in sent).whole).ever ≡ Some ever
+  pub held : AreHeld time (fresh maker.given) (messages_in sent).whole
+  pub none : (serve time (run_of time maker.given (messages_in sent).whole) kept).ever ≡ None
+  pub asked : (serve time (run_of time maker.given (messages_in sent).whole) kept).asked ≡ maker.asked
+  pub given : (serve time (run_of time maker.given (messages_in sent).whole) kept).given ≡ []
   pub message : is_message kept ≡ true
-  pub begins : take (length (split sent).begun) kept ≡ (split sent).begun
-  pub longer : length (split sent).begun < length kept
+  pub begins : take (length (messages_in sent).begun) kept ≡ (messages_in sent).begun
+  pub longer : length (messages_in sent).begun < length kept
 
 -- What holds of each link: where it is neither faulted nor starved and its maker tells, and where it is faulted.
 pub record IsKept {M : Type 0} (state : M → MakerState) (link : ServerLinkState M) (begun : List ℕ) : Type 0 where
   pub within : link.pos ≤ length link.ever
-  pub begun_is : begun ≡ (split link.sent).begun
+  pub begun_is : begun ≡ (messages_in link.sent).begun
   pub serves : link.starved ≡ false → IsTrue (state link.server.maker).tells → link.faults ≡ 0 →
       Serves link.server.time link.server.objects (state link.server.maker) link.ever link.sent
   pub cut : link.starved ≡ false → IsTrue (state link.server.maker).tells → 0 < link.faults →
@@ -90,7 +90,7 @@ pub record IsKnown {M : Type 0} (state : M → MakerState) (link : ServerLinkSta
 pub record IsOpen {M : Type 0} (state : M → MakerState) (link : ServerLinkState M) : Type 0 where
   pub fed : link.starved ≡ false
   pub sound : link.faults ≡ 0
-  pub whole : (split link.sent).begun ≡ []
+  pub whole : (messages_in link.sent).begun ≡ []
   pub tells : IsTrue (state link.server.maker).tells
 
 -- a maker that was asked nothing yet
@@ -109,7 +109,7 @@ pub record IsNew {M : Type 0} (state : M → MakerState) (link : ServerLinkState
 
 -- what a link holds of its server between two writes
 pub record Holds {M : Type 0} (state : M → MakerState) (server : ServerState M) (ever sent begun : List ℕ) : Type 0 where
-  pub begun_is : begun ≡ (split sent).begun
+  pub begun_is : begun ≡ (messages_in sent).begun
   pub serves : Serves server.time server.objects (state server.maker) ever sent
 
 -- the message that is kept after a refusal
@@ -139,14 +139,14 @@ pub record Accepted (bytes : List ℕ) (n : ℕ) (ever ever' sent sent' : List �
 -- What a link that was not faulted did with bytes: `server`, `ever` and `sent` are those before, and the next of each those after.
 pub data Did {M : Type 0} (state : M → MakerState) (server server' : ServerState M) (ever ever' sent sent' bytes : List ℕ) (result : Result ℕ Refusal) : Type 0 where
   -- all bytes are taken, and the begun message goes on
-  goes_on : (n : ℕ) → result ≡ Ok n → n ≡ length bytes → (split sent').whole ≡ (split sent).whole → server' ≡ server → ever' ≡ ever →
+  goes_on : (n : ℕ) → result ≡ Ok n → n ≡ length bytes → (messages_in sent').whole ≡ (messages_in sent).whole → server' ≡ server → ever' ≡ ever →
       Did state server server' ever ever' sent sent' bytes result
   -- it ends, and the server's response to it comes after what was readable
-  ends : (n : ℕ) (message response : List ℕ) → result ≡ Ok n → split sent' ≡ record { whole = (split sent).whole ++ message ∷ []; begun = [] } →
+  ends : (n : ℕ) (message response : List ℕ) → result ≡ Ok n → messages_in sent' ≡ record { whole = (messages_in sent).whole ++ message ∷ []; begun = [] } →
       Answers state server server' message (Ok response) → ever' ≡ ever ++ response →
       Did state server server' ever ever' sent sent' bytes result
   -- it ends, and the response to it has no wire form
-  formless : (n : ℕ) (refusal : Refusal) → result ≡ Err refusal → is_message (kept_in refusal) ≡ true → kept_in refusal ≡ (split sent).begun ++ take n bytes →
+  formless : (n : ℕ) (refusal : Refusal) → result ≡ Err refusal → is_message (kept_in refusal) ≡ true → kept_in refusal ≡ (messages_in sent).begun ++ take n bytes →
       Answers state server server' (kept_in refusal) (Err NoForm) → is_memory refusal ≡ false →
       Did state server server' ever ever' sent sent' bytes result
   no_memory : result ≡ Err Refusal.OutOfMemory → Did state server server' ever ever' sent sent' bytes result
@@ -156,12 +156,12 @@ pub data Did {M : Type 0} (state : M → MakerState) (server server' : ServerSta
 -- link only where memory runs out.
 pub data WritesTo {M : Type 0} (state : M → MakerState) (before after : ServerLinkState M) (bytes : List ℕ) (result : Result ℕ LinkError) : Type 0 where
   refused : 0 < before.faults → result ≡ Err Fault → after.starved ≡ before.starved → after.server ≡ before.server → after.kept ≡ before.kept → WritesTo state before after bytes result
-  goes_on : (n : ℕ) → before.faults ≡ 0 → after.starved ≡ before.starved → result ≡ Ok n → n ≡ length bytes → (split after.sent).whole ≡ (split before.sent).whole → after.server ≡ before.server → after.ever ≡ before.ever →
+  goes_on : (n : ℕ) → before.faults ≡ 0 → after.starved ≡ before.starved → result ≡ Ok n → n ≡ length bytes → (messages_in after.sent).whole ≡ (messages_in before.sent).whole → after.server ≡ before.server → after.ever ≡ before.ever →
       WritesTo state before after bytes result
-  ends : (n : ℕ) (message response : List ℕ) → before.faults ≡ 0 → after.starved ≡ before.starved → result ≡ Ok n → split after.sent ≡ record { whole = (split before.sent).whole ++ message ∷ []; begun = [] } →
+  ends : (n : ℕ) (message response : List ℕ) → before.faults ≡ 0 → after.starved ≡ before.starved → result ≡ Ok n → messages_in after.sent ≡ record { whole = (messages_in before.sent).whole ++ message ∷ []; begun = [] } →
       Answers state before.server after.server message (Ok response) → after.ever ≡ before.ever ++ response →
       WritesTo state before after bytes result
-  formless : (n : ℕ) → before.faults ≡ 0 → after.starved ≡ before.starved → result ≡ Err Fault → is_message after.kept ≡ true → after.kept ≡ (split before.sent).begun ++ take n bytes →
+  formless : (n : ℕ) → before.faults ≡ 0 → after.starved ≡ before.starved → result ≡ Err Fault → is_message after.kept ≡ true → after.kept ≡ (messages_in before.sent).begun ++ take n bytes →
       Answers state before.server after.server after.kept (Err NoForm) → WritesTo state before after bytes result
   -- the link is starved from then on
   no_memory : before.faults ≡ 0 → result ≡ Err OutOfMemory → after.starved ≡ true → after.faults ≡ 0 → WritesTo state before after bytes result

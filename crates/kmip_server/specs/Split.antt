@@ -18,15 +18,15 @@ pub record Split : Type 0 where
 
 -- one byte more
 abbrev pub took : Split → ℕ → Split
-took split byte =
-    if is_message (split.begun ++ byte ∷ []) then record { whole = split.whole ++ (split.begun ++ byte ∷ []) ∷ []; begun = [] }
-    else record { whole = split.whole; begun = split.begun ++ byte ∷ [] }
+took messages_in byte =
+    if is_message (messages_in.begun ++ byte ∷ []) then record { whole = messages_in.whole ++ (messages_in.begun ++ byte ∷ []) ∷ []; begun = [] }
+    else record { whole = messages_in.whole; begun = messages_in.begun ++ byte ∷ [] }
 
 abbrev pub nothing_sent : Split
 nothing_sent = record { whole = []; begun = [] }
 
-unfoldable pub split : List ℕ → Split
-split sent = fold took nothing_sent sent
+unfoldable pub messages_in : List ℕ → Split
+messages_in sent = fold took nothing_sent sent
 
 -- the next bytes go to the begun message, up to its end
 pub record Takes (begun bytes message : List ℕ) (whole : Bool) : Type 0 where

@@ -1,6 +1,6 @@
 //! A helper's call, whichever it is.
 ghost use Rattle.std.specs.Prelude.{◌≡◌};
-ghost use Rattle.kmip_client.specs.Calls.{projected};
+ghost use Rattle.kmip_client.specs.Calls.{part_of};
 ghost use Rattle.kmip_store.specs.declared.call.Call.TheVariants as calls;
 ghost use Rattle.kmip_server.specs.Calls.{IsAsked};
 ghost use Rattle.kmip_server.specs.declared.answers.Answered.TheVariants as answered;
@@ -17,7 +17,7 @@ use kmip_wire::{Text, TryClone};
 use std::alloc::Global;
 
 fn unit(answer: Result<()>) -> Result<Answered>
-    ensures { result ≡ projected (λ _. answered.Unit) answer }
+    ensures { result ≡ part_of (λ _. answered.Unit) answer }
 {
     match answer {
         Ok(()) => Ok(Answered::Unit),
@@ -27,7 +27,7 @@ fn unit(answer: Result<()>) -> Result<Answered>
 
 fn pair(answer: Result<(Text, Text)>) -> Result<Answered>
     ensures { result ≡
-        projected (λ identifiers. answered.Pair identifiers.0 identifiers.1) answer }
+        part_of (λ identifiers. answered.Pair identifiers.0 identifiers.1) answer }
 {
     match answer {
         Ok((private_key, public_key)) => Ok(Answered::Pair(private_key, public_key)),
@@ -35,8 +35,8 @@ fn pair(answer: Result<(Text, Text)>) -> Result<Answered>
     }
 }
 
-fn queried(answer: Result<QueryResponsePayload>) -> Result<Answered>
-    ensures { result ≡ projected answered.Query answer }
+fn query_answer(answer: Result<QueryResponsePayload>) -> Result<Answered>
+    ensures { result ≡ part_of answered.Query answer }
 {
     match answer {
         Ok(payload) => Ok(Answered::Query(payload)),
@@ -45,7 +45,7 @@ fn queried(answer: Result<QueryResponsePayload>) -> Result<Answered>
 }
 
 fn random(answer: Result<RNGRetrieveResponsePayload>) -> Result<Answered>
-    ensures { result ≡ projected answered.Random answer }
+    ensures { result ≡ part_of answered.Random answer }
 {
     match answer {
         Ok(payload) => Ok(Answered::Random(payload)),
@@ -53,8 +53,8 @@ fn random(answer: Result<RNGRetrieveResponsePayload>) -> Result<Answered>
     }
 }
 
-fn signed(answer: Result<SignResponsePayload>) -> Result<Answered>
-    ensures { result ≡ projected answered.Signed answer }
+fn sign_answer(answer: Result<SignResponsePayload>) -> Result<Answered>
+    ensures { result ≡ part_of answered.Signed answer }
 {
     match answer {
         Ok(payload) => Ok(Answered::Signed(payload)),
@@ -62,8 +62,8 @@ fn signed(answer: Result<SignResponsePayload>) -> Result<Answered>
     }
 }
 
-fn renamed(answer: Result<ModifyAttributeResponsePayload>) -> Result<Answered>
-    ensures { result ≡ projected answered.Renamed answer }
+fn rename_answer(answer: Result<ModifyAttributeResponsePayload>) -> Result<Answered>
+    ensures { result ≡ part_of answered.Renamed answer }
 {
     match answer {
         Ok(payload) => Ok(Answered::Renamed(payload)),
@@ -72,7 +72,7 @@ fn renamed(answer: Result<ModifyAttributeResponsePayload>) -> Result<Answered>
 }
 
 fn got(answer: Result<GetResponsePayload>) -> Result<Answered>
-    ensures { result ≡ projected answered.Got answer }
+    ensures { result ≡ part_of answered.Got answer }
 {
     match answer {
         Ok(payload) => Ok(Answered::Got(payload)),
@@ -107,7 +107,7 @@ fn rename<T: Link>(
     ensures { IsAsked T.state (calls.RenameKey id.now new_name.now) client.old client.new result }
 {
     let new_name = new_name.try_clone(alloc)?;
-    renamed(client.rename_key(alloc, id.as_str(), new_name))
+    rename_answer(client.rename_key(alloc, id.as_str(), new_name))
 }
 
 /// Makes the call of a helper.
@@ -115,7 +115,7 @@ pub fn ask<T: Link>(alloc: Global, client: &mut Client<T>, call: &Call) -> Resul
     ensures { IsAsked T.state call.now client.old client.new result }
 {
     match call {
-        Call::Query => queried(client.query(alloc)),
+        Call::Query => query_answer(client.query(alloc)),
         Call::CreateRsaKeyPair(key_length, private_name, public_name) => {
             let bits = *key_length;
             create(alloc, client, bits, private_name, public_name)
@@ -124,7 +124,7 @@ pub fn ask<T: Link>(alloc: Global, client: &mut Client<T>, call: &Call) -> Resul
             let count = *num_bytes;
             random(client.rng_retrieve(alloc, count))
         }
-        Call::Sign(id, bytes) => signed(client.sign(alloc, id.as_str(), bytes.as_slice())),
+        Call::Sign(id, bytes) => sign_answer(client.sign(alloc, id.as_str(), bytes.as_slice())),
         Call::ActivateKey(id) => unit(client.activate_key(alloc, id.as_str())),
         Call::RevokeKey(id) => unit(client.revoke_key(alloc, id.as_str())),
         Call::DestroyKey(id) => unit(client.destroy_key(alloc, id.as_str())),

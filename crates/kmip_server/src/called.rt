@@ -1,7 +1,7 @@
 //! One call of a client over a server.
 ghost use Rattle.std.specs.Prelude.{◌≡◌, List, IfOk, IfErr, option_map, drop, length, true};
 ghost use Rattle.kmip_link.specs.State.{Keeps};
-ghost use Rattle.kmip_client.specs.Client.{loses_connection, lacks_memory, counted, ClientState};
+ghost use Rattle.kmip_client.specs.Client.{loses_connection, lacks_memory, count_after, ClientState};
 ghost use Rattle.kmip_client.specs.Outcome.{seen_by};
 ghost use Rattle.kmip_client.specs.declared.error.Error.TheVariants.{OutOfMemory as no_memory};
 ghost use Rattle.kmip_server.specs.Calls.{answered_val, answered_seen, call_told, settings_of};
@@ -142,7 +142,7 @@ fn sent_from<M: Maker>(
 }
 
 /// A copy of a text that there may be.
-fn copied(alloc: Global, text: Option<&str>) -> std::result::Result<Option<Text>, OutOfMemory>
+fn copy_text(alloc: Global, text: Option<&str>) -> std::result::Result<Option<Text>, OutOfMemory>
     ensures { IfOk result (λ made. made ≡ option_map (λ s. s.now) text.entry) }
 {
     match text {
@@ -152,7 +152,7 @@ fn copied(alloc: Global, text: Option<&str>) -> std::result::Result<Option<Text>
 }
 
 /// An answer beside what was sent for it and copies of its diagnostics.
-fn told<M: Maker>(
+fn call_answer<M: Maker>(
     alloc: Global,
     client: &mut Client<ServerLink<M>>,
     from: usize,
@@ -170,8 +170,8 @@ fn told<M: Maker>(
     Ok(CallAnswer {
         sent,
         answer,
-        req_diag: copied(alloc, client.last_req_diag_str())?,
-        res_diag: copied(alloc, client.last_res_diag_str())?,
+        req_diag: copy_text(alloc, client.last_req_diag_str())?,
+        res_diag: copy_text(alloc, client.last_res_diag_str())?,
     })
 }
 
@@ -203,7 +203,7 @@ pub fn make_call<M: Maker>(
     ensures settings { settings_of client.new ≡ settings_of client.old }
     ensures known { IfOk result (λ r. IsKnown M.state client.new.link) }
     ensures lost { IfOk result (λ r. r.1 ≡ loses_connection (call_told r.0).answer) }
-    ensures count { IfOk result (λ r. client.new.errors ≡ counted client.old.errors r.1) }
+    ensures count { IfOk result (λ r. client.new.errors ≡ count_after client.old.errors r.1) }
     ensures memory { IfErr result (λ e. e ≡ no_memory) }
 {
     request_is_message();
@@ -215,5 +215,5 @@ pub fn make_call<M: Maker>(
     }
     settle(alloc, client, call, &answer)?;
     let lost = loses_connection(&answer);
-    Ok((told(alloc, client, from, answer)?, lost))
+    Ok((call_answer(alloc, client, from, answer)?, lost))
 }

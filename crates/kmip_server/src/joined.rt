@@ -1,7 +1,7 @@
 //! Calls of a client over a server.
 ghost use Rattle.std.specs.Prelude.{◌≡◌, ◌∷◌, ◌<◌, [], List, map, IfOk, IfErr, true, false};
 ghost use Rattle.kmip_link.specs.State.{Keeps};
-ghost use Rattle.kmip_client.specs.Client.{counted};
+ghost use Rattle.kmip_client.specs.Client.{count_after};
 ghost use Rattle.kmip_client.specs.declared.error.Error.TheVariants.{OutOfMemory as no_memory};
 ghost use Rattle.kmip_server.specs.Calls.{call_told, settings_of, expected_of, finish_of};
 ghost use Rattle.kmip_server.specs.Came.{standing, IsEnded};
@@ -53,7 +53,7 @@ pub fn call_all<M: Maker>(
         has_unsent (expected_of M.state client.old client.new.link calls) ≡ true →
         0 < client.new.link.faults) }
     ensures count { IfOk result (λ answers.
-        client.new.errors ≡ counted client.old.errors (ends_lost (map call_told answers))) }
+        client.new.errors ≡ count_after client.old.errors (ends_lost (map call_told answers))) }
     ensures keeps { Keeps (server_link_state M.state client.old.link)
         (server_link_state M.state client.new.link) }
     ensures settings { settings_of client.new ≡ settings_of client.old }
@@ -75,7 +75,7 @@ fn calls_over<M: Maker>(
         IsEnded M.state (settings_of client.old) (server_link_state M.state client.old.link)
         client.new.link calls (map call_told answers)) }
     ensures count { IfOk result (λ answers.
-        client.new.errors ≡ counted client.old.errors (ends_lost (map call_told answers))) }
+        client.new.errors ≡ count_after client.old.errors (ends_lost (map call_told answers))) }
     ensures keeps { Keeps (server_link_state M.state client.old.link)
         (server_link_state M.state client.new.link) }
     ensures settings { settings_of client.new ≡ settings_of client.old }

@@ -4,9 +4,9 @@ ghost use Rattle.kmip_link.specs.declared.link.LinkError.{LinkError};
 ghost use Rattle.kmip_link.specs.State.{Keeps, IsIdle, Reads, Writes, Rose};
 ghost use Rattle.kmip_store.specs.Makers.{MakerKeeps};
 ghost use Rattle.kmip_server.specs.Link.{ServerLinkState, server_link_state, IsKept, IsKnown, Holds, Accepted, IsRefused, IsUnused, Did, WritesTo};
-ghost use Rattle.kmip_server.specs.Split.{split};
+ghost use Rattle.kmip_server.specs.Split.{messages_in};
 
-use crate::take::{grow_both, grown};
+use crate::take::{grow_both, take_bytes};
 use kmip_link::{Link, LinkError};
 use kmip_served::Server;
 use kmip_store::Maker;
@@ -158,17 +158,17 @@ fn accept<M: Maker>(
     ensures refused { IsTrue (M.state server.old.maker).tells →
         Holds M.state server.old ever.old.items sent.old.items begun.old.items →
         IsRefused M.state server.new ever.new.items sent.new.items result }
-    ensures did { begun.old.items ≡ (split sent.old.items).begun →
+    ensures did { begun.old.items ≡ (messages_in sent.old.items).begun →
         Did M.state server.old server.new ever.old.items ever.new.items
         sent.old.items sent.new.items bytes.now result }
-    ensures begun { IfOk result (λ n. begun.old.items ≡ (split sent.old.items).begun →
-        begun.new.items ≡ (split sent.new.items).begun) }
+    ensures begun { IfOk result (λ n. begun.old.items ≡ (messages_in sent.old.items).begun →
+        begun.new.items ≡ (messages_in sent.new.items).begun) }
     ensures err { OnErr result ((ever.new.items ≡ ever.old.items)
         × (sent.new.items ≡ sent.old.items) × (begun.new.items ≡ begun.old.items)) }
     ensures keeps { MakerKeeps (M.state server.old.maker) (M.state server.new.maker) }
     ensures time { server.new.time ≡ server.old.time }
 {
-    let (message, whole) = grown(alloc, begun, bytes)?;
+    let (message, whole) = take_bytes(alloc, begun, bytes)?;
     let count = message.len() - begun.len();
     if !whole {
         sent.extend_from_slice(&bytes[..count])?;

@@ -10,11 +10,11 @@ use std::alloc::{AllocError, Global};
 pub fn is_message(b: &[u8]) -> bool
     ensures { result ≡ is_message b.now }
 {
-    b.len() >= 8 && b.len() as u64 == 8 + told(b) as u64
+    b.len() >= 8 && b.len() as u64 == 8 + head_length(b) as u64
 }
 
 /// The length that a head tells.
-fn told(b: &[u8]) -> u32
+fn head_length(b: &[u8]) -> u32
     requires { 8 ≤ length b.now }
     ensures { result ≡ head_length b.now }
 {
@@ -22,7 +22,7 @@ fn told(b: &[u8]) -> u32
 }
 
 /// The begun message with the next bytes, up to its end; and whether that was reached.
-pub fn grown(alloc: Global, begun: &[u8], bytes: &[u8]) -> Result<(Vec<u8>, bool), AllocError>
+pub fn take_bytes(alloc: Global, begun: &[u8], bytes: &[u8]) -> Result<(Vec<u8>, bool), AllocError>
     ensures { IfOk result (λ r. Takes begun.now bytes.now r.0.items r.1) }
 {
     let mut message = begun.to_vec(alloc)?;

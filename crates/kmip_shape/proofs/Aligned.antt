@@ -5,7 +5,7 @@ use Rattle.kmip_wire.specs.Tree.{Tree, Trees, scalar, structure, none, more}
 use Rattle.kmip_wire.specs.Kinds.{code_of, kind_of_scalar}
 use Rattle.kmip_wire.specs.Head.{pads}
 use Rattle.kmip_shape.specs.Writes.{structure_head}
-use Rattle.kmip_wire.specs.Bytes.{bytes, all_bytes, framed, in_order, item_bytes, value_bytes, has_form}
+use Rattle.kmip_wire.specs.Bytes.{bytes, all_bytes, structure_bytes, in_order, item_bytes, value_bytes, has_form}
 
 pub item_len : (tag code : ℕ) (v : List ℕ) → length (item_bytes tag code v) ≡ 8 + length v + pads (length v)
 unfolding item_bytes
@@ -22,7 +22,7 @@ if_aligned : (q : Bool) (b : List ℕ) → length b % 8 ≡ 0 → IsAligned (con
 if_aligned true b h = h
 if_aligned false b h = tt
 
-framed_aligned : (tag : ℕ) (o : Option (List ℕ)) → IsAligned (framed tag o)
+framed_aligned : (tag : ℕ) (o : Option (List ℕ)) → IsAligned (structure_bytes tag o)
 framed_aligned tag None = tt
 framed_aligned tag (Some v) = if_aligned (nat_lt (length v) (2 ^ 32)) (item_bytes tag 1 v) (item_aligned tag 1 v)
 

@@ -5,8 +5,8 @@ use Rattle.std.specs.Option.{option_map, option_and_then}
 use Rattle.kmip_wire.specs.Tree.{Tree}
 use Rattle.kmip_shape.specs.Val.{Val, Vals, Absent, Many, AndVal, vals_then, vals_of}
 use Rattle.kmip_shape.specs.Shape.{AnyNumber, AtLeastOne, OptionalList}
-use Rattle.kmip_shape.specs.Reads.{each, counted}
-use Rattle.kmip_shape.specs.Resume.{gathered, many_field, resume_many}
+use Rattle.kmip_shape.specs.Reads.{each, field_by_mark}
+use Rattle.kmip_shape.specs.Resume.{values_with, many_field, resume_many}
 
 pub vals_then-append : (vs : List Val) (v : Val) (more : Vals) → vals_then (vs ++ v ∷ []) more ≡ vals_then vs (AndVal v more)
 vals_then-append [] v more = refl
@@ -17,23 +17,23 @@ after vs v None = refl
 after vs v (Some more) = grind (arith, vals_then-append vs v more)
 
 pub more : {A : Type 0} (f : A → Val) (r : Tree → Option Val) (items : List A) (a : A) (x : Tree) (xs : List Tree)
-    → r x ≡ Some (f a) → gathered r (map f items) (x ∷ xs) ≡ gathered r (map f (items ++ a ∷ [])) xs
-unfolding gathered
+    → r x ≡ Some (f a) → values_with r (map f items) (x ∷ xs) ≡ values_with r (map f (items ++ a ∷ [])) xs
+unfolding values_with
 more f r items a x xs e = rw (e, map-append f items (a ∷ [])) (after (map f items) (f a) (each r xs))
 
-pub more_none : (r : Tree → Option Val) (vs : List Val) (x : Tree) (xs : List Tree) → r x ≡ None → gathered r vs (x ∷ xs) ≡ None
-unfolding gathered
+pub more_none : (r : Tree → Option Val) (vs : List Val) (x : Tree) (xs : List Tree) → r x ≡ None → values_with r vs (x ∷ xs) ≡ None
+unfolding values_with
 more_none r vs x xs e = rw e
 
-pub start : (r : Tree → Option Val) (xs : List Tree) → gathered r [] xs ≡ each r xs
-unfolding gathered
+pub start : (r : Tree → Option Val) (xs : List Tree) → values_with r [] xs ≡ each r xs
+unfolding values_with
 start r xs = elim (each r xs) as (λ o. option_map (vals_then []) o ≡ o) [ None ↦ refl | Some v ↦ refl ]
 
-pub end : (r : Tree → Option Val) (vs : List Val) → gathered r vs [] ≡ Some (vals_of vs)
-unfolding gathered
+pub end : (r : Tree → Option Val) (vs : List Val) → values_with r vs [] ≡ Some (vals_of vs)
+unfolding values_with
 end r vs = refl
 
-pub start_list : (r : Tree → Option Val) (xs : List Tree) → resume_many AnyNumber r [] xs ≡ counted AnyNumber r xs
+pub start_list : (r : Tree → Option Val) (xs : List Tree) → resume_many AnyNumber r [] xs ≡ field_by_mark AnyNumber r xs
 start_list r xs = rw (start r xs) (elim (each r xs) as (λ o. option_and_then (many_field AnyNumber) o ≡ option_map Many o) [ None ↦ refl | Some v ↦ refl ])
 
 non_empty : (v : Option Val) (o : Option Vals) → option_and_then (many_field AtLeastOne) (option_and_then (λ w. option_map (AndVal w) o) v) ≡ option_map Many (option_and_then (λ w. option_map (AndVal w) o) v)
@@ -41,7 +41,7 @@ non_empty None o = refl
 non_empty (Some v) None = refl
 non_empty (Some v) (Some vs) = refl
 
-pub start_non_empty : (r : Tree → Option Val) (xs : List Tree) → resume_many AtLeastOne r [] xs ≡ counted AtLeastOne r xs
+pub start_non_empty : (r : Tree → Option Val) (xs : List Tree) → resume_many AtLeastOne r [] xs ≡ field_by_mark AtLeastOne r xs
 start_non_empty r [] = rw (start r []) refl
 start_non_empty r (x ∷ xs) = rw (start r (x ∷ xs)) (non_empty (r x) (each r xs))
 
@@ -50,7 +50,7 @@ optional None o = refl
 optional (Some v) None = refl
 optional (Some v) (Some vs) = refl
 
-pub start_optional : (r : Tree → Option Val) (xs : List Tree) → resume_many OptionalList r [] xs ≡ counted OptionalList r xs
+pub start_optional : (r : Tree → Option Val) (xs : List Tree) → resume_many OptionalList r [] xs ≡ field_by_mark OptionalList r xs
 start_optional r [] = rw (start r []) refl
 start_optional r (x ∷ xs) = rw (start r (x ∷ xs)) (optional (r x) (each r xs))
 

@@ -3,7 +3,7 @@ use Rattle.std.proofs.Common.{◌≡◌, ℕ, ◌+◌, ◌^◌, ◌≤◌, ◌%�
 use Rattle.std.specs.Option.{option_map}
 use Rattle.kmip_wire.specs.Tree.{Scalar as Leaf, Tree, trees_of, byte_string}
 use Rattle.kmip_wire.specs.declared.kind.Kind.TheVariants.{Enumeration}
-use Rattle.kmip_wire.specs.Bytes.{item_bytes, framed, all_bytes, in_order}
+use Rattle.kmip_wire.specs.Bytes.{item_bytes, structure_bytes, all_bytes, in_order}
 use Rattle.kmip_shape.specs.Writes.{leaf_has_form, leaf_size, leaf_text}
 use Rattle.kmip_shape.specs.Val.{Val, Vals, Field, Fields, Number, Text, Bytes, Truth, Record, Case, Absent, One, Many, NoField, AndField, NoVal, AndVal}
 use Rattle.kmip_shape.specs.Shape.{Shape, RowList, Cases, Scalar, OneOf, Rows, RowsOrBytes, Choice, Custom, NoRow, AndRow, NoCase, leaf_of, case_at, tag_or, place_tag, Found, attribute_value}
@@ -90,7 +90,7 @@ structure_length tag (Some ts) = go (all_bytes (trees_of ts)) (trees_aligned (tr
     at c true h = ap Some (sym (item_len tag 1 c ∙ (omega arith)))
     at c false h = refl
 
-    go : (o : Option (List ℕ)) → IsAligned o → structure_len (limit (text_length o)) ≡ text_length (framed tag o)
+    go : (o : Option (List ℕ)) → IsAligned o → structure_len (limit (text_length o)) ≡ text_length (structure_bytes tag o)
     go None h = refl
     go (Some c) h = at c (nat_lt (length c) (2 ^ 32)) h
 

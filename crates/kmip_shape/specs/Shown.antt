@@ -22,13 +22,13 @@ control_mark Bare = 92 ∷ 120 ∷ []
 control_mark Json = 92 ∷ 117 ∷ 48 ∷ 48 ∷ []
 
 -- a byte of a text in double quotes
-abbrev pub escaped : Style → ℕ → List ℕ
-escaped style n =
+abbrev pub escape : Style → ℕ → List ℕ
+escape style n =
     cond (nat_eq n 34 || nat_eq n 92) (92 ∷ n ∷ [])
     (cond (nat_lt n 32 || nat_eq n 127) (control_mark style ++ hex_byte n) (n ∷ []))
 
 abbrev pub text_styled : List ℕ → Style → List ℕ
-text_styled s style = 34 ∷ (flat_map (escaped style) s ++ 34 ∷ [])
+text_styled s style = 34 ∷ (flat_map (escape style) s ++ 34 ∷ [])
 
 -- what stands before the digits of bytes: `x"`, or `"`
 abbrev pub bytes_mark : Style → List ℕ
@@ -153,14 +153,14 @@ abbrev mutual
   members_styled (AndField (One val) fields) around style = []
   members_styled (AndField (Many vals) fields) around style = 91 ∷ (list_styled vals NoCase (Choice OfName around) false style ++ 93 ∷ [])
 
-abbrev pub styled : Shape → Val → Style → List ℕ
-styled shape val = styled_in val NoCase shape
+abbrev pub text_in : Shape → Val → Style → List ℕ
+text_in shape val = styled_in val NoCase shape
 
 abbrev pub record_styled : Fields → RowList → Style → List ℕ
 record_styled fields rows style = 123 ∷ (fields_styled fields NoCase rows false style ++ 125 ∷ [])
 
 abbrev pub shown : Shape → Val → List ℕ
-shown shape val = styled shape val Bare
+shown shape val = text_in shape val Bare
 
 -- A value as JSON (RFC 8259): a record is an object of the fields that stand, a list an array, and a
 -- choice an object of one member. Bytes are a string of upper-case hex digits, the name of an
@@ -168,7 +168,7 @@ shown shape val = styled shape val Bare
 -- of 64 bits, so that a reader with doubles loses the last digits from 2^53 on. In a string `"` and
 -- `\` stand after a backslash, and control characters are `\u00` and two digits.
 abbrev pub json : Shape → Val → List ℕ
-json shape val = styled shape val Json
+json shape val = text_in shape val Json
 
 abbrev pub text_shown : List ℕ → List ℕ
 text_shown s = text_styled s Bare

@@ -6,19 +6,19 @@ ghost use Rattle.kmip_wire.specs.declared.kind.Kind.TheVariants.{BigInteger as b
 ghost use Rattle.kmip_wire.specs.Items.{item_tree};
 ghost use Rattle.kmip_shape.specs.Val.{One as one, Bytes as bytes};
 ghost use Rattle.kmip_shape.specs.Shape.{AndRow, Under, Required, Optional, Plain, Scalar, has_tag};
-ghost use Rattle.kmip_shape.specs.Reads.{counted, read_of};
+ghost use Rattle.kmip_shape.specs.Reads.{field_by_mark, read_of};
 ghost use Rattle.kmip_shape.specs.Writes.{optional};
 ghost use Rattle.kmip_shape.specs.Resume.{outer_of, resume_single};
 ghost use Rattle.std.specs.Prelude.{refl};
 
-use crate::columns::Column;
-use crate::fields::{FieldRow, ShowRow, WriteRow};
 use crate::item::{Item, WriteItem};
+use crate::lists::known_bytes;
 use crate::read::{Outer, ReadError, ReadItem};
-use crate::rows::known_bytes;
+use crate::row_readers::ReadRow;
+use crate::row_writers::{FieldRow, ShowRow, WriteRow};
 use crate::scalars::{big_integer_len, put_big_integer};
 use crate::show::ShowItem;
-use crate::sink::Sink;
+use crate::text_writer::TextWriter;
 use crate::wrapped::BigInteger;
 use kmip_wire::{Blob, Buffer, ItemRef, Tag};
 use std::alloc::Global;
@@ -29,14 +29,14 @@ pub struct BigOne<const TAG: u32> {
     slot: Option<Blob>,
 }
 
-impl<'a, const TAG: u32> Column<'a> for BigOne<TAG> {
+impl<'a, const TAG: u32> ReadRow<'a> for BigOne<TAG> {
     type Out = Blob;
 
     ghost row_above = { λ rest. AndRow [] (Under TAG) Required Plain (Scalar big_integers) rest };
 
     ghost row_reads = { λ rest o c xs. refl };
 
-    ghost reads = { λ o c xs. counted Required (read_of (Scalar big_integers) o)
+    ghost reads = { λ o c xs. field_by_mark Required (read_of (Scalar big_integers) o)
         (filter (has_tag TAG) xs) };
 
     ghost resume = { λ s o c xs. resume_single Required (read_of (Scalar big_integers) o)
@@ -102,7 +102,7 @@ impl<'b, const TAG: u32> WriteRow<'b> for BigOne<TAG> {
 }
 
 impl<'b, const TAG: u32> ShowRow<'b> for BigOne<TAG> {
-    fn show(lent: &'b Blob, name: &str, after: bool, out: &mut Sink) -> bool {
+    fn show(lent: &'b Blob, name: &str, after: bool, out: &mut TextWriter) -> bool {
         out.put_comma(after);
         out.put_word(name);
         out.put_name_mark();
@@ -117,14 +117,14 @@ pub struct BigOpt<const TAG: u32> {
     slot: Option<Blob>,
 }
 
-impl<'a, const TAG: u32> Column<'a> for BigOpt<TAG> {
+impl<'a, const TAG: u32> ReadRow<'a> for BigOpt<TAG> {
     type Out = Option<Blob>;
 
     ghost row_above = { λ rest. AndRow [] (Under TAG) Optional Plain (Scalar big_integers) rest };
 
     ghost row_reads = { λ rest o c xs. refl };
 
-    ghost reads = { λ o c xs. counted Optional (read_of (Scalar big_integers) o)
+    ghost reads = { λ o c xs. field_by_mark Optional (read_of (Scalar big_integers) o)
         (filter (has_tag TAG) xs) };
 
     ghost resume = { λ s o c xs. resume_single Optional (read_of (Scalar big_integers) o)
@@ -197,7 +197,7 @@ impl<'b, const TAG: u32> WriteRow<'b> for BigOpt<TAG> {
 }
 
 impl<'b, const TAG: u32> ShowRow<'b> for BigOpt<TAG> {
-    fn show(lent: &'b Option<Blob>, name: &str, after: bool, out: &mut Sink) -> bool {
+    fn show(lent: &'b Option<Blob>, name: &str, after: bool, out: &mut TextWriter) -> bool {
         match lent {
             Some(lent) => <BigOne<TAG> as ShowRow<'b>>::show(lent, name, after, out),
             None => after,

@@ -3,7 +3,7 @@
 use crate::item::{Item, WriteItem};
 use crate::read::{Outer, ReadError, ReadItem};
 use crate::show::ShowItem;
-use crate::sink::Sink;
+use crate::text_writer::TextWriter;
 use kmip_wire::{Boxed, Buffer, ItemRef, Tag};
 use std::alloc::Global;
 
@@ -37,7 +37,7 @@ impl<T: ReadItem> ReadItem for Boxed<T> {
 }
 
 impl<T: ShowItem> ShowItem for Boxed<T> {
-    fn show_into(&self, out: &mut Sink) {
+    fn show_into(&self, out: &mut TextWriter) {
         self.get().show_into(out);
     }
 }

@@ -9,17 +9,17 @@ ghost use Rattle.kmip_wire.specs.Items.{item_tree};
 ghost use Rattle.kmip_shape.specs.Val.{One as one};
 ghost use Rattle.kmip_shape.specs.Shape.{OuterValue, AndRow, ByCase, Required, Optional, Plain};
 ghost use Rattle.kmip_shape.specs.Shape.{among, own_tags};
-ghost use Rattle.kmip_shape.specs.Reads.{counted, read_of, read_rows, with_field};
+ghost use Rattle.kmip_shape.specs.Reads.{field_by_mark, read_of, read_rows, with_field};
 ghost use Rattle.kmip_shape.specs.Writes.{optional};
 ghost use Rattle.kmip_shape.specs.Resume.{resume_single};
 
-use crate::columns::Column;
-use crate::fields::{FieldRow, ShowRow, WriteRow};
 use crate::item::{Item, WriteItem};
+use crate::lists::{known_optional, optional_len, write_optional};
 use crate::read::{Outer, ReadError, ReadItem};
-use crate::rows::{known_optional, optional_len, write_optional};
+use crate::row_readers::ReadRow;
+use crate::row_writers::{FieldRow, ShowRow, WriteRow};
 use crate::show::{ShowItem, show_optional};
-use crate::sink::Sink;
+use crate::text_writer::TextWriter;
 use kmip_wire::{Buffer, ItemRef, Tag};
 use std::alloc::Global;
 
@@ -42,17 +42,17 @@ pub struct TagOpt<T> {
     slot: Option<T>,
 }
 
-impl<'a, T: OfTag> Column<'a> for TagOpt<T> {
+impl<'a, T: OfTag> ReadRow<'a> for TagOpt<T> {
     type Out = Option<T>;
 
     ghost row_above = { λ rest. AndRow [] ByCase Optional Plain T.shape rest };
 
     ghost row_reads = { λ rest o c xs.
         ap (λ ns.
-        with_field (counted Optional (read_of T.shape o) (filter (λ x. among (tag_of x) ns) xs))
+        with_field (field_by_mark Optional (read_of T.shape o) (filter (λ x. among (tag_of x) ns) xs))
         (λ f. read_rows rest o c xs)) (T.own o) };
 
-    ghost reads = { λ o c xs. counted Optional (read_of T.shape o)
+    ghost reads = { λ o c xs. field_by_mark Optional (read_of T.shape o)
         (filter (λ x. among (tag_of x) T.tags) xs) };
 
     ghost resume = { λ s o c xs. resume_single Optional (read_of T.shape o)
@@ -117,7 +117,7 @@ impl<'b, T: WriteItem + 'b> WriteRow<'b> for TagOpt<T> {
 }
 
 impl<'b, T: ShowItem + 'b> ShowRow<'b> for TagOpt<T> {
-    fn show(lent: &'b Option<T>, name: &str, after: bool, out: &mut Sink) -> bool {
+    fn show(lent: &'b Option<T>, name: &str, after: bool, out: &mut TextWriter) -> bool {
         show_optional(lent, name, after, out)
     }
 }

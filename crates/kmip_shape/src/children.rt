@@ -6,8 +6,8 @@ ghost use Rattle.kmip_shape.specs.Shape.{Required, Optional, AnyNumber};
 ghost use Rattle.kmip_shape.specs.Writes.{optional, vals};
 ghost use Rattle.kmip_shape.specs.Resume.{outer_of, read_row};
 
-use crate::columns::push_item;
 use crate::read::{Outer, ReadError, ReadItem};
+use crate::row_readers::push_item;
 use kmip_wire::{ItemRef, List, Tag};
 use std::alloc::Global;
 

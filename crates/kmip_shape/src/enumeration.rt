@@ -9,7 +9,7 @@ use crate::item::{Item, WriteItem};
 use crate::read::{Outer, ReadError, ReadItem};
 use crate::scalars::put_enumeration;
 use crate::show::ShowItem;
-use crate::sink::Sink;
+use crate::text_writer::TextWriter;
 use kmip_wire::{Buffer, ItemRef, Tag};
 use std::alloc::Global;
 
@@ -71,7 +71,7 @@ impl<T: Enumeration> ReadItem for T {
 }
 
 impl<T: Enumeration> ShowItem for T {
-    fn show_into(&self, out: &mut Sink) {
+    fn show_into(&self, out: &mut TextWriter) {
         out.put_word(self.name());
     }
 }

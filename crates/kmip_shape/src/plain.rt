@@ -15,14 +15,14 @@ ghost use Rattle.kmip_shape.specs.Same.{same_text, same_bytes, same_number, same
 ghost use Rattle.kmip_shape.specs.Same.{same_unsigned};
 
 use crate::item::{Item, WriteItem};
+use crate::lists::known_bytes;
 use crate::read::{Outer, ReadError, ReadItem};
-use crate::rows::known_bytes;
 use crate::scalars::{
     SCALAR_LEN, bytes_len, put_boolean, put_bytes, put_date, put_integer, put_interval,
     put_long_integer, put_text, text_len,
 };
 use crate::show::ShowItem;
-use crate::sink::Sink;
+use crate::text_writer::TextWriter;
 use kmip_wire::{Blob, Buffer, ItemRef, Tag, Text};
 use std::alloc::Global;
 
@@ -58,7 +58,7 @@ impl ReadItem for Text {
 }
 
 impl ShowItem for Text {
-    fn show_into(&self, out: &mut Sink) {
+    fn show_into(&self, out: &mut TextWriter) {
         out.put_text(self.as_str());
     }
 }
@@ -95,7 +95,7 @@ impl ReadItem for Blob {
 }
 
 impl ShowItem for Blob {
-    fn show_into(&self, out: &mut Sink) {
+    fn show_into(&self, out: &mut TextWriter) {
         out.put_bytes(self.as_slice());
     }
 }
@@ -132,7 +132,7 @@ impl ReadItem for i32 {
 }
 
 impl ShowItem for i32 {
-    fn show_into(&self, out: &mut Sink) {
+    fn show_into(&self, out: &mut TextWriter) {
         out.put_signed(i64::from(*self));
     }
 }
@@ -169,7 +169,7 @@ impl ReadItem for i64 {
 }
 
 impl ShowItem for i64 {
-    fn show_into(&self, out: &mut Sink) {
+    fn show_into(&self, out: &mut TextWriter) {
         out.put_signed(*self);
     }
 }
@@ -206,7 +206,7 @@ impl ReadItem for bool {
 }
 
 impl ShowItem for bool {
-    fn show_into(&self, out: &mut Sink) {
+    fn show_into(&self, out: &mut TextWriter) {
         out.put_truth(*self);
     }
 }
@@ -243,7 +243,7 @@ impl ReadItem for u64 {
 }
 
 impl ShowItem for u64 {
-    fn show_into(&self, out: &mut Sink) {
+    fn show_into(&self, out: &mut TextWriter) {
         out.put_unsigned(*self);
     }
 }
@@ -280,7 +280,7 @@ impl ReadItem for u32 {
 }
 
 impl ShowItem for u32 {
-    fn show_into(&self, out: &mut Sink) {
+    fn show_into(&self, out: &mut TextWriter) {
         out.put_unsigned(u64::from(*self));
     }
 }

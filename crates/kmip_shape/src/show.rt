@@ -4,12 +4,12 @@ ghost use Rattle.std.specs.Prelude.{◌≡◌, ◌++◌, Bool, ◌||◌, false, 
 ghost use Rattle.kmip_shape.specs.Val.{One as one, Many as many};
 ghost use Rattle.kmip_shape.specs.Shape.{NoCase};
 ghost use Rattle.kmip_shape.specs.Writes.{optional, optional_list, vals};
-ghost use Rattle.kmip_shape.specs.Shown.{Grows, AddsPart, styled, shown, json, row_styled};
+ghost use Rattle.kmip_shape.specs.Shown.{Grows, AddsPart, text_in, shown, json, row_styled};
 ghost use Rattle.kmip_shape.specs.Shown.{list_styled, stands, beside, in_brackets};
 
 use crate::item::Item;
-use crate::sink::Sink;
 use crate::style::Style;
+use crate::text_writer::TextWriter;
 use kmip_wire::{List, OutOfMemory, Text};
 use std::alloc::Global;
 use std::mem;
@@ -18,15 +18,15 @@ use std::mem;
 pub trait ShowItem: Item {
     /// Appends its text, in the style of what grows, until memory runs out. This is what a type
     /// writes; others call `show` or `show_json`.
-    fn show_into(&self, out: &mut Sink)
-        ensures { Grows out.old out.new (styled Self.shape (Self.val self.now)) };
+    fn show_into(&self, out: &mut TextWriter)
+        ensures { Grows out.old out.new (text_in Self.shape (Self.val self.now)) };
 
     /// Appends its text. Where memory runs out, a first part of the text was appended.
     fn show(&self, alloc: Global, out: &mut Text) -> Result<(), OutOfMemory>
         ensures all { OnOk result (out.new ≡ out.old ++ shown Self.shape (Self.val self.now)) }
         ensures part { AddsPart out.old out.new (shown Self.shape (Self.val self.now)) }
     {
-        let mut sink = Sink::over(mem::replace(out, Text::new(alloc)), Style::Bare);
+        let mut sink = TextWriter::over(mem::replace(out, Text::new(alloc)), Style::Bare);
         self.show_into(&mut sink);
         sink.finish(out)
     }
@@ -38,14 +38,14 @@ pub trait ShowItem: Item {
         ensures all { OnOk result (out.new ≡ out.old ++ json Self.shape (Self.val self.now)) }
         ensures part { AddsPart out.old out.new (json Self.shape (Self.val self.now)) }
     {
-        let mut sink = Sink::over(mem::replace(out, Text::new(alloc)), Style::Json);
+        let mut sink = TextWriter::over(mem::replace(out, Text::new(alloc)), Style::Json);
         self.show_into(&mut sink);
         sink.finish(out)
     }
 }
 
 /// A field of one item, after others or not; whether a field stands now.
-pub fn show_one<T: ShowItem>(item: &T, name: &str, after: bool, out: &mut Sink) -> bool
+pub fn show_one<T: ShowItem>(item: &T, name: &str, after: bool, out: &mut TextWriter) -> bool
     ensures after { (a : Bool) → after ≡ a → result ≡ (a || stands (one (T.val item.now))) }
     ensures text { (a : Bool) → after ≡ a →
         Grows out.old out.new (row_styled (one (T.val item.now)) NoCase name.now T.shape a) }
@@ -62,7 +62,7 @@ pub(crate) fn show_optional<T: ShowItem>(
     item: &Option<T>,
     name: &str,
     after: bool,
-    out: &mut Sink,
+    out: &mut TextWriter,
 ) -> bool
     ensures after { (a : Bool) → after ≡ a → result ≡ (a || stands (optional T.val item.now)) }
     ensures text { (a : Bool) → after ≡ a →
@@ -76,7 +76,7 @@ pub(crate) fn show_optional<T: ShowItem>(
 
 /// The items of a list, after others or not.
 #[tactic(auto, using(crate::proofs::Growth::growth))]
-pub(crate) fn show_items<T: ShowItem>(items: &[T], out: &mut Sink)
+pub(crate) fn show_items<T: ShowItem>(items: &[T], out: &mut TextWriter)
     ensures { Grows out.old out.new (list_styled (vals T.val items.now) NoCase T.shape false) }
 {
     let mut after = false;
@@ -92,7 +92,7 @@ pub(crate) fn show_list<T: ShowItem>(
     items: &List<T>,
     name: &str,
     after: bool,
-    out: &mut Sink,
+    out: &mut TextWriter,
 ) -> bool
     ensures after { (a : Bool) → after ≡ a → result ≡ (a || stands (many (vals T.val items.now))) }
     ensures text { (a : Bool) → after ≡ a →
@@ -112,7 +112,7 @@ pub(crate) fn show_optional_list<T: ShowItem>(
     items: &Option<List<T>>,
     name: &str,
     after: bool,
-    out: &mut Sink,
+    out: &mut TextWriter,
 ) -> bool
     ensures after { (a : Bool) → after ≡ a →
         result ≡ (a || stands (optional_list T.val items.now)) }
@@ -127,8 +127,8 @@ pub(crate) fn show_optional_list<T: ShowItem>(
 }
 
 /// A case whose value is a record or a list: its name, and the value itself.
-pub fn show_case<T: ShowItem>(name: &str, item: &T, out: &mut Sink)
-    ensures { Grows out.old out.new (beside name.now (styled T.shape (T.val item.now))) }
+pub fn show_case<T: ShowItem>(name: &str, item: &T, out: &mut TextWriter)
+    ensures { Grows out.old out.new (beside name.now (text_in T.shape (T.val item.now))) }
 {
     out.open_case(name);
     item.show_into(out);
@@ -136,8 +136,8 @@ pub fn show_case<T: ShowItem>(name: &str, item: &T, out: &mut Sink)
 }
 
 /// A case of another value: its name, and the value in round brackets.
-pub fn show_in_brackets<T: ShowItem>(name: &str, item: &T, out: &mut Sink)
-    ensures { Grows out.old out.new (in_brackets name.now (styled T.shape (T.val item.now))) }
+pub fn show_in_brackets<T: ShowItem>(name: &str, item: &T, out: &mut TextWriter)
+    ensures { Grows out.old out.new (in_brackets name.now (text_in T.shape (T.val item.now))) }
 {
     out.open_brackets(name);
     item.show_into(out);

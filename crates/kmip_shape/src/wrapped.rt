@@ -10,11 +10,11 @@ ghost use Rattle.kmip_shape.specs.Same.{same_bytes};
 ghost use Rattle.kmip_shape.specs.Dates.{date_val, date_same};
 
 use crate::item::{Item, WriteItem};
+use crate::lists::known_bytes;
 use crate::read::{Outer, ReadError, ReadItem};
-use crate::rows::known_bytes;
 use crate::scalars::{SCALAR_LEN, big_integer_len, put_big_integer, put_date};
 use crate::show::ShowItem;
-use crate::sink::Sink;
+use crate::text_writer::TextWriter;
 use kmip_wire::{Blob, Buffer, ItemRef, OutOfMemory, Tag, TryClone};
 use std::alloc::Global;
 
@@ -61,7 +61,7 @@ impl ReadItem for BigInteger {
 }
 
 impl ShowItem for BigInteger {
-    fn show_into(&self, out: &mut Sink) {
+    fn show_into(&self, out: &mut TextWriter) {
         out.put_bytes(self.0.as_slice());
     }
 }
@@ -108,7 +108,7 @@ impl ReadItem for Timestamp {
 
 #[tactic(auto, using(crate::proofs::Dated::dated))]
 impl ShowItem for Timestamp {
-    fn show_into(&self, out: &mut Sink) {
+    fn show_into(&self, out: &mut TextWriter) {
         out.put_unsigned(self.0.cast_unsigned());
     }
 }

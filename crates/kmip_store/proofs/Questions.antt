@@ -12,7 +12,7 @@ use Rattle.kmip_store.specs.declared.error.StoreError.TheVariants.{ItemNotFound,
 use Rattle.kmip_store.specs.declared.maker.MakerError.{MakerError}
 use Rattle.kmip_store.specs.declared.maker.MakerError.TheVariants.{Fault}
 use Rattle.kmip_store.specs.Makers.{MakerState, Answered, Rose, Makes, is_answer}
-use Rattle.kmip_store.specs.Objects.{found, identifier}
+use Rattle.kmip_store.specs.Objects.{find_in, identifier}
 use Rattle.kmip_store.specs.declared.call.Call.{Call}
 use Rattle.kmip_store.specs.declared.call.Call.TheVariants.{CreateRsaKeyPair, Sign}
 use Rattle.kmip_store.specs.Steps.{Answer, Signed, Created, Failed, stay, step, question, can_sign, key_of, made_bytes}
@@ -33,10 +33,10 @@ asked_step before call after answer asked answered asks made e k s t = record {
 }
 
 -- a signature is asked of the key of the object that is found
-pub sign_asks : (objects : List Object) (id bytes : List ℕ) (place : ℕ) (object : Object) → found objects id ≡ Some (place, object) → can_sign object ≡ true → question objects (Sign id bytes) ≡ Some (questions.Sign object.key bytes)
+pub sign_asks : (objects : List Object) (id bytes : List ℕ) (place : ℕ) (object : Object) → find_in objects id ≡ Some (place, object) → can_sign object ≡ true → question objects (Sign id bytes) ≡ Some (questions.Sign object.key bytes)
 sign_asks objects id bytes place object f s = rw (f, s) refl
 
-pub sign_step : (objects : List Object) (id bytes : List ℕ) (place : ℕ) (object : Object) (made : Made) → found objects id ≡ Some (place, object) → can_sign object ≡ true → step objects (Sign id bytes) (Some made) ≡ stay objects (made_bytes Signed (Some made))
+pub sign_step : (objects : List Object) (id bytes : List ℕ) (place : ℕ) (object : Object) (made : Made) → find_in objects id ≡ Some (place, object) → can_sign object ≡ true → step objects (Sign id bytes) (Some made) ≡ stay objects (made_bytes Signed (Some made))
 sign_step objects id bytes place object made f s = rw (f, s) refl
 
 -- a call whose result is that of its question to the maker
@@ -49,7 +49,7 @@ asks_of answer made objects call asks asked answered (Err CryptographicFailure) 
 asks_of answer made objects call asks asked answered (Err OutOfMemory) q k s f h = (refl, h)
 
 -- a signature is asked of the key of the object that is found
-pub signs : (objects : List Object) (id bytes : List ℕ) (place : ℕ) (object : Object) (asked answered : MakerState) (r : Result (List ℕ) StoreError) → Gets (λ (b : List ℕ). Bytes b) (questions.Sign object.key bytes) asked answered r → found objects id ≡ Some (place, object) → can_sign object ≡ true
+pub signs : (objects : List Object) (id bytes : List ℕ) (place : ℕ) (object : Object) (asked answered : MakerState) (r : Result (List ℕ) StoreError) → Gets (λ (b : List ℕ). Bytes b) (questions.Sign object.key bytes) asked answered r → find_in objects id ≡ Some (place, object) → can_sign object ≡ true
     → Asks Signed objects (Sign id bytes) objects asked answered r
 signs objects id bytes place object asked answered r h f s =
     asks_of Signed (λ (b : List ℕ). Bytes b) objects (Sign id bytes) (questions.Sign object.key bytes) asked answered r

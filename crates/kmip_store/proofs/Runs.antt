@@ -6,10 +6,10 @@ use Rattle.std.proofs.lemmas.Fmt.{decimal_injective}
 use Rattle.kmip_store.specs.declared.object.Object.{Object}
 use Rattle.kmip_store.specs.declared.maker.Made.{Made}
 use Rattle.kmip_store.specs.declared.maker.Made.TheVariants as answers
-use Rattle.kmip_store.specs.Objects.{identifier, found, is_pre_active, is_active, is_destroyed}
+use Rattle.kmip_store.specs.Objects.{identifier, find_in, is_pre_active, is_active, is_destroyed}
 use Rattle.kmip_store.specs.declared.call.Call.{Call}
 use Rattle.kmip_store.specs.declared.call.Call.TheVariants.{Query, CreateRsaKeyPair, RngRetrieve, Sign, ActivateKey, RevokeKey, DestroyKey, RenameKey, GetKey}
-use Rattle.kmip_store.specs.Steps.{Answer, Got, Stepped, stay, become, allowed, on_found, step, get, can_sign, made_bytes}
+use Rattle.kmip_store.specs.Steps.{Answer, Got, Stepped, stay, become, step_where, on_found, step, get, can_sign, made_bytes}
 use Rattle.kmip_enums.specs.declared.state.State.TheVariants.{Active, Deactivated, Destroyed}
 use Rattle.kmip_store.specs.Runs.{Turn, objects_after, new_identifiers, identifiers_given}
 use Rattle.kmip_store.proofs.Places.{other_bytes}
@@ -31,7 +31,7 @@ numbered place (suc n) = identifier place ∷ numbered (place + 1) n
 abbrev Gives : List Object → Stepped → Type 0
 Gives objects s = (new_identifiers s.answer ≡ []) ⊎ ((new_identifiers s.answer ≡ numbered (length objects) 2) × (length s.objects ≡ length objects + 2))
 
-allowed_gives : (b : Bool) (objects : List Object) (s : Stepped) → new_identifiers s.answer ≡ [] → new_identifiers (allowed b objects s).answer ≡ []
+allowed_gives : (b : Bool) (objects : List Object) (s : Stepped) → new_identifiers s.answer ≡ [] → new_identifiers (step_where b objects s).answer ≡ []
 allowed_gives true objects s h = h
 allowed_gives false objects s h = refl
 
@@ -45,8 +45,8 @@ bytes_give make (Some (answers.Pair a b)) h = refl
 bytes_give make (Some (answers.Bytes b)) h = h b
 bytes_give make (Some answers.Refused) h = refl
 
-changed : (test : Object → Bool) (new : Object → Object) (objects : List Object) (id : List ℕ) → new_identifiers (on_found (found objects id) objects (λ k o. allowed (test o) objects (become objects k (new o)))).answer ≡ []
-changed test new objects id = found_gives (found objects id) objects _ (λ k o. allowed_gives (test o) objects (become objects k (new o)) refl)
+changed : (test : Object → Bool) (new : Object → Object) (objects : List Object) (id : List ℕ) → new_identifiers (on_found (find_in objects id) objects (λ k o. step_where (test o) objects (become objects k (new o)))).answer ≡ []
+changed test new objects id = found_gives (find_in objects id) objects _ (λ k o. allowed_gives (test o) objects (become objects k (new o)) refl)
 
 step_gives : (objects : List Object) (call : Call) (made : Option Made) → Gives objects (step objects call made)
 step_gives objects Query made = inl refl
@@ -55,12 +55,12 @@ step_gives objects (CreateRsaKeyPair bits private public) (Some (answers.Pair a 
 step_gives objects (CreateRsaKeyPair bits private public) (Some (answers.Bytes b)) = inl refl
 step_gives objects (CreateRsaKeyPair bits private public) (Some answers.Refused) = inl refl
 step_gives objects (RngRetrieve n) made = inl (bytes_give _ made (λ bytes. refl))
-step_gives objects (Sign id bytes) made = inl (found_gives (found objects id) objects _ (λ k object. allowed_gives (can_sign object) objects _ (bytes_give _ made (λ b. refl))))
+step_gives objects (Sign id bytes) made = inl (found_gives (find_in objects id) objects _ (λ k object. allowed_gives (can_sign object) objects _ (bytes_give _ made (λ b. refl))))
 step_gives objects (ActivateKey id) made = inl (changed (λ o. is_pre_active o.state) (λ o. record o { state = Active }) objects id)
 step_gives objects (RevokeKey id) made = inl (changed (λ o. is_active o.state) (λ o. record o { state = Deactivated }) objects id)
 step_gives objects (DestroyKey id) made = inl (changed (λ o. not (is_active o.state || is_destroyed o.state)) (λ o. record o { state = Destroyed; key = [] }) objects id)
 step_gives objects (RenameKey id name) made = inl (changed (λ o. not (is_destroyed o.state)) (λ o. record o { name = name }) objects id)
-step_gives objects (GetKey id) made = inl (found_gives (found objects id) objects (get objects) (λ k object. allowed_gives (not (is_destroyed object.state)) objects (stay objects (Got object)) refl))
+step_gives objects (GetKey id) made = inl (found_gives (find_in objects id) objects (get objects) (λ k object. allowed_gives (not (is_destroyed object.state)) objects (stay objects (Got object)) refl))
 
 -- ---- what many calls give
 

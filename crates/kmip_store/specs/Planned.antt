@@ -34,8 +34,8 @@ answer_to asked None = Refused
 answer_to asked (Some made) = cond (is_of_kind asked made) made Refused
 
 -- a count that stops at its last value, the greatest `u64`
-abbrev pub counted : ℕ → ℕ
-counted n = min (n + 1) (2 ^ 64 - 1)
+abbrev pub next_count : ℕ → ℕ
+next_count n = min (n + 1) (2 ^ 64 - 1)
 
 -- what is left of the answers: a refusal uses up none
 abbrev pub left_after : List Made → Made → List Made
@@ -43,7 +43,7 @@ left_after answers Refused = answers
 left_after answers made = drop 1 answers
 
 abbrev pub faults_after : ℕ → Made → ℕ
-faults_after faults Refused = counted faults
+faults_after faults Refused = next_count faults
 faults_after faults made = faults
 
 -- what is kept once a question got its answer

@@ -13,7 +13,7 @@ use Rattle.kmip_store.specs.declared.maker.Asked.{Asked}
 use Rattle.kmip_store.specs.declared.maker.Asked.TheVariants as questions
 use Rattle.kmip_store.specs.declared.maker.Made.{Made}
 use Rattle.kmip_store.specs.declared.maker.Made.TheVariants as answers
-use Rattle.kmip_store.specs.Objects.{identifier, found, is_pre_active, is_active, is_destroyed, is_public}
+use Rattle.kmip_store.specs.Objects.{identifier, find_in, is_pre_active, is_active, is_destroyed, is_public}
 
 pub data Answer : Type 0 where
   -- no object has the identifier
@@ -42,8 +42,8 @@ stay objects answer = record { objects = objects; answer = answer }
 abbrev pub become : List Object → ℕ → Object → Stepped
 become objects place object = record { objects = slice_set objects place object; answer = Done }
 
-abbrev pub allowed : Bool → List Object → Stepped → Stepped
-allowed allows objects step = cond allows step (stay objects Denied)
+abbrev pub step_where : Bool → List Object → Stepped → Stepped
+step_where allows objects step = cond allows step (stay objects Denied)
 
 -- a call on the object that it names
 abbrev pub on_found : Option (ℕ × Object) → List Object → (ℕ → Object → Stepped) → Stepped
@@ -52,28 +52,28 @@ on_found (Some at) objects step = step at.0 at.1
 
 abbrev pub activate : List Object → ℕ → Object → Stepped
 activate objects place object =
-    allowed (is_pre_active object.state) objects
+    step_where (is_pre_active object.state) objects
     (become objects place (record object { state = Active }))
 
 abbrev pub revoke : List Object → ℕ → Object → Stepped
 revoke objects place object =
-    allowed (is_active object.state) objects
+    step_where (is_active object.state) objects
     (become objects place (record object { state = Deactivated }))
 
 -- a destroyed object keeps its place, and has no key bytes
 abbrev pub destroy : List Object → ℕ → Object → Stepped
 destroy objects place object =
-    allowed (not (is_active object.state || is_destroyed object.state)) objects
+    step_where (not (is_active object.state || is_destroyed object.state)) objects
     (become objects place (record object { state = Destroyed; key = [] }))
 
 abbrev pub rename : List ℕ → List Object → ℕ → Object → Stepped
 rename name objects place object =
-    allowed (not (is_destroyed object.state)) objects
+    step_where (not (is_destroyed object.state)) objects
     (become objects place (record object { name = name }))
 
 abbrev pub get : List Object → ℕ → Object → Stepped
 get objects place object =
-    allowed (not (is_destroyed object.state)) objects (stay objects (Got object))
+    step_where (not (is_destroyed object.state)) objects (stay objects (Got object))
 
 abbrev pub can_sign : Object → Bool
 can_sign object = not (is_public object.object_type) && is_active object.state
@@ -100,24 +100,24 @@ abbrev pub made_bytes : (List ℕ → Answer) → Option Made → Answer
 made_bytes answer (Some (answers.Bytes bytes)) = answer bytes
 made_bytes answer _ = Failed
 
-abbrev pub supported : List Operation
-supported =
+abbrev pub supported_operations : List Operation
+supported_operations =
     operations.CreateKeyPair ∷ operations.Get ∷ operations.ModifyAttribute ∷ operations.Activate
     ∷ operations.Revoke ∷ operations.Destroy ∷ operations.Query ∷ operations.Sign
     ∷ operations.RNGRetrieve ∷ []
 
 -- what a call leaves and answers; `made` is the maker's answer, for a call that asks it
 abbrev pub step : List Object → Call → Option Made → Stepped
-step objects Query made = stay objects (Supports supported (PublicKey ∷ PrivateKey ∷ []))
+step objects Query made = stay objects (Supports supported_operations (PublicKey ∷ PrivateKey ∷ []))
 step objects (CreateRsaKeyPair bits private public) made = create objects bits private public made
 step objects (RngRetrieve n) made = stay objects (made_bytes Random made)
-step objects (Sign id bytes) made = on_found (found objects id) objects
-    (λ place object. allowed (can_sign object) objects (stay objects (made_bytes Signed made)))
-step objects (ActivateKey id) made = on_found (found objects id) objects (activate objects)
-step objects (RevokeKey id) made = on_found (found objects id) objects (revoke objects)
-step objects (DestroyKey id) made = on_found (found objects id) objects (destroy objects)
-step objects (RenameKey id name) made = on_found (found objects id) objects (rename name objects)
-step objects (GetKey id) made = on_found (found objects id) objects (get objects)
+step objects (Sign id bytes) made = on_found (find_in objects id) objects
+    (λ place object. step_where (can_sign object) objects (stay objects (made_bytes Signed made)))
+step objects (ActivateKey id) made = on_found (find_in objects id) objects (activate objects)
+step objects (RevokeKey id) made = on_found (find_in objects id) objects (revoke objects)
+step objects (DestroyKey id) made = on_found (find_in objects id) objects (destroy objects)
+step objects (RenameKey id name) made = on_found (find_in objects id) objects (rename name objects)
+step objects (GetKey id) made = on_found (find_in objects id) objects (get objects)
 
 abbrev pub sign_question : List ℕ → Option (ℕ × Object) → Option Asked
 sign_question bytes None = None
@@ -128,5 +128,5 @@ sign_question bytes (Some at) =
 abbrev pub question : List Object → Call → Option Asked
 question objects (CreateRsaKeyPair bits private public) = Some (questions.KeyPair bits)
 question objects (RngRetrieve n) = Some (questions.Random n)
-question objects (Sign id bytes) = sign_question bytes (found objects id)
+question objects (Sign id bytes) = sign_question bytes (find_in objects id)
 question objects _ = None

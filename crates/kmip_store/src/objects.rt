@@ -3,7 +3,7 @@
 ghost use Rattle.std.specs.Prelude.{ℕ, ◌≡◌, ◌≢◌, ◌+◌, ◌^◌, ◌<◌, ◌≤◌, ◌++◌, ◌∷◌, [], length};
 ghost use Rattle.std.specs.Prelude.{vec_len, vec_capacity, bytes_eq, decimal, slice_get};
 ghost use Rattle.std.specs.Prelude.{Some, None, IfOk, OnErr, IfErr};
-ghost use Rattle.kmip_store.specs.Objects.{found, identifier as identifier_of};
+ghost use Rattle.kmip_store.specs.Objects.{find_in, identifier as identifier_of};
 ghost use Rattle.kmip_store.specs.declared.call.Call.TheVariants.{CreateRsaKeyPair, RngRetrieve};
 ghost use Rattle.kmip_store.specs.declared.call.Call.TheVariants.{Sign, ActivateKey, RevokeKey};
 ghost use Rattle.kmip_store.specs.declared.call.Call.TheVariants.{DestroyKey, RenameKey, GetKey};
@@ -43,9 +43,9 @@ fn identifier(alloc: Global, place: usize) -> Result<Text, StoreError>
 pub fn place_of(objects: &[Object], id: &str) -> Result<usize, StoreError>
     ensures here { IfOk result (λ place. (object : Object)
         × (slice_get objects.now place ≡ Some object)
-        × (found objects.now id.now ≡ Some (place, object))) }
+        × (find_in objects.now id.now ≡ Some (place, object))) }
     ensures cause { IfErr result (λ e. e ≡ StoreError.ItemNotFound) }
-    ensures nowhere { OnErr result (found objects.now id.now ≡ None) }
+    ensures nowhere { OnErr result (find_in objects.now id.now ≡ None) }
 {
     let count = objects.len();
     let Ok(number) = id.parse::<usize>() else {
@@ -135,11 +135,11 @@ pub fn retrieve<M: Maker>(
 }
 
 /// The object that has the identifier.
-fn named<'a>(objects: &'a [Object], id: &str) -> Result<&'a Object, StoreError>
+fn find_object<'a>(objects: &'a [Object], id: &str) -> Result<&'a Object, StoreError>
     ensures here { IfOk result (λ object.
-        (place : ℕ) × (found objects.now id.now ≡ Some (place, object.now))) }
+        (place : ℕ) × (find_in objects.now id.now ≡ Some (place, object.now))) }
     ensures cause { IfErr result (λ e. e ≡ StoreError.ItemNotFound) }
-    ensures nowhere { OnErr result (found objects.now id.now ≡ None) }
+    ensures nowhere { OnErr result (find_in objects.now id.now ≡ None) }
 {
     let place = place_of(objects, id)?;
     Ok(&objects[place])
@@ -176,7 +176,7 @@ pub fn sign<M: Maker>(
         (M.state maker.old) (M.state maker.new) result }
     ensures keeps { MakerKeeps (M.state maker.old) (M.state maker.new) }
 {
-    let object = named(objects, id)?;
+    let object = find_object(objects, id)?;
     if !object.can_sign() {
         return Err(StoreError::PermissionDenied);
     }
@@ -249,7 +249,7 @@ pub fn get<'a>(objects: &'a [Object], id: &str) -> Result<&'a Object, StoreError
     ensures step { Steps (λ object. Got object.now) objects.now (GetKey id.now) objects.now result }
     ensures memory { IfErr result (λ e. e ≢ StoreError.OutOfMemory) }
 {
-    let got = named(objects, id)?;
+    let got = find_object(objects, id)?;
     if got.is_destroyed() {
         return Err(StoreError::PermissionDenied);
     }

@@ -2,7 +2,7 @@
 
 ghost use Rattle.std.specs.Prelude.{◌≡◌, ◌≢◌, ◌+◌, [], length, IfOk, IfErr, option_copied};
 ghost use Rattle.std.specs.Option.{option_map};
-ghost use Rattle.kmip_store.specs.Objects.{found, object_of, identifier};
+ghost use Rattle.kmip_store.specs.Objects.{find_in, object_of, identifier};
 ghost use Rattle.kmip_store.specs.declared.call.Call.TheVariants.{CreateRsaKeyPair, RngRetrieve};
 ghost use Rattle.kmip_store.specs.declared.call.Call.TheVariants.{Sign, ActivateKey, RevokeKey};
 ghost use Rattle.kmip_store.specs.declared.call.Call.TheVariants.{DestroyKey, RenameKey, GetKey};
@@ -62,7 +62,7 @@ impl Store {
     /// The object that has the identifier, destroyed or not; `None` exactly where there is none. It
     /// takes no memory.
     pub fn find(&self, id: &str) -> Option<&Object>
-        ensures { option_copied result ≡ option_map object_of (found self.now id.now) }
+        ensures { option_copied result ≡ option_map object_of (find_in self.now id.now) }
     {
         match objects::place_of(self.objects.as_slice(), id) {
             Ok(place) => Some(&self.objects[place]),

@@ -105,9 +105,9 @@ struct Watched {
 }
 
 impl Link for Watched {
-    ghost use Rattle.kmip_link.specs.State.{silent};
+    ghost use Rattle.kmip_link.specs.State.{silent_link};
 
-    ghost state = { λ _. silent 0 };
+    ghost state = { λ _. silent_link 0 };
 
     fn read(&mut self, into: &mut [u8]) -> Result<usize, LinkError> {
         let is_first = self.rooms.is_empty();

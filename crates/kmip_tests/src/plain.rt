@@ -1,11 +1,11 @@
 //! Values of one item, and lists: each read, shown, written and copied once.
 use crate::helpers::{are_equal, is_copied, is_plain, is_shown};
 use kmip_enums::ObjectType;
-use kmip_objects::ManagedObject;
 use kmip_request::{RequestPayload, write_request};
 use kmip_response::{GetResponsePayload, from_slice};
-use kmip_shape::columns::One;
+use kmip_response_objects::ManagedObject;
 use kmip_shape::record::{End, Row};
+use kmip_shape::row_readers::One;
 use kmip_shape::{
     BigInteger, Outer, Timestamp, copy_list, copy_optional_list, fields, read_record, read_root,
 };

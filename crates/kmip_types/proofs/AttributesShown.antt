@@ -6,18 +6,18 @@ use Rattle.kmip_shape.specs.Val.{Val, vals_of}
 use Rattle.kmip_shape.specs.Shape.{NoCase}
 use Rattle.kmip_shape.specs.declared.style.Style.{Style}
 use Rattle.kmip_shape.specs.declared.style.Style.TheVariants.{Bare, Json}
-use Rattle.kmip_shape.specs.Shown.{Growing, Grows, always, comma, text_styled, styled, list_styled, in_brackets, brackets_opening, brackets_closing}
+use Rattle.kmip_shape.specs.Shown.{Growing, Grows, always, comma, text_styled, text_in, list_styled, in_brackets, brackets_opening, brackets_closing}
 use Rattle.kmip_shape.proofs.Growth.{grown, nothing, brackets_grown}
 use Rattle.kmip_shape.proofs.Variants.{found_styled}
 use Rattle.kmip_enums.specs.ObjectTypes.{object_type_line, object_type_variants, object_type_found}
 use Rattle.kmip_enums.specs.States.{state_line, state_variants, state_found}
-use Rattle.kmip_codes.specs.CryptographicAlgorithms.{cryptographic_algorithm_line, cryptographic_algorithm_variants, cryptographic_algorithm_found}
+use Rattle.kmip_cryptography.specs.CryptographicAlgorithms.{cryptographic_algorithm_line, cryptographic_algorithm_variants, cryptographic_algorithm_found}
 use Rattle.kmip_enums.specs.declared.name_type.NameType.{NameType}
 use Rattle.kmip_enums.specs.declared.link_type.LinkType.{LinkType}
-use Rattle.kmip_names.specs.declared.texts.NameValue.{NameValue}
-use Rattle.kmip_names.specs.declared.texts.LinkedObjectIdentifier.{LinkedObjectIdentifier}
-use Rattle.kmip_names.specs.declared.texts.ApplicationNamespace.{ApplicationNamespace}
-use Rattle.kmip_names.specs.declared.texts.ApplicationData.{ApplicationData}
+use Rattle.kmip_scalars.specs.declared.texts.NameValue.{NameValue}
+use Rattle.kmip_scalars.specs.declared.texts.LinkedObjectIdentifier.{LinkedObjectIdentifier}
+use Rattle.kmip_scalars.specs.declared.texts.ApplicationNamespace.{ApplicationNamespace}
+use Rattle.kmip_scalars.specs.declared.texts.ApplicationData.{ApplicationData}
 use Rattle.kmip_types.specs.declared.cryptographic_parameters.CryptographicParameters as parameters
 use Rattle.kmip_types.specs.declared.attribute_value.AttributeValue.{AttributeValue}
 use Rattle.kmip_types.specs.declared.attribute_value.AttributeValue.TheVariants.{Name, ObjectType, CryptographicAlgorithm, CryptographicParameters, State, ObjectGroup, Link, ApplicationSpecificInformation, ContactInformation, Structure, Integer, LongInteger, BigInteger, Enumeration, Boolean, TextString, ByteString, DateTime, Interval}
@@ -38,7 +38,7 @@ pub plain_is : (x : AttributeValue)
     → ((t : LinkType) (i : LinkedObjectIdentifier) → x ≡ Link t i → ⊥)
     → ((n : ApplicationNamespace) (d : ApplicationData) → x ≡ ApplicationSpecificInformation n d → ⊥)
     → ((vs : List Val) → x ≡ Structure vs → ⊥)
-    → (o : Style) → in_brackets (case_name x) (plain_styled x) o ≡ styled attribute_value (attribute_value_val x) o
+    → (o : Style) → in_brackets (case_name x) (plain_styled x) o ≡ text_in attribute_value (attribute_value_val x) o
 plain_is (Name x y) h _ _ _ _ o = absurd (h x y refl)
 plain_is (ObjectType x) _ _ _ _ _ o = same_text (codes "ObjectType") _ _ (λ s. sym (found_styled object_type_line object_type_variants (object_type_line x).number x (object_type_found x) s)) o
 plain_is (CryptographicAlgorithm x) _ _ _ _ _ o = same_text (codes "CryptographicAlgorithm") _ _ (λ s. sym (found_styled cryptographic_algorithm_line cryptographic_algorithm_variants (cryptographic_algorithm_line x).number x (cryptographic_algorithm_found x) s)) o
@@ -64,7 +64,7 @@ first_and_rest [] x h e = absurd (omega (arith, h))
 first_and_rest (y ∷ ys) x h e = λ i. sym e i ∷ sym (take_all (length (y ∷ ys) - 1) ys (omega arith)) i
 
 pub members_step : {a b c d : Growing} (xs : List AttributeValue) (x : AttributeValue) (tail : List AttributeValue) (after : Bool) → xs ≡ x ∷ tail
-    → Grows a b (always (comma after)) → Grows b c (styled attribute_value (attribute_value_val x)) → Grows c d (list_styled (vals_of (map attribute_value_val tail)) NoCase attribute_value true)
+    → Grows a b (always (comma after)) → Grows b c (text_in attribute_value (attribute_value_val x)) → Grows c d (list_styled (vals_of (map attribute_value_val tail)) NoCase attribute_value true)
     → Grows a d (list_styled (vals_of (map attribute_value_val xs)) NoCase attribute_value after)
 members_step {a} {b} {c} {d} xs x tail after e p q r =
     subst (λ (ys : List AttributeValue). Grows a d (list_styled (vals_of (map attribute_value_val ys)) NoCase attribute_value after)) (sym e) (grown p (grown q r))

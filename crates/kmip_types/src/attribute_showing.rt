@@ -3,7 +3,7 @@
 ghost use Rattle.std.specs.Prelude.{◌≡◌, false};
 ghost use Rattle.kmip_shape.specs.Val.{vals_of, Case as case};
 ghost use Rattle.kmip_shape.specs.Shape.{NoCase};
-ghost use Rattle.kmip_shape.specs.Shown.{Grows, styled, list_styled, in_brackets};
+ghost use Rattle.kmip_shape.specs.Shown.{Grows, text_in, list_styled, in_brackets};
 ghost use Rattle.kmip_types.specs.AttributeValues.{attribute_value, attribute_value_val};
 ghost use Rattle.kmip_types.specs.AttributesShown.{case_name, plain_styled, plain_text};
 ghost use Rattle.kmip_types.specs.Parameters.{cryptographic_parameters_val};
@@ -12,12 +12,12 @@ ghost use Rattle.kmip_types.specs.declared.attribute_value.AttributeValue.TheVar
 use crate::attribute_value::{AttributeValue, InformationRows, LinkRows, NameRows, Values};
 use crate::cryptographic_parameters::CryptographicParameters;
 use kmip_enums::{LinkType, NameType};
-use kmip_names::{ApplicationData, ApplicationNamespace, LinkedObjectIdentifier, NameValue};
-use kmip_shape::{Enumeration, ShowItem, Sink, fields, show_record};
+use kmip_scalars::{ApplicationData, ApplicationNamespace, LinkedObjectIdentifier, NameValue};
+use kmip_shape::{Enumeration, ShowItem, TextWriter, fields, show_record};
 
 /// Appends the members, with a comma after each but the last.
 #[cycle(show_attribute)]
-fn show_each(values: &Values, out: &mut Sink)
+fn show_each(values: &Values, out: &mut TextWriter)
     ensures { Grows out.old out.new
         (list_styled (vals_of values.now) NoCase attribute_value false) }
 {
@@ -33,9 +33,9 @@ fn show_each(values: &Values, out: &mut Sink)
 
 /// Appends a structure of the members.
 #[cycle(show_attribute)]
-fn show_structure(values: &Values, out: &mut Sink)
+fn show_structure(values: &Values, out: &mut TextWriter)
     ensures { Grows out.old out.new
-        (styled attribute_value (attribute_value_val (Structure values.now))) }
+        (text_in attribute_value (attribute_value_val (Structure values.now))) }
 {
     out.open_case("Structure");
     out.put("[");
@@ -110,7 +110,7 @@ fn piece_of(value: &AttributeValue) -> Piece<'_>
 }
 
 /// Appends a value that is no record.
-fn show_piece(piece: Piece<'_>, out: &mut Sink)
+fn show_piece(piece: Piece<'_>, out: &mut TextWriter)
     ensures { Grows out.old out.new (plain_text piece.entry) }
 {
     match piece {
@@ -124,7 +124,7 @@ fn show_piece(piece: Piece<'_>, out: &mut Sink)
 }
 
 /// Appends the name of a variant, and its value in round brackets.
-fn show_plain(value: &AttributeValue, out: &mut Sink)
+fn show_plain(value: &AttributeValue, out: &mut TextWriter)
     ensures { Grows out.old out.new (in_brackets (case_name value.now) (plain_styled value.now)) }
 {
     out.open_brackets(name_of(value));
@@ -133,9 +133,9 @@ fn show_plain(value: &AttributeValue, out: &mut Sink)
 }
 
 /// Appends a Name.
-fn show_name(value: &NameValue, kind: &NameType, out: &mut Sink)
+fn show_name(value: &NameValue, kind: &NameType, out: &mut TextWriter)
     ensures { Grows out.old out.new
-        (styled attribute_value (attribute_value_val (Name value.now kind.now))) }
+        (text_in attribute_value (attribute_value_val (Name value.now kind.now))) }
 {
     out.open_case("Name");
     show_record::<NameRows>(
@@ -147,9 +147,9 @@ fn show_name(value: &NameValue, kind: &NameType, out: &mut Sink)
 }
 
 /// Appends a Link.
-fn show_link(kind: &LinkType, identifier: &LinkedObjectIdentifier, out: &mut Sink)
+fn show_link(kind: &LinkType, identifier: &LinkedObjectIdentifier, out: &mut TextWriter)
     ensures { Grows out.old out.new
-        (styled attribute_value (attribute_value_val (Link kind.now identifier.now))) }
+        (text_in attribute_value (attribute_value_val (Link kind.now identifier.now))) }
 {
     out.open_case("Link");
     show_record::<LinkRows>(
@@ -161,9 +161,13 @@ fn show_link(kind: &LinkType, identifier: &LinkedObjectIdentifier, out: &mut Sin
 }
 
 /// Appends Application Specific Information.
-fn show_information(namespace: &ApplicationNamespace, contents: &ApplicationData, out: &mut Sink)
+fn show_information(
+    namespace: &ApplicationNamespace,
+    contents: &ApplicationData,
+    out: &mut TextWriter,
+)
     ensures { Grows out.old out.new
-        (styled attribute_value (attribute_value_val
+        (text_in attribute_value (attribute_value_val
         (ApplicationSpecificInformation namespace.now contents.now))) }
 {
     out.open_case("ApplicationSpecificInformation");
@@ -176,9 +180,9 @@ fn show_information(namespace: &ApplicationNamespace, contents: &ApplicationData
 }
 
 /// Appends Cryptographic Parameters.
-fn show_parameters(parameters: &CryptographicParameters, out: &mut Sink)
+fn show_parameters(parameters: &CryptographicParameters, out: &mut TextWriter)
     ensures { Grows out.old out.new
-        (styled attribute_value (case 4 (cryptographic_parameters_val parameters.now))) }
+        (text_in attribute_value (case 4 (cryptographic_parameters_val parameters.now))) }
 {
     out.open_case("CryptographicParameters");
     parameters.show_into(out);
@@ -187,7 +191,7 @@ fn show_parameters(parameters: &CryptographicParameters, out: &mut Sink)
 
 impl ShowItem for AttributeValue {
     #[cycle(show_attribute)]
-    fn show_into(&self, out: &mut Sink) {
+    fn show_into(&self, out: &mut TextWriter) {
         match self {
             AttributeValue::Name(value, kind) => show_name(value, kind, out),
             AttributeValue::CryptographicParameters(parameters) => show_parameters(parameters, out),

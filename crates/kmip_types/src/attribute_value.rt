@@ -8,11 +8,11 @@ ghost use Rattle.kmip_shape.specs.Fits.{vals_fit};
 ghost use Rattle.kmip_types.specs.AttributeValues.{attribute_value, attribute_value_val, attribute_value_same};
 
 use crate::cryptographic_parameters::CryptographicParameters;
-use kmip_codes::CryptographicAlgorithm;
+use kmip_cryptography::CryptographicAlgorithm;
 use kmip_enums::{LinkType, NameType, ObjectType, State};
-use kmip_names::{ApplicationData, ApplicationNamespace, LinkedObjectIdentifier, NameValue};
-use kmip_shape::columns::One;
+use kmip_scalars::{ApplicationData, ApplicationNamespace, LinkedObjectIdentifier, NameValue};
 use kmip_shape::record::{End, Row};
+use kmip_shape::row_readers::One;
 use kmip_shape::{Item, fields, known_record};
 use kmip_tags::tags::{
     APPLICATION_DATA, APPLICATION_NAMESPACE, LINK_TYPE, LINKED_OBJECT_IDENTIFIER, NAME_TYPE,

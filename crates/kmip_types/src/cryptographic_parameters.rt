@@ -3,19 +3,19 @@
 ghost use Rattle.std.specs.Prelude.{◌≡◌, Some};
 ghost use Rattle.kmip_types.specs.Parameters.{cryptographic_parameters, cryptographic_parameters_val, cryptographic_parameters_same};
 
-use kmip_codes::{
+use kmip_cryptography::{
     BlockCipherMode, CryptographicAlgorithm, DigitalSignatureAlgorithm, HashingAlgorithm,
     KeyRoleType, PaddingMethod,
 };
-use kmip_names::{
+use kmip_scalars::{
     CounterLength, FixedFieldLength, IVLength, InitialCounterValue, InvocationFieldLength,
     RandomIV, TagLength,
 };
-use kmip_shape::columns::Opt;
 use kmip_shape::record::{End, Row};
+use kmip_shape::row_readers::Opt;
 use kmip_shape::{
-    Item, Outer, ReadError, ReadItem, ShowItem, Sink, WriteItem, fields, known_record, read_record,
-    record_len, show_record, write_record,
+    Item, Outer, ReadError, ReadItem, ShowItem, TextWriter, WriteItem, fields, known_record,
+    read_record, record_len, show_record, write_record,
 };
 use kmip_tags::tags::{
     BLOCK_CIPHER_MODE, COUNTER_LENGTH, CRYPTOGRAPHIC_ALGORITHM, DIGITAL_SIGNATURE_ALGORITHM,
@@ -333,7 +333,7 @@ impl ReadItem for CryptographicParameters {
 }
 
 impl ShowItem for CryptographicParameters {
-    fn show_into(&self, out: &mut Sink) {
+    fn show_into(&self, out: &mut TextWriter) {
         show_record::<CryptographicParametersRows>(
             fields![
                 &self.block_cipher_mode,

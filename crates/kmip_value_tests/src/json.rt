@@ -1,5 +1,5 @@
 use crate::support::Under::{self, Name, Nothing, Number};
-use kmip_codes::PaddingMethod;
+use kmip_cryptography::PaddingMethod;
 use kmip_keys::KeyMaterial;
 use kmip_shape::{ReadItem, ShowItem, Timestamp};
 use kmip_types::{AttributeValue, CryptographicParameters};

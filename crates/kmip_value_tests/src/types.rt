@@ -1,6 +1,6 @@
 use crate::support::Under::{Name, Nothing};
 use crate::support::{Case, are_read};
-use kmip_codes::{HashingAlgorithm, PaddingMethod};
+use kmip_cryptography::{HashingAlgorithm, PaddingMethod};
 use kmip_shape::{Outer, ReadItem, item_len, to_blob};
 use kmip_tags::tags::{ATTRIBUTE_VALUE, CRYPTOGRAPHIC_PARAMETERS};
 use kmip_types::{AttributeValue, CryptographicParameters, Values};

@@ -12,7 +12,7 @@ use Rattle.kmip_wire.specs.Tree.{Tree, Trees, scalar, structure, none, more, Sca
 use Rattle.kmip_wire.specs.Kinds.{code_of, kind_of, kind_of_scalar}
 use Rattle.kmip_wire.specs.Head.{head_tag, head_code, head_length, size_at, value_of}
 use Rattle.kmip_wire.specs.Parses.{IsValue, IsLevel, Parses, ParseAll, IsFront, NoFront, AreTexts, joined_texts}
-use Rattle.kmip_wire.specs.Reading.{well_formed, scalar_at, joined, items_by, is_whole, node_at, item_of, items_of, front_of}
+use Rattle.kmip_wire.specs.Reading.{well_formed, scalar_at, trees_with, items_by, is_whole, node_at, item_of, items_of, front_of}
 use Rattle.kmip_wire.proofs.Values.{kind_of-code_of, code_of-kind_of, chosen, scalar_at-sound, scalar_at-complete}
 
 -- ---- the head of a front
@@ -52,9 +52,9 @@ mapped f None y e = absurd (none-some y e)
 
 -- ---- what is computed parses
 
-joined-some : (o : Option Tree) (os : Option Trees) (ts : Trees) → joined o os ≡ Some ts → (t : Tree) × (us : Trees) × (o ≡ Some t) × (os ≡ Some us) × (more t us ≡ ts)
-joined-some None os ts e = absurd (none-some ts e)
-joined-some (Some t) os ts e = let p = mapped (more t) os ts e in (t, p.0, refl, p.1, p.2)
+trees_with-some : (o : Option Tree) (os : Option Trees) (ts : Trees) → trees_with o os ≡ Some ts → (t : Tree) × (us : Trees) × (o ≡ Some t) × (os ≡ Some us) × (more t us ≡ ts)
+trees_with-some None os ts e = absurd (none-some ts e)
+trees_with-some (Some t) os ts e = let p = mapped (more t) os ts e in (t, p.0, refl, p.1, p.2)
 
 abbrev IsNode : Option Trees → ℕ → Kind → List ℕ → Tree → Type 0
 IsNode items tag kind v t =
@@ -89,7 +89,7 @@ items_by-sound one level each zero (x ∷ xs) ts e = absurd (none-some ts e)
 items_by-sound one level each (suc fuel) (x ∷ xs) ts e =
     let b : List ℕ = x ∷ xs in
     let n : ℕ = size_at b in
-    let p = joined-some (one (take n b)) (items_by one fuel (drop n b)) ts e in
+    let p = trees_with-some (one (take n b)) (items_by one fuel (drop n b)) ts e in
     let first : Parses p.0 level (take n b) = each (take n b) p.0 p.2 in
     let s = sized p.0 level (take n b) first in
     let at_least : 8 ≤ n = omega (arith, s.head, length-take n b) in
@@ -172,8 +172,8 @@ mutual
       let same : size_at b ≡ n = sym (size_at-take n b at_least) ∙ sym s.whole ∙ long in
       let first : item_of levels (take n b) ≡ Some t = item_of-complete t level levels (take n b) sum p in
       let rest : items_by (item_of levels) fuel (drop n b) ≡ Some ts = items_by-complete ts level levels (drop n b) fuel sum (omega (arith, length-drop n b)) q in
-      ap (λ k. joined (item_of levels (take k b)) (items_by (item_of levels) fuel (drop k b))) same
-      ∙ ap (λ o. joined o (items_by (item_of levels) fuel (drop n b))) first
+      ap (λ k. trees_with (item_of levels (take k b)) (items_by (item_of levels) fuel (drop k b))) same
+      ∙ ap (λ o. trees_with o (items_by (item_of levels) fuel (drop n b))) first
       ∙ ap (λ o. option_map (more t) o) rest
 
 -- ---- one text, one tree
@@ -340,13 +340,13 @@ items_by-fuel one (suc f) zero (x ∷ xs) p q = absurd (omega arith)
 items_by-fuel one (suc f) (suc g) (x ∷ xs) p q =
     let b : List ℕ = x ∷ xs in
     let n : ℕ = size_at b in
-    ap (joined (one (take n b))) (items_by-fuel one f g (drop n b) (omega (arith, length-drop n b)) (omega (arith, length-drop n b)))
+    ap (trees_with (one (take n b))) (items_by-fuel one f g (drop n b) (omega (arith, length-drop n b)) (omega (arith, length-drop n b)))
 
-is_some-joined : (o : Option Tree) (os : Option Trees) → is_some o ≡ true → is_some (joined o os) ≡ is_some os
-is_some-joined None os e = absurd cc
-is_some-joined (Some t) os e = is_some-map (more t) os
+is_some-trees_with : (o : Option Tree) (os : Option Trees) → is_some o ≡ true → is_some (trees_with o os) ≡ is_some os
+is_some-trees_with None os e = absurd cc
+is_some-trees_with (Some t) os e = is_some-map (more t) os
 
-none_joined : (o : Option Tree) (os : Option Trees) → is_some o ≡ false → is_some (joined o os) ≡ false
+none_joined : (o : Option Tree) (os : Option Trees) → is_some o ≡ false → is_some (trees_with o os) ≡ false
 none_joined None os e = refl
 none_joined (Some t) os e = absurd cc
 
@@ -362,7 +362,7 @@ items_step levels n (x ∷ xs) e =
     let p = cond_some (is_some (item_of levels (take m b))) m n e in
     ap (λ k. is_some (items_of levels (drop k b))) (sym p.1)
     ∙ ap is_some (items_by-fuel (item_of levels) (length (drop m b)) (length xs) (drop m b) (omega arith) (omega (arith, length-drop m b)))
-    ∙ sym (is_some-joined (item_of levels (take m b)) (items_by (item_of levels) (length xs) (drop m b)) p.0)
+    ∙ sym (is_some-trees_with (item_of levels (take m b)) (items_by (item_of levels) (length xs) (drop m b)) p.0)
 
 pub items_stop : (levels : ℕ) (b : List ℕ) → 0 < length b → front_of levels b ≡ None → is_some (items_of levels b) ≡ false
 items_stop levels [] lt e = absurd (omega arith)

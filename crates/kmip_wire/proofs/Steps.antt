@@ -10,13 +10,13 @@ use Rattle.kmip_wire.specs.declared.kind.Kind.TheVariants.{Structure, Integer, L
 use Rattle.kmip_wire.specs.Tree.{Tree, Trees, more}
 use Rattle.kmip_wire.specs.Kinds.{kind_of}
 use Rattle.kmip_wire.specs.Head.{head_tag, head_code, head_length, size_at, value_of}
-use Rattle.kmip_wire.specs.Reading.{items_by, item_of, items_of, joined, well_formed, scalar_at, is_whole, node_at}
+use Rattle.kmip_wire.specs.Reading.{items_by, item_of, items_of, trees_with, well_formed, scalar_at, is_whole, node_at}
 use Rattle.kmip_wire.specs.Open.{NoItems, Passes, Opens}
 use Rattle.kmip_wire.proofs.Values.{chosen}
 use Rattle.kmip_wire.proofs.Computed.{items_by-fuel, is_some-map, item_step_says, items_stop, front_short, front_deep, is_whole-says, some_of, size_at-take, take_take}
 
 -- items are an item and items
-is_some-joined_both : (o : Option Tree) (os : Option Trees) → is_some (joined o os) ≡ (is_some o && is_some os)
+is_some-joined_both : (o : Option Tree) (os : Option Trees) → is_some (trees_with o os) ≡ (is_some o && is_some os)
 is_some-joined_both None os = refl
 is_some-joined_both (Some t) os = is_some-map (more t) os
 

@@ -15,7 +15,7 @@ use mir.Val.{bool_byte}
 use Rattle.kmip_wire.specs.Kinds.{code_of, kind_of_scalar}
 use Rattle.kmip_wire.specs.Head.{pads}
 use Rattle.kmip_wire.specs.Sizes.{tree_size, trees_size}
-use Rattle.kmip_wire.specs.Bytes.{value_bytes, has_form, head_bytes, item_bytes, framed, in_order, bytes, all_bytes}
+use Rattle.kmip_wire.specs.Bytes.{value_bytes, has_form, head_bytes, item_bytes, structure_bytes, in_order, bytes, all_bytes}
 use Rattle.kmip_wire.specs.Contents.{fitting, value_of_tree}
 use Rattle.kmip_wire.specs.Parts.{tag_of, kind_of_tree}
 use Rattle.kmip_wire.specs.Room.{Room, Appends, HasRoom, Writes}
@@ -31,7 +31,7 @@ map_cond : {A B : Type 0} (f : A → B) (b : Bool) (x : A) → cond b (Some (f x
 map_cond f true x = refl
 map_cond f false x = refl
 
-framed_is : (tag : ℕ) (o : Option (List ℕ)) → framed tag o ≡ option_map (item_bytes tag 1) (fitting o)
+framed_is : (tag : ℕ) (o : Option (List ℕ)) → structure_bytes tag o ≡ option_map (item_bytes tag 1) (fitting o)
 framed_is tag None = refl
 framed_is tag (Some v) = map_cond (item_bytes tag 1) (ltb (length v) (2 ^ 32)) v
 
@@ -294,7 +294,7 @@ all_even (more t ts) b e =
     let p = both_some (bytes t) (all_bytes ts) b e in
     ap (λ n. n % 8) (ap length (sym p.4) ∙ length-append p.0 p.1) ∙ sums_even (length p.0) (length p.1) (item_even t p.0 p.2) (all_even ts p.1 p.3)
 
-fits_at : (tag : ℕ) (o : Option (List ℕ)) (n : ℕ) → HasRoom (framed tag o) n → (v : List ℕ) × (o ≡ Some v) × (length v < 2 ^ 32) × (8 + length v ≤ n)
+fits_at : (tag : ℕ) (o : Option (List ℕ)) (n : ℕ) → HasRoom (structure_bytes tag o) n → (v : List ℕ) × (o ≡ Some v) × (length v < 2 ^ 32) × (8 + length v ≤ n)
 fits_at tag None n h = absurd h
 fits_at tag (Some v) n h =
     let r = room_if (ltb (length v) (2 ^ 32)) (item_bytes tag 1 v) n h in
@@ -355,5 +355,5 @@ structure_set ts tag k len old start now new h head le r e set spare =
           ∙ set_head old.bytes p.0 tag 1 0 len ∙ ap (λ x. old.bytes ++ x) (sym text);
       spare = omega (arith, spare, p.2.spare, head.spare, ap length p.1, item_bytes-length tag 1 f.value, no_pads (length f.value) f.even);
     } in
-    let P : Option (List ℕ) → Type 0 = λ o. Writes (framed tag o) old new in
+    let P : Option (List ℕ) → Type 0 = λ o. Writes (structure_bytes tag o) old new in
     subst P (sym f.all) (writes_if (ltb (length f.value) (2 ^ 32)) (item_bytes tag 1 f.value) old new all)

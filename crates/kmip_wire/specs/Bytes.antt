@@ -31,9 +31,9 @@ unfoldable pub item_bytes : ℕ → ℕ → List ℕ → List ℕ
 item_bytes tag code v = head_bytes tag code (length v) ++ (v ++ replicate (pads (length v)) 0)
 
 -- a structure of the contents, where there are such and their length has a form
-abbrev pub framed : ℕ → Option (List ℕ) → Option (List ℕ)
-framed tag None = None
-framed tag (Some v) = if nat_lt (length v) (2 ^ 32) then Some (item_bytes tag 1 v) else None
+abbrev pub structure_bytes : ℕ → Option (List ℕ) → Option (List ℕ)
+structure_bytes tag None = None
+structure_bytes tag (Some v) = if nat_lt (length v) (2 ^ 32) then Some (item_bytes tag 1 v) else None
 
 abbrev pub in_order : Option (List ℕ) → Option (List ℕ) → Option (List ℕ)
 in_order None b = None
@@ -45,7 +45,7 @@ abbrev mutual
   pub bytes : Tree → Option (List ℕ)
   bytes (scalar tag s) =
       if has_form s && nat_lt (length (value_bytes s)) (2 ^ 32) then Some (item_bytes tag (code_of (kind_of_scalar s)) (value_bytes s)) else None
-  bytes (structure tag ts) = framed tag (all_bytes ts)
+  bytes (structure tag ts) = structure_bytes tag (all_bytes ts)
 
   pub all_bytes : Trees → Option (List ℕ)
   all_bytes none = Some []

@@ -25,16 +25,16 @@ scalar_at ByteString v = Some (byte_string v)
 scalar_at DateTime v = if length v == 8 then Some (date_time (from_be_bytes w64 v)) else None
 scalar_at Interval v = if length v == 4 then Some (interval (from_be_bytes w32 v)) else None
 
-abbrev pub joined : Option Tree → Option Trees → Option Trees
-joined None ts = None
-joined (Some t) ts = option_map (more t) ts
+abbrev pub trees_with : Option Tree → Option Trees → Option Trees
+trees_with None ts = None
+trees_with (Some t) ts = option_map (more t) ts
 
 -- the trees of the whole of b, where `one` gives a tree of a whole text
 abbrev pub items_by : (List ℕ → Option Tree) → ℕ → List ℕ → Option Trees
 items_by one fuel [] = Some none
 items_by one zero (x ∷ xs) = None
 items_by one (suc fuel) (x ∷ xs) =
-    joined (one (take (size_at (x ∷ xs)) (x ∷ xs))) (items_by one fuel (drop (size_at (x ∷ xs)) (x ∷ xs)))
+    trees_with (one (take (size_at (x ∷ xs)) (x ∷ xs))) (items_by one fuel (drop (size_at (x ∷ xs)) (x ∷ xs)))
 
 -- whether the whole of b has the length that its head says
 abbrev pub is_whole : List ℕ → Bool

@@ -3,7 +3,7 @@ use Rattle.std.proofs.Common.{◌≡◌, ◌≢◌, ℕ, List, [], ◌∷◌, le
 use Rattle.std.specs.Str.{is_utf8, IsUtf8}
 use Rattle.std.proofs.lemmas.Str.{IsUtf8-from_is_utf8, is_utf8-from_IsUtf8}
 use Rattle.kmip_words.specs.Words.{words_of}
-use Rattle.kmip_words.specs.Values.{unescaped, text_from, text_of}
+use Rattle.kmip_words.specs.Values.{unescape, text_from, text_of}
 use Rattle.std.specs.Option.{option_and_then}
 use Rattle.kmip_words.specs.Calls.{call_from, call_of, call_of_words, call_in, call_alone}
 
@@ -24,7 +24,7 @@ unfolding text_of
 text_of_none word none = rw none refl
 
 -- the text of a word other than `-`
-pub text_of_other : (word : List ℕ) → bytes_eq word (codes "-") ≡ false → text_of word ≡ text_from (unescaped word)
+pub text_of_other : (word : List ℕ) → bytes_eq word (codes "-") ≡ false → text_of word ≡ text_from (unescape word)
 unfolding text_of
 text_of_other word other = rw other refl
 

@@ -11,10 +11,10 @@ use Rattle.kmip_response.specs.Values.{response_payload_val}
 use Rattle.kmip_response.specs.declared.payload.ResponsePayload.{ResponsePayload}
 use Rattle.kmip_client.specs.declared.error.Error.{Error}
 use Rattle.kmip_client.specs.declared.error.Error.TheVariants.{OutOfMemory}
-use Rattle.kmip_client.specs.Outcome.{Answer, Outcome, outcome, outcome_of, seen, seen_by, Moves, Exchanged}
-use Rattle.kmip_client.specs.Calls.{IsCall, Helped, called, not_made, projected}
+use Rattle.kmip_client.specs.Outcome.{Answer, Outcome, outcome, outcome_of, answer_with_payload, seen_by, Moves, Exchanged}
+use Rattle.kmip_client.specs.Calls.{IsCall, Helped, called, not_made, part_of}
 use Rattle.kmip_client.specs.Client.{ClientState}
-use Rattle.kmip_words.specs.Exchange.{Asked, asked, asked_of, value_styled, value_line, answer_line, is_error, loses_link, ending_of, fails, settings_of, step_in, step_of, told_lines, Shows, Answers}
+use Rattle.kmip_words.specs.Exchange.{Asked, request_asked, asked_of, value_styled, value_line, answer_line, is_error, loses_link, ending_of, fails, settings_of, step_in, step_of, told_lines, Shows, Answers}
 use Rattle.kmip_words.specs.declared.ending.Ending.{Ending}
 use Rattle.kmip_words.specs.declared.ending.Ending.TheVariants.{Lost, Refused}
 use Rattle.kmip_request_read.specs.Reading.{Request, request_for, message_bytes}
@@ -46,7 +46,7 @@ abbrev told_in : Style → Call → Val → List ℕ
 told_in style call payload = value_styled call payload style
 
 -- so a call that makes this request did what its step says
-answered : {before after : ClientState MemoryState} (style : Style) (call : Call) (payload : RequestPayload) (answer : Answer) (ending : Ending) (old new : List ℕ) → ((c : Option CredentialType) → asked_of payload c ≡ asked call c) →
+answered : {before after : ClientState MemoryState} (style : Style) (call : Call) (payload : RequestPayload) (answer : Answer) (ending : Ending) (old new : List ℕ) → ((c : Option CredentialType) → asked_of payload c ≡ request_asked call c) →
     IsCall memory_state payload before after answer → answer ≢ Err OutOfMemory →
     new ≡ old ++ answer_line (told_in style call) style answer → ending ≡ ending_of answer →
     Answers (step_in style (settings_of before) call (drop before.link.pos before.link.ever)) before after ending old new
@@ -80,20 +80,20 @@ answered {before = before} {after = after} style call payload answer ending old 
 
 -- the line of a part of a payload is that of the payload
 same_line : {P R : Type 0} (style : Style) (value : Val → List ℕ) (val : P → Val) (text : R → List ℕ) (part : P → R) (answer : Result P Error) → ((payload : P) → value (val payload) ≡ text (part payload)) →
-    answer_line text style (projected part answer) ≡ answer_line value style (seen_by val answer)
+    answer_line text style (part_of part answer) ≡ answer_line value style (seen_by val answer)
 same_line style value val text part (Ok payload) same = ap (λ (t : List ℕ). value_line t style) (sym (same payload))
 same_line style value val text part (Err error) same = refl
 
-same_ending : {P R : Type 0} (val : P → Val) (part : P → R) (answer : Result P Error) → ending_of (projected part answer) ≡ ending_of (seen_by val answer)
+same_ending : {P R : Type 0} (val : P → Val) (part : P → R) (answer : Result P Error) → ending_of (part_of part answer) ≡ ending_of (seen_by val answer)
 same_ending val part (Ok payload) = refl
 same_ending val part (Err error) = refl
 
-same_some : {P R : Type 0} (val : P → Val) (part : P → R) (answer : Result P Error) → seen_by val answer ≡ Err OutOfMemory → projected part answer ≡ Err OutOfMemory
+same_some : {P R : Type 0} (val : P → Val) (part : P → R) (answer : Result P Error) → seen_by val answer ≡ Err OutOfMemory → part_of part answer ≡ Err OutOfMemory
 same_some val part (Ok payload) is = cc
 same_some val part (Err error) is = cc
 
 helped : {P R : Type 0} {before after : ClientState MemoryState} (style : Style) (call : Call) (request : RequestPayload) (variant : P → ResponsePayload) (part : P → R) (text : R → List ℕ) (result : Result R Error) (ending : Ending) (old new : List ℕ) →
-    ((c : Option CredentialType) → asked_of request c ≡ asked call c) → ((payload : P) → value_styled call (response_payload_val (variant payload)) style ≡ text (part payload)) →
+    ((c : Option CredentialType) → asked_of request c ≡ request_asked call c) → ((payload : P) → value_styled call (response_payload_val (variant payload)) style ≡ text (part payload)) →
     Helped memory_state request variant part before after result → Shows text style result ending old new →
     Answers (step_in style (settings_of before) call (drop before.link.pos before.link.ever)) before after ending old new
 helped style call request variant part text result ending old new makes same (called answer is_call is) shows =
@@ -105,13 +105,13 @@ helped style call request variant part text result ending old new makes same (no
 
 -- a helper's result was shown, unless memory ran out
 pub helper_shown : {P R E : Type 0} {before after : ClientState MemoryState} (style : Style) (call : Call) (request : RequestPayload) (variant : P → ResponsePayload) (part : P → R) (text : R → List ℕ) (result : Result R Error) (shown : Result Ending E) (old new : List ℕ) →
-    ((c : Option CredentialType) → asked_of request c ≡ asked call c) → ((payload : P) → value_styled call (response_payload_val (variant payload)) style ≡ text (part payload)) →
+    ((c : Option CredentialType) → asked_of request c ≡ request_asked call c) → ((payload : P) → value_styled call (response_payload_val (variant payload)) style ≡ text (part payload)) →
     Helped memory_state request variant part before after result → IfOk shown (λ ending. Shows text style result ending old new) →
     IfOk shown (λ ending. Answers (step_in style (settings_of before) call (drop before.link.pos before.link.ever)) before after ending old new)
 helper_shown style call request variant part text result (Ok ending) old new makes same did shows = helped style call request variant part text result ending old new makes same did shows
 helper_shown style call request variant part text result (Err error) old new makes same did shows = tt
 
-same_result : {P : Type 0} (result : Result P Error) → result ≡ projected (λ payload. payload) result
+same_result : {P : Type 0} (result : Result P Error) → result ≡ part_of (λ payload. payload) result
 same_result (Ok payload) = refl
 same_result (Err error) = refl
 
@@ -127,14 +127,14 @@ pub request_shown : {E : Type 0} {before after : ClientState MemoryState} (style
     IfOk shown (λ ending. Answers (step_in style (settings_of before) (Raw request) (drop before.link.pos before.link.ever)) before after ending old new)
 request_shown style request payload result (Err error) old new is same did shows = tt
 request_shown style request payload result (Ok ending) old new is same did shows =
-    let makes : (c : Option CredentialType) → asked_of payload c ≡ asked (Raw request) c =
-    λ c. subst (λ (r : Request). asked_of payload c ≡ asked (Raw r) c) is (ap (λ (m : Option (List ℕ)). record { message = m; operation = operation_of payload }) (same payload c)) in
+    let makes : (c : Option CredentialType) → asked_of payload c ≡ request_asked (Raw request) c =
+    λ c. subst (λ (r : Request). asked_of payload c ≡ request_asked (Raw r) c) is (ap (λ (m : Option (List ℕ)). record { message = m; operation = operation_of payload }) (same payload c)) in
     helped style (Raw request) payload (λ p. p) (λ p. p) (λ p. value_styled (Raw request) (response_payload_val p) style) result ending old new makes (λ p. refl) (called result did (same_result result)) shows
 
 -- a call of a request that no helper makes, whose payload was taken out of that of any operation
 pub part_shown : {P E : Type 0} {before after : ClientState MemoryState} (style : Style) (call : Call) (request made : RequestPayload) (variant : P → ResponsePayload) (text : P → List ℕ) (whole : Result ResponsePayload Error) (result : Result P Error) (shown : Result Ending E) (old new : List ℕ) →
-    ((c : Option CredentialType) → asked_of request c ≡ asked call c) → ((payload : P) → value_styled call (response_payload_val (variant payload)) style ≡ text payload) →
-    made ≡ request → IsCall memory_state made before after (seen_by response_payload_val whole) → seen_by (λ payload. response_payload_val (variant payload)) result ≡ seen whole →
+    ((c : Option CredentialType) → asked_of request c ≡ request_asked call c) → ((payload : P) → value_styled call (response_payload_val (variant payload)) style ≡ text payload) →
+    made ≡ request → IsCall memory_state made before after (seen_by response_payload_val whole) → seen_by (λ payload. response_payload_val (variant payload)) result ≡ answer_with_payload whole →
     IfOk shown (λ ending. Shows text style result ending old new) →
     IfOk shown (λ ending. Answers (step_in style (settings_of before) call (drop before.link.pos before.link.ever)) before after ending old new)
 part_shown {before = before} {after = after} style call request made variant text whole result shown old new makes same is did taken shows =

@@ -3,7 +3,7 @@ use Rattle.std.proofs.Common.{◌≡◌, ◌≤◌, ℕ, List, [], ◌∷◌, �
 use Rattle.std.specs.List.{starts_with}
 use Rattle.std.proofs.lemmas.Slice.Eq.{starts_is}
 use Rattle.std.proofs.lemmas.Bool.Decides.{Decides-eqb}
-use Rattle.kmip_words.specs.Options.{Given, given}
+use Rattle.kmip_words.specs.Options.{Given, option_given}
 
 -- a list that is not empty
 pub first_and_rest : {A : Type 0} (items : List A) (d : A) → 1 ≤ length items → items ≡ get_or items 0 d ∷ drop 1 items
@@ -17,24 +17,24 @@ abbrev without_value : List (List ℕ) → Given
 without_value rest = record { value = None; rest = rest }
 
 -- the first word gives the value
-given_here : (name word : List ℕ) (words : List (List ℕ)) (rest : List ℕ) → word ≡ name ++ rest → given name (word ∷ words) ≡ with_value (drop (length name) word) words
+given_here : (name word : List ℕ) (words : List (List ℕ)) (rest : List ℕ) → word ≡ name ++ rest → option_given name (word ∷ words) ≡ with_value (drop (length name) word) words
 given_here name word words rest is = rw ((starts_is Decides-eqb word name (starts_with nat_eq word name) refl).1 rest is) refl
 
 -- the first word is another
-given_not : (name word : List ℕ) (words : List (List ℕ)) → ((rest : List ℕ) → word ≡ name ++ rest → ⊥) → given name (word ∷ words) ≡ without_value (word ∷ words)
+given_not : (name word : List ℕ) (words : List (List ℕ)) → ((rest : List ℕ) → word ≡ name ++ rest → ⊥) → option_given name (word ∷ words) ≡ without_value (word ∷ words)
 given_not name word words not =
     elim (starts_with nat_eq word name) as (λ b. starts_with nat_eq word name ≡ b → cond b (with_value (drop (length name) word) words) (without_value (word ∷ words)) ≡ without_value (word ∷ words)) [
       | true ↦ λ e. absurd (not (drop (length name) word) ((starts_is Decides-eqb word name (starts_with nat_eq word name) refl).0 e))
       | false ↦ λ e. refl
     ] refl
 
-pub given_first : (name word value : List ℕ) (words : List (List ℕ)) (n : ℕ) → 1 ≤ length words → word ≡ get_or words 0 word → n ≡ length name → word ≡ name ++ drop n word → value ≡ drop n word → given name words ≡ with_value value (drop 1 words)
+pub given_first : (name word value : List ℕ) (words : List (List ℕ)) (n : ℕ) → 1 ≤ length words → word ≡ get_or words 0 word → n ≡ length name → word ≡ name ++ drop n word → value ≡ drop n word → option_given name words ≡ with_value value (drop 1 words)
 given_first name word value words n some at size is value_is =
-    ap (given name) (first_and_rest words word some ∙ ap (λ (w : List ℕ). w ∷ drop 1 words) (sym at))
+    ap (option_given name) (first_and_rest words word some ∙ ap (λ (w : List ℕ). w ∷ drop 1 words) (sym at))
     ∙ given_here name word (drop 1 words) (drop n word) is
     ∙ ap (λ (v : List ℕ). with_value v (drop 1 words)) (ap (λ (k : ℕ). drop k word) (sym size) ∙ sym value_is)
 
-pub given_other : (name word : List ℕ) (words : List (List ℕ)) → 1 ≤ length words → word ≡ get_or words 0 word → ((rest : List ℕ) → word ≡ name ++ rest → ⊥) → given name words ≡ without_value words
+pub given_other : (name word : List ℕ) (words : List (List ℕ)) → 1 ≤ length words → word ≡ get_or words 0 word → ((rest : List ℕ) → word ≡ name ++ rest → ⊥) → option_given name words ≡ without_value words
 given_other name word words some at not =
     let whole : words ≡ word ∷ drop 1 words = first_and_rest words word some ∙ ap (λ (w : List ℕ). w ∷ drop 1 words) (sym at) in
-    ap (given name) whole ∙ given_not name word (drop 1 words) not ∙ ap without_value (sym whole)
+    ap (option_given name) whole ∙ given_not name word (drop 1 words) not ∙ ap without_value (sym whole)

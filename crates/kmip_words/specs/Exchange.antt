@@ -4,7 +4,7 @@ use Rattle.hex.specs.Hex.{encode_upper}
 use Rattle.kmip_link.specs.Plan.{MemoryState}
 use Rattle.kmip_shape.specs.Val.{Val, Text, Record, Case, AndField, NoField, One}
 use Rattle.kmip_shape.specs.Shape.{Shape}
-use Rattle.kmip_shape.specs.Shown.{styled, text_styled}
+use Rattle.kmip_shape.specs.Shown.{text_in, text_styled}
 use Rattle.kmip_shape.specs.declared.style.Style.{Style}
 use Rattle.kmip_shape.specs.declared.style.Style.TheVariants.{Bare, Json}
 use Rattle.kmip_diag.specs.Diagnostic.{diagnostic}
@@ -52,22 +52,22 @@ abbrev pub raw_asked : Request → Option CredentialType → Asked
 raw_asked request credential =
     record { message = message_bytes request credential; operation = request.operation }
 
-abbrev pub asked : Call → Option CredentialType → Asked
-asked Query = asked_of query_request
-asked (CreateRsa key_length private_key_name public_key_name) =
+abbrev pub request_asked : Call → Option CredentialType → Asked
+request_asked Query = asked_of query_request
+request_asked (CreateRsa key_length private_key_name public_key_name) =
     asked_of (key_pair_request key_length private_key_name public_key_name)
-asked (Rng num_bytes) = asked_of (rng_request num_bytes)
-asked (Sign id bytes) = asked_of (sign_request id bytes)
-asked (Activate id) = asked_of (activate_request id)
-asked (Revoke id) = asked_of (revoke_request id)
-asked (Destroy id) = asked_of (destroy_request id)
-asked (Rename id new_name) = asked_of (rename_request id new_name)
-asked (Get id) = asked_of (get_request id)
-asked (Raw request) = raw_asked request
-asked (Locate name) = asked_of (locate_request name)
-asked (Attributes id) = asked_of (attributes_request id)
-asked (CreateAes key_length name) = asked_of (create_aes_request key_length name)
-asked Discover = asked_of discover_request
+request_asked (Rng num_bytes) = asked_of (rng_request num_bytes)
+request_asked (Sign id bytes) = asked_of (sign_request id bytes)
+request_asked (Activate id) = asked_of (activate_request id)
+request_asked (Revoke id) = asked_of (revoke_request id)
+request_asked (Destroy id) = asked_of (destroy_request id)
+request_asked (Rename id new_name) = asked_of (rename_request id new_name)
+request_asked (Get id) = asked_of (get_request id)
+request_asked (Raw request) = raw_asked request
+request_asked (Locate name) = asked_of (locate_request name)
+request_asked (Attributes id) = asked_of (attributes_request id)
+request_asked (CreateAes key_length name) = asked_of (create_aes_request key_length name)
+request_asked Discover = asked_of discover_request
 
 -- two texts in round brackets, or the identifiers of the two keys of a pair as an object
 abbrev pub pair_styled : List ℕ → List ℕ → Style → List ℕ
@@ -91,8 +91,8 @@ done_styled Json = codes "{}"
 
 -- a payload as its record, without the name of its operation
 abbrev pub record_styled : Shape → Val → Style → List ℕ
-record_styled shape (Case n payload) style = styled shape payload style
-record_styled shape payload style = styled shape payload style
+record_styled shape (Case n payload) style = text_in shape payload style
+record_styled shape payload style = text_in shape payload style
 
 -- what is told of the payload that answers a call
 abbrev pub value_styled : Call → Val → Style → List ℕ
@@ -105,7 +105,7 @@ value_styled (Revoke id) payload = done_styled
 value_styled (Destroy id) payload = done_styled
 value_styled (Rename id new_name) payload = record_styled attribute_edit_payload payload
 value_styled (Get id) payload = record_styled get_payload payload
-value_styled (Raw request) payload = styled response_payload payload
+value_styled (Raw request) payload = text_in response_payload payload
 value_styled (Locate name) payload = record_styled locate_payload payload
 value_styled (Attributes id) payload = record_styled get_attributes_payload payload
 value_styled (CreateAes key_length name) payload = record_styled create_payload payload
@@ -206,7 +206,7 @@ step_of value style buffered rest o = record {
 -- the outcome of a call over these bytes left
 abbrev pub call_outcome : Settings → Call → List ℕ → Outcome
 call_outcome settings call rest =
-    outcome_of (asked call settings.credential).message (asked call settings.credential).operation
+    outcome_of (request_asked call settings.credential).message (request_asked call settings.credential).operation
     settings.limit rest
 
 -- what a call comes to over these bytes left, with its answer in this style

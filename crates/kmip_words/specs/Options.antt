@@ -7,14 +7,14 @@ pub record Given : Type 0 where
   pub value : Option (List ℕ)
   pub rest : List (List ℕ)
 
-abbrev pub given : List ℕ → List (List ℕ) → Given
-given name [] = record { value = None; rest = [] }
-given name (word ∷ words) =
+abbrev pub option_given : List ℕ → List (List ℕ) → Given
+option_given name [] = record { value = None; rest = [] }
+option_given name (word ∷ words) =
     if starts_with nat_eq word name
     then record { value = Some (drop (length name) word); rest = words }
     else record { value = None; rest = word ∷ words }
 
 -- a value is given only after another
 abbrev pub given_after : Option (List ℕ) → List ℕ → List (List ℕ) → Given
-given_after (Some before) name words = given name words
+given_after (Some before) name words = option_given name words
 given_after None name words = record { value = None; rest = words }

@@ -12,7 +12,7 @@ ghost use Rattle.kmip_request_read.specs.Reading.{Request};
 
 use crate::call::Call;
 use crate::ending::Ending;
-use crate::payloads::{attributes, created, discovered, located};
+use crate::payloads::{attributes, create_payload, discover_payload, locate_payload};
 use crate::raw::RawRequest;
 use crate::requests::{attributes_request, create_aes_request, discover_request, locate_request};
 use crate::show::{show, show_done, show_pair};
@@ -103,7 +103,7 @@ fn raw(
 }
 
 /// Sends a request that no helper of the client makes, and returns what its response says.
-fn requested(
+fn request_payload(
     alloc: Global,
     client: &mut Client<MemoryLink>,
     payload: RequestPayload,
@@ -130,7 +130,7 @@ fn locate(
         client.old client.new ending line.old line.new) }
 {
     let request = locate_request(alloc, name)?;
-    let answer = located(requested(alloc, client, request));
+    let answer = locate_payload(request_payload(alloc, client, request));
     show(alloc, style, answer, line)
 }
 
@@ -148,7 +148,7 @@ fn get_attributes(
         client.old client.new ending line.old line.new) }
 {
     let request = attributes_request(id);
-    let answer = attributes(requested(alloc, client, request));
+    let answer = attributes(request_payload(alloc, client, request));
     show(alloc, style, answer, line)
 }
 
@@ -167,7 +167,7 @@ fn create_aes(
         client.old client.new ending line.old line.new) }
 {
     let request = create_aes_request(alloc, key_length, name)?;
-    let answer = created(requested(alloc, client, request));
+    let answer = create_payload(request_payload(alloc, client, request));
     show(alloc, style, answer, line)
 }
 
@@ -184,7 +184,7 @@ fn discover(
         client.old client.new ending line.old line.new) }
 {
     let request = discover_request(alloc);
-    let answer = discovered(requested(alloc, client, request));
+    let answer = discover_payload(request_payload(alloc, client, request));
     show(alloc, style, answer, line)
 }
 

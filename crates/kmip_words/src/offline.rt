@@ -1,7 +1,7 @@
 //! Calls with no link: the bytes that a call sends, and what the bytes that come back answer.
 ghost use Rattle.std.specs.Prelude.{◌≡◌, ◌++◌, [], IfOk, OnOk, false, option_map};
 ghost use Rattle.kmip_client.specs.Client.{credential_for};
-ghost use Rattle.kmip_words.specs.Exchange.{Settings as TheSettings, settings_of, asked, ending_of, json_line, call_outcome};
+ghost use Rattle.kmip_words.specs.Exchange.{Settings as TheSettings, settings_of, request_asked, ending_of, json_line, call_outcome};
 
 use crate::answers::answer;
 use crate::call::Call;
@@ -98,7 +98,7 @@ pub fn request_of(
 ) -> Result<Option<Vec<u8>>, OutOfMemory>
     ensures { IfOk result
         (λ request. option_map (λ r. r.items) request ≡
-        (asked call settings.now.credential).message) }
+        (request_asked call settings.now.credential).message) }
 {
     let mut client = settings.client(alloc, link_over(alloc, &[])?)?;
     let mut line = Text::new(alloc);

@@ -1,14 +1,14 @@
 //! Words of a command line that give a value to a name.
 ghost use Rattle.std.specs.Prelude.{◌≡◌, option_map, IfOk};
-ghost use Rattle.kmip_words.specs.Options.{given, given_after};
+ghost use Rattle.kmip_words.specs.Options.{option_given, given_after};
 
 use kmip_wire::{OutOfMemory, Text};
 use std::alloc::Global;
 
 /// The value that the first word gives to a name, as in `name=value`, and the words that are left after it.
-pub fn given<'a>(name: &str, words: &'a [Text]) -> (Option<&'a str>, &'a [Text])
-    ensures value { option_map (λ value. value.now) result.0 ≡ (given name.now words.now).value }
-    ensures rest { result.1.now ≡ (given name.now words.now).rest }
+pub fn option_given<'a>(name: &str, words: &'a [Text]) -> (Option<&'a str>, &'a [Text])
+    ensures value { option_map (λ value. value.now) result.0 ≡ (option_given name.now words.now).value }
+    ensures rest { result.1.now ≡ (option_given name.now words.now).rest }
 {
     match words {
         [first, rest @ ..] => match first.as_str().strip_prefix(name) {
@@ -31,13 +31,13 @@ pub fn given_after<'a>(
         (given_after (option_map (λ value. value.now) before.entry) name.now words.now).rest }
 {
     match before {
-        Some(_) => given(name, words),
+        Some(_) => option_given(name, words),
         None => (None, words),
     }
 }
 
 /// A copy of a text that may be absent.
-pub fn copied(alloc: Global, text: Option<&str>) -> Result<Option<Text>, OutOfMemory>
+pub fn copy_text(alloc: Global, text: Option<&str>) -> Result<Option<Text>, OutOfMemory>
     ensures { IfOk result (λ copy. copy ≡ option_map (λ text. text.now) text.entry) }
 {
     match text {

@@ -4,7 +4,7 @@ ghost use Rattle.kmip_enums.specs.declared.operation.Operation.{Operation as The
 ghost use Rattle.kmip_response.specs.Values.{response_payload_val};
 ghost use Rattle.kmip_response.specs.declared.payload.ResponsePayload.TheVariants as payloads;
 ghost use Rattle.kmip_client.specs.Client.{IsOfOperation};
-ghost use Rattle.kmip_client.specs.Outcome.{seen, seen_by};
+ghost use Rattle.kmip_client.specs.Outcome.{answer_with_payload, seen_by};
 
 use kmip_client::Error;
 use kmip_response::{
@@ -13,11 +13,13 @@ use kmip_response::{
 };
 
 /// That of Locate.
-pub fn located(answer: Result<ResponsePayload, Error>) -> Result<LocateResponsePayload, Error>
+pub fn locate_payload(
+    answer: Result<ResponsePayload, Error>,
+) -> Result<LocateResponsePayload, Error>
     requires { IfOk answer
         (λ payload. IsOfOperation TheOperation.Locate (response_payload_val payload)) }
     ensures { seen_by (λ payload. response_payload_val (payloads.Locate payload)) result ≡
-        seen answer }
+        answer_with_payload answer }
 {
     match answer {
         Ok(ResponsePayload::Locate(payload)) => Ok(payload),
@@ -33,7 +35,7 @@ pub fn attributes(
     requires { IfOk answer
         (λ payload. IsOfOperation TheOperation.GetAttributes (response_payload_val payload)) }
     ensures { seen_by (λ payload. response_payload_val (payloads.GetAttributes payload)) result ≡
-        seen answer }
+        answer_with_payload answer }
 {
     match answer {
         Ok(ResponsePayload::GetAttributes(payload)) => Ok(payload),
@@ -43,11 +45,13 @@ pub fn attributes(
 }
 
 /// That of Create.
-pub fn created(answer: Result<ResponsePayload, Error>) -> Result<CreateResponsePayload, Error>
+pub fn create_payload(
+    answer: Result<ResponsePayload, Error>,
+) -> Result<CreateResponsePayload, Error>
     requires { IfOk answer
         (λ payload. IsOfOperation TheOperation.Create (response_payload_val payload)) }
     ensures { seen_by (λ payload. response_payload_val (payloads.Create payload)) result ≡
-        seen answer }
+        answer_with_payload answer }
 {
     match answer {
         Ok(ResponsePayload::Create(payload)) => Ok(payload),
@@ -57,13 +61,13 @@ pub fn created(answer: Result<ResponsePayload, Error>) -> Result<CreateResponseP
 }
 
 /// That of Discover Versions.
-pub fn discovered(
+pub fn discover_payload(
     answer: Result<ResponsePayload, Error>,
 ) -> Result<DiscoverVersionsResponsePayload, Error>
     requires { IfOk answer
         (λ payload. IsOfOperation TheOperation.DiscoverVersions (response_payload_val payload)) }
     ensures { seen_by (λ payload. response_payload_val (payloads.DiscoverVersions payload)) result ≡
-        seen answer }
+        answer_with_payload answer }
 {
     match answer {
         Ok(ResponsePayload::DiscoverVersions(payload)) => Ok(payload),

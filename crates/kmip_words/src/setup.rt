@@ -25,7 +25,7 @@ fn with_user<T>(
 }
 
 /// How responses are read, without diagnostics: the most bytes that one may have, its head counted. It takes no memory.
-pub fn limited(limit: Option<u32>) -> Config
+pub fn config_of_limit(limit: Option<u32>) -> Config
     ensures limit { result.max_bytes ≡ limit }
     ensures buffered { result.has_buf ≡ false }
 {
@@ -40,7 +40,7 @@ fn config_of(limit: Option<u32>, diag: bool) -> Config
     ensures limit { result.max_bytes ≡ limit }
     ensures buffered { result.has_buf ≡ diag }
 {
-    let config = limited(limit);
+    let config = config_of_limit(limit);
     if diag { config.with_read_buf() } else { config }
 }
 

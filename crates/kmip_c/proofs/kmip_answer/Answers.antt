@@ -2,7 +2,7 @@ use Rattle.std.proofs.Common.{◌∙◌, ap, sym, rules, w32, w64, SFits, pos, l
 use Rattle.std.proofs.lemmas.Int.{to_z-of_z}
 use Rattle.std.proofs.lemmas.Option.{none-some}
 use Rattle.kmip_c.specs.Calls.{call_of}
-use Rattle.kmip_c.specs.Codes.{written}
+use Rattle.kmip_c.specs.Codes.{room_with}
 use Rattle.kmip_c.proofs.Answered.{answered, unanswered}
 use Rattle.kmip_c.proofs.kmip_answer.Goals as goal
 
@@ -18,7 +18,7 @@ returns-in-Ok-Some-clause-answer c = λ some.
     (rw (to_z-of_z w64 c.copy_out.result told)
     (answered (call_of c.args.call.now) c.args.response.now c.args.into.now c.copy_out.new.room line c.in-Ok-Some.told.ending c.status_of.result c.copy_out.result
     (λ e. none-some c.in-Ok-Some.told (sym (none e))) says c.status_of.ensures
-    (c.copy_out.ensures.len ∙ ap (λ (x : List ℕ). pos (length x)) text) (c.copy_out.ensures.room ∙ ap (λ (x : List ℕ). written x c.args.into.now) text)))
+    (c.copy_out.ensures.len ∙ ap (λ (x : List ℕ). pos (length x)) text) (c.copy_out.ensures.room ∙ ap (λ (x : List ℕ). room_with x c.args.into.now) text)))
 
 pub returns-in-Ok-None-clause-answer : goal.returns-in-Ok-None-clause-answer
 returns-in-Ok-None-clause-answer c = λ some.

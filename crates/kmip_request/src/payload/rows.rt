@@ -7,8 +7,8 @@ use kmip_request_objects::{
     PrivateKeyTemplateAttribute, PublicKeyTemplateAttribute, RevocationReason, TemplateAttribute,
 };
 use kmip_shape::TagOpt;
-use kmip_shape::columns::{Many, One, Opt, OptMany};
 use kmip_shape::record::{End, Row};
+use kmip_shape::row_readers::{Many, One, Opt, OptMany};
 use kmip_tags::tags::{
     ATTRIBUTE, ATTRIBUTE_INDEX, ATTRIBUTE_NAME, COMMON_TEMPLATE_ATTRIBUTE,
     COMPROMISE_OCCURRENCE_DATE, CRYPTOGRAPHIC_PARAMETERS, DATA, DATA_LENGTH, KEY_COMPRESSION_TYPE,

@@ -6,12 +6,12 @@ ghost use Rattle.kmip_response.specs.Tables.{get_attributes_payload, get_attribu
 ghost use Rattle.kmip_response.specs.Values.{get_attributes_payload_val, get_attribute_list_payload_val, attribute_edit_payload_val};
 ghost use Rattle.kmip_response.specs.Same.{get_attributes_payload_same, get_attribute_list_payload_same, attribute_edit_payload_same};
 
-use kmip_objects::Attribute;
-use kmip_shape::columns::{NonEmpty, One, OptMany};
+use kmip_response_objects::Attribute;
 use kmip_shape::record::{End, Row};
+use kmip_shape::row_readers::{NonEmpty, One, OptMany};
 use kmip_shape::{
-    Item, Outer, ReadError, ReadItem, ReadRoot, ShowItem, Sink, fields, known_record, read_record,
-    show_record,
+    Item, Outer, ReadError, ReadItem, ReadRoot, ShowItem, TextWriter, fields, known_record,
+    read_record, show_record,
 };
 use kmip_tags::tags::{ATTRIBUTE, ATTRIBUTE_NAME, RESPONSE_PAYLOAD, UNIQUE_IDENTIFIER};
 use kmip_types::{AttributeName, UniqueIdentifier};
@@ -77,7 +77,7 @@ impl ReadRoot for GetAttributesResponsePayload {
 }
 
 impl ShowItem for GetAttributesResponsePayload {
-    fn show_into(&self, out: &mut Sink) {
+    fn show_into(&self, out: &mut TextWriter) {
         show_record::<GetAttributesResponsePayloadRows>(
             fields![&self.unique_identifier, &self.attributes],
             fields!["unique_identifier", "attributes"],
@@ -145,7 +145,7 @@ impl ReadRoot for GetAttributeListResponsePayload {
 }
 
 impl ShowItem for GetAttributeListResponsePayload {
-    fn show_into(&self, out: &mut Sink) {
+    fn show_into(&self, out: &mut TextWriter) {
         show_record::<GetAttributeListResponsePayloadRows>(
             fields![&self.unique_identifier, &self.attributes],
             fields!["unique_identifier", "attributes"],
@@ -213,7 +213,7 @@ impl ReadRoot for AttributeEditResponsePayload {
 }
 
 impl ShowItem for AttributeEditResponsePayload {
-    fn show_into(&self, out: &mut Sink) {
+    fn show_into(&self, out: &mut TextWriter) {
         show_record::<AttributeEditResponsePayloadRows>(
             fields![&self.unique_identifier, &self.attribute],
             fields!["unique_identifier", "attribute"],

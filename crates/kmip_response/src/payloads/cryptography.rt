@@ -6,11 +6,11 @@ ghost use Rattle.kmip_response.specs.Tables.{sign_payload, rng_retrieve_payload}
 ghost use Rattle.kmip_response.specs.Values.{sign_payload_val, rng_retrieve_payload_val};
 ghost use Rattle.kmip_response.specs.Same.{sign_payload_same, rng_retrieve_payload_same};
 
-use kmip_shape::columns::One;
 use kmip_shape::record::{End, Row};
+use kmip_shape::row_readers::One;
 use kmip_shape::{
-    Item, Outer, ReadError, ReadItem, ReadRoot, ShowItem, Sink, fields, known_record, read_record,
-    show_record,
+    Item, Outer, ReadError, ReadItem, ReadRoot, ShowItem, TextWriter, fields, known_record,
+    read_record, show_record,
 };
 use kmip_tags::tags::{DATA, RESPONSE_PAYLOAD, SIGNATURE_DATA, UNIQUE_IDENTIFIER};
 use kmip_types::UniqueIdentifier;
@@ -76,7 +76,7 @@ impl ReadRoot for SignResponsePayload {
 }
 
 impl ShowItem for SignResponsePayload {
-    fn show_into(&self, out: &mut Sink) {
+    fn show_into(&self, out: &mut TextWriter) {
         show_record::<SignResponsePayloadRows>(
             fields![&self.unique_identifier, &self.signature_data],
             fields!["unique_identifier", "signature_data"],
@@ -132,7 +132,7 @@ impl ReadRoot for RNGRetrieveResponsePayload {
 }
 
 impl ShowItem for RNGRetrieveResponsePayload {
-    fn show_into(&self, out: &mut Sink) {
+    fn show_into(&self, out: &mut TextWriter) {
         show_record::<RNGRetrieveResponsePayloadRows>(
             fields![&self.random_bytes],
             fields!["random_bytes"],

@@ -7,12 +7,12 @@ ghost use Rattle.kmip_response.specs.Values.{get_payload_val};
 ghost use Rattle.kmip_response.specs.Same.{get_payload_same};
 
 use kmip_enums::ObjectType;
-use kmip_objects::{ManagedObject, ManagedObjects};
-use kmip_shape::columns::One;
+use kmip_response_objects::{ManagedObject, ManagedObjects};
 use kmip_shape::record::{Choosing, End, Row};
+use kmip_shape::row_readers::One;
 use kmip_shape::{
-    Item, Outer, ReadError, ReadItem, ReadRoot, ShowItem, Sink, fields, known_record, read_record,
-    show_record,
+    Item, Outer, ReadError, ReadItem, ReadRoot, ShowItem, TextWriter, fields, known_record,
+    read_record, show_record,
 };
 use kmip_tags::tags::{OBJECT_TYPE, RESPONSE_PAYLOAD, UNIQUE_IDENTIFIER};
 use kmip_types::UniqueIdentifier;
@@ -83,7 +83,7 @@ impl ReadRoot for GetResponsePayload {
 }
 
 impl ShowItem for GetResponsePayload {
-    fn show_into(&self, out: &mut Sink) {
+    fn show_into(&self, out: &mut TextWriter) {
         show_record::<GetResponsePayloadRows<'_>>(
             fields![
                 &self.object_type,

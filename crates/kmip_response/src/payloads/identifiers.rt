@@ -7,12 +7,12 @@ ghost use Rattle.kmip_response.specs.Values.{create_payload_val, create_key_pair
 ghost use Rattle.kmip_response.specs.Same.{create_payload_same, create_key_pair_payload_same, register_payload_same, locate_payload_same, unique_identifier_payload_same};
 
 use kmip_enums::ObjectType;
-use kmip_objects::{Attribute, TemplateAttribute};
-use kmip_shape::columns::{Many, One, OptMany};
+use kmip_response_objects::{Attribute, TemplateAttribute};
 use kmip_shape::record::{End, Row};
+use kmip_shape::row_readers::{Many, One, OptMany};
 use kmip_shape::{
-    Item, Outer, ReadError, ReadItem, ReadRoot, ShowItem, Sink, fields, known_record, read_record,
-    show_record,
+    Item, Outer, ReadError, ReadItem, ReadRoot, ShowItem, TextWriter, fields, known_record,
+    read_record, show_record,
 };
 use kmip_tags::tags::{
     ATTRIBUTE, OBJECT_TYPE, PRIVATE_KEY_UNIQUE_IDENTIFIER, PUBLIC_KEY_UNIQUE_IDENTIFIER,
@@ -86,7 +86,7 @@ impl ReadRoot for CreateResponsePayload {
 }
 
 impl ShowItem for CreateResponsePayload {
-    fn show_into(&self, out: &mut Sink) {
+    fn show_into(&self, out: &mut TextWriter) {
         show_record::<CreateResponsePayloadRows>(
             fields![
                 &self.object_type,
@@ -158,7 +158,7 @@ impl ReadRoot for CreateKeyPairResponsePayload {
 }
 
 impl ShowItem for CreateKeyPairResponsePayload {
-    fn show_into(&self, out: &mut Sink) {
+    fn show_into(&self, out: &mut TextWriter) {
         show_record::<CreateKeyPairResponsePayloadRows>(
             fields![
                 &self.private_key_unique_identifier,
@@ -232,7 +232,7 @@ impl ReadRoot for RegisterResponsePayload {
 }
 
 impl ShowItem for RegisterResponsePayload {
-    fn show_into(&self, out: &mut Sink) {
+    fn show_into(&self, out: &mut TextWriter) {
         show_record::<RegisterResponsePayloadRows>(
             fields![&self.unique_identifier, &self.template_attributes],
             fields!["unique_identifier", "template_attributes"],
@@ -288,7 +288,7 @@ impl ReadRoot for LocateResponsePayload {
 }
 
 impl ShowItem for LocateResponsePayload {
-    fn show_into(&self, out: &mut Sink) {
+    fn show_into(&self, out: &mut TextWriter) {
         show_record::<LocateResponsePayloadRows>(
             fields![&self.unique_identifiers],
             fields!["unique_identifiers"],
@@ -344,7 +344,7 @@ impl ReadRoot for UniqueIdentifierResponsePayload {
 }
 
 impl ShowItem for UniqueIdentifierResponsePayload {
-    fn show_into(&self, out: &mut Sink) {
+    fn show_into(&self, out: &mut TextWriter) {
         show_record::<UniqueIdentifierResponsePayloadRows>(
             fields![&self.unique_identifier],
             fields!["unique_identifier"],

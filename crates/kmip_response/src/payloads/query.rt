@@ -9,10 +9,10 @@ ghost use Rattle.kmip_response.specs.Same.{query_payload_same, discover_versions
 use crate::header::ProtocolVersion;
 use crate::payloads::server::QueryResponsePayload;
 use kmip_enums::{ObjectType, Operation};
-use kmip_shape::columns::{Opt, OptMany};
 use kmip_shape::record::{End, Row};
+use kmip_shape::row_readers::{Opt, OptMany};
 use kmip_shape::{
-    Item, Outer, ReadError, ReadItem, ReadRoot, ShowItem, Sink, copy_optional_list, fields,
+    Item, Outer, ReadError, ReadItem, ReadRoot, ShowItem, TextWriter, copy_optional_list, fields,
     known_record, read_record, show_record,
 };
 use kmip_tags::tags::{
@@ -76,7 +76,7 @@ impl ReadRoot for QueryResponsePayload {
 }
 
 impl ShowItem for QueryResponsePayload {
-    fn show_into(&self, out: &mut Sink) {
+    fn show_into(&self, out: &mut TextWriter) {
         show_record::<QueryResponsePayloadRows>(
             fields![
                 &self.operations,
@@ -136,7 +136,7 @@ impl ReadRoot for DiscoverVersionsResponsePayload {
 }
 
 impl ShowItem for DiscoverVersionsResponsePayload {
-    fn show_into(&self, out: &mut Sink) {
+    fn show_into(&self, out: &mut TextWriter) {
         show_record::<DiscoverVersionsResponsePayloadRows>(
             fields![&self.supported_versions],
             fields!["supported_versions"],

@@ -3,7 +3,7 @@ use Rattle.std.specs.Vec.Iter.{into_iter_items, into_iter_len}
 use Rattle.kmip_request.specs.Message.{operation_of}
 use Rattle.kmip_request.specs.declared.payload.RequestPayload.{RequestPayload}
 use Rattle.kmip_link.specs.State.{left}
-use Rattle.kmip_client.specs.Client.{counted, loses_connection, lacks_memory}
+use Rattle.kmip_client.specs.Client.{count_after, loses_connection, lacks_memory}
 use Rattle.kmip_client.specs.Calls.{IsCall}
 use Rattle.kmip_client.specs.Outcome.{Answer, seen_by}
 use Rattle.kmip_client.specs.Session.{Told, exchange_told, at_loss, Stops, told_by, Calls, ends_lost}
@@ -18,7 +18,7 @@ loop-payload-init g c =
     record {
       next = search (rules);
       finite = search (rules);
-      counted = omega (arith, items.1, ap length items.0);
+      count_after = omega (arith, items.1, ap length items.0);
       keeps = keeps_self _;
       credential = refl;
       limit = refl;
@@ -56,12 +56,12 @@ loop-payload-preserved g c =
     record {
       next = tt;
       finite = tt;
-      counted = omega (arith, steps.1, ap length steps.0, i.counted);
+      count_after = omega (arith, steps.1, ap length steps.0, i.count_after);
       keeps = keeps_on i.keeps call.keeps;
       credential = call.credential ∙ i.credential;
       limit = call.limit ∙ i.limit;
       buffered = call.buffered ∙ i.buffered;
-      errors = call.count ∙ ap (λ (lost : Bool). counted old.errors lost) kept ∙ i.errors;
+      errors = call.count ∙ ap (λ (lost : Bool). count_after old.errors lost) kept ∙ i.errors;
       connected = rw is (ends_one before told ∙ kept);
       grows = λ tells. grows_on (i.grows tells) (exchanged_grows (call.exchange (rw i.keeps.tells tells)));
       so_far = λ tells same.
@@ -199,19 +199,19 @@ returns-then-lost-clause-count g c =
     let before : List Told = map (exchange_told all) c.loop-payload.exchanges in
     let is : map (exchange_told all) c.push.new.self ≡ before ++ told ∷ [] =
     ap (λ l. map (exchange_told all) l) c.in_ok-push.ensures ∙ pushed all c.loop-payload.exchanges c.in_ok-told.field-0 told (ap (exchange_told all) c.in_ok-told.ensures) in
-    call.count ∙ ap (λ (n : ℕ). counted n (loses_connection seen)) i.errors ∙ ap (λ (lost : Bool). counted start.errors lost) (sym (ap ends_lost is ∙ ends_one before told))
+    call.count ∙ ap (λ (n : ℕ). count_after n (loses_connection seen)) i.errors ∙ ap (λ (lost : Bool). count_after start.errors lost) (sym (ap ends_lost is ∙ ends_one before told))
 
 pub returns-clause-session : goal.returns-clause-session
 returns-clause-session g c = λ tells same.
     let i = c.loop-payload.invariant in
-    let none : into_iter_items c.loop-payload.payload-iterator ≡ [] = empty_of (into_iter_items c.loop-payload.payload-iterator) (omega (arith, i.counted, c.in-None.ensures.steps)) in
+    let none : into_iter_items c.loop-payload.payload-iterator ≡ [] = empty_of (into_iter_items c.loop-payload.payload-iterator) (omega (arith, i.count_after, c.in-None.ensures.steps)) in
     end c.args.client.now.credential c.args.client.now.limit (left (g.T.Link.state c.loop-payload.client.link)) (rw none at (i.so_far tells same))
 
 pub returns-clause-stops : goal.returns-clause-stops
 returns-clause-stops g c =
     let i = c.loop-payload.invariant in
     let before : List Told = map (exchange_told g.P.AnsweredByAny.whole) c.loop-payload.exchanges in
-    let none : into_iter_items c.loop-payload.payload-iterator ≡ [] = empty_of (into_iter_items c.loop-payload.payload-iterator) (omega (arith, i.counted, c.in-None.ensures.steps)) in
+    let none : into_iter_items c.loop-payload.payload-iterator ≡ [] = empty_of (into_iter_items c.loop-payload.payload-iterator) (omega (arith, i.count_after, c.in-None.ensures.steps)) in
     let stops : StopsOn c.args.payloads.items before [] = rw none at i.stops in
     stops_end c.args.payloads.items before stops
 

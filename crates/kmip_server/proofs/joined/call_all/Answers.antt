@@ -3,7 +3,7 @@ use Rattle.kmip_store.specs.declared.maker.Made.{Made}
 use Rattle.kmip_server.specs.Calls.{call_told, settings_of}
 use Rattle.kmip_server.specs.Came.{between, standing, IsEnded}
 use Rattle.kmip_server.specs.Direct.{AllFit, direct, answers_of}
-use Rattle.kmip_server.specs.Joined.{expected, finish, Meet}
+use Rattle.kmip_server.specs.Joined.{expected_calls, finish, Meet}
 use Rattle.kmip_server.specs.Link.{server_link_state, IsNew, IsOpen}
 use Rattle.kmip_server.specs.declared.answers.CallAnswer.{CallAnswer}
 use Rattle.kmip_server.proofs.Going.{between_new, open_new}

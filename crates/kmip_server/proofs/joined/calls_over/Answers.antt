@@ -1,5 +1,5 @@
 use Rattle.std.proofs.Common.{◌≡◌, ◌+◌, ◌≤◌, drop, length, map, refl, sym, ◌∙◌, ap, arith, Bool, ℕ}
-use Rattle.kmip_client.specs.Client.{counted}
+use Rattle.kmip_client.specs.Client.{count_after}
 use Rattle.kmip_client.proofs.Transfers.{keeps_on}
 use Rattle.kmip_server.specs.Calls.{call_told, settings_of}
 use Rattle.kmip_server.specs.Joined.{Settings}
@@ -13,7 +13,7 @@ loop-call-preserved g c =
     record {
       keeps = keeps_on i.keeps c.make_call.ensures.keeps;
       settings = c.make_call.ensures.settings ∙ i.settings;
-      errors = c.in_ok-answer.ensures.count ∙ ap (λ (b : Bool). counted c.loop-call.client.errors b) c.if-lost.false ∙ i.errors;
+      errors = c.in_ok-answer.ensures.count ∙ ap (λ (b : Bool). count_after c.loop-call.client.errors b) c.if-lost.false ∙ i.errors;
       connected = ends_with c.loop-call.answers c.push.new.self c.in_ok-answer.answer c.in_ok-answer.lost c.in_ok-push.ensures c.in_ok-answer.ensures.lost ∙ c.if-lost.false;
       known = c.in_ok-answer.ensures.known;
       opened = λ opened. still_open g.M.Maker.state (settings_of c.loop-call.client) c.call-item.result c.loop-call.client.link c.make_call.new.client.link (call_told c.in_ok-answer.answer) c.in_ok-answer.lost c.if-lost.false (c.in_ok-answer.ensures.called (i.opened opened));
@@ -44,4 +44,4 @@ pub returns-then-lost-clause-count : goal.returns-then-lost-clause-count
 returns-then-lost-clause-count g c =
     let i = c.loop-call.invariant in
     let ends = ends_with c.loop-call.answers c.push.new.self c.in_ok-answer.answer c.in_ok-answer.lost c.in_ok-push.ensures c.in_ok-answer.ensures.lost in
-    rw (← c.look.ensures.stays) (c.in_ok-answer.ensures.count ∙ ap (λ (n : ℕ). counted n c.in_ok-answer.lost) i.errors ∙ ap (λ (b : Bool). counted c.look.new.client.errors b) (sym ends))
+    rw (← c.look.ensures.stays) (c.in_ok-answer.ensures.count ∙ ap (λ (n : ℕ). count_after n c.in_ok-answer.lost) i.errors ∙ ap (λ (b : Bool). count_after c.look.new.client.errors b) (sym ends))

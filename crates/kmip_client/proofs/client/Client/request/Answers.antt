@@ -1,6 +1,6 @@
 use Rattle.std.proofs.Common.{◌∙◌, ap, refl, IsTrue, Bool}
 use Rattle.kmip_request.specs.Message.{request_bytes, operation_of}
-use Rattle.kmip_client.specs.Client.{counted}
+use Rattle.kmip_client.specs.Client.{count_after}
 use Rattle.kmip_client.specs.Outcome.{seen_by, outcome, left_for, Exchanged}
 use Rattle.kmip_client.proofs.Headlines.{headline, seen_variant}
 use Rattle.kmip_client.proofs.client.Client.request.Goals as goal
@@ -22,7 +22,7 @@ returns-clause-call g c =
       credential = rw (← c.self.view_is) refl;
       limit = rw (← c.self.view_is) refl;
       buffered = rw (← c.self.view_is) refl;
-      count = rw (← c.self.view_is) (c.counted-self-inside.ensures ∙ ap (λ (lost : Bool). counted c.self.inside.errors lost) (c.loses_connection.ensures (g.P.Answered.val (operation_of c.args.payload.now))));
+      count = rw (← c.self.view_is) (c.count_after-self-inside.ensures ∙ ap (λ (lost : Bool). count_after c.self.inside.errors lost) (c.loses_connection.ensures (g.P.Answered.val (operation_of c.args.payload.now))));
       request_text = rw (← c.self.view_is) e.request_text;
       response_text = rw (← c.self.view_is) e.response_text;
       quiet = rw (← c.self.view_is) e.quiet;

@@ -1,5 +1,0 @@
-use Rattle.kmip_shape.proofs.Growth.{nothing}
-use Rattle.kmip_shape.proofs.fields.EndShowRows.show.Goals as goal
-
-pub returns : goal.returns
-returns c = λ a e. nothing

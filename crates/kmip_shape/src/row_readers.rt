@@ -1,0 +1,561 @@
+//! The items of one row, gathered in a walk over the children of a record.
+ghost use Rattle.std.specs.Prelude.{◌≡◌, ℕ, IfOk, Some, None, Err, Option, [], ◌∷◌, filter, map};
+ghost use Rattle.std.specs.Prelude.{refl};
+ghost use Rattle.std.specs.Prelude as p;
+ghost use Rattle.std.specs.Option.{option_map, option_and_then};
+ghost use Rattle.kmip_wire.specs.Tree.{Tree};
+ghost use Rattle.kmip_wire.specs.Items.{item_tree};
+ghost use Rattle.kmip_shape.specs.Val.{Val, Field, Absent as absent, One as one, Many as many};
+ghost use Rattle.kmip_shape.specs.Val.{Case as case};
+ghost use Rattle.kmip_shape.specs.Shape.{OuterValue, RowList, AndRow, Under, Required, Optional};
+ghost use Rattle.kmip_shape.specs.Shape.{AnyNumber, AtLeastOne, OptionalList, Plain};
+ghost use Rattle.kmip_shape.specs.Shape.{Chooser as chooser, Chosen, has_tag, chosen_by};
+ghost use Rattle.kmip_shape.specs.Reads.{field_by_mark, read_of, read_rows, with_field};
+ghost use Rattle.kmip_shape.specs.Writes.{optional, vals, optional_list};
+ghost use Rattle.kmip_shape.specs.Resume.{outer_of, resume_only, resume_single, resume_kept};
+ghost use Rattle.kmip_shape.specs.Resume.{resume_many, values_with};
+
+use crate::item::Item;
+use crate::read::{Outer, ReadError, ReadItem};
+use kmip_wire::{ItemRef, List};
+use std::alloc::Global;
+use std::marker::PhantomData;
+
+/// The items of one row, gathered while a record's children are walked over.
+pub trait ReadRow<'a>: Drop {
+    /// The field that the row makes.
+    type Out: Drop;
+
+    /// The row, above the rows that follow it.
+    ghost row_above: { RowList → RowList };
+
+    /// The field of these children, from the outer value of the record and the one that its chooser
+    /// gives.
+    ghost reads: { OuterValue → OuterValue → p.List Tree → Option Field };
+
+    /// The field, where some children were taken already and these are left.
+    ghost resume: { Self → OuterValue → OuterValue → p.List Tree → Option Field };
+
+    /// A field as contracts see it.
+    ghost shows: { Self.Out → Field };
+
+    /// Nothing taken yet.
+    fn new(alloc: Global) -> Self
+        ensures { (o c : OuterValue) (xs : p.List Tree) → resume result o c xs ≡ reads o c xs };
+
+    /// Takes a child, if it is one of the row's. `Unread` comes where the row makes no field of
+    /// whatever follows.
+    fn take(&mut self, alloc: Global, outer: Outer<'_>, child: ItemRef<'a>) -> Result<(), ReadError>
+        ensures ok { IfOk result (λ _. (c : OuterValue) (xs : p.List Tree) →
+            resume self.old (outer_of outer.entry) c (item_tree child.entry ∷ xs)
+            ≡ resume self.new (outer_of outer.entry) c xs) }
+        ensures unread { result ≡ Err ReadError.Unread → (c : OuterValue) (xs : p.List Tree) →
+            resume self.old (outer_of outer.entry) c (item_tree child.entry ∷ xs) ≡ None };
+
+    /// The field, once all children were taken. `Unread` comes exactly where the row makes none of
+    /// them.
+    fn finish(
+        self,
+        alloc: Global,
+        outer: Outer<'_>,
+        chosen: Outer<'_>,
+    ) -> Result<Self::Out, ReadError>
+        ensures ok { IfOk result (λ out.
+            resume self (outer_of outer.entry) (outer_of chosen.entry) [] ≡ Some (shows out)) }
+        ensures unread { result ≡ Err ReadError.Unread →
+            resume self (outer_of outer.entry) (outer_of chosen.entry) [] ≡ None };
+
+    /// It reads what the row reads.
+    ghost row_reads: { (rest : RowList) (o c : OuterValue) (xs : p.List Tree) →
+        read_rows (row_above rest) o c xs
+        ≡ with_field (reads o c xs) (λ f. read_rows rest o c xs) };
+}
+
+/// A required item.
+#[derive(Drop)]
+pub struct One<T, const TAG: u32> {
+    slot: Option<T>,
+}
+
+impl<'a, T: ReadItem, const TAG: u32> ReadRow<'a> for One<T, TAG> {
+    type Out = T;
+
+    ghost row_above = { λ rest. AndRow [] (Under TAG) Required Plain T.shape rest };
+
+    ghost row_reads = { λ rest o c xs. refl };
+
+    ghost reads = { λ o c xs. field_by_mark Required (read_of T.shape o) (filter (has_tag TAG) xs) };
+
+    ghost resume = { λ s o c xs. resume_single Required (read_of T.shape o)
+        (option_map T.val s.slot) (filter (has_tag TAG) xs) };
+
+    ghost shows = { λ x. one (T.val x) };
+
+    fn new(_alloc: Global) -> Self {
+        One { slot: None }
+    }
+
+    fn take(
+        &mut self,
+        alloc: Global,
+        outer: Outer<'_>,
+        child: ItemRef<'a>,
+    ) -> Result<(), ReadError> {
+        if child.tag().number() != TAG {
+            return Ok(());
+        }
+        if self.slot.is_some() {
+            return Err(ReadError::Unread);
+        }
+        self.slot = Some(T::read(alloc, outer, child)?);
+        Ok(())
+    }
+
+    fn finish(self, _alloc: Global, _outer: Outer<'_>, _chosen: Outer<'_>) -> Result<T, ReadError> {
+        self.slot.ok_or(ReadError::Unread)
+    }
+}
+
+/// An optional item.
+#[derive(Drop)]
+pub struct Opt<T, const TAG: u32> {
+    slot: Option<T>,
+}
+
+impl<'a, T: ReadItem, const TAG: u32> ReadRow<'a> for Opt<T, TAG> {
+    type Out = Option<T>;
+
+    ghost row_above = { λ rest. AndRow [] (Under TAG) Optional Plain T.shape rest };
+
+    ghost row_reads = { λ rest o c xs. refl };
+
+    ghost reads = { λ o c xs. field_by_mark Optional (read_of T.shape o) (filter (has_tag TAG) xs) };
+
+    ghost resume = { λ s o c xs. resume_single Optional (read_of T.shape o)
+        (option_map T.val s.slot) (filter (has_tag TAG) xs) };
+
+    ghost shows = { λ x. optional T.val x };
+
+    fn new(_alloc: Global) -> Self {
+        Opt { slot: None }
+    }
+
+    fn take(
+        &mut self,
+        alloc: Global,
+        outer: Outer<'_>,
+        child: ItemRef<'a>,
+    ) -> Result<(), ReadError> {
+        if child.tag().number() != TAG {
+            return Ok(());
+        }
+        if self.slot.is_some() {
+            return Err(ReadError::Unread);
+        }
+        self.slot = Some(T::read(alloc, outer, child)?);
+        Ok(())
+    }
+
+    fn finish(
+        self,
+        _alloc: Global,
+        _outer: Outer<'_>,
+        _chosen: Outer<'_>,
+    ) -> Result<Option<T>, ReadError> {
+        Ok(self.slot)
+    }
+}
+
+/// An optional item that is read once its chooser is known.
+#[derive(Drop)]
+pub struct ChosenOpt<'a, T, const TAG: u32> {
+    kept: Option<ItemRef<'a>>,
+    item: PhantomData<T>,
+}
+
+impl<'a, T: ReadItem, const TAG: u32> ReadRow<'a> for ChosenOpt<'a, T, TAG> {
+    type Out = Option<T>;
+
+    ghost row_above = { λ rest. AndRow [] (Under TAG) Optional Chosen T.shape rest };
+
+    ghost row_reads = { λ rest o c xs. refl };
+
+    ghost reads = { λ o c xs. field_by_mark Optional (read_of T.shape c) (filter (has_tag TAG) xs) };
+
+    ghost resume = { λ s o c xs. resume_kept Optional (read_of T.shape c)
+        (option_map item_tree s.kept) (filter (has_tag TAG) xs) };
+
+    ghost shows = { λ x. optional T.val x };
+
+    fn new(_alloc: Global) -> Self {
+        ChosenOpt {
+            kept: None,
+            item: PhantomData,
+        }
+    }
+
+    fn take(
+        &mut self,
+        _alloc: Global,
+        _outer: Outer<'_>,
+        child: ItemRef<'a>,
+    ) -> Result<(), ReadError> {
+        if child.tag().number() != TAG {
+            return Ok(());
+        }
+        if self.kept.is_some() {
+            return Err(ReadError::Unread);
+        }
+        self.kept = Some(child);
+        Ok(())
+    }
+
+    fn finish(
+        self,
+        alloc: Global,
+        _outer: Outer<'_>,
+        chosen: Outer<'_>,
+    ) -> Result<Option<T>, ReadError> {
+        match self.kept {
+            None => Ok(None),
+            Some(item) => Ok(Some(T::read(alloc, chosen, item)?)),
+        }
+    }
+}
+
+/// A required item that is read once its chooser is known.
+#[derive(Drop)]
+pub struct ChosenOne<'a, T, const TAG: u32> {
+    kept: Option<ItemRef<'a>>,
+    item: PhantomData<T>,
+}
+
+impl<'a, T: ReadItem, const TAG: u32> ReadRow<'a> for ChosenOne<'a, T, TAG> {
+    type Out = T;
+
+    ghost row_above = { λ rest. AndRow [] (Under TAG) Required Chosen T.shape rest };
+
+    ghost row_reads = { λ rest o c xs. refl };
+
+    ghost reads = { λ o c xs. field_by_mark Required (read_of T.shape c) (filter (has_tag TAG) xs) };
+
+    ghost resume = { λ s o c xs. resume_kept Required (read_of T.shape c)
+        (option_map item_tree s.kept) (filter (has_tag TAG) xs) };
+
+    ghost shows = { λ x. one (T.val x) };
+
+    fn new(_alloc: Global) -> Self {
+        ChosenOne {
+            kept: None,
+            item: PhantomData,
+        }
+    }
+
+    fn take(
+        &mut self,
+        _alloc: Global,
+        _outer: Outer<'_>,
+        child: ItemRef<'a>,
+    ) -> Result<(), ReadError> {
+        if child.tag().number() != TAG {
+            return Ok(());
+        }
+        if self.kept.is_some() {
+            return Err(ReadError::Unread);
+        }
+        self.kept = Some(child);
+        Ok(())
+    }
+
+    fn finish(self, alloc: Global, _outer: Outer<'_>, chosen: Outer<'_>) -> Result<T, ReadError> {
+        match self.kept {
+            None => Err(ReadError::Unread),
+            Some(item) => T::read(alloc, chosen, item),
+        }
+    }
+}
+
+/// Reads a further item of a row of many.
+#[tactic(auto, using(crate::proofs::Gathered::gathering))]
+#[inline(never)]
+pub(crate) fn push_item<T: ReadItem>(
+    items: &mut Vec<T>,
+    alloc: Global,
+    outer: Outer<'_>,
+    child: ItemRef<'_>,
+) -> Result<(), ReadError>
+    ensures ok { IfOk result (λ _. (xs : p.List Tree) →
+        values_with (read_of T.shape (outer_of outer.entry)) (map T.val items.old.items)
+        (item_tree child.entry ∷ xs)
+        ≡ values_with (read_of T.shape (outer_of outer.entry)) (map T.val items.new.items) xs) }
+    ensures unread { result ≡ Err ReadError.Unread → (xs : p.List Tree) →
+        values_with (read_of T.shape (outer_of outer.entry)) (map T.val items.old.items)
+        (item_tree child.entry ∷ xs) ≡ None }
+{
+    if items.is_empty() {
+        items.reserve_exact(1)?;
+    }
+    items.push(T::read(alloc, outer, child)?)?;
+    Ok(())
+}
+
+/// Any number of items.
+#[derive(Drop)]
+pub struct Many<T, const TAG: u32> {
+    items: Vec<T>,
+}
+
+#[tactic(auto, using(crate::proofs::Gathered::gathering))]
+impl<'a, T: ReadItem, const TAG: u32> ReadRow<'a> for Many<T, TAG> {
+    type Out = List<T>;
+
+    ghost row_above = { λ rest. AndRow [] (Under TAG) AnyNumber Plain T.shape rest };
+
+    ghost row_reads = { λ rest o c xs. refl };
+
+    ghost reads = { λ o c xs. field_by_mark AnyNumber (read_of T.shape o) (filter (has_tag TAG) xs) };
+
+    ghost resume = { λ s o c xs. resume_many AnyNumber (read_of T.shape o) (map T.val s.items.items)
+        (filter (has_tag TAG) xs) };
+
+    ghost shows = { λ x. many (vals T.val x) };
+
+    fn new(alloc: Global) -> Self {
+        Many {
+            items: Vec::new(alloc),
+        }
+    }
+
+    fn take(
+        &mut self,
+        alloc: Global,
+        outer: Outer<'_>,
+        child: ItemRef<'a>,
+    ) -> Result<(), ReadError> {
+        if child.tag().number() == TAG {
+            push_item(&mut self.items, alloc, outer, child)?;
+        }
+        Ok(())
+    }
+
+    fn finish(
+        self,
+        _alloc: Global,
+        _outer: Outer<'_>,
+        _chosen: Outer<'_>,
+    ) -> Result<List<T>, ReadError> {
+        Ok(List::of_vec(self.items))
+    }
+}
+
+/// At least one item.
+#[derive(Drop)]
+pub struct NonEmpty<T, const TAG: u32> {
+    items: Vec<T>,
+}
+
+#[tactic(auto, using(crate::proofs::Gathered::gathering))]
+impl<'a, T: ReadItem, const TAG: u32> ReadRow<'a> for NonEmpty<T, TAG> {
+    type Out = List<T>;
+
+    ghost row_above = { λ rest. AndRow [] (Under TAG) AtLeastOne Plain T.shape rest };
+
+    ghost row_reads = { λ rest o c xs. refl };
+
+    ghost reads = { λ o c xs. field_by_mark AtLeastOne (read_of T.shape o) (filter (has_tag TAG) xs) };
+
+    ghost resume = { λ s o c xs. resume_many AtLeastOne (read_of T.shape o)
+        (map T.val s.items.items) (filter (has_tag TAG) xs) };
+
+    ghost shows = { λ x. many (vals T.val x) };
+
+    fn new(alloc: Global) -> Self {
+        NonEmpty {
+            items: Vec::new(alloc),
+        }
+    }
+
+    fn take(
+        &mut self,
+        alloc: Global,
+        outer: Outer<'_>,
+        child: ItemRef<'a>,
+    ) -> Result<(), ReadError> {
+        if child.tag().number() == TAG {
+            push_item(&mut self.items, alloc, outer, child)?;
+        }
+        Ok(())
+    }
+
+    fn finish(
+        self,
+        _alloc: Global,
+        _outer: Outer<'_>,
+        _chosen: Outer<'_>,
+    ) -> Result<List<T>, ReadError> {
+        if self.items.is_empty() {
+            return Err(ReadError::Unread);
+        }
+        Ok(List::of_vec(self.items))
+    }
+}
+
+/// A list that is absent where no item stands.
+#[derive(Drop)]
+pub struct OptMany<T, const TAG: u32> {
+    items: Vec<T>,
+}
+
+#[tactic(auto, using(crate::proofs::Gathered::gathering))]
+impl<'a, T: ReadItem, const TAG: u32> ReadRow<'a> for OptMany<T, TAG> {
+    type Out = Option<List<T>>;
+
+    ghost row_above = { λ rest. AndRow [] (Under TAG) OptionalList Plain T.shape rest };
+
+    ghost row_reads = { λ rest o c xs. refl };
+
+    ghost reads = { λ o c xs. field_by_mark OptionalList (read_of T.shape o) (filter (has_tag TAG) xs) };
+
+    ghost resume = { λ s o c xs. resume_many OptionalList (read_of T.shape o)
+        (map T.val s.items.items) (filter (has_tag TAG) xs) };
+
+    ghost shows = { λ x. optional_list T.val x };
+
+    fn new(alloc: Global) -> Self {
+        OptMany {
+            items: Vec::new(alloc),
+        }
+    }
+
+    fn take(
+        &mut self,
+        alloc: Global,
+        outer: Outer<'_>,
+        child: ItemRef<'a>,
+    ) -> Result<(), ReadError> {
+        if child.tag().number() == TAG {
+            push_item(&mut self.items, alloc, outer, child)?;
+        }
+        Ok(())
+    }
+
+    fn finish(
+        self,
+        _alloc: Global,
+        _outer: Outer<'_>,
+        _chosen: Outer<'_>,
+    ) -> Result<Option<List<T>>, ReadError> {
+        if self.items.is_empty() {
+            return Ok(None);
+        }
+        Ok(Some(List::of_vec(self.items)))
+    }
+}
+
+/// A type whose value chooses.
+pub trait Chooses: Item {
+    /// The value that chooses.
+    fn outer(&self) -> Outer<'_>
+        ensures { outer_of result ≡ chosen_by (one (Self.val self.now)) };
+}
+
+/// A row whose value chooses.
+pub trait Chooser<'a>: ReadRow<'a> {
+    /// The row as a chooser, above the rows that follow it.
+    ghost chooser_above: { RowList → RowList };
+
+    /// The outer value of the rows below that are chosen.
+    fn outer(out: &Self::Out) -> Outer<'_>
+        ensures { outer_of result ≡ chosen_by (Self.shows out.now) };
+
+    /// It reads what the row reads, and the rows below are chosen by that.
+    ghost chooser_reads: { (rest : RowList) (o c : OuterValue) (xs : p.List Tree) →
+        read_rows (chooser_above rest) o c xs
+        ≡ with_field (Self.reads o c xs) (λ f. read_rows rest o (chosen_by f) xs) };
+}
+
+impl<'a, T: ReadItem + Chooses, const TAG: u32> Chooser<'a> for One<T, TAG> {
+    ghost chooser_above = { λ rest. AndRow [] (Under TAG) Required chooser T.shape rest };
+
+    ghost chooser_reads = { λ rest o c xs. refl };
+
+    fn outer(out: &T) -> Outer<'_> {
+        Chooses::outer(out)
+    }
+}
+
+impl<'a, T: ReadItem + Chooses, const TAG: u32> Chooser<'a> for Opt<T, TAG> {
+    ghost chooser_above = { λ rest. AndRow [] (Under TAG) Optional chooser T.shape rest };
+
+    ghost chooser_reads = { λ rest o c xs. refl };
+
+    fn outer(out: &Option<T>) -> Outer<'_> {
+        match out {
+            None => Outer::none(),
+            Some(value) => Chooses::outer(value),
+        }
+    }
+}
+
+/// A case of a choice that fixes its tag: the items under the tag, of which one is wanted if the
+/// case is chosen.
+#[derive(Drop)]
+pub struct Case<'a, T, const NUMBER: u32, const TAG: u32> {
+    /// The item, where there is one.
+    pub item: Option<ItemRef<'a>>,
+    /// Whether there is more than one.
+    pub several: bool,
+    /// The type that it is read as.
+    pub read: PhantomData<T>,
+}
+
+impl<'a, T: ReadItem, const NUMBER: u32, const TAG: u32> Case<'a, T, NUMBER, TAG> {
+    /// No item yet.
+    pub fn new() -> Self
+        ensures { (r : Tree → Option Val) (xs : p.List Tree) →
+            resume_only r result.several (option_map item_tree result.item)
+            (filter (has_tag TAG) xs) ≡ field_by_mark Required r (filter (has_tag TAG) xs) }
+    {
+        Case {
+            item: None,
+            several: false,
+            read: PhantomData,
+        }
+    }
+
+    /// Keeps a child under the tag.
+    pub fn take(&mut self, child: ItemRef<'a>)
+        ensures { (r : Tree → Option Val) (xs : p.List Tree) →
+            resume_only r self.old.several (option_map item_tree self.old.item)
+            (filter (has_tag TAG) (item_tree child.entry ∷ xs))
+            ≡ resume_only r self.new.several (option_map item_tree self.new.item)
+            (filter (has_tag TAG) xs) }
+    {
+        if child.tag().number() == TAG {
+            if self.item.is_some() {
+                self.several = true;
+            } else {
+                self.item = Some(child);
+            }
+        }
+    }
+
+    /// What the one item under the tag reads as.
+    pub fn read(self, alloc: Global, outer: Outer<'_>) -> Result<T, ReadError>
+        ensures ok { IfOk result (λ v. resume_only
+            (λ x. option_map (case NUMBER) (read_of T.shape (outer_of outer.entry) x))
+            self.entry.several (option_map item_tree self.entry.item) []
+            ≡ Some (one (case NUMBER (T.val v)))) }
+        ensures unread { result ≡ Err ReadError.Unread →
+            resume_only (λ x. option_map (case NUMBER) (read_of T.shape (outer_of outer.entry) x))
+            self.entry.several (option_map item_tree self.entry.item) [] ≡ None }
+    {
+        if self.several {
+            return Err(ReadError::Unread);
+        }
+        match self.item {
+            None => Err(ReadError::Unread),
+            Some(item) => T::read(alloc, outer, item),
+        }
+    }
+}
