@@ -132,54 +132,66 @@ impl RequestPayload {
     }
 }
 
+/// A call by rows on the fields of a payload, in the order of the rows of its operation.
+macro_rules! by_rows {
+    ($payload:expr, $call:ident $(, $more:expr)*) => {
+        match $payload {
+            RequestPayload::Create(object_type, template) => {
+                $call::<CreateRows>(fields![object_type, template] $(, $more)*)
+            }
+            RequestPayload::CreateKeyPair(common, private_key, public_key) => {
+                $call::<CreateKeyPairRows>(fields![common, private_key, public_key] $(, $more)*)
+            }
+            RequestPayload::Register(object_type, template, object) => {
+                $call::<RegisterRows>(fields![object_type, template, object] $(, $more)*)
+            }
+            RequestPayload::Locate(attributes) => {
+                $call::<LocateRows>(fields![attributes] $(, $more)*)
+            }
+            RequestPayload::Get(id, format, compression, specification) => {
+                $call::<GetRows>(fields![id, format, compression, specification] $(, $more)*)
+            }
+            RequestPayload::GetAttributes(id, names) => {
+                $call::<GetAttributesRows>(fields![id, names] $(, $more)*)
+            }
+            RequestPayload::GetAttributeList(id) => {
+                $call::<IdentifierRows>(fields![id] $(, $more)*)
+            }
+            RequestPayload::AddAttribute(id, attribute) => {
+                $call::<EditRows>(fields![id, attribute] $(, $more)*)
+            }
+            RequestPayload::ModifyAttribute(id, attribute) => {
+                $call::<EditRows>(fields![id, attribute] $(, $more)*)
+            }
+            RequestPayload::DeleteAttribute(id, name, index) => {
+                $call::<DeleteAttributeRows>(fields![id, name, index] $(, $more)*)
+            }
+            RequestPayload::Activate(id) => $call::<IdentifierRows>(fields![id] $(, $more)*),
+            RequestPayload::Revoke(id, reason, date) => {
+                $call::<RevokeRows>(fields![id, reason, date] $(, $more)*)
+            }
+            RequestPayload::Destroy(id) => $call::<IdentifierRows>(fields![id] $(, $more)*),
+            RequestPayload::Query(functions) => $call::<QueryRows>(fields![functions] $(, $more)*),
+            RequestPayload::DiscoverVersions(versions) => {
+                $call::<DiscoverVersionsRows>(fields![versions] $(, $more)*)
+            }
+            RequestPayload::Sign(id, parameters, data) => {
+                $call::<SignRows>(fields![id, parameters, data] $(, $more)*)
+            }
+            RequestPayload::RNGRetrieve(length) => {
+                $call::<RNGRetrieveRows>(fields![length] $(, $more)*)
+            }
+        }
+    };
+}
+
 impl Item for RequestPayload {
     ghost shape = { request_payload };
 
     ghost val = { request_payload_val };
 
     fn known(&self) {
-        match self {
-            RequestPayload::Create(object_type, template) => known_record::<CreateRows>(fields![
-                object_type,
-                template
-            ]),
-            RequestPayload::CreateKeyPair(common, private_key, public_key) => known_record::<
-                CreateKeyPairRows,
-            >(fields![common, private_key, public_key]),
-            RequestPayload::Register(object_type, template, object) => known_record::<RegisterRows>(
-                fields![object_type, template, object],
-            ),
-            RequestPayload::Locate(attributes) => known_record::<LocateRows>(fields![attributes]),
-            RequestPayload::Get(id, format, compression, specification) => known_record::<GetRows>(
-                fields![id, format, compression, specification],
-            ),
-            RequestPayload::GetAttributes(id, names) => known_record::<GetAttributesRows>(fields![
-                id, names
-            ]),
-            RequestPayload::GetAttributeList(id) => known_record::<IdentifierRows>(fields![id]),
-            RequestPayload::AddAttribute(id, attribute) => known_record::<EditRows>(fields![
-                id, attribute
-            ]),
-            RequestPayload::ModifyAttribute(id, attribute) => known_record::<EditRows>(fields![
-                id, attribute
-            ]),
-            RequestPayload::DeleteAttribute(id, name, index) => known_record::<DeleteAttributeRows>(
-                fields![id, name, index],
-            ),
-            RequestPayload::Activate(id) => known_record::<IdentifierRows>(fields![id]),
-            RequestPayload::Revoke(id, reason, date) => known_record::<RevokeRows>(fields![
-                id, reason, date
-            ]),
-            RequestPayload::Destroy(id) => known_record::<IdentifierRows>(fields![id]),
-            RequestPayload::Query(functions) => known_record::<QueryRows>(fields![functions]),
-            RequestPayload::DiscoverVersions(versions) => known_record::<DiscoverVersionsRows>(
-                fields![versions],
-            ),
-            RequestPayload::Sign(id, parameters, data) => known_record::<SignRows>(fields![
-                id, parameters, data
-            ]),
-            RequestPayload::RNGRetrieve(length) => known_record::<RNGRetrieveRows>(fields![length]),
-        }
+        by_rows!(self, known_record)
     }
 
     ghost same = { request_payload_same };
@@ -187,128 +199,11 @@ impl Item for RequestPayload {
 
 impl WriteItem for RequestPayload {
     fn wire_len(&self, _tag: Tag) -> Option<u64> {
-        match self {
-            RequestPayload::Create(object_type, template) => record_len::<CreateRows>(fields![
-                object_type,
-                template
-            ]),
-            RequestPayload::CreateKeyPair(common, private_key, public_key) => record_len::<
-                CreateKeyPairRows,
-            >(fields![common, private_key, public_key]),
-            RequestPayload::Register(object_type, template, object) => record_len::<RegisterRows>(
-                fields![object_type, template, object],
-            ),
-            RequestPayload::Locate(attributes) => record_len::<LocateRows>(fields![attributes]),
-            RequestPayload::Get(id, format, compression, specification) => record_len::<GetRows>(
-                fields![id, format, compression, specification],
-            ),
-            RequestPayload::GetAttributes(id, names) => record_len::<GetAttributesRows>(fields![
-                id, names
-            ]),
-            RequestPayload::GetAttributeList(id) => record_len::<IdentifierRows>(fields![id]),
-            RequestPayload::AddAttribute(id, attribute) => record_len::<EditRows>(fields![
-                id, attribute
-            ]),
-            RequestPayload::ModifyAttribute(id, attribute) => record_len::<EditRows>(fields![
-                id, attribute
-            ]),
-            RequestPayload::DeleteAttribute(id, name, index) => record_len::<DeleteAttributeRows>(
-                fields![id, name, index],
-            ),
-            RequestPayload::Activate(id) => record_len::<IdentifierRows>(fields![id]),
-            RequestPayload::Revoke(id, reason, date) => record_len::<RevokeRows>(fields![
-                id, reason, date
-            ]),
-            RequestPayload::Destroy(id) => record_len::<IdentifierRows>(fields![id]),
-            RequestPayload::Query(functions) => record_len::<QueryRows>(fields![functions]),
-            RequestPayload::DiscoverVersions(versions) => record_len::<DiscoverVersionsRows>(
-                fields![versions],
-            ),
-            RequestPayload::Sign(id, parameters, data) => record_len::<SignRows>(fields![
-                id, parameters, data
-            ]),
-            RequestPayload::RNGRetrieve(length) => record_len::<RNGRetrieveRows>(fields![length]),
-        }
+        by_rows!(self, record_len)
     }
 
     fn write_into(&self, tag: Tag, out: &mut Buffer) {
-        match self {
-            RequestPayload::Create(object_type, template) => write_record::<CreateRows>(
-                fields![object_type, template],
-                tag,
-                out,
-            ),
-            RequestPayload::CreateKeyPair(common, private_key, public_key) => write_record::<
-                CreateKeyPairRows,
-            >(fields![common, private_key, public_key], tag, out),
-            RequestPayload::Register(object_type, template, object) => write_record::<RegisterRows>(
-                fields![object_type, template, object],
-                tag,
-                out,
-            ),
-            RequestPayload::Locate(attributes) => write_record::<LocateRows>(
-                fields![attributes],
-                tag,
-                out,
-            ),
-            RequestPayload::Get(id, format, compression, specification) => write_record::<GetRows>(
-                fields![id, format, compression, specification],
-                tag,
-                out,
-            ),
-            RequestPayload::GetAttributes(id, names) => write_record::<GetAttributesRows>(
-                fields![id, names],
-                tag,
-                out,
-            ),
-            RequestPayload::GetAttributeList(id) => write_record::<IdentifierRows>(
-                fields![id],
-                tag,
-                out,
-            ),
-            RequestPayload::AddAttribute(id, attribute) => write_record::<EditRows>(
-                fields![id, attribute],
-                tag,
-                out,
-            ),
-            RequestPayload::ModifyAttribute(id, attribute) => write_record::<EditRows>(
-                fields![id, attribute],
-                tag,
-                out,
-            ),
-            RequestPayload::DeleteAttribute(id, name, index) => write_record::<DeleteAttributeRows>(
-                fields![id, name, index],
-                tag,
-                out,
-            ),
-            RequestPayload::Activate(id) => write_record::<IdentifierRows>(fields![id], tag, out),
-            RequestPayload::Revoke(id, reason, date) => write_record::<RevokeRows>(
-                fields![id, reason, date],
-                tag,
-                out,
-            ),
-            RequestPayload::Destroy(id) => write_record::<IdentifierRows>(fields![id], tag, out),
-            RequestPayload::Query(functions) => write_record::<QueryRows>(
-                fields![functions],
-                tag,
-                out,
-            ),
-            RequestPayload::DiscoverVersions(versions) => write_record::<DiscoverVersionsRows>(
-                fields![versions],
-                tag,
-                out,
-            ),
-            RequestPayload::Sign(id, parameters, data) => write_record::<SignRows>(
-                fields![id, parameters, data],
-                tag,
-                out,
-            ),
-            RequestPayload::RNGRetrieve(length) => write_record::<RNGRetrieveRows>(
-                fields![length],
-                tag,
-                out,
-            ),
-        }
+        by_rows!(self, write_record, tag, out)
     }
 }
 

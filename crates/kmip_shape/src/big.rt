@@ -12,7 +12,7 @@ ghost use Rattle.kmip_shape.specs.Resume.{outer_of, resume_single};
 ghost use Rattle.std.specs.Prelude.{refl};
 
 use crate::item::{Item, WriteItem};
-use crate::lists::known_bytes;
+use crate::item_lists::known_bytes;
 use crate::read::{Outer, ReadError, ReadItem};
 use crate::row_readers::ReadRow;
 use crate::row_writers::{FieldRow, ShowRow, WriteRow};

@@ -14,7 +14,7 @@ ghost use Rattle.kmip_shape.specs.Writes.{optional};
 ghost use Rattle.kmip_shape.specs.Resume.{resume_single};
 
 use crate::item::{Item, WriteItem};
-use crate::lists::{known_optional, optional_len, write_optional};
+use crate::item_lists::{known_optional, optional_len, write_optional};
 use crate::read::{Outer, ReadError, ReadItem};
 use crate::row_readers::ReadRow;
 use crate::row_writers::{FieldRow, ShowRow, WriteRow};

@@ -15,7 +15,7 @@ ghost use Rattle.kmip_shape.specs.Same.{same_text, same_bytes, same_number, same
 ghost use Rattle.kmip_shape.specs.Same.{same_unsigned};
 
 use crate::item::{Item, WriteItem};
-use crate::lists::known_bytes;
+use crate::item_lists::known_bytes;
 use crate::read::{Outer, ReadError, ReadItem};
 use crate::scalars::{
     SCALAR_LEN, bytes_len, put_boolean, put_bytes, put_date, put_integer, put_interval,

@@ -25,7 +25,7 @@ ghost use Rattle.kmip_shape.specs.Writes.{structure_len as len_of_structure};
 ghost use Rattle.kmip_shape.specs.Shown.{Grows, row_styled, fields_styled, record_styled, stands};
 
 use crate::item::{Item, WriteItem};
-use crate::lists::{
+use crate::item_lists::{
     known_list, known_optional, known_optional_list, list_len, optional_len, optional_list_len,
     plus_len, write_list, write_optional, write_optional_list,
 };

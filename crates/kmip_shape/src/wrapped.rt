@@ -10,7 +10,7 @@ ghost use Rattle.kmip_shape.specs.Same.{same_bytes};
 ghost use Rattle.kmip_shape.specs.Dates.{date_val, date_same};
 
 use crate::item::{Item, WriteItem};
-use crate::lists::known_bytes;
+use crate::item_lists::known_bytes;
 use crate::read::{Outer, ReadError, ReadItem};
 use crate::scalars::{SCALAR_LEN, big_integer_len, put_big_integer, put_date};
 use crate::show::ShowItem;

@@ -1,6 +1,6 @@
 use Rattle.std.proofs.Common.{◌≡◌, ◌+◌, ◌≤◌, ◌++◌, length}
 use Rattle.kmip_shape.specs.Writes.{list_form, list_size, list_text, vals}
-use Rattle.kmip_shape.proofs.lists.write_items.Given as goal
+use Rattle.kmip_shape.proofs.item_lists.write_items.Given as goal
 
 abbrev pub invariant-loop-rest : goal.invariant-loop-rest
 invariant-loop-rest g l = record {

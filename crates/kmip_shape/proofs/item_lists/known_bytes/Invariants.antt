@@ -1,6 +1,6 @@
 use Rattle.std.proofs.Common.{length}
 use Rattle.kmip_shape.specs.Fits.{AreBytes}
-use Rattle.kmip_shape.proofs.lists.known_bytes.Given as goal
+use Rattle.kmip_shape.proofs.item_lists.known_bytes.Given as goal
 
 -- what is left is of bytes exactly where all is
 abbrev pub invariant-loop-rest : goal.invariant-loop-rest

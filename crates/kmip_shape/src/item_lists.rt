@@ -1,4 +1,4 @@
-//! The rows of a record, for every type of their items.
+//! Lists of items and items that may be absent, for every type: known, measured and written.
 
 ghost use Rattle.std.specs.Prelude.{ℕ, ◌≡◌, ◌+◌, ◌-◌, ◌≤◌, ◌<◌, ◌^◌, Option, map};
 ghost use Rattle.kmip_wire.specs.Room.{Appends};

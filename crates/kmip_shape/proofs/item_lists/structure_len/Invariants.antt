@@ -1,6 +1,6 @@
 use Rattle.std.proofs.Common.{◌≡◌, ◌<◌, ◌^◌, Some, length}
 use Rattle.kmip_shape.specs.Writes.{sum_len, plus_len}
-use Rattle.kmip_shape.proofs.lists.structure_len.Given as goal
+use Rattle.kmip_shape.proofs.item_lists.structure_len.Given as goal
 
 abbrev pub invariant-loop-rest : goal.invariant-loop-rest
 invariant-loop-rest l = record {

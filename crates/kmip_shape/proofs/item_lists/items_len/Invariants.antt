@@ -1,7 +1,7 @@
 use Rattle.std.proofs.Common.{◌≡◌, ◌<◌, ◌^◌, Some, length}
 use Rattle.kmip_shape.specs.Writes.{list_len as len_of_list}
 use Rattle.kmip_shape.specs.Writes.{vals, plus_len}
-use Rattle.kmip_shape.proofs.lists.items_len.Given as goal
+use Rattle.kmip_shape.proofs.item_lists.items_len.Given as goal
 
 abbrev pub invariant-loop-rest : goal.invariant-loop-rest
 invariant-loop-rest g l = record {

@@ -2,7 +2,7 @@ use Rattle.std.proofs.Common.{length}
 use Rattle.kmip_shape.specs.Fits.{vals_fit}
 use Rattle.kmip_shape.specs.Shape.{NoCase}
 use Rattle.kmip_shape.specs.Writes.{vals}
-use Rattle.kmip_shape.proofs.lists.known_items.Given as goal
+use Rattle.kmip_shape.proofs.item_lists.known_items.Given as goal
 
 -- what is left fits exactly where all does
 abbrev pub invariant-loop-rest : goal.invariant-loop-rest
