@@ -7,7 +7,7 @@ use Rattle.kmip_wire.specs.Tree.{Tree}
 use Rattle.kmip_wire.specs.Parts.{children_in}
 use Rattle.kmip_shape.specs.Val.{Val, Vals, Field, Fields, Number, Text, Bytes, Truth, Record, Case, Absent, One, Many, AndField, NoVal, AndVal}
 use Rattle.kmip_shape.specs.Shape.{Shape, RowList, Cases, Rows, NoRow, AndRow, Mark, Required, Role, Plain, Custom, outer_for, chosen_after, in_place, matches, NoCase, AndCase, ByNumbers, OuterValue, no_outer, NumberKey, chosen_by, among, AtLeastOne, Optional}
-use Rattle.kmip_shape.specs.Reads.{each, field_by_mark, with_field, read_in, read_rows, read_case, root_read}
+use Rattle.kmip_shape.specs.Reads.{each, marked_field, with_field, read_in, read_rows, read_case, root_read}
 use Rattle.kmip_enums.specs.Operations.{operation_line}
 use Rattle.kmip_enums.specs.declared.operation.Operation.{Operation}
 use Rattle.kmip_response.specs.Tables.{response_message, batch_item, response_payload, response_payloads}
@@ -57,13 +57,13 @@ rows_some rows tree value h =
     let fields = map_some Record (read_rows rows no_outer no_outer it.0) value it.2 in
     record { trees = it.0; fields = fields.0; reads = fields.1; all = sym fields.2 }
 
-many_some : (read : Tree → Option Val) (trees : List Tree) (field : Field) → field_by_mark AtLeastOne read trees ≡ Some field → each read trees ≡ Some (many_of field)
+many_some : (read : Tree → Option Val) (trees : List Tree) (field : Field) → marked_field AtLeastOne read trees ≡ Some field → each read trees ≡ Some (many_of field)
 many_some read [] field h = absurd (cc)
 many_some read (tree ∷ trees) field h =
     let it = map_some Many (each read (tree ∷ trees)) field h in
     it.1 ∙ ap (λ f. Some (many_of f)) it.2
 
-optional_some : (read : Tree → Option Val) (trees : List Tree) (field : Field) (val : Val) → field_by_mark Optional read trees ≡ Some field → one_of field ≡ Some val → (tree : Tree) × (read tree ≡ Some val)
+optional_some : (read : Tree → Option Val) (trees : List Tree) (field : Field) (val : Val) → marked_field Optional read trees ≡ Some field → one_of field ≡ Some val → (tree : Tree) × (read tree ≡ Some val)
 optional_some read [] field val h is = absurd (let e : one_of field ≡ None = ap one_of (some_is (sym h)) in cc)
   where
     some_is : {f g : Field} → Some f ≡ Some g → f ≡ g
@@ -104,7 +104,7 @@ record IsItem (item : Val) : Type 0 where
   trees : List Tree
   first : field_at 0 item ≡ operation
   sixth : field_at 5 item ≡ payload
-  reads : field_by_mark Optional (read_in response_payload NoCase (chosen_by operation)) trees ≡ Some payload
+  reads : marked_field Optional (read_in response_payload NoCase (chosen_by operation)) trees ≡ Some payload
 
 abbrev tail_of : RowList → RowList
 tail_of NoRow = NoRow
@@ -131,7 +131,7 @@ record IsRow (rows : RowList) (chosen : OuterValue) (trees : List Tree) (fields 
   field : Field
   others : Fields
   items : List Tree
-  first : field_by_mark (mark_of rows) (read_in (shape_of rows) NoCase (outer_for (role_of rows) no_outer chosen)) items ≡ Some field
+  first : marked_field (mark_of rows) (read_in (shape_of rows) NoCase (outer_for (role_of rows) no_outer chosen)) items ≡ Some field
   next : read_rows (tail_of rows) no_outer (chosen_after (role_of rows) field chosen) trees ≡ Some others
   all : fields ≡ AndField field others
 
@@ -139,7 +139,7 @@ row_some : (rows : RowList) (chosen : OuterValue) (trees : List Tree) (fields : 
 row_some NoRow chosen trees fields some h = absurd (cc)
 row_some (AndRow name place mark role shape rows) chosen trees fields some h =
     let items : List Tree = filter (in_place place shape (outer_for role no_outer chosen)) trees in
-    let it = field_some (field_by_mark mark (read_in shape NoCase (outer_for role no_outer chosen)) items) (λ field. read_rows rows no_outer (chosen_after role field chosen) trees) fields h in
+    let it = field_some (marked_field mark (read_in shape NoCase (outer_for role no_outer chosen)) items) (λ field. read_rows rows no_outer (chosen_after role field chosen) trees) fields h in
     record { field = it.field; others = it.others; items = items; first = it.first; next = it.next; all = it.all }
 
 item_read : (tree : Tree) (item : Val) → read_in batch_item NoCase no_outer tree ≡ Some item → IsItem item

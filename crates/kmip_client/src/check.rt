@@ -82,7 +82,8 @@ fn mismatch(
 ) -> Result<ResponsePayload, Error>
     ensures { Gives (Err (InternalError
         (mismatch_text asked (operation_shown
-        (one_of (optional (enumeration_val operation_line) answered)))))) (answer_with_payload result) }
+        (one_of (optional (enumeration_val operation_line) answered))))))
+        (answer_with_payload result) }
 {
     let text = match answered {
         Some(answered) => {
@@ -155,7 +156,8 @@ pub fn check_message(
     operation: Operation,
     message: ResponseMessage,
 ) -> Result<ResponsePayload, Error>
-    ensures { Gives (check_response operation (response_message_val message)) (answer_with_payload result) }
+    ensures { Gives (check_response operation (response_message_val message))
+        (answer_with_payload result) }
 {
     let ResponseMessage {
         header,

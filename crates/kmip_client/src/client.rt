@@ -174,22 +174,27 @@ impl<T: Link> Client<T> {
             (T.state self.old.link) (T.state self.new.link) (answer_with_payload result) }
         ensures caused { Caused (request_bytes payload self.old.credential) (operation_of payload)
             self.old.limit
-            (T.state self.old.link).faults (T.state self.new.link).faults (answer_with_payload result) }
-        ensures reading { IsTrue (T.state self.old.link).tells → answer_with_payload result ≡ reading_failed →
+            (T.state self.old.link).faults (T.state self.new.link).faults
+            (answer_with_payload result) }
+        ensures reading { IsTrue (T.state self.old.link).tells → answer_with_payload result ≡
+            reading_failed →
             FailsReading T.state (request_bytes payload self.old.credential) self.old.link
             self.new.link }
         ensures headline { IsTrue (T.state self.old.link).tells →
             Headline (request_bytes payload self.old.credential) (operation_of payload)
-            self.old.limit (T.state self.old.link) (T.state self.new.link) (answer_with_payload result) }
+            self.old.limit (T.state self.old.link) (T.state self.new.link)
+            (answer_with_payload result) }
         ensures variant { IfOk result
             (λ answer. IsOfOperation (operation_of payload) (response_payload_val answer)) }
         ensures keeps { Keeps (T.state self.old.link) (T.state self.new.link) }
         ensures settings { (self.new.credential ≡ self.old.credential) ×
             (self.new.limit ≡ self.old.limit) ×
             (self.new.buffered ≡ self.old.buffered) }
-        ensures count { self.new.errors ≡ count_after self.old.errors (loses_connection (answer_with_payload result)) }
+        ensures count { self.new.errors ≡ count_after self.old.errors
+            (loses_connection (answer_with_payload result)) }
         ensures request_text { IsRequestText self.old.buffered
-            (request_bytes payload self.old.credential) (answer_with_payload result) self.new.request_text }
+            (request_bytes payload self.old.credential) (answer_with_payload result)
+            self.new.request_text }
         ensures response_text { IsTrue (T.state self.old.link).tells →
             IsResponseText self.old.buffered
             (take ((T.state self.new.link).pos - (T.state self.old.link).pos)

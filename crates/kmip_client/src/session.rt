@@ -61,7 +61,8 @@ pub fn exchange_all<T: Link>(
         (client.new.limit ≡ client.old.limit) ×
         (client.new.buffered ≡ client.old.buffered) }
     ensures count { IfOk result (λ answers. client.new.errors ≡
-        count_after client.old.errors (ends_lost (map (exchange_told response_payload_val) answers))) }
+        count_after client.old.errors
+        (ends_lost (map (exchange_told response_payload_val) answers))) }
     ensures memory { IfErr result (λ e. e ≡ no_memory) }
 {
     exchanges(alloc, client, payloads.into_vec())

@@ -63,7 +63,8 @@ fn mark_at(letter: u8) -> Option<Mark>
 
 // An enumeration's number, and what ends it.
 fn number_token(tag: Tag, text: &[u8]) -> Option<(Token, &[u8])>
-    ensures value { option_map (λ p. (p.0, p.1.now)) result ≡ number_token tag (numeral 0 text.now) }
+    ensures value { option_map (λ p. (p.0, p.1.now)) result ≡
+        number_token tag (numeral 0 text.now) }
     ensures shorter { IfSome result (λ p. length p.1.now ≤ length text.now) }
 {
     let (number, rest) = numeral(text);

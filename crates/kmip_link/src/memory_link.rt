@@ -98,7 +98,8 @@ impl MemoryLink {
 /// The most that the call at this place moves, of what it could.
 fn planned_size(sizes: &[usize], place: usize, most: usize) -> usize
     requires { (length sizes.now ≡ 0) ⊎ (place < length sizes.now) }
-    ensures planned_size { (k : ℕ) → place ≡ place_of sizes.now k → result ≡ planned_size sizes.now k most }
+    ensures planned_size { (k : ℕ) → place ≡ place_of sizes.now k → result ≡
+        planned_size sizes.now k most }
     ensures within { result ≤ most }
     ensures some { 0 < most → 0 < result }
 {

@@ -149,7 +149,8 @@ impl Sink for MemorySink {
         ensures number { self.new.number ≡ next_count self.old.number }
         ensures size { IfOk result (λ n. n ≡ length bytes.now) }
         ensures steady { OnOk result (self.new.faults ≡ self.old.faults) }
-        ensures rises { IsErrOf result LinkError.Fault → self.new.faults ≡ next_count self.old.faults }
+        ensures rises { IsErrOf result LinkError.Fault → self.new.faults ≡
+            next_count self.old.faults }
         ensures memory { IsErrOf result LinkError.OutOfMemory → self.new.faults ≡ self.old.faults }
         ensures failing { self.new.failing ≡ self.old.failing }
     {

@@ -60,7 +60,8 @@ impl PlannedLink {
 
     /// Counts a call, and fails where it is to fail.
     fn begin(&mut self) -> Result<(), LinkError>
-        ensures ok { OnOk result (self.new ≡ record self.old { number = next_count self.old.number }) }
+        ensures ok { OnOk result
+            (self.new ≡ record self.old { number = next_count self.old.number }) }
         ensures err { OnErr result (self.new ≡
             record self.old {
               number = next_count self.old.number;
@@ -123,7 +124,8 @@ impl Link for PlannedLink {
         ensures counts { OnOk result (CountsCall self.old.link self.new.link) }
         ensures number { self.new.number ≡ next_count self.old.number }
         ensures steady { OnOk result (self.new.faults ≡ self.old.faults) }
-        ensures rises { IsErrOf result LinkError.Fault → self.new.faults ≡ next_count self.old.faults }
+        ensures rises { IsErrOf result LinkError.Fault → self.new.faults ≡
+            next_count self.old.faults }
         ensures memory { IsErrOf result LinkError.OutOfMemory → self.new.faults ≡ self.old.faults }
         ensures failing { self.new.failing ≡ self.old.failing }
     {

@@ -25,7 +25,8 @@ fn permission(allowed: bool) -> Result<(), StoreError>
 
 /// What the store will answer to a call that makes the object Active.
 fn activates(store: &Store, id: &str) -> Result<(), StoreError>
-    ensures { answer_of (λ _. Done) result ≡ Some (change_answer (λ object. is_pre_active object.state)
+    ensures { answer_of (λ _. Done) result ≡ Some
+        (change_answer (λ object. is_pre_active object.state)
         (option_map object_of (find_in store.now id.now))) }
 {
     match store.find(id) {

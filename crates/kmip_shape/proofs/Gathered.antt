@@ -5,7 +5,7 @@ use Rattle.std.specs.Option.{option_map, option_and_then}
 use Rattle.kmip_wire.specs.Tree.{Tree}
 use Rattle.kmip_shape.specs.Val.{Val, Vals, Absent, Many, AndVal, vals_then, vals_of}
 use Rattle.kmip_shape.specs.Shape.{AnyNumber, AtLeastOne, OptionalList}
-use Rattle.kmip_shape.specs.Reads.{each, field_by_mark}
+use Rattle.kmip_shape.specs.Reads.{each, marked_field}
 use Rattle.kmip_shape.specs.Resume.{values_with, many_field, resume_many}
 
 pub vals_then-append : (vs : List Val) (v : Val) (more : Vals) → vals_then (vs ++ v ∷ []) more ≡ vals_then vs (AndVal v more)
@@ -33,7 +33,7 @@ pub end : (r : Tree → Option Val) (vs : List Val) → values_with r vs [] ≡ 
 unfolding values_with
 end r vs = refl
 
-pub start_list : (r : Tree → Option Val) (xs : List Tree) → resume_many AnyNumber r [] xs ≡ field_by_mark AnyNumber r xs
+pub start_list : (r : Tree → Option Val) (xs : List Tree) → resume_many AnyNumber r [] xs ≡ marked_field AnyNumber r xs
 start_list r xs = rw (start r xs) (elim (each r xs) as (λ o. option_and_then (many_field AnyNumber) o ≡ option_map Many o) [ None ↦ refl | Some v ↦ refl ])
 
 non_empty : (v : Option Val) (o : Option Vals) → option_and_then (many_field AtLeastOne) (option_and_then (λ w. option_map (AndVal w) o) v) ≡ option_map Many (option_and_then (λ w. option_map (AndVal w) o) v)
@@ -41,7 +41,7 @@ non_empty None o = refl
 non_empty (Some v) None = refl
 non_empty (Some v) (Some vs) = refl
 
-pub start_non_empty : (r : Tree → Option Val) (xs : List Tree) → resume_many AtLeastOne r [] xs ≡ field_by_mark AtLeastOne r xs
+pub start_non_empty : (r : Tree → Option Val) (xs : List Tree) → resume_many AtLeastOne r [] xs ≡ marked_field AtLeastOne r xs
 start_non_empty r [] = rw (start r []) refl
 start_non_empty r (x ∷ xs) = rw (start r (x ∷ xs)) (non_empty (r x) (each r xs))
 
@@ -50,7 +50,7 @@ optional None o = refl
 optional (Some v) None = refl
 optional (Some v) (Some vs) = refl
 
-pub start_optional : (r : Tree → Option Val) (xs : List Tree) → resume_many OptionalList r [] xs ≡ field_by_mark OptionalList r xs
+pub start_optional : (r : Tree → Option Val) (xs : List Tree) → resume_many OptionalList r [] xs ≡ marked_field OptionalList r xs
 start_optional r [] = rw (start r []) refl
 start_optional r (x ∷ xs) = rw (start r (x ∷ xs)) (optional (r x) (each r xs))
 

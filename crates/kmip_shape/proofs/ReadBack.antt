@@ -6,7 +6,7 @@ use Rattle.kmip_wire.specs.declared.kind.Kind.TheVariants.{Enumeration}
 use Rattle.kmip_shape.specs.Val.{Val, Vals, Field, Fields, Number, Text, Bytes, Truth, Record, Case, Absent, One, Many, NoField, AndField, NoVal, AndVal}
 use Rattle.kmip_shape.specs.Shape.{Shape, RowList, Cases, Mark, Required, Optional, AnyNumber, AtLeastOne, OptionalList, place_tag, in_place, outer_for, chosen_after, Scalar, OneOf, Rows, RowsOrBytes, Choice, Custom, NoRow, AndRow, NoCase, OuterValue, no_outer, TypeKey, key_of, type_key, selected_case, case_at, tag_or, leaf_of, val_of, attribute_value}
 use Rattle.kmip_shape.specs.Trees.{leaf_tree, structure_of, one_tree, bytes_or, byte_form, all_absent, custom_trees, plain_tree, plain_trees, tree_in, field_trees, trees_in, list_trees}
-use Rattle.kmip_shape.specs.Reads.{read_in, read_rows, field_by_mark, each, read_plain, bytes_record, absent_fields}
+use Rattle.kmip_shape.specs.Reads.{read_in, read_rows, marked_field, each, read_plain, bytes_record, absent_fields}
 use Rattle.std.specs.Option.{option_map}
 use Rattle.kmip_shape.specs.Fits.{mark_fits, fits_in, fields_fit, field_fits, vals_fit, mark_selected, plain_selected, all_plain, custom_selected, selected_in, fields_selected, field_selected, vals_selected, all_tags, rows_tags, tags_once, rows_once, cases_once}
 use Rattle.kmip_shape.proofs.Lists.{and_left, and_right, eq_same, Inside, Outside, Inside-within, Outside-append, Outside-left, Outside-right, Outside-within, Outside-apart, Outside-apart', row_tags, with_tags, filter_place, with_tags-between}
@@ -14,19 +14,19 @@ use Rattle.kmip_shape.proofs.Parts.{none_some, some_same, found_some, at_found_f
 use Rattle.kmip_shape.proofs.Cases.{row_within, choice_parts, choice_selected, case_once, read_selected}
 use Rattle.kmip_shape.proofs.Inside.{field_inside, fields_inside, row_apart}
 
-mark_absent : (mark : Mark) (read : Tree → Option Val) → mark_fits mark Absent → field_by_mark mark read [] ≡ Some Absent
+mark_absent : (mark : Mark) (read : Tree → Option Val) → mark_fits mark Absent → marked_field mark read [] ≡ Some Absent
 mark_absent Required read f = absurd f
 mark_absent Optional read f = refl
 mark_absent AnyNumber read f = absurd f
 mark_absent AtLeastOne read f = absurd f
 mark_absent OptionalList read f = refl
 
-mark_one : (mark : Mark) (read : Tree → Option Val) (t : Tree) (v : Val) → mark_fits mark (One v) → read t ≡ Some v → field_by_mark mark read (t ∷ []) ≡ Some (One v)
+mark_one : (mark : Mark) (read : Tree → Option Val) (t : Tree) (v : Val) → mark_fits mark (One v) → read t ≡ Some v → marked_field mark read (t ∷ []) ≡ Some (One v)
 mark_one Required read t v f h = ap (option_map One) h
 mark_one Optional read t v f h = ap (option_map One) h
 mark_one _ read t v f h = absurd f
 
-mark_many : (mark : Mark) (read : Tree → Option Val) (ts : List Tree) (vs : Vals) → mark_fits mark (Many vs) → mark_selected mark (Many vs) → each read ts ≡ Some vs → field_by_mark mark read ts ≡ Some (Many vs)
+mark_many : (mark : Mark) (read : Tree → Option Val) (ts : List Tree) (vs : Vals) → mark_fits mark (Many vs) → mark_selected mark (Many vs) → each read ts ≡ Some vs → marked_field mark read ts ≡ Some (Many vs)
 mark_many AnyNumber read ts vs f s h = ap (option_map Many) h
 mark_many AtLeastOne read (t ∷ ts) vs f s h = ap (option_map Many) h
 mark_many AtLeastOne read [] NoVal f s h = absurd s
@@ -160,19 +160,19 @@ mutual
       let earlier : Outside (row_tags place shape own) before = Outside-within (row_tags place shape own) (all_tags place shape) before (row_within place shape own) (Outside-left (all_tags place shape) (rows_tags rows) before b) in
       let between : with_tags (row_tags place shape own) (before ++ (p.0 ++ p.1)) ≡ p.0 = with_tags-between (row_tags place shape own) before p.0 p.1 earlier inside after in
       let own_items : filter (in_place place shape own) (before ++ ts) ≡ p.0 = filter_place place shape own (before ++ ts) ∙ subst (λ (xs : List Tree). with_tags (row_tags place shape own) (before ++ xs) ≡ p.0) p.4 between in
-      let here : field_by_mark mark (read_in shape NoCase own) p.0 ≡ Some d = field_back d NoCase shape own (place_tag place) mark p.0 g.2 f.0 s.0 f.1 s.1 p.2 in
+      let here : marked_field mark (read_in shape NoCase own) p.0 ≡ Some d = field_back d NoCase shape own (place_tag place) mark p.0 g.2 f.0 s.0 f.1 s.1 p.2 in
       let split : (before ++ p.0) ++ p.1 ≡ before ++ ts = append_assoc before p.0 p.1 ∙ ap (λ (xs : List Tree). before ++ xs) p.4 in
       let out : Outside (rows_tags rows) (before ++ p.0) = Outside-append (rows_tags rows) before p.0 (Outside-right (all_tags place shape) (rows_tags rows) before b) (Outside-apart' (all_tags place shape) (rows_tags rows) p.0 g.0 inside') in
       let rest : read_rows rows outer (chosen_after role d chosen) ((before ++ p.0) ++ p.1) ≡ Some fs = fields_back fs rows outer (chosen_after role d chosen) (before ++ p.0) p.1 g.3 f.2 s.2 p.3 out in
       let rest' : read_rows rows outer (chosen_after role d chosen) (before ++ ts) ≡ Some fs = subst (λ (xs : List Tree). read_rows rows outer (chosen_after role d chosen) xs ≡ Some fs) split rest in
       rw (own_items, here, rest') refl
 
-  field_back : (d : Field) (around : Cases) (shape : Shape) (outer : OuterValue) (tag : ℕ) (mark : Mark) (ts : List Tree) → tags_once shape ≡ true → mark_fits mark d → mark_selected mark d → field_fits d around shape → field_selected d around shape outer tag → trees_in d around shape tag ≡ Some ts → field_by_mark mark (read_in shape around outer) ts ≡ Some d
+  field_back : (d : Field) (around : Cases) (shape : Shape) (outer : OuterValue) (tag : ℕ) (mark : Mark) (ts : List Tree) → tags_once shape ≡ true → mark_fits mark d → mark_selected mark d → field_fits d around shape → field_selected d around shape outer tag → trees_in d around shape tag ≡ Some ts → marked_field mark (read_in shape around outer) ts ≡ Some d
   field_back Absent around shape outer tag mark ts once mf ms f s h =
-      subst (λ (xs : List Tree). field_by_mark mark (read_in shape around outer) xs ≡ Some Absent) (some_same [] ts h) (mark_absent mark (read_in shape around outer) mf)
+      subst (λ (xs : List Tree). marked_field mark (read_in shape around outer) xs ≡ Some Absent) (some_same [] ts h) (mark_absent mark (read_in shape around outer) mf)
   field_back (One v) around shape outer tag mark ts once mf ms f s h =
       let q = one_some (tree_in v around shape tag) ts h in
-      subst (λ (xs : List Tree). field_by_mark mark (read_in shape around outer) xs ≡ Some (One v)) q.2
+      subst (λ (xs : List Tree). marked_field mark (read_in shape around outer) xs ≡ Some (One v)) q.2
       (mark_one mark (read_in shape around outer) q.0 v mf (read_back v around shape outer tag q.0 once f s q.1))
   field_back (Many vs) around shape outer tag mark ts once mf ms f s h =
       mark_many mark (read_in shape around outer) ts vs mf ms (list_back vs around shape outer tag ts once f s h)

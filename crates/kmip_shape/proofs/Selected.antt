@@ -7,7 +7,7 @@ use Rattle.kmip_wire.specs.declared.kind.Kind.TheVariants.{Enumeration}
 use Rattle.kmip_shape.specs.Val.{Val, Vals, Field, Fields, Number, Text, Bytes, Truth, Record, Case, Absent, One, Many, NoField, AndField, NoVal, AndVal}
 use Rattle.kmip_shape.specs.Shape.{Shape, RowList, Cases, Mark, Required, Optional, AnyNumber, AtLeastOne, OptionalList, Place, Under, ByCase, place_tag, own_tags, in_place, outer_for, chosen_after, Scalar, OneOf, Rows, RowsOrBytes, Choice, Custom, NoRow, AndRow, NoCase, AndCase, Rule, OfNumber, OfName, OfTag, OuterValue, no_outer, Key, number_key, key_of, type_key, matches, selected_case, case_at, among, tag_or, leaf_of, val_of, attribute_value, Found}
 use Rattle.kmip_shape.specs.Trees.{leaf_tree, structure_of, one_tree, bytes_or, byte_form, custom_trees, plain_tree, plain_trees, tree_in, field_trees, trees_in, list_trees}
-use Rattle.kmip_shape.specs.Reads.{read_in, read_rows, read_case, field_by_mark, each, with_field, read_plain}
+use Rattle.kmip_shape.specs.Reads.{read_in, read_rows, read_case, marked_field, each, with_field, read_plain}
 use Rattle.kmip_shape.specs.Fits.{mark_selected, plain_selected, all_plain, custom_selected, selected_in, fields_selected, field_selected, vals_selected, all_tags, rows_tags, place_stands, tags_once, rows_once, cases_once}
 use Rattle.kmip_shape.proofs.Lists.{Inside, Inside-append, Inside-within, Outside, Outside-append, Outside-left, Outside-right, Outside-within, Outside-apart, Outside-apart', row_tags, with_tags, filter_place, with_tags-between, among-left, among-right}
 use Rattle.kmip_shape.proofs.Parts.{none_some, some_same, found_some, one_some, then_some, structure_some, item_some, tag_plain}
@@ -32,7 +32,7 @@ many_is_one : (o : Option Vals) (v : Val) → option_map Many o ≡ Some (One v)
 many_is_one None v h = cc
 many_is_one (Some ws) v h = cc
 
-counted_one : (mark : Mark) (read : Tree → Option Val) (ts : List Tree) (v : Val) → field_by_mark mark read ts ≡ Some (One v) → (t : Tree) × (ts ≡ t ∷ []) × (read t ≡ Some v)
+counted_one : (mark : Mark) (read : Tree → Option Val) (ts : List Tree) (v : Val) → marked_field mark read ts ≡ Some (One v) → (t : Tree) × (ts ≡ t ∷ []) × (read t ≡ Some v)
 counted_one Required read [] v h = none_some _ h
 counted_one Required read (t ∷ []) v h = (t, refl, map_one (read t) v h)
 counted_one Required read (t ∷ u ∷ ts) v h = none_some _ h
@@ -62,7 +62,7 @@ not_empty : (read : Tree → Option Val) (t : Tree) (ts : List Tree) (vs : Vals)
 not_empty read t ts NoVal P f h = absurd (each_none (read t) (each read ts) h)
 not_empty read t ts (AndVal v ws) P f h = f v ws
 
-counted_many : (mark : Mark) (read : Tree → Option Val) (ts : List Tree) (vs : Vals) → field_by_mark mark read ts ≡ Some (Many vs) → (each read ts ≡ Some vs) × mark_selected mark (Many vs)
+counted_many : (mark : Mark) (read : Tree → Option Val) (ts : List Tree) (vs : Vals) → marked_field mark read ts ≡ Some (Many vs) → (each read ts ≡ Some vs) × mark_selected mark (Many vs)
 counted_many Required read [] vs h = none_some _ h
 counted_many Required read (t ∷ []) vs h = absurd (one_is_many (read t) vs h)
 counted_many Required read (t ∷ u ∷ ts) vs h = none_some _ h
@@ -210,7 +210,7 @@ list_inside (AndVal v vs) place shape outer ts good once s h =
     let first : Inside (row_tags place shape outer) p.0 = subst (λ (xs : List Tree). Inside (row_tags place shape outer) xs) q.2 (item_inside place shape v outer q.0 good once s.0 q.1, tt) in
     subst (λ (xs : List Tree). Inside (row_tags place shape outer) xs) p.4 (Inside-append (row_tags place shape outer) p.0 p.1 first (list_inside vs place shape outer p.1 good once s.1 p.3))
 
-field_inside : (d : Field) (place : Place) (shape : Shape) (outer : OuterValue) (mark : Mark) (xs ts : List Tree) → place_stands place shape ≡ true → tags_once shape ≡ true → field_by_mark mark (read_in shape NoCase outer) xs ≡ Some d → trees_in d NoCase shape (place_tag place) ≡ Some ts → Inside (row_tags place shape outer) ts
+field_inside : (d : Field) (place : Place) (shape : Shape) (outer : OuterValue) (mark : Mark) (xs ts : List Tree) → place_stands place shape ≡ true → tags_once shape ≡ true → marked_field mark (read_in shape NoCase outer) xs ≡ Some d → trees_in d NoCase shape (place_tag place) ≡ Some ts → Inside (row_tags place shape outer) ts
 field_inside Absent place shape outer mark xs ts good once c h = subst (λ (ys : List Tree). Inside (row_tags place shape outer) ys) (some_same [] ts h) tt
 field_inside (One v) place shape outer mark xs ts good once c h =
     let q = one_some (tree_in v NoCase shape (place_tag place)) ts h in
@@ -227,7 +227,7 @@ fields_inside (AndField d fs) (AndRow name place mark role shape rows) outer cho
     let own = outer_for role outer chosen in
     let p = then_some (trees_in d NoCase shape (place_tag place)) (field_trees fs NoCase rows) ts h in
     let o = row_apart place shape rows once in
-    let w = field_of (field_by_mark mark (read_in shape NoCase own) (filter (in_place place shape own) xs)) (λ e. read_rows rows outer (chosen_after role e chosen) xs) d fs r in
+    let w = field_of (marked_field mark (read_in shape NoCase own) (filter (in_place place shape own) xs)) (λ e. read_rows rows outer (chosen_after role e chosen) xs) d fs r in
     let all = all_tags place shape ++ rows_tags rows in
     let first : Inside (row_tags place shape own) p.0 = field_inside d place shape own mark (filter (in_place place shape own) xs) p.0 o.1 o.2 w.0 p.2 in
     let first' : Inside all p.0 = Inside-within (row_tags place shape own) all p.0 (λ n k. among-left n (all_tags place shape) (rows_tags rows) (row_within place shape own n k)) first in
@@ -344,7 +344,7 @@ mutual
       let own = outer_for role outer chosen in
       let p = then_some (trees_in d NoCase shape (place_tag place)) (field_trees fs NoCase rows) ts h in
       let g = row_apart place shape rows once in
-      let w = field_of (field_by_mark mark (read_in shape NoCase own) (filter (in_place place shape own) (before ++ ts))) (λ e. read_rows rows outer (chosen_after role e chosen) (before ++ ts)) d fs r in
+      let w = field_of (marked_field mark (read_in shape NoCase own) (filter (in_place place shape own) (before ++ ts))) (λ e. read_rows rows outer (chosen_after role e chosen) (before ++ ts)) d fs r in
       let inside : Inside (row_tags place shape own) p.0 = field_inside d place shape own mark (filter (in_place place shape own) (before ++ ts)) p.0 g.1 g.2 w.0 p.2 in
       let inside' : Inside (all_tags place shape) p.0 = Inside-within (row_tags place shape own) (all_tags place shape) p.0 (row_within place shape own) inside in
       let later : Inside (rows_tags rows) p.1 = fields_inside fs rows outer (chosen_after role d chosen) (before ++ ts) p.1 g.3 w.1 p.3 in
@@ -352,14 +352,14 @@ mutual
       let earlier : Outside (row_tags place shape own) before = Outside-within (row_tags place shape own) (all_tags place shape) before (row_within place shape own) (Outside-left (all_tags place shape) (rows_tags rows) before b) in
       let between : with_tags (row_tags place shape own) (before ++ (p.0 ++ p.1)) ≡ p.0 = with_tags-between (row_tags place shape own) before p.0 p.1 earlier inside after in
       let own_items : filter (in_place place shape own) (before ++ ts) ≡ p.0 = filter_place place shape own (before ++ ts) ∙ subst (λ (xs : List Tree). with_tags (row_tags place shape own) (before ++ xs) ≡ p.0) p.4 between in
-      let here : field_by_mark mark (read_in shape NoCase own) p.0 ≡ Some d = subst (λ (xs : List Tree). field_by_mark mark (read_in shape NoCase own) xs ≡ Some d) own_items w.0 in
+      let here : marked_field mark (read_in shape NoCase own) p.0 ≡ Some d = subst (λ (xs : List Tree). marked_field mark (read_in shape NoCase own) xs ≡ Some d) own_items w.0 in
       let split : (before ++ p.0) ++ p.1 ≡ before ++ ts = append_assoc before p.0 p.1 ∙ ap (λ (xs : List Tree). before ++ xs) p.4 in
       let out : Outside (rows_tags rows) (before ++ p.0) = Outside-append (rows_tags rows) before p.0 (Outside-right (all_tags place shape) (rows_tags rows) before b) (Outside-apart' (all_tags place shape) (rows_tags rows) p.0 g.0 inside') in
       let rest : read_rows rows outer (chosen_after role d chosen) ((before ++ p.0) ++ p.1) ≡ Some fs = subst (λ (xs : List Tree). read_rows rows outer (chosen_after role d chosen) xs ≡ Some fs) (sym split) w.1 in
       let field = field_is d shape own (place_tag place) mark p.0 g.2 p.2 here in
       (field.0, field.1, fields_are fs rows outer (chosen_after role d chosen) (before ++ p.0) p.1 g.3 p.3 rest out)
 
-  field_is : (d : Field) (shape : Shape) (outer : OuterValue) (tag : ℕ) (mark : Mark) (ts : List Tree) → tags_once shape ≡ true → trees_in d NoCase shape tag ≡ Some ts → field_by_mark mark (read_in shape NoCase outer) ts ≡ Some d → mark_selected mark d × field_selected d NoCase shape outer tag
+  field_is : (d : Field) (shape : Shape) (outer : OuterValue) (tag : ℕ) (mark : Mark) (ts : List Tree) → tags_once shape ≡ true → trees_in d NoCase shape tag ≡ Some ts → marked_field mark (read_in shape NoCase outer) ts ≡ Some d → mark_selected mark d × field_selected d NoCase shape outer tag
   field_is Absent shape outer tag mark ts once h c = (mark_absent mark, tt)
   field_is (One v) shape outer tag mark ts once h c =
       let q = one_some (tree_in v NoCase shape tag) ts h in

@@ -14,18 +14,18 @@ each read [] = Some NoVal
 each read (tree ∷ trees) = option_and_then (λ val. option_map (AndVal val) (each read trees)) (read tree)
 
 -- the field that the items of a row make, counted by its mark
-abbrev pub field_by_mark : Mark → (Tree → Option Val) → List Tree → Option Field
-field_by_mark Required read [] = None
-field_by_mark Required read (tree ∷ []) = option_map One (read tree)
-field_by_mark Required read (tree ∷ next ∷ trees) = None
-field_by_mark Optional read [] = Some Absent
-field_by_mark Optional read (tree ∷ []) = option_map One (read tree)
-field_by_mark Optional read (tree ∷ next ∷ trees) = None
-field_by_mark AnyNumber read trees = option_map Many (each read trees)
-field_by_mark AtLeastOne read [] = None
-field_by_mark AtLeastOne read (tree ∷ trees) = option_map Many (each read (tree ∷ trees))
-field_by_mark OptionalList read [] = Some Absent
-field_by_mark OptionalList read (tree ∷ trees) = option_map Many (each read (tree ∷ trees))
+abbrev pub marked_field : Mark → (Tree → Option Val) → List Tree → Option Field
+marked_field Required read [] = None
+marked_field Required read (tree ∷ []) = option_map One (read tree)
+marked_field Required read (tree ∷ next ∷ trees) = None
+marked_field Optional read [] = Some Absent
+marked_field Optional read (tree ∷ []) = option_map One (read tree)
+marked_field Optional read (tree ∷ next ∷ trees) = None
+marked_field AnyNumber read trees = option_map Many (each read trees)
+marked_field AtLeastOne read [] = None
+marked_field AtLeastOne read (tree ∷ trees) = option_map Many (each read (tree ∷ trees))
+marked_field OptionalList read [] = Some Absent
+marked_field OptionalList read (tree ∷ trees) = option_map Many (each read (tree ∷ trees))
 
 -- a field, and the fields of the rows after it
 abbrev pub with_field : Option Field → (Field → Option Fields) → Option Fields
@@ -82,7 +82,7 @@ abbrev mutual
   pub read_rows : RowList → OuterValue → OuterValue → List Tree → Option Fields
   read_rows NoRow outer chosen trees = Some NoField
   read_rows (AndRow name place mark role shape rows) outer chosen trees =
-      with_field (field_by_mark mark (read_in shape NoCase (outer_for role outer chosen)) (filter (in_place place shape (outer_for role outer chosen)) trees))
+      with_field (marked_field mark (read_in shape NoCase (outer_for role outer chosen)) (filter (in_place place shape (outer_for role outer chosen)) trees))
       (λ field. read_rows rows outer (chosen_after role field chosen) trees)
 
   -- the first case that the key selects

@@ -5,7 +5,7 @@ use Rattle.kmip_wire.specs.Tree.{Tree}
 use Rattle.kmip_wire.specs.Parts.{children_in}
 use Rattle.kmip_shape.specs.Val.{Val, Vals, Field, Case, Absent, One, Many, NoVal, AndVal, vals_then}
 use Rattle.kmip_shape.specs.Shape.{Shape, Cases, NoCase, AndCase, NumberKey, matches, has_tag, tag_or, Mark, Required, Optional, AnyNumber, AtLeastOne, OptionalList, OuterValue}
-use Rattle.kmip_shape.specs.Reads.{field_by_mark, each, read_in, read_of}
+use Rattle.kmip_shape.specs.Reads.{marked_field, each, read_in, read_of}
 use Rattle.kmip_shape.specs.declared.read.Outer.{Outer}
 
 -- what the outer value of the code says
@@ -19,7 +19,7 @@ full field (_ ∷ _) = None
 
 -- a row of at most one item, after an item that showed this, or after none
 abbrev pub resume_single : Mark → (Tree → Option Val) → Option Val → List Tree → Option Field
-resume_single mark read None trees = field_by_mark mark read trees
+resume_single mark read None trees = marked_field mark read trees
 resume_single mark read (Some val) trees = full (One val) trees
 
 -- the values of items, after items that showed these
@@ -42,8 +42,8 @@ resume_many mark read vals trees = option_and_then (many_field mark) (values_wit
 
 -- a row of at most one item, of which one was kept
 abbrev pub resume_kept : Mark → (Tree → Option Val) → Option Tree → List Tree → Option Field
-resume_kept mark read None trees = field_by_mark mark read trees
-resume_kept mark read (Some tree) trees = field_by_mark mark read (tree ∷ trees)
+resume_kept mark read None trees = marked_field mark read trees
+resume_kept mark read (Some tree) trees = marked_field mark read (tree ∷ trees)
 
 -- the one item under a tag, where one was kept, or several stood there
 abbrev pub resume_only : (Tree → Option Val) → Bool → Option Tree → List Tree → Option Field
@@ -54,9 +54,9 @@ resume_only read false kept trees = resume_kept Required read kept trees
 abbrev pub case_field : Cases → Cases → OuterValue → ℕ → List Tree → Option Field
 case_field NoCase around outer n trees = None
 case_field (AndCase k name selector fixed shape cases) around outer n trees =
-    if matches (NumberKey n) selector then field_by_mark Required (λ tree. option_map (Case k) (read_in shape around outer tree)) (filter (has_tag (tag_or fixed 0)) trees)
+    if matches (NumberKey n) selector then marked_field Required (λ tree. option_map (Case k) (read_in shape around outer tree)) (filter (has_tag (tag_or fixed 0)) trees)
     else case_field cases around outer n trees
 
 -- the field of a plain row under a tag, of the children of a tree
 abbrev pub read_row : Mark → Shape → OuterValue → ℕ → Tree → Option Field
-read_row mark shape outer tag tree = option_and_then (λ trees. field_by_mark mark (read_of shape outer) (filter (has_tag tag) trees)) (children_in tree)
+read_row mark shape outer tag tree = option_and_then (λ trees. marked_field mark (read_of shape outer) (filter (has_tag tag) trees)) (children_in tree)

@@ -6,7 +6,7 @@ ghost use Rattle.kmip_wire.specs.declared.kind.Kind.TheVariants.{BigInteger as b
 ghost use Rattle.kmip_wire.specs.Items.{item_tree};
 ghost use Rattle.kmip_shape.specs.Val.{One as one, Bytes as bytes};
 ghost use Rattle.kmip_shape.specs.Shape.{AndRow, Under, Required, Optional, Plain, Scalar, has_tag};
-ghost use Rattle.kmip_shape.specs.Reads.{field_by_mark, read_of};
+ghost use Rattle.kmip_shape.specs.Reads.{marked_field, read_of};
 ghost use Rattle.kmip_shape.specs.Writes.{optional};
 ghost use Rattle.kmip_shape.specs.Resume.{outer_of, resume_single};
 ghost use Rattle.std.specs.Prelude.{refl};
@@ -36,7 +36,7 @@ impl<'a, const TAG: u32> ReadRow<'a> for BigOne<TAG> {
 
     ghost row_reads = { λ rest o c xs. refl };
 
-    ghost reads = { λ o c xs. field_by_mark Required (read_of (Scalar big_integers) o)
+    ghost reads = { λ o c xs. marked_field Required (read_of (Scalar big_integers) o)
         (filter (has_tag TAG) xs) };
 
     ghost resume = { λ s o c xs. resume_single Required (read_of (Scalar big_integers) o)
@@ -124,7 +124,7 @@ impl<'a, const TAG: u32> ReadRow<'a> for BigOpt<TAG> {
 
     ghost row_reads = { λ rest o c xs. refl };
 
-    ghost reads = { λ o c xs. field_by_mark Optional (read_of (Scalar big_integers) o)
+    ghost reads = { λ o c xs. marked_field Optional (read_of (Scalar big_integers) o)
         (filter (has_tag TAG) xs) };
 
     ghost resume = { λ s o c xs. resume_single Optional (read_of (Scalar big_integers) o)

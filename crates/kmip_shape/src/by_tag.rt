@@ -9,7 +9,7 @@ ghost use Rattle.kmip_wire.specs.Items.{item_tree};
 ghost use Rattle.kmip_shape.specs.Val.{One as one};
 ghost use Rattle.kmip_shape.specs.Shape.{OuterValue, AndRow, ByCase, Required, Optional, Plain};
 ghost use Rattle.kmip_shape.specs.Shape.{among, own_tags};
-ghost use Rattle.kmip_shape.specs.Reads.{field_by_mark, read_of, read_rows, with_field};
+ghost use Rattle.kmip_shape.specs.Reads.{marked_field, read_of, read_rows, with_field};
 ghost use Rattle.kmip_shape.specs.Writes.{optional};
 ghost use Rattle.kmip_shape.specs.Resume.{resume_single};
 
@@ -49,10 +49,11 @@ impl<'a, T: OfTag> ReadRow<'a> for TagOpt<T> {
 
     ghost row_reads = { λ rest o c xs.
         ap (λ ns.
-        with_field (field_by_mark Optional (read_of T.shape o) (filter (λ x. among (tag_of x) ns) xs))
+        with_field (marked_field Optional (read_of T.shape o)
+        (filter (λ x. among (tag_of x) ns) xs))
         (λ f. read_rows rest o c xs)) (T.own o) };
 
-    ghost reads = { λ o c xs. field_by_mark Optional (read_of T.shape o)
+    ghost reads = { λ o c xs. marked_field Optional (read_of T.shape o)
         (filter (λ x. among (tag_of x) T.tags) xs) };
 
     ghost resume = { λ s o c xs. resume_single Optional (read_of T.shape o)

@@ -10,7 +10,7 @@ ghost use Rattle.kmip_shape.specs.Val.{Case as case};
 ghost use Rattle.kmip_shape.specs.Shape.{OuterValue, RowList, AndRow, Under, Required, Optional};
 ghost use Rattle.kmip_shape.specs.Shape.{AnyNumber, AtLeastOne, OptionalList, Plain};
 ghost use Rattle.kmip_shape.specs.Shape.{Chooser as chooser, Chosen, has_tag, chosen_by};
-ghost use Rattle.kmip_shape.specs.Reads.{field_by_mark, read_of, read_rows, with_field};
+ghost use Rattle.kmip_shape.specs.Reads.{marked_field, read_of, read_rows, with_field};
 ghost use Rattle.kmip_shape.specs.Writes.{optional, vals, optional_list};
 ghost use Rattle.kmip_shape.specs.Resume.{outer_of, resume_only, resume_single, resume_kept};
 ghost use Rattle.kmip_shape.specs.Resume.{resume_many, values_with};
@@ -84,7 +84,7 @@ impl<'a, T: ReadItem, const TAG: u32> ReadRow<'a> for One<T, TAG> {
 
     ghost row_reads = { λ rest o c xs. refl };
 
-    ghost reads = { λ o c xs. field_by_mark Required (read_of T.shape o) (filter (has_tag TAG) xs) };
+    ghost reads = { λ o c xs. marked_field Required (read_of T.shape o) (filter (has_tag TAG) xs) };
 
     ghost resume = { λ s o c xs. resume_single Required (read_of T.shape o)
         (option_map T.val s.slot) (filter (has_tag TAG) xs) };
@@ -129,7 +129,7 @@ impl<'a, T: ReadItem, const TAG: u32> ReadRow<'a> for Opt<T, TAG> {
 
     ghost row_reads = { λ rest o c xs. refl };
 
-    ghost reads = { λ o c xs. field_by_mark Optional (read_of T.shape o) (filter (has_tag TAG) xs) };
+    ghost reads = { λ o c xs. marked_field Optional (read_of T.shape o) (filter (has_tag TAG) xs) };
 
     ghost resume = { λ s o c xs. resume_single Optional (read_of T.shape o)
         (option_map T.val s.slot) (filter (has_tag TAG) xs) };
@@ -180,7 +180,7 @@ impl<'a, T: ReadItem, const TAG: u32> ReadRow<'a> for ChosenOpt<'a, T, TAG> {
 
     ghost row_reads = { λ rest o c xs. refl };
 
-    ghost reads = { λ o c xs. field_by_mark Optional (read_of T.shape c) (filter (has_tag TAG) xs) };
+    ghost reads = { λ o c xs. marked_field Optional (read_of T.shape c) (filter (has_tag TAG) xs) };
 
     ghost resume = { λ s o c xs. resume_kept Optional (read_of T.shape c)
         (option_map item_tree s.kept) (filter (has_tag TAG) xs) };
@@ -237,7 +237,7 @@ impl<'a, T: ReadItem, const TAG: u32> ReadRow<'a> for ChosenOne<'a, T, TAG> {
 
     ghost row_reads = { λ rest o c xs. refl };
 
-    ghost reads = { λ o c xs. field_by_mark Required (read_of T.shape c) (filter (has_tag TAG) xs) };
+    ghost reads = { λ o c xs. marked_field Required (read_of T.shape c) (filter (has_tag TAG) xs) };
 
     ghost resume = { λ s o c xs. resume_kept Required (read_of T.shape c)
         (option_map item_tree s.kept) (filter (has_tag TAG) xs) };
@@ -313,7 +313,7 @@ impl<'a, T: ReadItem, const TAG: u32> ReadRow<'a> for Many<T, TAG> {
 
     ghost row_reads = { λ rest o c xs. refl };
 
-    ghost reads = { λ o c xs. field_by_mark AnyNumber (read_of T.shape o) (filter (has_tag TAG) xs) };
+    ghost reads = { λ o c xs. marked_field AnyNumber (read_of T.shape o) (filter (has_tag TAG) xs) };
 
     ghost resume = { λ s o c xs. resume_many AnyNumber (read_of T.shape o) (map T.val s.items.items)
         (filter (has_tag TAG) xs) };
@@ -362,7 +362,7 @@ impl<'a, T: ReadItem, const TAG: u32> ReadRow<'a> for NonEmpty<T, TAG> {
 
     ghost row_reads = { λ rest o c xs. refl };
 
-    ghost reads = { λ o c xs. field_by_mark AtLeastOne (read_of T.shape o) (filter (has_tag TAG) xs) };
+    ghost reads = { λ o c xs. marked_field AtLeastOne (read_of T.shape o) (filter (has_tag TAG) xs) };
 
     ghost resume = { λ s o c xs. resume_many AtLeastOne (read_of T.shape o)
         (map T.val s.items.items) (filter (has_tag TAG) xs) };
@@ -414,7 +414,8 @@ impl<'a, T: ReadItem, const TAG: u32> ReadRow<'a> for OptMany<T, TAG> {
 
     ghost row_reads = { λ rest o c xs. refl };
 
-    ghost reads = { λ o c xs. field_by_mark OptionalList (read_of T.shape o) (filter (has_tag TAG) xs) };
+    ghost reads = { λ o c xs. marked_field OptionalList (read_of T.shape o)
+        (filter (has_tag TAG) xs) };
 
     ghost resume = { λ s o c xs. resume_many OptionalList (read_of T.shape o)
         (map T.val s.items.items) (filter (has_tag TAG) xs) };
@@ -514,7 +515,7 @@ impl<'a, T: ReadItem, const NUMBER: u32, const TAG: u32> Case<'a, T, NUMBER, TAG
     pub fn new() -> Self
         ensures { (r : Tree → Option Val) (xs : p.List Tree) →
             resume_only r result.several (option_map item_tree result.item)
-            (filter (has_tag TAG) xs) ≡ field_by_mark Required r (filter (has_tag TAG) xs) }
+            (filter (has_tag TAG) xs) ≡ marked_field Required r (filter (has_tag TAG) xs) }
     {
         Case {
             item: None,

@@ -20,7 +20,8 @@ pub fn show_sent(alloc: Global, sent: &[u8], output: &mut Text) -> Result<(), Ou
 
 /// Adds a diagnostic, and nothing where there is none.
 fn push_diagnostic(diagnostic: Option<&str>, output: &mut Text) -> Result<(), OutOfMemory>
-    ensures { OnOk result (output.new ≡ output.old ++ or_empty (option_map (λ text. text.now) diagnostic.entry)) }
+    ensures { OnOk result (output.new ≡ output.old ++
+        or_empty (option_map (λ text. text.now) diagnostic.entry)) }
 {
     match diagnostic {
         Some(text) => output.push_str(text),
@@ -37,7 +38,8 @@ pub fn show_diagnostics(
     output: &mut Text,
 ) -> Result<(), OutOfMemory>
     ensures { OnOk result (output.new ≡ output.old ++ told_lines diag
-        (option_map (λ text. text.now) request.entry) (option_map (λ text. text.now) response.entry)) }
+        (option_map (λ text. text.now) request.entry)
+        (option_map (λ text. text.now) response.entry)) }
 {
     if !diag {
         return Ok(());

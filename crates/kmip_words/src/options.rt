@@ -7,7 +7,8 @@ use std::alloc::Global;
 
 /// The value that the first word gives to a name, as in `name=value`, and the words that are left after it.
 pub fn option_given<'a>(name: &str, words: &'a [Text]) -> (Option<&'a str>, &'a [Text])
-    ensures value { option_map (λ value. value.now) result.0 ≡ (option_given name.now words.now).value }
+    ensures value { option_map (λ value. value.now) result.0 ≡
+        (option_given name.now words.now).value }
     ensures rest { result.1.now ≡ (option_given name.now words.now).rest }
 {
     match words {
