@@ -54,7 +54,7 @@ record Formed (settings : Settings) (call : Call) (now after : Between) (request
   rest : (answered_with settings call now after request response).after.rest
       ≡ drop (outcome_of (Some request) (call_operation call) settings.limit (after.rest ++ or_empty response)).taken (after.rest ++ or_empty response)
 
-formed : (settings : Settings) (call : Call) (now after : Between) (request : List ℕ) (response : Option (List ℕ)) (x : CallTold) → (answered_with settings call now after request response).expected_calls ≡ Told' x →
+formed : (settings : Settings) (call : Call) (now after : Between) (request : List ℕ) (response : Option (List ℕ)) (x : CallTold) → (answered_with settings call now after request response).expected ≡ Told' x →
     Formed settings call now after request response x
 formed settings call now after request None x is = absurd (cc)
 formed settings call now after request (Some response) x is = record { told = told_same _ _ is; objects = refl; rest = refl }
@@ -70,7 +70,7 @@ record Comes (settings : Settings) (call : Call) (now : Between) (request : Opti
 abbrev IsNext : Between → Option (List ℕ) → Type 0
 IsNext now request = now.given ≡ plain_answers (length now.asked) (extra_of now request)
 
-comes : (settings : Settings) (call : Call) (now : Between) (request : Option (List ℕ)) (x : CallTold) → settings.time ≡ pos 0 → IsNext now request → (sent_with settings call now request).expected_calls ≡ Told' x →
+comes : (settings : Settings) (call : Call) (now : Between) (request : Option (List ℕ)) (x : CallTold) → settings.time ≡ pos 0 → IsNext now request → (sent_with settings call now request).expected ≡ Told' x →
     Comes settings call now request (after_sending (world_at now) request) x
 comes settings call now None x time made is = record { told = told_same _ _ is; objects = refl; rest = refl; answers = refl }
 comes settings call now (Some request) x time made is =
@@ -107,9 +107,9 @@ cond_same : (b : Bool) (x : Between) → cond b x x ≡ x
 cond_same true x = refl
 cond_same false x = refl
 
-expected_one : (settings : Settings) (now : Between) (call : Call) → expected_calls settings now (call ∷ []) ≡ (next settings now call).expected_calls ∷ []
+expected_one : (settings : Settings) (now : Between) (call : Call) → expected_calls settings now (call ∷ []) ≡ (next settings now call).expected ∷ []
 unfolding expected_calls
-expected_one settings now call = ap (λ (l : List Expected). (next settings now call).expected_calls ∷ l) (cond_none (next settings now call).stops)
+expected_one settings now call = ap (λ (l : List Expected). (next settings now call).expected ∷ l) (cond_none (next settings now call).stops)
 
 finish_one : (settings : Settings) (now : Between) (call : Call) → finish settings now (call ∷ []) ≡ (next settings now call).after
 unfolding finish
@@ -166,7 +166,7 @@ pub record Known (settings : Settings) (call : Call) (before after : ServerLinkS
   pub plain_after : IsPlain after
   pub stood : (extra : List Asked) → after.server.maker.asked ≡ now.asked ++ extra → Stands before now extra
   pub ends : standing plain_state after ≡ (next settings now call).after
-  pub told : (next settings now call).expected_calls ≡ Told' (call_told x)
+  pub told : (next settings now call).expected ≡ Told' (call_told x)
   pub pair : makes_pair call ≡ true → IfOk x.answer (λ a. is_pair a ≡ true)
 
 made_known : (settings : Settings) (call : Call) (before after : ServerLinkState PlainMemory) (now : Between) (x : CallAnswer) → Known settings call before after now x → MadeSo (line_settings settings) call before after x
@@ -177,7 +177,7 @@ made_known settings call before after now x known =
     let ends : standing plain_state after ≡ n.after = known.ends ∙ ap (λ (it : Next). it.after) e in
     let asked : after.server.maker.asked ≡ now.asked ++ extra_of now request = ap (λ (b : Between). b.asked) ends ∙ after_asked settings call now request in
     let stood : Stands before now (extra_of now request) = known.stood (extra_of now request) asked in
-    let it = comes settings call now request (call_told x) known.time stood.given (sym (ap (λ (it : Next). it.expected_calls) e) ∙ known.told) in
+    let it = comes settings call now request (call_told x) known.time stood.given (sym (ap (λ (it : Next). it.expected) e) ∙ known.told) in
     let step : joined_step (line_settings settings) (line_call call) (world_of before) ≡ step_for (line_settings settings) call (world_at now) (asked_of (request_of call) settings.credential) =
     step_is (line_settings settings) call (world_of before)
     ∙ ap (λ (w : World). step_for (line_settings settings) call w (asked_of (request_of call) settings.credential)) stood.world in
@@ -220,12 +220,12 @@ made_of old looked called new call xs is_open stays stays_too known plain plain_
     subst (λ (c : Clients). IsMade old c call xs) (sym stays_too) (subst (λ (c : Clients). IsMade c called call xs) stays made)
 
 one_of : (old new : Clients) (call : Call) (xs : List CallAnswer) → IsMade old new call xs →
-    Only (next (settings_of old) (before_all plain_state old new.link) call).expected_calls xs
+    Only (next (settings_of old) (before_all plain_state old new.link) call).expected xs
 one_of old new call xs said =
     let s : Settings = settings_of old in
     let now : Between = before_all plain_state old new.link in
-    let one : expected_calls s now (call ∷ []) ≡ (next s now call).expected_calls ∷ [] = expected_one s now call in
-    only s (next s now call).expected_calls xs (subst (λ (es : List Expected). Meet s es (map call_told xs)) one said.meet)
+    let one : expected_calls s now (call ∷ []) ≡ (next s now call).expected ∷ [] = expected_one s now call in
+    only s (next s now call).expected xs (subst (λ (es : List Expected). Meet s es (map call_told xs)) one said.meet)
     (λ cut. let above : 0 < new.link.faults = said.faulted (ap has_unsent one ∙ cut) in let sound : new.link.faults ≡ 0 = said.sound in omega (arith, above, sound))
 
 came_so : (old new : Clients) (call : Call) (xs rest : List CallAnswer) (x : CallAnswer) → IsJoined old.link → IsMade old new call xs → xs ≡ x ∷ rest → (makes_pair call ≡ true → IfOk x.answer (λ a. is_pair a ≡ true)) →
