@@ -33,8 +33,8 @@ use Rattle.kmip_response.specs.declared.payloads.attributes.GetAttributesRespons
 use Rattle.kmip_response.specs.declared.payloads.attributes.GetAttributeListResponsePayload.{GetAttributeListResponsePayload}
 use Rattle.kmip_response.specs.declared.payloads.attributes.AttributeEditResponsePayload.{AttributeEditResponsePayload}
 use Rattle.kmip_response.specs.declared.payloads.identifiers.UniqueIdentifierResponsePayload.{UniqueIdentifierResponsePayload}
-use Rattle.kmip_response.specs.declared.payloads.server.QueryResponsePayload.{QueryResponsePayload}
-use Rattle.kmip_response.specs.declared.payloads.query.DiscoverVersionsResponsePayload.{DiscoverVersionsResponsePayload}
+use Rattle.kmip_response.specs.declared.payloads.query.QueryResponsePayload.{QueryResponsePayload}
+use Rattle.kmip_response.specs.declared.payloads.server.DiscoverVersionsResponsePayload.{DiscoverVersionsResponsePayload}
 use Rattle.kmip_response.specs.declared.payloads.cryptography.SignResponsePayload.{SignResponsePayload}
 use Rattle.kmip_response.specs.declared.payloads.cryptography.RNGRetrieveResponsePayload.{RNGRetrieveResponsePayload}
 use Rattle.kmip_response.specs.declared.header.ProtocolVersion.{ProtocolVersion}
@@ -44,7 +44,7 @@ use Rattle.kmip_response.specs.declared.payload.ResponsePayload.{ResponsePayload
 use Rattle.kmip_response.specs.declared.payload.ResponsePayload.TheVariants.{Create, CreateKeyPair, Register, Locate, Get, GetAttributes, GetAttributeList, AddAttribute, ModifyAttribute, DeleteAttribute, Activate, Revoke, Destroy, Query, DiscoverVersions, Sign, RNGRetrieve}
 use Rattle.kmip_response.specs.declared.batch_item.BatchItem.{BatchItem}
 use Rattle.kmip_response.specs.declared.message.ResponseMessage.{ResponseMessage}
-use Rattle.kmip_response.specs.declared.payloads.server.ServerInformation.{ServerInformation}
+use Rattle.kmip_response.specs.declared.payloads.query.ServerInformation.{ServerInformation}
 
 number : IsFaithful Number
 number x y h = same_number h

@@ -19,8 +19,8 @@ use Rattle.kmip_response.specs.declared.payloads.attributes.GetAttributesRespons
 use Rattle.kmip_response.specs.declared.payloads.attributes.GetAttributeListResponsePayload.{GetAttributeListResponsePayload}
 use Rattle.kmip_response.specs.declared.payloads.attributes.AttributeEditResponsePayload.{AttributeEditResponsePayload}
 use Rattle.kmip_response.specs.declared.payloads.identifiers.UniqueIdentifierResponsePayload.{UniqueIdentifierResponsePayload}
-use Rattle.kmip_response.specs.declared.payloads.server.QueryResponsePayload.{QueryResponsePayload}
-use Rattle.kmip_response.specs.declared.payloads.query.DiscoverVersionsResponsePayload.{DiscoverVersionsResponsePayload}
+use Rattle.kmip_response.specs.declared.payloads.query.QueryResponsePayload.{QueryResponsePayload}
+use Rattle.kmip_response.specs.declared.payloads.server.DiscoverVersionsResponsePayload.{DiscoverVersionsResponsePayload}
 use Rattle.kmip_response.specs.declared.payloads.cryptography.SignResponsePayload.{SignResponsePayload}
 use Rattle.kmip_response.specs.declared.payloads.cryptography.RNGRetrieveResponsePayload.{RNGRetrieveResponsePayload}
 use Rattle.kmip_response.specs.declared.header.ProtocolVersion.{ProtocolVersion}
