@@ -45,7 +45,7 @@ pub record Ran (order : Order) (w0 w1 : SinkState) (s0 s1 : SourceState) (f0 f1 
   pub answer : Answer
   pub response : Option (List ℕ)
   pub carried : Carried order.settings call w0 w1 s0 s1 response answer
-  pub record_of : status ≢ 4 → IsTrue f0.tells →
+  pub recorded : status ≢ 4 → IsTrue f0.tells →
       f1.sent ≡ f0.sent ++ record_of order.file order.words response
   pub told : status ≢ 4 → IsTrue k0.tells → k1.sent ≡ k0.sent ++ json_line call answer
   pub part : IsTrue k0.tells → WrotePart k0 k1 (json_line call answer)

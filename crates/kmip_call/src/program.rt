@@ -118,7 +118,7 @@ fn report<F: Sink, K: Sink>(
     told: &mut K,
 ) -> u8
     ensures status { (result ≡ status_of end.ending) ⊎ ((result ≡ 4) ⊎ (result ≡ 5)) }
-    ensures record_of { result ≢ 4 → result ≢ 5 → IsTrue (F.state kept.old).tells →
+    ensures recorded { result ≢ 4 → result ≢ 5 → IsTrue (F.state kept.old).tells →
         (F.state kept.new).sent ≡ (F.state kept.old).sent
         ++ record_of order.now.file order.now.words (response_if end.by_response response.now) }
     ensures told { result ≢ 4 → result ≢ 5 → IsTrue (K.state told.old).tells →

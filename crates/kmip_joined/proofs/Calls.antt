@@ -36,12 +36,12 @@ abbrev pub extra_of : Between → Option (List ℕ) → List Asked
 extra_of now None = []
 extra_of now (Some request) = list_of_option (asks now.objects request)
 
-asked_with : (settings : Settings) (call : Call) (now after : Between) (request : List ℕ) (response : Option (List ℕ)) → (answered_with settings call now after request response).after.request_asked ≡ after.request_asked
+asked_with : (settings : Settings) (call : Call) (now after : Between) (request : List ℕ) (response : Option (List ℕ)) → (answered_with settings call now after request response).after.asked ≡ after.asked
 asked_with settings call now after request None = refl
 asked_with settings call now after request (Some response) = refl
 
-after_asked : (settings : Settings) (call : Call) (now : Between) (request : Option (List ℕ)) → (sent_with settings call now request).after.request_asked ≡ now.request_asked ++ extra_of now request
-after_asked settings call now None = sym (append_none now.request_asked)
+after_asked : (settings : Settings) (call : Call) (now : Between) (request : Option (List ℕ)) → (sent_with settings call now request).after.asked ≡ now.asked ++ extra_of now request
+after_asked settings call now None = sym (append_none now.asked)
 after_asked settings call now (Some request) = asked_with settings call now _ request _
 
 told_same : (a b : CallTold) → Told' a ≡ Told' b → b ≡ a
@@ -54,7 +54,7 @@ record Formed (settings : Settings) (call : Call) (now after : Between) (request
   rest : (answered_with settings call now after request response).after.rest
       ≡ drop (outcome_of (Some request) (call_operation call) settings.limit (after.rest ++ or_empty response)).taken (after.rest ++ or_empty response)
 
-formed : (settings : Settings) (call : Call) (now after : Between) (request : List ℕ) (response : Option (List ℕ)) (x : CallTold) → (answered_with settings call now after request response).expected_calls ≡ Told' x →
+formed : (settings : Settings) (call : Call) (now after : Between) (request : List ℕ) (response : Option (List ℕ)) (x : CallTold) → (answered_with settings call now after request response).expected ≡ Told' x →
     Formed settings call now after request response x
 formed settings call now after request None x is = absurd (cc)
 formed settings call now after request (Some response) x is = record { told = told_same _ _ is; objects = refl; rest = refl }
@@ -64,18 +64,18 @@ record Comes (settings : Settings) (call : Call) (now : Between) (request : Opti
   told : x ≡ turn_call_told settings call (turn_with settings call request after.rest)
   objects : (sent_with settings call now request).after.objects ≡ after.objects
   rest : (sent_with settings call now request).after.rest ≡ drop (outcome_of request (call_operation call) settings.limit after.rest).taken after.rest
-  answers : length (sent_with settings call now request).after.request_asked ≡ after.answers
+  answers : length (sent_with settings call now request).after.asked ≡ after.answers
 
 -- the maker's answer to come is its answer by its number
 abbrev IsNext : Between → Option (List ℕ) → Type 0
-IsNext now request = now.given ≡ plain_answers (length now.request_asked) (extra_of now request)
+IsNext now request = now.given ≡ plain_answers (length now.asked) (extra_of now request)
 
-comes : (settings : Settings) (call : Call) (now : Between) (request : Option (List ℕ)) (x : CallTold) → settings.time ≡ pos 0 → IsNext now request → (sent_with settings call now request).expected_calls ≡ Told' x →
+comes : (settings : Settings) (call : Call) (now : Between) (request : Option (List ℕ)) (x : CallTold) → settings.time ≡ pos 0 → IsNext now request → (sent_with settings call now request).expected ≡ Told' x →
     Comes settings call now request (after_sending (world_at now) request) x
 comes settings call now None x time made is = record { told = told_same _ _ is; objects = refl; rest = refl; answers = refl }
 comes settings call now (Some request) x time made is =
     let q : Option Asked = asks now.objects request in
-    let first : first_for q now.given ≡ next_made (world_at now) q = first_is q (length now.request_asked) now.given [] (made ∙ ap (λ (l : List Asked). plain_answers (length now.request_asked) l) (sym (append_none (list_of_option q)))) in
+    let first : first_for q now.given ≡ next_made (world_at now) q = first_is q (length now.asked) now.given [] (made ∙ ap (λ (l : List Asked). plain_answers (length now.asked) l) (sym (append_none (list_of_option q)))) in
     let same : served now.objects request (first_for q now.given) settings.time ≡ served now.objects request (next_made (world_at now) q) (pos 0) =
     ap (λ (m : Option Made). served now.objects request m settings.time) first ∙ ap (λ (t : ℤ). served now.objects request (next_made (world_at now) q) t) time in
     let bytes : response_bytes (served now.objects request (first_for q now.given) settings.time).message ≡ response_bytes (served now.objects request (next_made (world_at now) q) (pos 0)).message =
@@ -87,7 +87,7 @@ comes settings call now (Some request) x time made is =
       told = f.told ∙ ap (λ (l : List ℕ). turn_call_told settings call (turn_with settings call (Some request) l)) rest;
       objects = f.objects ∙ ap (λ s. s.objects) same;
       rest = f.rest ∙ ap (λ (l : List ℕ). drop (outcome_of (Some request) (call_operation call) settings.limit l).taken l) rest;
-      answers = ap length (after_asked settings call now (Some request)) ∙ length-append now.request_asked (list_of_option q);
+      answers = ap length (after_asked settings call now (Some request)) ∙ length-append now.asked (list_of_option q);
     }
 
 -- ---- one call of a list
@@ -107,9 +107,9 @@ cond_same : (b : Bool) (x : Between) → cond b x x ≡ x
 cond_same true x = refl
 cond_same false x = refl
 
-expected_one : (settings : Settings) (now : Between) (call : Call) → expected_calls settings now (call ∷ []) ≡ (next settings now call).expected_calls ∷ []
+expected_one : (settings : Settings) (now : Between) (call : Call) → expected_calls settings now (call ∷ []) ≡ (next settings now call).expected ∷ []
 unfolding expected_calls
-expected_one settings now call = ap (λ (l : List Expected). (next settings now call).expected_calls ∷ l) (cond_none (next settings now call).stops)
+expected_one settings now call = ap (λ (l : List Expected). (next settings now call).expected ∷ l) (cond_none (next settings now call).stops)
 
 finish_one : (settings : Settings) (now : Between) (call : Call) → finish settings now (call ∷ []) ≡ (next settings now call).after
 unfolding finish
@@ -164,9 +164,9 @@ pub record MadeSo (settings : LineSettings) (call : Call) (before after : Server
 pub record Known (settings : Settings) (call : Call) (before after : ServerLinkState PlainMemory) (now : Between) (x : CallAnswer) : Type 0 where
   pub time : settings.time ≡ pos 0
   pub plain_after : IsPlain after
-  pub stood : (extra : List Asked) → after.server.maker.request_asked ≡ now.request_asked ++ extra → Stands before now extra
+  pub stood : (extra : List Asked) → after.server.maker.asked ≡ now.asked ++ extra → Stands before now extra
   pub ends : standing plain_state after ≡ (next settings now call).after
-  pub told : (next settings now call).expected_calls ≡ Told' (call_told x)
+  pub told : (next settings now call).expected ≡ Told' (call_told x)
   pub pair : makes_pair call ≡ true → IfOk x.answer (λ a. is_pair a ≡ true)
 
 made_known : (settings : Settings) (call : Call) (before after : ServerLinkState PlainMemory) (now : Between) (x : CallAnswer) → Known settings call before after now x → MadeSo (line_settings settings) call before after x
@@ -175,15 +175,15 @@ made_known settings call before after now x known =
     let n : Next = sent_with settings call now request in
     let e : next settings now call ≡ n = next_is settings now call in
     let ends : standing plain_state after ≡ n.after = known.ends ∙ ap (λ (it : Next). it.after) e in
-    let request_asked : after.server.maker.request_asked ≡ now.request_asked ++ extra_of now request = ap (λ (b : Between). b.request_asked) ends ∙ after_asked settings call now request in
-    let stood : Stands before now (extra_of now request) = known.stood (extra_of now request) request_asked in
-    let it = comes settings call now request (call_told x) known.time stood.given (sym (ap (λ (it : Next). it.expected_calls) e) ∙ known.told) in
+    let asked : after.server.maker.asked ≡ now.asked ++ extra_of now request = ap (λ (b : Between). b.asked) ends ∙ after_asked settings call now request in
+    let stood : Stands before now (extra_of now request) = known.stood (extra_of now request) asked in
+    let it = comes settings call now request (call_told x) known.time stood.given (sym (ap (λ (it : Next). it.expected) e) ∙ known.told) in
     let step : joined_step (line_settings settings) (line_call call) (world_of before) ≡ step_for (line_settings settings) call (world_at now) (asked_of (request_of call) settings.credential) =
     step_is (line_settings settings) call (world_of before)
     ∙ ap (λ (w : World). step_for (line_settings settings) call w (asked_of (request_of call) settings.credential)) stood.world in
     record {
       world = world_same _ _ _ _ _ _ (ap (λ (b : Between). b.objects) ends ∙ it.objects)
-          (ap length known.plain_after ∙ as_many 0 after.server.maker.request_asked ∙ ap (λ (b : Between). length b.request_asked) ends ∙ it.answers)
+          (ap length known.plain_after ∙ as_many 0 after.server.maker.asked ∙ ap (λ (b : Between). length b.asked) ends ∙ it.answers)
           (ap (λ (b : Between). b.rest) ends ∙ it.rest)
           ∙ ap (λ (j : Joined). j.after) (sym step);
       told = subst (λ (j : Joined). Tells j.step settings.buffered x) (sym step) (told_as settings call request (after_sending (world_at now) request).rest x it.told known.pair);
@@ -220,12 +220,12 @@ made_of old looked called new call xs is_open stays stays_too known plain plain_
     subst (λ (c : Clients). IsMade old c call xs) (sym stays_too) (subst (λ (c : Clients). IsMade c called call xs) stays made)
 
 one_of : (old new : Clients) (call : Call) (xs : List CallAnswer) → IsMade old new call xs →
-    Only (next (settings_of old) (before_all plain_state old new.link) call).expected_calls xs
+    Only (next (settings_of old) (before_all plain_state old new.link) call).expected xs
 one_of old new call xs said =
     let s : Settings = settings_of old in
     let now : Between = before_all plain_state old new.link in
-    let one : expected_calls s now (call ∷ []) ≡ (next s now call).expected_calls ∷ [] = expected_one s now call in
-    only s (next s now call).expected_calls xs (subst (λ (es : List Expected). Meet s es (map call_told xs)) one said.meet)
+    let one : expected_calls s now (call ∷ []) ≡ (next s now call).expected ∷ [] = expected_one s now call in
+    only s (next s now call).expected xs (subst (λ (es : List Expected). Meet s es (map call_told xs)) one said.meet)
     (λ cut. let above : 0 < new.link.faults = said.faulted (ap has_unsent one ∙ cut) in let sound : new.link.faults ≡ 0 = said.sound in omega (arith, above, sound))
 
 came_so : (old new : Clients) (call : Call) (xs rest : List CallAnswer) (x : CallAnswer) → IsJoined old.link → IsMade old new call xs → xs ≡ x ∷ rest → (makes_pair call ≡ true → IfOk x.answer (λ a. is_pair a ≡ true)) →
@@ -238,7 +238,7 @@ came_so old new call xs rest x joined said last pair =
     made_known s call old.link new.link now x (record {
       time = joined.time;
       plain_after = said.plain_after;
-      stood = λ extra request_asked. stands old.link new.link.server.maker.given new.link.server.maker.request_asked extra joined.is_open said.known said.plain said.plain_after request_asked;
+      stood = λ extra asked. stands old.link new.link.server.maker.given new.link.server.maker.asked extra joined.is_open said.known said.plain said.plain_after asked;
       ends = said.ends ∙ finish_one s now call;
       told = it.told ∙ ap (λ (a : CallAnswer). Told' (call_told a)) same;
       pair = pair;

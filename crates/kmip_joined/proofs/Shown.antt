@@ -1,7 +1,7 @@
 -- What a helper returned is shown as the payload that answered its call.
 use Rattle.std.proofs.Common.{◌≡◌, ℕ, ◌==◌, if◌then◌else◌, List, [], refl, ◌∙◌, ap, true, Result, Ok, Err, IfOk}
 use Rattle.kmip_shape.specs.Val.{Val, Number, Text, Bytes, Truth, Record, Case}
-use Rattle.kmip_shape.specs.Shown.{text_in}
+use Rattle.kmip_shape.specs.Shown.{shown_as}
 use Rattle.kmip_shape.specs.declared.style.Style.TheVariants.{Bare}
 use Rattle.kmip_enums.specs.Operations.{operation_line}
 use Rattle.kmip_enums.specs.declared.operation.Operation.{Operation}
@@ -23,11 +23,11 @@ use Rattle.kmip_joined.specs.Told.{answered_shown, makes_pair, is_pair}
 -- the payload of each operation that is returned whole, by its number
 abbrev shown_by : ℕ → Val → List ℕ
 shown_by n v =
-    if n == 24 then text_in query_payload v Bare
-    else if n == 37 then text_in rng_retrieve_payload v Bare
-    else if n == 33 then text_in sign_payload v Bare
-    else if n == 14 then text_in attribute_edit_payload v Bare
-    else text_in get_payload v Bare
+    if n == 24 then shown_as query_payload v Bare
+    else if n == 37 then shown_as rng_retrieve_payload v Bare
+    else if n == 33 then shown_as sign_payload v Bare
+    else if n == 14 then shown_as attribute_edit_payload v Bare
+    else shown_as get_payload v Bare
 
 abbrev shown_in : Val → List ℕ
 shown_in (Case n v) = shown_by n v

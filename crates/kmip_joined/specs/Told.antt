@@ -1,6 +1,6 @@
 -- What a call of a client over a server in memory did.
 use Rattle.std.specs.Prelude.{◌≡◌, ℕ, ◌<◌, pos, List, [], ◌∷◌, ◌++◌, map, Bool, true, false, Option, Result, Ok, Err, IfOk}
-use Rattle.kmip_shape.specs.Shown.{text_in}
+use Rattle.kmip_shape.specs.Shown.{shown_as}
 use Rattle.kmip_shape.specs.declared.style.Style.TheVariants.{Bare}
 use Rattle.kmip_response.specs.Tables.{query_payload, rng_retrieve_payload, sign_payload, attribute_edit_payload, get_payload}
 use Rattle.kmip_response.specs.Values.{query_payload_val, rng_retrieve_payload_val, sign_payload_val, attribute_edit_payload_val, get_payload_val}
@@ -35,11 +35,11 @@ IsPlain link = link.server.maker.given ≡ plain_answers 0 link.server.maker.ask
 abbrev pub answered_shown : Answered → List ℕ
 answered_shown answered.Unit = done_styled Bare
 answered_shown (answered.Pair first second) = pair_styled first second Bare
-answered_shown (answered.Query payload) = text_in query_payload (query_payload_val payload) Bare
-answered_shown (answered.Random payload) = text_in rng_retrieve_payload (rng_retrieve_payload_val payload) Bare
-answered_shown (answered.Signed payload) = text_in sign_payload (sign_payload_val payload) Bare
-answered_shown (answered.Renamed payload) = text_in attribute_edit_payload (attribute_edit_payload_val payload) Bare
-answered_shown (answered.Got payload) = text_in get_payload (get_payload_val payload) Bare
+answered_shown (answered.Query payload) = shown_as query_payload (query_payload_val payload) Bare
+answered_shown (answered.Random payload) = shown_as rng_retrieve_payload (rng_retrieve_payload_val payload) Bare
+answered_shown (answered.Signed payload) = shown_as sign_payload (sign_payload_val payload) Bare
+answered_shown (answered.Renamed payload) = shown_as attribute_edit_payload (attribute_edit_payload_val payload) Bare
+answered_shown (answered.Got payload) = shown_as get_payload (get_payload_val payload) Bare
 
 -- the one call that is answered by two identifiers
 abbrev pub makes_pair : Call → Bool

@@ -65,7 +65,7 @@ grew_took None (Some made) before after g = absurd g
 grew_took (Some asked) None before after g = absurd g
 
 pub step_given : (objects : List Object) (call : Call) (new : List Object) (answer : Answer) (before after : MakerState) (s : IsStep objects call new answer before after) → IsGiven (question objects call) s.made before after
-step_given objects call new answer before after s = record { suits_it = s.asks; took = λ tells. grew_took (question objects call) s.made before after (s.answer_of tells) }
+step_given objects call new answer before after s = record { suits_it = s.asks; took = λ tells. grew_took (question objects call) s.made before after (s.told tells) }
 
 -- ---- items and messages
 

@@ -138,7 +138,7 @@ record Own (settings : Settings) (objects : List Object) (given : List Made) (as
   pub told : CallTold
   pub answer : told.answer ≡ reply_answer call (step objects call (first_for (question objects call) given)).answer
   pub next_is : next settings (starts objects given asked) call ≡ record {
-    expected_calls = Told' told;
+    expected = Told' told;
     stops = false;
     after = starts (step objects call (first_for (question objects call) given)).objects (rest_for (question objects call) given) (asked ++ list_of_option (question objects call));
   }
@@ -185,7 +185,7 @@ own_next laws settings objects given askeds call fits held =
 
 -- ---- all calls
 
-expected_on : (settings : Settings) (now : Between) (call : Call) (calls : List Call) (told : CallTold) (after : Between) → next settings now call ≡ record { expected_calls = Told' told; stops = false; after = after } →
+expected_on : (settings : Settings) (now : Between) (call : Call) (calls : List Call) (told : CallTold) (after : Between) → next settings now call ≡ record { expected = Told' told; stops = false; after = after } →
     expected_calls settings now (call ∷ calls) ≡ Told' told ∷ expected_calls settings after calls
 unfolding expected_calls
 expected_on settings now call calls told after e = rw e refl
@@ -198,7 +198,7 @@ held_first : (settings : Settings) (now : Between) (call : Call) (calls : List C
 unfolding AreHeldNext
 held_first settings now call calls held = held.0
 
-held_later : (settings : Settings) (now : Between) (call : Call) (calls : List Call) (told : CallTold) (after : Between) → next settings now call ≡ record { expected_calls = Told' told; stops = false; after = after } →
+held_later : (settings : Settings) (now : Between) (call : Call) (calls : List Call) (told : CallTold) (after : Between) → next settings now call ≡ record { expected = Told' told; stops = false; after = after } →
     AreHeldNext settings now (call ∷ calls) → AreHeldNext settings after calls
 unfolding AreHeldNext
 held_later settings now call calls told after e held = let later : Unless (next settings now call).stops (AreHeldNext settings (next settings now call).after calls) = held.1 in

@@ -35,17 +35,17 @@ Going settings start now all later xs = (given : List Made) → Agrees settings.
 pub going_none : (settings : Settings) (start : LinkState) (all : List Call) → Going settings start start all all []
 going_none settings start all given agrees = record { agrees = agrees; meets = λ ys m. m; ends = refl; cuts = refl; holds = λ h. h }
 
-expected_cons : (settings : Settings) (now : Between) (call : Call) (calls : List Call) (e : Expected) (stops : Bool) (after : Between) → next settings now call ≡ record { expected_calls = e; stops = stops; after = after } →
+expected_cons : (settings : Settings) (now : Between) (call : Call) (calls : List Call) (e : Expected) (stops : Bool) (after : Between) → next settings now call ≡ record { expected = e; stops = stops; after = after } →
     expected_calls settings now (call ∷ calls) ≡ e ∷ cond stops [] (expected_calls settings after calls)
 unfolding expected_calls
 expected_cons settings now call calls x stops after e = rw e refl
 
-finish_cons : (settings : Settings) (now : Between) (call : Call) (calls : List Call) (x : Expected) (stops : Bool) (after : Between) → next settings now call ≡ record { expected_calls = x; stops = stops; after = after } →
+finish_cons : (settings : Settings) (now : Between) (call : Call) (calls : List Call) (x : Expected) (stops : Bool) (after : Between) → next settings now call ≡ record { expected = x; stops = stops; after = after } →
     finish settings now (call ∷ calls) ≡ cond stops after (finish settings after calls)
 unfolding finish
 finish_cons settings now call calls x stops after e = rw e refl
 
-held_cons : (settings : Settings) (now : Between) (call : Call) (calls : List Call) (x : Expected) (stops : Bool) (after : Between) → next settings now call ≡ record { expected_calls = x; stops = stops; after = after } →
+held_cons : (settings : Settings) (now : Between) (call : Call) (calls : List Call) (x : Expected) (stops : Bool) (after : Between) → next settings now call ≡ record { expected = x; stops = stops; after = after } →
     IsHeldNext settings now call → Unless stops (AreHeldNext settings after calls) → AreHeldNext settings now (call ∷ calls)
 unfolding AreHeldNext
 held_cons settings now call calls x stops after e one later = (one, rw e later)
@@ -89,7 +89,7 @@ pub record Ended (settings : Settings) (start : LinkState) (all : List Call) (xs
 
 -- the last call, after which none is made
 pub going_stop : (settings : Settings) (start now : LinkState) (all : List Call) (call : Call) (later : List Call) (xs : List CallTold) (told : CallTold) (given : List Made) (x : Expected) (after : Between) →
-    Going settings start now all (call ∷ later) xs → Agrees settings.time given now → next settings (between settings.time given now) call ≡ record { expected_calls = x; stops = true; after = after } →
+    Going settings start now all (call ∷ later) xs → Agrees settings.time given now → next settings (between settings.time given now) call ≡ record { expected = x; stops = true; after = after } →
     IsHeldNext settings (between settings.time given now) call → Meets settings x told → Ended settings start all (xs ++ told ∷ []) given after (has_unsent (x ∷ []))
 going_stop settings start now all call later xs told given x after going agrees next_is held meets =
     let before : GoesOn settings start now all (call ∷ later) xs given = going given agrees in

@@ -52,7 +52,7 @@ next_formed settings now call b response valid formed = rw (valid, formed) refl
 
 pub next_unformed : (settings : Settings) (now : Between) (call : Call) (b : List ℕ) → request_bytes (request_of call) settings.credential ≡ Some b →
     response_bytes (served now.objects b (first_for (asks now.objects b) now.given) settings.time).message ≡ None →
-    next settings now call ≡ record { expected_calls = Expected.Unsent b; stops = true; after = record (after_bytes settings now b) { objects = now.objects } }
+    next settings now call ≡ record { expected = Expected.Unsent b; stops = true; after = record (after_bytes settings now b) { objects = now.objects } }
 unfolding next
 next_unformed settings now call b valid none = rw (valid, none) refl
 
@@ -71,7 +71,7 @@ left_more before after more h e = ap (λ l. drop before.pos l) e ∙ drop-append
 left_after : (before after : LinkState) (taken : ℕ) → after.pos ≡ before.pos + taken → left after ≡ drop taken (left_for before after)
 left_after before after taken e = ap (λ n. drop n after.ever) e ∙ sym (drop-drop taken before.pos after.ever)
 
-pub same_next : (e e' : Expected) (s s' : Bool) (a a' : Between) → e ≡ e' → s ≡ s' → a ≡ a' → let x : Next = record { expected_calls = e; stops = s; after = a } in let y : Next = record { expected_calls = e'; stops = s'; after = a' } in x ≡ y
+pub same_next : (e e' : Expected) (s s' : Bool) (a a' : Between) → e ≡ e' → s ≡ s' → a ≡ a' → let x : Next = record { expected = e; stops = s; after = a } in let y : Next = record { expected = e'; stops = s'; after = a' } in x ≡ y
 same_next e e' s s' a a' p q r = rw (p, q, r) refl
 
 pub same_between : (o o' : List Object) (g g' : List Made) (a a' : List Asked) (r r' : List ℕ) → o ≡ o' → g ≡ g' → a ≡ a' → r ≡ r' →

@@ -36,7 +36,7 @@ pub record Agrees (t : ℤ) (given : List Made) (link : LinkState) : Type 0 wher
 -- with these answers of the maker, the call came as expected
 pub record Came (settings : Settings) (call : Call) (before after : LinkState) (told : CallTold) (stops : Bool) (given : List Made) : Type 0 where
   pub agrees : Agrees settings.time given before
-  pub next_is : next settings (between settings.time given before) call ≡ record { expected_calls = Told' told; stops = stops; after = between settings.time given after }
+  pub next_is : next settings (between settings.time given before) call ≡ record { expected = Told' told; stops = stops; after = between settings.time given after }
   pub held : IsHeldNext settings (between settings.time given before) call
 
 -- whatever the maker's answers are in the end, where they agree with the link after the call
@@ -49,7 +49,7 @@ pub record WasCut {M : Type 0} (state : M → MakerState) (settings : Settings) 
   pub faults : 0 < after.faults
   pub agrees : Agrees settings.time (state after.server.maker).given before
   pub request : List ℕ
-  pub next_is : next settings (between settings.time (state after.server.maker).given before) call ≡ record { expected_calls = Unsent request; stops = true; after = standing state after }
+  pub next_is : next settings (between settings.time (state after.server.maker).given before) call ≡ record { expected = Unsent request; stops = true; after = standing state after }
   pub unsent : IsUnsent settings request told
   pub held : IsHeldNext settings (between settings.time (state after.server.maker).given before) call
 

@@ -77,7 +77,7 @@ pub data Expected : Type 0 where
   Unsent : List ℕ → Expected
 
 pub record Next : Type 0 where
-  pub expected_calls : Expected
+  pub expected : Expected
   -- whether it was the last call
   pub stops : Bool
   pub after : Between
@@ -88,14 +88,14 @@ turn_with settings call request rest = record { request = request; rest = rest; 
 
 abbrev pub next_with : Settings → Call → Turn → Between → Next
 next_with settings call turn after = record {
-  expected_calls = Told' (turn_call_told settings call turn);
+  expected = Told' (turn_call_told settings call turn);
   stops = loses_connection turn.outcome.answer;
   after = record after { rest = drop turn.outcome.taken turn.rest };
 }
 
 -- where the response has no wire form the objects stay
 abbrev pub answered_with : Settings → Call → Between → Between → List ℕ → Option (List ℕ) → Next
-answered_with settings call now after request None = record { expected_calls = Unsent request; stops = true; after = record after { objects = now.objects } }
+answered_with settings call now after request None = record { expected = Unsent request; stops = true; after = record after { objects = now.objects } }
 answered_with settings call now after request (Some response) =
     next_with settings call (turn_with settings call (Some request) (after.rest ++ response)) after
 
@@ -113,7 +113,7 @@ next settings now call = sent_with settings call now (request_bytes (request_of 
 -- the calls in order, none after a lost connection
 unfoldable pub expected_calls : Settings → Between → List Call → List Expected
 expected_calls settings now [] = []
-expected_calls settings now (call ∷ calls) = (next settings now call).expected_calls ∷
+expected_calls settings now (call ∷ calls) = (next settings now call).expected ∷
     (if (next settings now call).stops then [] else expected_calls settings (next settings now call).after calls)
 
 -- what stands between the last of the calls that are made and the next

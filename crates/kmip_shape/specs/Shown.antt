@@ -153,14 +153,14 @@ abbrev mutual
   members_styled (AndField (One val) fields) around style = []
   members_styled (AndField (Many vals) fields) around style = 91 ∷ (list_styled vals NoCase (Choice OfName around) false style ++ 93 ∷ [])
 
-abbrev pub text_in : Shape → Val → Style → List ℕ
-text_in shape val = styled_in val NoCase shape
+abbrev pub shown_as : Shape → Val → Style → List ℕ
+shown_as shape val = styled_in val NoCase shape
 
 abbrev pub record_styled : Fields → RowList → Style → List ℕ
 record_styled fields rows style = 123 ∷ (fields_styled fields NoCase rows false style ++ 125 ∷ [])
 
 abbrev pub shown : Shape → Val → List ℕ
-shown shape val = text_in shape val Bare
+shown shape val = shown_as shape val Bare
 
 -- A value as JSON (RFC 8259): a record is an object of the fields that stand, a list an array, and a
 -- choice an object of one member. Bytes are a string of upper-case hex digits, the name of an
@@ -168,7 +168,7 @@ shown shape val = text_in shape val Bare
 -- of 64 bits, so that a reader with doubles loses the last digits from 2^53 on. In a string `"` and
 -- `\` stand after a backslash, and control characters are `\u00` and two digits.
 abbrev pub json : Shape → Val → List ℕ
-json shape val = text_in shape val Json
+json shape val = shown_as shape val Json
 
 abbrev pub text_shown : List ℕ → List ℕ
 text_shown s = text_styled s Bare

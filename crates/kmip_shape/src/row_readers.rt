@@ -313,7 +313,8 @@ impl<'a, T: ReadItem, const TAG: u32> ReadRow<'a> for Many<T, TAG> {
 
     ghost row_reads = { λ rest o c xs. refl };
 
-    ghost reads = { λ o c xs. marked_field AnyNumber (read_of T.shape o) (filter (has_tag TAG) xs) };
+    ghost reads = { λ o c xs. marked_field AnyNumber (read_of T.shape o)
+        (filter (has_tag TAG) xs) };
 
     ghost resume = { λ s o c xs. resume_many AnyNumber (read_of T.shape o) (map T.val s.items.items)
         (filter (has_tag TAG) xs) };
@@ -362,7 +363,8 @@ impl<'a, T: ReadItem, const TAG: u32> ReadRow<'a> for NonEmpty<T, TAG> {
 
     ghost row_reads = { λ rest o c xs. refl };
 
-    ghost reads = { λ o c xs. marked_field AtLeastOne (read_of T.shape o) (filter (has_tag TAG) xs) };
+    ghost reads = { λ o c xs. marked_field AtLeastOne (read_of T.shape o)
+        (filter (has_tag TAG) xs) };
 
     ghost resume = { λ s o c xs. resume_many AtLeastOne (read_of T.shape o)
         (map T.val s.items.items) (filter (has_tag TAG) xs) };

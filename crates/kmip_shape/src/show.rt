@@ -4,7 +4,7 @@ ghost use Rattle.std.specs.Prelude.{◌≡◌, ◌++◌, Bool, ◌||◌, false, 
 ghost use Rattle.kmip_shape.specs.Val.{One as one, Many as many};
 ghost use Rattle.kmip_shape.specs.Shape.{NoCase};
 ghost use Rattle.kmip_shape.specs.Writes.{optional, optional_list, vals};
-ghost use Rattle.kmip_shape.specs.Shown.{Grows, AddsPart, text_in, shown, json, row_styled};
+ghost use Rattle.kmip_shape.specs.Shown.{Grows, AddsPart, shown_as, shown, json, row_styled};
 ghost use Rattle.kmip_shape.specs.Shown.{list_styled, stands, beside, in_brackets};
 
 use crate::item::Item;
@@ -19,7 +19,7 @@ pub trait ShowItem: Item {
     /// Appends its text, in the style of what grows, until memory runs out. This is what a type
     /// writes; others call `show` or `show_json`.
     fn show_into(&self, out: &mut TextWriter)
-        ensures { Grows out.old out.new (text_in Self.shape (Self.val self.now)) };
+        ensures { Grows out.old out.new (shown_as Self.shape (Self.val self.now)) };
 
     /// Appends its text. Where memory runs out, a first part of the text was appended.
     fn show(&self, alloc: Global, out: &mut Text) -> Result<(), OutOfMemory>
@@ -128,7 +128,7 @@ pub(crate) fn show_optional_list<T: ShowItem>(
 
 /// A case whose value is a record or a list: its name, and the value itself.
 pub fn show_case<T: ShowItem>(name: &str, item: &T, out: &mut TextWriter)
-    ensures { Grows out.old out.new (beside name.now (text_in T.shape (T.val item.now))) }
+    ensures { Grows out.old out.new (beside name.now (shown_as T.shape (T.val item.now))) }
 {
     out.open_case(name);
     item.show_into(out);
@@ -137,7 +137,7 @@ pub fn show_case<T: ShowItem>(name: &str, item: &T, out: &mut TextWriter)
 
 /// A case of another value: its name, and the value in round brackets.
 pub fn show_in_brackets<T: ShowItem>(name: &str, item: &T, out: &mut TextWriter)
-    ensures { Grows out.old out.new (in_brackets name.now (text_in T.shape (T.val item.now))) }
+    ensures { Grows out.old out.new (in_brackets name.now (shown_as T.shape (T.val item.now))) }
 {
     out.open_brackets(name);
     item.show_into(out);

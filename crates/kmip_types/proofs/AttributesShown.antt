@@ -6,7 +6,7 @@ use Rattle.kmip_shape.specs.Val.{Val, vals_of}
 use Rattle.kmip_shape.specs.Shape.{NoCase}
 use Rattle.kmip_shape.specs.declared.style.Style.{Style}
 use Rattle.kmip_shape.specs.declared.style.Style.TheVariants.{Bare, Json}
-use Rattle.kmip_shape.specs.Shown.{Growing, Grows, always, comma, text_styled, text_in, list_styled, in_brackets, brackets_opening, brackets_closing}
+use Rattle.kmip_shape.specs.Shown.{Growing, Grows, always, comma, text_styled, shown_as, list_styled, in_brackets, brackets_opening, brackets_closing}
 use Rattle.kmip_shape.proofs.Growth.{grown, nothing, brackets_grown}
 use Rattle.kmip_shape.proofs.Variants.{found_styled}
 use Rattle.kmip_enums.specs.ObjectTypes.{object_type_line, object_type_variants, object_type_found}
@@ -38,7 +38,7 @@ pub plain_is : (x : AttributeValue)
     → ((t : LinkType) (i : LinkedObjectIdentifier) → x ≡ Link t i → ⊥)
     → ((n : ApplicationNamespace) (d : ApplicationData) → x ≡ ApplicationSpecificInformation n d → ⊥)
     → ((vs : List Val) → x ≡ Structure vs → ⊥)
-    → (o : Style) → in_brackets (case_name x) (plain_styled x) o ≡ text_in attribute_value (attribute_value_val x) o
+    → (o : Style) → in_brackets (case_name x) (plain_styled x) o ≡ shown_as attribute_value (attribute_value_val x) o
 plain_is (Name x y) h _ _ _ _ o = absurd (h x y refl)
 plain_is (ObjectType x) _ _ _ _ _ o = same_text (codes "ObjectType") _ _ (λ s. sym (found_styled object_type_line object_type_variants (object_type_line x).number x (object_type_found x) s)) o
 plain_is (CryptographicAlgorithm x) _ _ _ _ _ o = same_text (codes "CryptographicAlgorithm") _ _ (λ s. sym (found_styled cryptographic_algorithm_line cryptographic_algorithm_variants (cryptographic_algorithm_line x).number x (cryptographic_algorithm_found x) s)) o
@@ -64,7 +64,7 @@ first_and_rest [] x h e = absurd (omega (arith, h))
 first_and_rest (y ∷ ys) x h e = λ i. sym e i ∷ sym (take_all (length (y ∷ ys) - 1) ys (omega arith)) i
 
 pub members_step : {a b c d : Growing} (xs : List AttributeValue) (x : AttributeValue) (tail : List AttributeValue) (after : Bool) → xs ≡ x ∷ tail
-    → Grows a b (always (comma after)) → Grows b c (text_in attribute_value (attribute_value_val x)) → Grows c d (list_styled (vals_of (map attribute_value_val tail)) NoCase attribute_value true)
+    → Grows a b (always (comma after)) → Grows b c (shown_as attribute_value (attribute_value_val x)) → Grows c d (list_styled (vals_of (map attribute_value_val tail)) NoCase attribute_value true)
     → Grows a d (list_styled (vals_of (map attribute_value_val xs)) NoCase attribute_value after)
 members_step {a} {b} {c} {d} xs x tail after e p q r =
     subst (λ (ys : List AttributeValue). Grows a d (list_styled (vals_of (map attribute_value_val ys)) NoCase attribute_value after)) (sym e) (grown p (grown q r))

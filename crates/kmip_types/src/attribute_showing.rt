@@ -3,7 +3,7 @@
 ghost use Rattle.std.specs.Prelude.{◌≡◌, false};
 ghost use Rattle.kmip_shape.specs.Val.{vals_of, Case as case};
 ghost use Rattle.kmip_shape.specs.Shape.{NoCase};
-ghost use Rattle.kmip_shape.specs.Shown.{Grows, text_in, list_styled, in_brackets};
+ghost use Rattle.kmip_shape.specs.Shown.{Grows, shown_as, list_styled, in_brackets};
 ghost use Rattle.kmip_types.specs.AttributeValues.{attribute_value, attribute_value_val};
 ghost use Rattle.kmip_types.specs.AttributesShown.{case_name, plain_styled, plain_text};
 ghost use Rattle.kmip_types.specs.Parameters.{cryptographic_parameters_val};
@@ -35,7 +35,7 @@ fn show_each(values: &Values, out: &mut TextWriter)
 #[cycle(show_attribute)]
 fn show_structure(values: &Values, out: &mut TextWriter)
     ensures { Grows out.old out.new
-        (text_in attribute_value (attribute_value_val (Structure values.now))) }
+        (shown_as attribute_value (attribute_value_val (Structure values.now))) }
 {
     out.open_case("Structure");
     out.put("[");
@@ -135,7 +135,7 @@ fn show_plain(value: &AttributeValue, out: &mut TextWriter)
 /// Appends a Name.
 fn show_name(value: &NameValue, kind: &NameType, out: &mut TextWriter)
     ensures { Grows out.old out.new
-        (text_in attribute_value (attribute_value_val (Name value.now kind.now))) }
+        (shown_as attribute_value (attribute_value_val (Name value.now kind.now))) }
 {
     out.open_case("Name");
     show_record::<NameRows>(
@@ -149,7 +149,7 @@ fn show_name(value: &NameValue, kind: &NameType, out: &mut TextWriter)
 /// Appends a Link.
 fn show_link(kind: &LinkType, identifier: &LinkedObjectIdentifier, out: &mut TextWriter)
     ensures { Grows out.old out.new
-        (text_in attribute_value (attribute_value_val (Link kind.now identifier.now))) }
+        (shown_as attribute_value (attribute_value_val (Link kind.now identifier.now))) }
 {
     out.open_case("Link");
     show_record::<LinkRows>(
@@ -167,7 +167,7 @@ fn show_information(
     out: &mut TextWriter,
 )
     ensures { Grows out.old out.new
-        (text_in attribute_value (attribute_value_val
+        (shown_as attribute_value (attribute_value_val
         (ApplicationSpecificInformation namespace.now contents.now))) }
 {
     out.open_case("ApplicationSpecificInformation");
@@ -182,7 +182,7 @@ fn show_information(
 /// Appends Cryptographic Parameters.
 fn show_parameters(parameters: &CryptographicParameters, out: &mut TextWriter)
     ensures { Grows out.old out.new
-        (text_in attribute_value (case 4 (cryptographic_parameters_val parameters.now))) }
+        (shown_as attribute_value (case 4 (cryptographic_parameters_val parameters.now))) }
 {
     out.open_case("CryptographicParameters");
     parameters.show_into(out);

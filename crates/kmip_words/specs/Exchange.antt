@@ -4,7 +4,7 @@ use Rattle.hex.specs.Hex.{encode_upper}
 use Rattle.kmip_link.specs.Plan.{MemoryState}
 use Rattle.kmip_shape.specs.Val.{Val, Text, Record, Case, AndField, NoField, One}
 use Rattle.kmip_shape.specs.Shape.{Shape}
-use Rattle.kmip_shape.specs.Shown.{text_in, text_styled}
+use Rattle.kmip_shape.specs.Shown.{shown_as, text_styled}
 use Rattle.kmip_shape.specs.declared.style.Style.{Style}
 use Rattle.kmip_shape.specs.declared.style.Style.TheVariants.{Bare, Json}
 use Rattle.kmip_diag.specs.Diagnostic.{diagnostic}
@@ -91,8 +91,8 @@ done_styled Json = codes "{}"
 
 -- a payload as its record, without the name of its operation
 abbrev pub record_styled : Shape → Val → Style → List ℕ
-record_styled shape (Case n payload) style = text_in shape payload style
-record_styled shape payload style = text_in shape payload style
+record_styled shape (Case n payload) style = shown_as shape payload style
+record_styled shape payload style = shown_as shape payload style
 
 -- what is told of the payload that answers a call
 abbrev pub value_styled : Call → Val → Style → List ℕ
@@ -105,7 +105,7 @@ value_styled (Revoke id) payload = done_styled
 value_styled (Destroy id) payload = done_styled
 value_styled (Rename id new_name) payload = record_styled attribute_edit_payload payload
 value_styled (Get id) payload = record_styled get_payload payload
-value_styled (Raw request) payload = text_in response_payload payload
+value_styled (Raw request) payload = shown_as response_payload payload
 value_styled (Locate name) payload = record_styled locate_payload payload
 value_styled (Attributes id) payload = record_styled get_attributes_payload payload
 value_styled (CreateAes key_length name) payload = record_styled create_payload payload

@@ -1,6 +1,6 @@
 //! The line of an answer, in a style.
 ghost use Rattle.std.specs.Prelude.{◌≡◌, ◌≢◌, ◌++◌, codes, cond, IfOk, OnOk};
-ghost use Rattle.kmip_shape.specs.Shown.{text_in, text_styled};
+ghost use Rattle.kmip_shape.specs.Shown.{shown_as, text_styled};
 ghost use Rattle.kmip_shape.specs.declared.style.Style.TheVariants.{Bare, Json};
 ghost use Rattle.kmip_words.specs.Exchange.{pair_styled, done_styled, error_name, error_line, value_line, loses_link, Shows};
 ghost use Rattle.kmip_words.specs.declared.ending.Ending.TheVariants as endings;
@@ -100,7 +100,7 @@ fn push_bare_payload<P: ShowItem>(
     line: &mut Text,
 ) -> Result<(), OutOfMemory>
     ensures { OnOk result
-        (line.new ≡ line.old ++ value_line (text_in P.shape (P.val payload.now) Bare) Bare) }
+        (line.new ≡ line.old ++ value_line (shown_as P.shape (P.val payload.now) Bare) Bare) }
 {
     line.push_str("= ")?;
     payload.show(alloc, line)?;
@@ -115,7 +115,7 @@ fn push_json_payload<P: ShowItem>(
     line: &mut Text,
 ) -> Result<(), OutOfMemory>
     ensures { OnOk result
-        (line.new ≡ line.old ++ value_line (text_in P.shape (P.val payload.now) Json) Json) }
+        (line.new ≡ line.old ++ value_line (shown_as P.shape (P.val payload.now) Json) Json) }
 {
     line.push_str("{\"answer\":")?;
     payload.show_json(alloc, line)?;
@@ -130,7 +130,7 @@ pub fn push_payload<P: ShowItem>(
     line: &mut Text,
 ) -> Result<(), OutOfMemory>
     ensures { OnOk result
-        (line.new ≡ line.old ++ value_line (text_in P.shape (P.val payload.now) style) style) }
+        (line.new ≡ line.old ++ value_line (shown_as P.shape (P.val payload.now) style) style) }
 {
     match style {
         Style::Bare => push_bare_payload(alloc, payload, line),
@@ -146,7 +146,7 @@ pub fn show<P: ShowItem + Drop>(
     line: &mut Text,
 ) -> Result<Ending, OutOfMemory>
     ensures { IfOk result
-        (λ ending. Shows (λ payload. text_in P.shape (P.val payload) style) style answer ending
+        (λ ending. Shows (λ payload. shown_as P.shape (P.val payload) style) style answer ending
         line.old line.new) }
 {
     match answer {

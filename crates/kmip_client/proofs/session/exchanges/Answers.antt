@@ -18,7 +18,7 @@ loop-payload-init g c =
     record {
       next = search (rules);
       finite = search (rules);
-      count_after = omega (arith, items.1, ap length items.0);
+      counted = omega (arith, items.1, ap length items.0);
       keeps = keeps_self _;
       credential = refl;
       limit = refl;
@@ -56,7 +56,7 @@ loop-payload-preserved g c =
     record {
       next = tt;
       finite = tt;
-      count_after = omega (arith, steps.1, ap length steps.0, i.count_after);
+      counted = omega (arith, steps.1, ap length steps.0, i.counted);
       keeps = keeps_on i.keeps call.keeps;
       credential = call.credential ∙ i.credential;
       limit = call.limit ∙ i.limit;
@@ -204,14 +204,14 @@ returns-then-lost-clause-count g c =
 pub returns-clause-session : goal.returns-clause-session
 returns-clause-session g c = λ tells same.
     let i = c.loop-payload.invariant in
-    let none : into_iter_items c.loop-payload.payload-iterator ≡ [] = empty_of (into_iter_items c.loop-payload.payload-iterator) (omega (arith, i.count_after, c.in-None.ensures.steps)) in
+    let none : into_iter_items c.loop-payload.payload-iterator ≡ [] = empty_of (into_iter_items c.loop-payload.payload-iterator) (omega (arith, i.counted, c.in-None.ensures.steps)) in
     end c.args.client.now.credential c.args.client.now.limit (left (g.T.Link.state c.loop-payload.client.link)) (rw none at (i.so_far tells same))
 
 pub returns-clause-stops : goal.returns-clause-stops
 returns-clause-stops g c =
     let i = c.loop-payload.invariant in
     let before : List Told = map (exchange_told g.P.AnsweredByAny.whole) c.loop-payload.exchanges in
-    let none : into_iter_items c.loop-payload.payload-iterator ≡ [] = empty_of (into_iter_items c.loop-payload.payload-iterator) (omega (arith, i.count_after, c.in-None.ensures.steps)) in
+    let none : into_iter_items c.loop-payload.payload-iterator ≡ [] = empty_of (into_iter_items c.loop-payload.payload-iterator) (omega (arith, i.counted, c.in-None.ensures.steps)) in
     let stops : StopsOn c.args.payloads.items before [] = rw none at i.stops in
     stops_end c.args.payloads.items before stops
 

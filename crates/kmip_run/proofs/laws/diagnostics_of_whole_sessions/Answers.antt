@@ -5,4 +5,4 @@ pub returns : goal.returns
 returns c = λ limit most.
     laws.sessions_tell c.request_parses.ensures.parses c.request_parses.ensures.ranges c.tree_computed.ensures c.parsed_ranges.ensures c.diagnostics_of_sessions.ensures
     c.args.payloads.now c.args.others.now c.args.credential.now c.args.other.now limit most c.args.rest.now c.args.bytes.now
-    c.held.ensures c.«held-2».ensures c.bytes_known.ensures c.«bytes_known-2».ensures
+    c.know_held.ensures c.«know_held-2».ensures c.bytes_known.ensures c.«bytes_known-2».ensures

@@ -13,11 +13,11 @@ loop-done-preserved c =
     record {
       settings = c.in_ok-failed.ensures.settings ∙ i.settings;
       within = omega (arith, c.loop-done-test.true);
-      answers = omega (arith, i.answers, one_in_all c.in_ok-failed.failed, c.counted-tally.ensures.ok, c.counted-tally.ensures.errors);
-      bytes = omega (arith, i.bytes, c.counted-tally.ensures.taken);
+      answers = omega (arith, i.answers, one_in_all c.in_ok-failed.failed, c.count_exchange-tally.ensures.ok, c.count_exchange-tally.ensures.errors);
+      bytes = omega (arith, i.bytes, c.count_exchange-tally.ensures.taken);
       so_far =
           let makes = under_same _ _ it.call it.response (drop c.loop-done.client.link.pos c.loop-done.client.link.ever ++ it.response) i.settings c.in_ok-failed.ensures.makes in
-          rw (c.counted-tally.ensures.ok, c.counted-tally.ensures.errors, c.counted-tally.ensures.taken)
+          rw (c.count_exchange-tally.ensures.ok, c.count_exchange-tally.ensures.errors, c.count_exchange-tally.ensures.taken)
           (next_made (settings_of c.args.client.now) it (c.args.count - c.loop-done.done) (c.args.count - (c.loop-done.done + 1)) c.loop-done.x c.next_of-x.result
           c.loop-done.tally.ok c.loop-done.tally.errors c.loop-done.tally.taken c.in_ok-failed.taken (omega (arith, c.loop-done-test.true)) c.next_of-x.ensures c.in_ok-recorded.ensures i.so_far makes);
     }

@@ -13,4 +13,4 @@ returns-in-Audit-clause-replays c =
 
 pub returns-in-Joined-clause-replays : goal.returns-in-Joined-clause-replays
 returns-in-Joined-clause-replays c =
-    rw c.in-Joined.is (joins c.args.link.now (settings_for c.in-Joined.options) (lines_of c.args.script.now) c.joined.result c.args.output.now c.joined.new.output c.joined.ensures.status c.joined.ensures.text)
+    rw c.in-Joined.is (joins c.args.link.now (settings_for c.in-Joined.options) (lines_of c.args.script.now) c.run_joined.result c.args.output.now c.run_joined.new.output c.run_joined.ensures.status c.run_joined.ensures.text)

@@ -10,7 +10,7 @@ use Rattle.kmip_server.proofs.ask.ask.Goals as goal
 
 pub returns-in-Query : goal.returns-in-Query
 returns-in-Query g c =
-    rw (c.in-Query.is, c.queried.ensures)
+    rw (c.in-Query.is, c.query_answer.ensures)
     (asked_of Call.Query payloads.Query (λ payload. payload) answered.Query c.query.result (λ p. refl) c.query.ensures)
 
 pub returns-in-CreateRsaKeyPair : goal.returns-in-CreateRsaKeyPair
@@ -27,7 +27,7 @@ returns-in-RngRetrieve g c =
 
 pub returns-in-Sign : goal.returns-in-Sign
 returns-in-Sign g c =
-    rw (c.in-Sign.is, c.signed.ensures)
+    rw (c.in-Sign.is, c.sign_answer.ensures)
     (asked_of (Call.Sign c.in-Sign.id c.in-Sign.bytes) payloads.Sign (λ payload. payload) answered.Signed c.sign.result (λ p. refl)
     (rw (c.as_str.ensures.bytes, c.as_slice.ensures) at c.sign.ensures))
 

@@ -7,6 +7,6 @@ use Rattle.kmip_server.proofs.ask.rename.Goals as goal
 
 pub returns : goal.returns
 returns g c =
-    rw c.renamed.ensures
+    rw c.rename_answer.ensures
     (asked_of (Call.RenameKey c.args.id.now c.args.new_name.now) payloads.ModifyAttribute (λ payload. payload) answered.Renamed c.rename_key.result (λ p. refl)
     (rw (c.as_str.ensures.bytes, c.in_ok-new_name.ensures) at c.rename_key.ensures))

@@ -1,6 +1,6 @@
 use Rattle.std.proofs.Common.{refl, rules, w32, SFits}
 use Rattle.std.proofs.lemmas.Int.{to_z-of_z}
-use Rattle.kmip_shape.specs.Shown.{text_in}
+use Rattle.kmip_shape.specs.Shown.{shown_as}
 use Rattle.kmip_response.specs.Tables.{query_payload, sign_payload, attribute_edit_payload}
 use Rattle.kmip_response.specs.Values.{query_payload_val, sign_payload_val, attribute_edit_payload_val}
 use Rattle.kmip_response.specs.declared.payload.ResponsePayload.TheVariants as payloads
@@ -14,7 +14,7 @@ use Rattle.kmip_words.proofs.answers.answer.Goals as goal
 pub returns-in-Query : goal.returns-in-Query
 returns-in-Query c =
     rw c.in-Query.is
-    (helper_shown c.args.style Query query_request payloads.Query (λ payload. payload) (λ payload. text_in query_payload (query_payload_val payload) c.args.style) c.query.result c.show.result c.args.line.now c.show.new.line (λ credential. refl) (λ payload. refl) c.query.ensures c.show.ensures)
+    (helper_shown c.args.style Query query_request payloads.Query (λ payload. payload) (λ payload. shown_as query_payload (query_payload_val payload) c.args.style) c.query.result c.show.result c.args.line.now c.show.new.line (λ credential. refl) (λ payload. refl) c.query.ensures c.show.ensures)
 
 pub returns-in-CreateRsa : goal.returns-in-CreateRsa
 returns-in-CreateRsa c =
@@ -24,7 +24,7 @@ returns-in-CreateRsa c =
 pub returns-in-Sign : goal.returns-in-Sign
 returns-in-Sign c =
     rw c.in-Sign.is
-    (helper_shown c.args.style (Sign c.in-Sign.id c.in-Sign.bytes) (sign_request c.in-Sign.id c.in-Sign.bytes) payloads.Sign (λ payload. payload) (λ payload. text_in sign_payload (sign_payload_val payload) c.args.style) c.sign-signed.result c.show-in-Sign.result c.args.line.now c.show-in-Sign.new.line (λ credential. refl) (λ payload. refl) (rw (c.as_str.ensures.bytes, c.as_slice.ensures) at c.sign-signed.ensures) c.show-in-Sign.ensures)
+    (helper_shown c.args.style (Sign c.in-Sign.id c.in-Sign.bytes) (sign_request c.in-Sign.id c.in-Sign.bytes) payloads.Sign (λ payload. payload) (λ payload. shown_as sign_payload (sign_payload_val payload) c.args.style) c.sign-signed.result c.show-in-Sign.result c.args.line.now c.show-in-Sign.new.line (λ credential. refl) (λ payload. refl) (rw (c.as_str.ensures.bytes, c.as_slice.ensures) at c.sign-signed.ensures) c.show-in-Sign.ensures)
 
 pub returns-in-Activate : goal.returns-in-Activate
 returns-in-Activate c =
@@ -44,7 +44,7 @@ returns-in-Destroy c =
 pub returns-in-Rename : goal.returns-in-Rename
 returns-in-Rename c =
     rw c.in-Rename.is
-    (helper_shown c.args.style (Rename c.in-Rename.id c.in-Rename.new_name) (rename_request c.in-Rename.id c.in-Rename.new_name) payloads.ModifyAttribute (λ payload. payload) (λ payload. text_in attribute_edit_payload (attribute_edit_payload_val payload) c.args.style) c.rename_key-renamed.result c.show-in-Rename.result c.args.line.now c.show-in-Rename.new.line (λ credential. refl) (λ payload. refl) (rw c.as_str-in-Rename.ensures.bytes at c.rename_key-renamed.ensures) c.show-in-Rename.ensures)
+    (helper_shown c.args.style (Rename c.in-Rename.id c.in-Rename.new_name) (rename_request c.in-Rename.id c.in-Rename.new_name) payloads.ModifyAttribute (λ payload. payload) (λ payload. shown_as attribute_edit_payload (attribute_edit_payload_val payload) c.args.style) c.rename_key-renamed.result c.show-in-Rename.result c.args.line.now c.show-in-Rename.new.line (λ credential. refl) (λ payload. refl) (rw c.as_str-in-Rename.ensures.bytes at c.rename_key-renamed.ensures) c.show-in-Rename.ensures)
 
 pub returns-in-CreateAes : goal.returns-in-CreateAes
 returns-in-CreateAes c =
