@@ -15,18 +15,18 @@ kind_shown (ItemNotFound text) = codes "Item not found: "
 kind_shown (Unknown text) = codes "Unknown error: "
 kind_shown OutOfMemory = codes "Out of memory"
 
-abbrev pub text_of : Error → List ℕ
-text_of (ConfigurationError text) = text
-text_of (SerializeError text) = text
-text_of (RequestWriteError text) = text
-text_of (ResponseReadError text) = text
-text_of (DeserializeError text) = text
-text_of (ServerError text) = text
-text_of (InternalError text) = text
-text_of (ItemNotFound text) = text
-text_of (Unknown text) = text
-text_of OutOfMemory = []
+abbrev pub error_text : Error → List ℕ
+error_text (ConfigurationError text) = text
+error_text (SerializeError text) = text
+error_text (RequestWriteError text) = text
+error_text (ResponseReadError text) = text
+error_text (DeserializeError text) = text
+error_text (ServerError text) = text
+error_text (InternalError text) = text
+error_text (ItemNotFound text) = text
+error_text (Unknown text) = text
+error_text OutOfMemory = []
 
 -- what is printed
 abbrev pub error_shown : Error → List ℕ
-error_shown error = kind_shown error ++ text_of error
+error_shown error = kind_shown error ++ error_text error

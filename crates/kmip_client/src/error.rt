@@ -1,7 +1,7 @@
 //! Why a call of a client has no payload.
 ghost use Rattle.std.specs.Prelude.{◌≡◌, Some};
 ghost use Rattle.kmip_client.specs.Client.{is_connection_error};
-ghost use Rattle.kmip_client.specs.Errors.{kind_shown, text_of, error_shown};
+ghost use Rattle.kmip_client.specs.Errors.{kind_shown, error_text, error_shown};
 
 use kmip_link::LinkError;
 use kmip_wire::{Text, TryClone};
@@ -67,7 +67,7 @@ impl Error {
 
     /// Its text, empty where it has none. It takes no memory.
     pub fn text(&self) -> &str
-        ensures { result.now ≡ text_of self.now }
+        ensures { result.now ≡ error_text self.now }
     {
         match self {
             Error::ConfigurationError(text) => text.as_str(),

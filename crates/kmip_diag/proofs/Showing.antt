@@ -12,7 +12,7 @@ use Rattle.kmip_diag.specs.declared.token.Token.TheVariants.{Open}
 use Rattle.kmip_diag.specs.Skeleton.{skeleton}
 use Rattle.kmip_diag.specs.Printed.{printed, printed_tag}
 use Rattle.kmip_diag.specs.Tokens.{token_text}
-use Rattle.kmip_diag.specs.Diagnostic.{Shown, ended, stopped, item, torn, OpensAt, Shows, shown_text, IsDiagnostic, opening_tag, shown_by, shown_at, shown, diagnostic}
+use Rattle.kmip_diag.specs.Diagnostic.{Shown, ended, stopped, item, torn, OpensAt, Shows, shown_text, IsDiagnostic, opening_tag, shown_by, shown_at, shown_within, diagnostic}
 use Rattle.kmip_diag.proofs.Wire.{front_rule, value_shorter}
 
 -- fuel above the length is enough
@@ -27,8 +27,8 @@ same_fuel (suc f) (suc g) level (x ∷ xs) h k =
     in let inner = same_fuel f g (level + 1) (value_of (x ∷ xs)) (omega (arith, h, shorter)) (omega (arith, k, shorter))
     in λ i. shown_by (front_at level (x ∷ xs)) (opening_tag level (x ∷ xs)) (rest i) (inner i)
 
-shown_step : (level : ℕ) (b : List ℕ) → 0 < length b → shown level b ≡ shown_by (front_at level b) (opening_tag level b) (shown level (drop (size_at b) b)) (shown (level + 1) (value_of b))
-unfolding shown
+shown_step : (level : ℕ) (b : List ℕ) → 0 < length b → shown_within level b ≡ shown_by (front_at level b) (opening_tag level b) (shown_within level (drop (size_at b) b)) (shown_within (level + 1) (value_of b))
+unfolding shown_within
 shown_step level [] some = absurd (omega (arith, some))
 shown_step level (x ∷ xs) some =
     let short = length-drop (size_at (x ∷ xs)) (x ∷ xs)
@@ -37,8 +37,8 @@ shown_step level (x ∷ xs) some =
     in let inner = same_fuel (length (x ∷ xs)) (suc (length (value_of (x ∷ xs)))) (level + 1) (value_of (x ∷ xs)) (omega (arith, shorter)) (omega arith)
     in λ i. shown_by (front_at level (x ∷ xs)) (opening_tag level (x ∷ xs)) (rest i) (inner i)
 
-shown_end : (level : ℕ) (b : List ℕ) → b ≡ [] → shown level b ≡ ended
-unfolding shown
+shown_end : (level : ℕ) (b : List ℕ) → b ≡ [] → shown_within level b ≡ ended
+unfolding shown_within
 shown_end level b e = ap (λ x. shown_at (suc (length x)) level x) e
 
 both : (x y : Bool) → (x && y) ≡ true → (x ≡ true) × (y ≡ true)
@@ -65,45 +65,45 @@ opened_token (Some tag) token e = (tag, refl, same_Some token (Open tag) e)
 
 -- ---- a text `whole` that begins with `text`, and goes on with what `b` shows
 
-pub diag_start : (p : Option ℕ) (b : List ℕ) → diagnostic p b ≡ [] ++ shown_text p false (shown 1 b)
+pub diag_start : (p : Option ℕ) (b : List ℕ) → diagnostic p b ≡ [] ++ shown_text p false (shown_within 1 b)
 unfolding diagnostic
 diag_start p b = refl
 
-module _ (p : Option ℕ) (whole text b : List ℕ) (level : ℕ) (is_torn : Bool) (so_far : whole ≡ text ++ shown_text p is_torn (shown level b)) where
-  shows : (s : Shown) → shown level b ≡ s → whole ≡ text ++ shown_text p is_torn s
+module _ (p : Option ℕ) (whole text b : List ℕ) (level : ℕ) (is_torn : Bool) (so_far : whole ≡ text ++ shown_text p is_torn (shown_within level b)) where
+  shows : (s : Shown) → shown_within level b ≡ s → whole ≡ text ++ shown_text p is_torn s
   shows s e = so_far ∙ ap (λ x. text ++ shown_text p is_torn x) e
 
   pub diag_item : (t : Tree) (after rest : List ℕ) → 0 < length b → Some t ≡ front_at level b → after ≡ text ++ printed p (skeleton t) → rest ≡ drop (size_at b) b
-      → whole ≡ after ++ shown_text p is_torn (shown level rest)
+      → whole ≡ after ++ shown_text p is_torn (shown_within level rest)
   diag_item t after rest some front pushed dropped =
-      let step = shown_step level b some ∙ ap (λ o. shown_by o (opening_tag level b) (shown level (drop (size_at b) b)) (shown (level + 1) (value_of b))) (sym front)
-      in shows (item t (shown level (drop (size_at b) b))) step
-      ∙ sym (append_assoc text (printed p (skeleton t)) (shown_text p is_torn (shown level (drop (size_at b) b))))
-      ∙ ap (λ x. x ++ shown_text p is_torn (shown level (drop (size_at b) b))) (sym pushed)
-      ∙ ap (λ r. after ++ shown_text p is_torn (shown level r)) (sym dropped)
+      let step = shown_step level b some ∙ ap (λ o. shown_by o (opening_tag level b) (shown_within level (drop (size_at b) b)) (shown_within (level + 1) (value_of b))) (sym front)
+      in shows (item t (shown_within level (drop (size_at b) b))) step
+      ∙ sym (append_assoc text (printed p (skeleton t)) (shown_text p is_torn (shown_within level (drop (size_at b) b))))
+      ∙ ap (λ x. x ++ shown_text p is_torn (shown_within level (drop (size_at b) b))) (sym pushed)
+      ∙ ap (λ r. after ++ shown_text p is_torn (shown_within level r)) (sym dropped)
 
   diag_opened : (tag : ℕ) (after rest : List ℕ) → 0 < length b → None ≡ front_at level b → opening_tag level b ≡ Some tag → after ≡ text ++ (printed_tag p tag ++ (91 ∷ [])) → rest ≡ value_of b
-      → whole ≡ after ++ shown_text p true (shown (level + 1) rest)
+      → whole ≡ after ++ shown_text p true (shown_within (level + 1) rest)
   diag_opened tag after rest some front opens pushed inside =
       let step = shown_step level b some
-      ∙ ap (λ o. shown_by o (opening_tag level b) (shown level (drop (size_at b) b)) (shown (level + 1) (value_of b))) (sym front)
-      ∙ ap (λ o. shown_by None o (shown level (drop (size_at b) b)) (shown (level + 1) (value_of b))) opens
-      in let more = shown_text p true (shown (level + 1) (value_of b))
-      in shows (torn tag (shown (level + 1) (value_of b))) step
+      ∙ ap (λ o. shown_by o (opening_tag level b) (shown_within level (drop (size_at b) b)) (shown_within (level + 1) (value_of b))) (sym front)
+      ∙ ap (λ o. shown_by None o (shown_within level (drop (size_at b) b)) (shown_within (level + 1) (value_of b))) opens
+      in let more = shown_text p true (shown_within (level + 1) (value_of b))
+      in shows (torn tag (shown_within (level + 1) (value_of b))) step
       ∙ ap (λ x. text ++ x) (sym (append_assoc (printed_tag p tag) (91 ∷ []) more))
       ∙ sym (append_assoc text (printed_tag p tag ++ (91 ∷ [])) more)
       ∙ ap (λ x. x ++ more) (sym pushed)
-      ∙ ap (λ r. after ++ shown_text p true (shown (level + 1) r)) (sym inside)
+      ∙ ap (λ r. after ++ shown_text p true (shown_within (level + 1) r)) (sym inside)
 
   pub diag_torn : (token : Token) (after rest : List ℕ) → 0 < length b → None ≡ front_at level b → Some token ≡ option_map Open (opening_tag level b) → after ≡ text ++ token_text p token → rest ≡ value_of b
-      → (level ≤ 64) × (whole ≡ after ++ shown_text p true (shown (level + 1) rest))
+      → (level ≤ 64) × (whole ≡ after ++ shown_text p true (shown_within (level + 1) rest))
   diag_torn token after rest some front opens pushed inside = let o = opened_token (opening_tag level b) token opens in ((opened_says level b o.0 o.1).0.0, diag_opened o.0 after rest some front o.1 (pushed ∙ ap (λ k. text ++ token_text p k) o.2) inside)
 
   pub diag_stop : (after : List ℕ) → 0 < length b → None ≡ front_at level b → None ≡ option_map Open (opening_tag level b) → after ≡ text ++ (33 ∷ []) → after ≡ whole
   diag_stop after some front opens pushed =
       let step = shown_step level b some
-      ∙ ap (λ o. shown_by o (opening_tag level b) (shown level (drop (size_at b) b)) (shown (level + 1) (value_of b))) (sym front)
-      ∙ ap (λ o. shown_by None o (shown level (drop (size_at b) b)) (shown (level + 1) (value_of b))) (sym (opened_none (opening_tag level b) opens))
+      ∙ ap (λ o. shown_by o (opening_tag level b) (shown_within level (drop (size_at b) b)) (shown_within (level + 1) (value_of b))) (sym front)
+      ∙ ap (λ o. shown_by None o (shown_within level (drop (size_at b) b)) (shown_within (level + 1) (value_of b))) (sym (opened_none (opening_tag level b) opens))
       in pushed ∙ sym (shows stopped step)
 
   pub diag_end_torn : (after : List ℕ) → b ≡ [] → is_torn ≡ true → after ≡ text ++ (33 ∷ []) → after ≡ whole
@@ -133,5 +133,5 @@ shows_at (suc fuel) level (x ∷ xs) low h =
     (front_at level (x ∷ xs)) (front_rule level (x ∷ xs) low) (opening_tag level (x ∷ xs)) refl
 
 pub is_diagnostic : (p : Option ℕ) (b : List ℕ) → IsDiagnostic p b (diagnostic p b)
-unfolding diagnostic shown
+unfolding diagnostic shown_within
 is_diagnostic p b = (shown_at (suc (length b)) 1 b, shows_at (suc (length b)) 1 b (omega arith) (omega arith), refl)

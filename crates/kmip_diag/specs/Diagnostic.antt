@@ -54,8 +54,8 @@ shown_at (suc fuel) level [] = ended
 shown_at (suc fuel) level (x ∷ xs) =
     shown_by (front_at level (x ∷ xs)) (opening_tag level (x ∷ xs)) (shown_at fuel level (drop (size_at (x ∷ xs)) (x ∷ xs))) (shown_at fuel (level + 1) (value_of (x ∷ xs)))
 
-unfoldable pub shown : ℕ → List ℕ → Shown
-shown level b = shown_at (suc (length b)) level b
+unfoldable pub shown_within : ℕ → List ℕ → Shown
+shown_within level b = shown_at (suc (length b)) level b
 
 unfoldable pub diagnostic : Option ℕ → List ℕ → List ℕ
-diagnostic prefix b = shown_text prefix false (shown 1 b)
+diagnostic prefix b = shown_text prefix false (shown_within 1 b)

@@ -21,17 +21,17 @@ planned_size [] k most = most
 planned_size (size ∷ sizes) k most = min (max 1 (slice_index (size ∷ sizes) (place_of (size ∷ sizes) k))) most
 
 -- The next call is number k since the plan.
-abbrev pub IsCall : MemoryState → ℕ → Type 0
-IsCall link k = link.place ≡ place_of link.sizes k
+abbrev pub IsCallNumber : MemoryState → ℕ → Type 0
+IsCallNumber link k = link.place ≡ place_of link.sizes k
 
 -- The next call moves n of the bytes that it could move, as the plan has it.
 abbrev pub HasSize : MemoryState → ℕ → ℕ → Type 0
-HasSize link most n = (k : ℕ) → IsCall link k → n ≡ planned_size link.sizes k most
+HasSize link most n = (k : ℕ) → IsCallNumber link k → n ≡ planned_size link.sizes k most
 
 -- One call went by, under the same plan.
 pub record CountsCall (before after : MemoryState) : Type 0 where
   pub sizes : after.sizes ≡ before.sizes
-  pub next : (k : ℕ) → IsCall before k → IsCall after (k + 1)
+  pub next : (k : ℕ) → IsCallNumber before k → IsCallNumber after (k + 1)
 
 -- what a link in memory means; it never fails
 abbrev pub memory_state : MemoryState → LinkState

@@ -1,7 +1,7 @@
 //! A link in memory, which cuts what it moves into planned pieces.
 ghost use Rattle.std.specs.Prelude.{◌≡◌, ◌⊎◌, ◌+◌, ◌-◌, ◌<◌, ◌≤◌, ◌++◌, [], ℕ, length, take, drop, min, IsOk, IfOk, IfErr, OnErr, OnOk, IsErrOf, IsTrue};
 ghost use Rattle.kmip_link.specs.State.{Keeps, IsIdle, Reads, Writes, Rose, left};
-ghost use Rattle.kmip_link.specs.Plan.{MemoryState, HasSize, CountsCall, IsCall, planned_size, place_of, memory_state};
+ghost use Rattle.kmip_link.specs.Plan.{MemoryState, HasSize, CountsCall, IsCallNumber, planned_size, place_of, memory_state};
 
 use crate::link::{Link, LinkError};
 use std::alloc::Global;
@@ -83,7 +83,7 @@ impl MemoryLink {
     /// An empty list ends the plan. Its only error is that memory ran out, which changes nothing.
     pub fn plan_pieces(&mut self, sizes: &[usize]) -> Result<(), LinkError>
         ensures ok { OnOk result (self.new ≡ record self.old { sizes = sizes.now; place = 0 }) }
-        ensures starts { OnOk result (IsCall self.new 0) }
+        ensures starts { OnOk result (IsCallNumber self.new 0) }
         ensures err { OnErr result (self.new ≡ self.old) }
         ensures cause { IfErr result (λ e. e ≡ LinkError.OutOfMemory) }
     {

@@ -3,9 +3,9 @@
 ghost use Rattle.std.specs.Prelude.{◌≡◌, ◌≢◌, ◌≤◌, [], Some, None, IfSome};
 ghost use Rattle.std.specs.Prelude.{OnOk, OnErr, IfOk, IfErr, IsErrOf};
 ghost use Rattle.std.specs.Option.{option_map};
-ghost use Rattle.kmip_wire.specs.Found.{Writes};
+ghost use Rattle.kmip_wire.specs.Found.{GivesBytes};
 ghost use Rattle.kmip_wire.specs.Room.{Appends};
-ghost use Rattle.kmip_shape.specs.Writes.{HasForm, size_of, text_of, wire_len_of, bytes_of};
+ghost use Rattle.kmip_shape.specs.GivesBytes.{HasForm, size_of, text_of, wire_len_of, bytes_of};
 ghost use Rattle.kmip_request.specs.Tables.{request_header, batch_item_of, request_message_of};
 ghost use Rattle.kmip_request.specs.Values.{lent_header_val, lent_item_val, lent_message_val};
 ghost use Rattle.kmip_request.specs.Message.{request_bytes, credential_of};
@@ -232,7 +232,7 @@ fn write_lent(
     payload: &RequestPayload,
     authentication: &Option<Authentication>,
 ) -> Result<Blob, WireError>
-    ensures bytes { Writes result
+    ensures bytes { GivesBytes result
         (request_bytes payload.now (option_map credential_of authentication.now)) }
     ensures ok { IfOk result (λ b.
         request_bytes payload.now (option_map credential_of authentication.now) ≡ Some b) }
@@ -251,7 +251,7 @@ pub fn write_request(
     payload: RequestPayload,
     authentication: &mut Option<Authentication>,
 ) -> Result<Blob, WireError>
-    ensures bytes { Writes result
+    ensures bytes { GivesBytes result
         (request_bytes payload (option_map credential_of authentication.old)) }
     ensures ok { IfOk result (λ b.
         request_bytes payload (option_map credential_of authentication.old) ≡ Some b) }
@@ -273,7 +273,7 @@ pub fn to_vec(
     payload: RequestPayload,
     credential: Option<auth::CredentialType>,
 ) -> Result<Blob, WireError>
-    ensures { Writes result (request_bytes payload credential) }
+    ensures { GivesBytes result (request_bytes payload credential) }
 {
     let mut authentication = credential.map(Authentication::build);
     write_request(alloc, payload, &mut authentication)

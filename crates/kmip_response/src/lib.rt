@@ -43,6 +43,6 @@ pub use payloads::identifiers::{
     DestroyResponsePayload, LocateResponsePayload, RegisterResponsePayload, RevokeResponsePayload,
     UniqueIdentifierResponsePayload,
 };
-pub use payloads::query::DiscoverVersionsResponsePayload;
-pub use payloads::server::{QueryResponsePayload, ServerInformation};
+pub use payloads::query::{QueryResponsePayload, ServerInformation};
+pub use payloads::server::DiscoverVersionsResponsePayload;
 pub use reading::{ResponseError, from_slice};

@@ -14,8 +14,8 @@ use crate::payloads::identifiers::{
     CreateKeyPairResponsePayload, CreateResponsePayload, LocateResponsePayload,
     RegisterResponsePayload, UniqueIdentifierResponsePayload,
 };
-use crate::payloads::query::DiscoverVersionsResponsePayload;
-use crate::payloads::server::QueryResponsePayload;
+use crate::payloads::query::QueryResponsePayload;
+use crate::payloads::server::DiscoverVersionsResponsePayload;
 use kmip_shape::{Item, Outer, ReadError, ReadItem, ShowItem, TextWriter, show_case};
 use kmip_wire::{Boxed, ItemRef, OutOfMemory, TryClone};
 use std::alloc::Global;

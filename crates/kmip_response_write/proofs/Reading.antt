@@ -3,7 +3,7 @@ use Rattle.std.proofs.Common.{◌≡◌, ℕ, ◌+◌, ◌%◌, ◌≤◌, ◌==
 use Rattle.kmip_tags.specs.Tags.{RESPONSE_MESSAGE}
 use Rattle.std.specs.Prelude.{IsSome, Result, Ok, Err, IfOk}
 use Rattle.kmip_wire.specs.declared.error.WireError.{WireError}
-use Rattle.kmip_wire.specs.Found.{Writes}
+use Rattle.kmip_wire.specs.Found.{GivesBytes}
 use Rattle.std.specs.Option.{option_and_then}
 use Rattle.kmip_wire.specs.Tree.{Tree, Trees, scalar, structure, none, more}
 use Rattle.kmip_wire.specs.Parts.{tag_of}
@@ -109,7 +109,7 @@ one_message m n b f g s t h k =
     response_message_same m n (some_same _ _ (sym (bytes_read m b f s h) ∙ bytes_read n b g t k))
 
 -- what is written of a settled message is read as it
-pub written_read : (m : ResponseMessage) (r : Result (List ℕ) WireError) → IsHeld m → Writes r (response_bytes m) → IfOk r (λ b. IsSettled m → response_read b ≡ Some (response_message_val m))
+pub written_read : (m : ResponseMessage) (r : Result (List ℕ) WireError) → IsHeld m → GivesBytes r (response_bytes m) → IfOk r (λ b. IsSettled m → response_read b ≡ Some (response_message_val m))
 written_read m (Ok b) f w = λ s. bytes_read m b f s w
 written_read m (Err e) f w = tt
 

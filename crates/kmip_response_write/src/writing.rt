@@ -2,9 +2,9 @@
 
 ghost use Rattle.std.specs.Prelude.{◌≡◌, ◌≤◌, Some, length, IfOk, IfSome, IsSomeAnd};
 ghost use Rattle.std.specs.Option.{option_map};
-ghost use Rattle.kmip_wire.specs.Found.{Writes};
+ghost use Rattle.kmip_wire.specs.Found.{GivesBytes};
 ghost use Rattle.kmip_wire.specs.Room.{Appends};
-ghost use Rattle.kmip_shape.specs.Writes.{bytes_of};
+ghost use Rattle.kmip_shape.specs.GivesBytes.{bytes_of};
 ghost use Rattle.kmip_response.specs.Values.{response_message_val};
 ghost use Rattle.kmip_response_write.specs.Settled.{IsSettled, response_bytes, response_read};
 
@@ -36,7 +36,7 @@ fn write_item<T: WriteResponse>(item: &T, tag: Tag, out: &mut Buffer)
 /// The canonical bytes of an item. `NoForm` comes exactly where there are none, and `Malformed`
 /// never.
 fn to_blob<T: WriteResponse>(alloc: Global, item: &T, tag: Tag) -> Result<Blob, WireError>
-    ensures { Writes result (bytes_of T.shape tag (T.val item.now)) }
+    ensures { GivesBytes result (bytes_of T.shape tag (T.val item.now)) }
 {
     let Some(len) = item_len(item, tag) else {
         return Err(WireError::NoForm);
@@ -49,7 +49,7 @@ fn to_blob<T: WriteResponse>(alloc: Global, item: &T, tag: Tag) -> Result<Blob, 
 
 /// The canonical bytes of a message.
 fn message_bytes(alloc: Global, message: &ResponseMessage) -> Result<Blob, WireError>
-    ensures { Writes result (response_bytes message.now) }
+    ensures { GivesBytes result (response_bytes message.now) }
 {
     to_blob(alloc, message, Tag::of(RESPONSE_MESSAGE))
 }
@@ -66,7 +66,7 @@ fn message_bytes(alloc: Global, message: &ResponseMessage) -> Result<Blob, WireE
 ///
 /// What is written of a settled message is read as that message.
 pub fn to_vec(alloc: Global, message: &ResponseMessage) -> Result<Blob, WireError>
-    ensures bytes { Writes result (response_bytes message.now) }
+    ensures bytes { GivesBytes result (response_bytes message.now) }
     ensures read { IfOk result (λ b. IsSettled message.now →
         response_read b ≡ Some (response_message_val message.now)) }
 {

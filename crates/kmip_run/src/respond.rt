@@ -1,6 +1,6 @@
 //! The exchanges that `make` makes of a number: a call, and the response to it.
 ghost use Rattle.std.specs.Prelude.{◌≡◌, ◌∷◌, [], ◌<◌, ◌^◌, replicate, IfOk};
-ghost use Rattle.kmip_wire.specs.Sees.{tree_of};
+ghost use Rattle.kmip_wire.specs.Sees.{tree_of_node};
 ghost use Rattle.kmip_wire.specs.Bytes.{bytes};
 ghost use Rattle.kmip_words.specs.Exchange.{or_empty};
 ghost use Rattle.kmip_run.specs.Making.{version_tree, head_tree, response_tree, operation_tree, done_trees, gone_trees, random_made, activated_made, queried_made, destroyed_made, made_of};
@@ -20,7 +20,7 @@ use std::alloc::Global;
 /// An item with this tag.
 fn item(tag: u32, node: Node) -> Tree
     requires { tag < 2 ^ 24 }
-    ensures { result ≡ tree_of tag node }
+    ensures { result ≡ tree_of_node tag node }
 {
     Tree {
         tag: Tag::of(tag),

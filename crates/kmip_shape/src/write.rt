@@ -3,8 +3,8 @@
 ghost use Rattle.std.specs.Prelude.{◌≡◌, ◌≤◌, ℕ, List, Some, length, IsSomeAnd, IfSome};
 ghost use Rattle.std.specs.Option.{option_map};
 ghost use Rattle.kmip_wire.specs.Room.{Appends};
-ghost use Rattle.kmip_wire.specs.Found.{Writes};
-ghost use Rattle.kmip_shape.specs.Writes.{bytes_of};
+ghost use Rattle.kmip_wire.specs.Found.{GivesBytes};
+ghost use Rattle.kmip_shape.specs.GivesBytes.{bytes_of};
 
 use crate::item::WriteItem;
 use kmip_wire::{Blob, Buffer, Tag, WireError};
@@ -31,7 +31,7 @@ pub fn write_item<T: WriteItem>(item: &T, tag: Tag, out: &mut Buffer)
 /// The canonical bytes of an item. `NoForm` comes exactly where there are none, and `Malformed`
 /// never.
 pub fn to_blob<T: WriteItem>(alloc: Global, item: &T, tag: Tag) -> Result<Blob, WireError>
-    ensures { Writes result (bytes_of T.shape tag (T.val item.now)) }
+    ensures { GivesBytes result (bytes_of T.shape tag (T.val item.now)) }
 {
     let Some(len) = item_len(item, tag) else {
         return Err(WireError::NoForm);

@@ -10,7 +10,7 @@ use Rattle.kmip_wire.specs.declared.kind.Kind.{Kind}
 use Rattle.kmip_wire.specs.declared.tree.Node.{Node}
 use Rattle.kmip_wire.specs.declared.tree.Node.TheVariants as nodes
 use Rattle.kmip_wire.specs.Tree.{Tree, Trees, Scalar, scalar, structure, none, more, list_of, trees_of, text_string}
-use Rattle.kmip_wire.specs.Sees.{tree_of}
+use Rattle.kmip_wire.specs.Sees.{tree_of_node}
 use Rattle.kmip_wire.specs.Sizes.{tree_size, trees_size}
 use Rattle.kmip_wire.specs.Head.{value_of}
 use Rattle.kmip_wire.specs.Parses.{Parses}
@@ -46,7 +46,7 @@ retagged : ℕ → Tree → Tree
 retagged n (scalar tag s) = scalar n s
 retagged n (structure tag ts) = structure n ts
 
-retag : (n : ℕ) (node : Node) → tree_of n node ≡ retagged n (tree_of 0 node)
+retag : (n : ℕ) (node : Node) → tree_of_node n node ≡ retagged n (tree_of_node 0 node)
 unfolding retagged
 retag n (nodes.Structure x) = refl
 retag n (nodes.Integer x) = refl
@@ -60,12 +60,12 @@ retag n (nodes.DateTime x) = refl
 retag n (nodes.Interval x) = refl
 
 pub made_scalar : (b v : List ℕ) (k : Kind) (tag : ℕ) (node : Node) → is_tree b ≡ true → children_in (the_tree b) ≡ None → k ≡ kind_of_tree (the_tree b) → v ≡ value_of b → tag ≡ tag_of (the_tree b)
-    → option_map (scalar 0) (scalar_at k v) ≡ Some (tree_of 0 node) → tree_of tag node ≡ the_tree b
+    → option_map (scalar 0) (scalar_at k v) ≡ Some (tree_of_node 0 node) → tree_of_node tag node ≡ the_tree b
 unfolding retagged
 made_scalar b v k tag node h e kind value t made =
     let s = is_scalar b h e in
     let at : scalar_at k v ≡ Some s.0 = ap (λ j. scalar_at j v) kind ∙ ap (λ w. scalar_at (kind_of_tree (the_tree b)) w) value ∙ s.2 in
-    let same : scalar 0 s.0 ≡ tree_of 0 node = same_Some (scalar 0 s.0) (tree_of 0 node) (ap (option_map (scalar 0)) (sym at) ∙ made) in
+    let same : scalar 0 s.0 ≡ tree_of_node 0 node = same_Some (scalar 0 s.0) (tree_of_node 0 node) (ap (option_map (scalar 0)) (sym at) ∙ made) in
     retag tag node ∙ ap (retagged tag) (sym same) ∙ ap (λ n. scalar n s.0) t ∙ sym s.1
 
 pub made_structure : (b : List ℕ) (tag : ℕ) (ts us : List Tree) → children_in (the_tree b) ≡ Some us → tag ≡ tag_of (the_tree b) → ts ≡ us → structure tag (trees_of ts) ≡ the_tree b

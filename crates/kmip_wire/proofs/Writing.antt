@@ -9,7 +9,7 @@ use Rattle.std.proofs.Math.Seq.{take-append-add, drop-append-add}
 use Rattle.kmip_wire.specs.Tree.{Tree, Trees, Scalar, trees_of, scalar, structure, none, more}
 use Rattle.kmip_wire.specs.declared.tree.Node.{Node}
 use Rattle.kmip_wire.specs.declared.tree.Node.TheVariants as nodes
-use Rattle.kmip_wire.specs.Sees.{tree_of}
+use Rattle.kmip_wire.specs.Sees.{tree_of_node}
 use Rattle.std.specs.Int.{w32, w64, to_be_bytes}
 use mir.Val.{bool_byte}
 use Rattle.kmip_wire.specs.Kinds.{code_of, kind_of_scalar}
@@ -18,7 +18,7 @@ use Rattle.kmip_wire.specs.Sizes.{tree_size, trees_size}
 use Rattle.kmip_wire.specs.Bytes.{value_bytes, has_form, head_bytes, item_bytes, structure_bytes, in_order, bytes, all_bytes}
 use Rattle.kmip_wire.specs.Contents.{fitting, value_of_tree}
 use Rattle.kmip_wire.specs.Parts.{tag_of, kind_of_tree}
-use Rattle.kmip_wire.specs.Room.{Room, Appends, HasRoom, Writes}
+use Rattle.kmip_wire.specs.Room.{Room, Appends, HasRoom, Puts}
 use Rattle.kmip_wire.proofs.Computed.{mapped}
 
 -- ---- an item's bytes and its value
@@ -51,7 +51,7 @@ bytes_length t o e =
     ap (option_map (λ n. 8 + n + pads n)) e ∙ sym (length_map (tag_of t) (code_of (kind_of_tree t)) (value_of_tree t)) ∙ sym (ap (option_map length) (bytes_are t))
 
 -- the value of a tree has nothing of its tag
-pub value_at : (tag : ℕ) (n : Node) → value_of_tree (tree_of 0 n) ≡ value_of_tree (tree_of tag n)
+pub value_at : (tag : ℕ) (n : Node) → value_of_tree (tree_of_node 0 n) ≡ value_of_tree (tree_of_node tag n)
 value_at tag (nodes.Structure x) = refl
 value_at tag (nodes.Integer x) = refl
 value_at tag (nodes.LongInteger x) = refl
@@ -202,11 +202,11 @@ scalar_room tag s v n e h =
     let P : List ℕ → Type 0 = λ w. (length w < 2 ^ 32) × (8 + length w + pads (length w) ≤ n) in
     subst P (sym e) (ltb-true (length (value_bytes s)) (2 ^ 32) (both_true (has_form s) (ltb (length (value_bytes s)) (2 ^ 32)) r.0), omega (arith, r.1, item_bytes-length tag (code_of (kind_of_scalar s)) (value_bytes s)))
 
-writes_if : (b : Bool) (x : List ℕ) (old new : Room) → Appends old new x (length x) → Writes (cond b (Some x) None) old new
+writes_if : (b : Bool) (x : List ℕ) (old new : Room) → Appends old new x (length x) → Puts (cond b (Some x) None) old new
 writes_if true x old new h = h
 writes_if false x old new h = tt
 
-pub scalar_written : (tag : ℕ) (s : Scalar) (v : List ℕ) (old new : Room) → v ≡ value_bytes s → Appends old new (item_bytes tag (code_of (kind_of_scalar s)) v) (8 + length v + pads (length v)) → Writes (bytes (scalar tag s)) old new
+pub scalar_written : (tag : ℕ) (s : Scalar) (v : List ℕ) (old new : Room) → v ≡ value_bytes s → Appends old new (item_bytes tag (code_of (kind_of_scalar s)) v) (8 + length v + pads (length v)) → Puts (bytes (scalar tag s)) old new
 scalar_written tag s v old new e a =
     let code : ℕ = code_of (kind_of_scalar s) in
     let P : List ℕ → Type 0 = λ w. Appends old new (item_bytes tag code w) (length (item_bytes tag code w)) in
@@ -216,20 +216,20 @@ scalar_written tag s v old new e a =
 pub put_room : (t : Tree) (tag : ℕ) (s : Scalar) (v : List ℕ) (n : ℕ) → scalar tag s ≡ t → v ≡ value_bytes s → HasRoom (bytes t) n → (length v < 2 ^ 32) × (8 + length v + pads (length v) ≤ n)
 put_room t tag s v n same e h = let P : Tree → Type 0 = λ u. HasRoom (bytes u) n in scalar_room tag s v n e (subst P (sym same) h)
 
-pub put_done : (t : Tree) (tag : ℕ) (s : Scalar) (v : List ℕ) (old new : Room) → scalar tag s ≡ t → v ≡ value_bytes s → Appends old new (item_bytes tag (code_of (kind_of_scalar s)) v) (8 + length v + pads (length v)) → Writes (bytes t) old new
-put_done t tag s v old new same e a = let P : Tree → Type 0 = λ u. Writes (bytes u) old new in subst P same (scalar_written tag s v old new e a)
+pub put_done : (t : Tree) (tag : ℕ) (s : Scalar) (v : List ℕ) (old new : Room) → scalar tag s ≡ t → v ≡ value_bytes s → Appends old new (item_bytes tag (code_of (kind_of_scalar s)) v) (8 + length v + pads (length v)) → Puts (bytes t) old new
+put_done t tag s v old new same e a = let P : Tree → Type 0 = λ u. Puts (bytes u) old new in subst P same (scalar_written tag s v old new e a)
 
 -- a scalar of four bytes, or of eight, is 16 bytes
 pub four_room : (t : Tree) (tag : ℕ) (s : Scalar) (x n : ℕ) → scalar tag s ≡ t → to_be_bytes w32 x ≡ value_bytes s → HasRoom (bytes t) n → 16 ≤ n
 four_room t tag s x n same e h = (put_room t tag s (to_be_bytes w32 x) n same e h).1
 
-pub four_done : (t : Tree) (tag : ℕ) (s : Scalar) (x : ℕ) (old new : Room) → scalar tag s ≡ t → to_be_bytes w32 x ≡ value_bytes s → Appends old new (item_bytes tag (code_of (kind_of_scalar s)) (to_be_bytes w32 x)) 16 → Writes (bytes t) old new
+pub four_done : (t : Tree) (tag : ℕ) (s : Scalar) (x : ℕ) (old new : Room) → scalar tag s ≡ t → to_be_bytes w32 x ≡ value_bytes s → Appends old new (item_bytes tag (code_of (kind_of_scalar s)) (to_be_bytes w32 x)) 16 → Puts (bytes t) old new
 four_done t tag s x old new same e a = put_done t tag s (to_be_bytes w32 x) old new same e a
 
 pub eight_room : (t : Tree) (tag : ℕ) (s : Scalar) (x n : ℕ) → scalar tag s ≡ t → to_be_bytes w64 x ≡ value_bytes s → HasRoom (bytes t) n → 16 ≤ n
 eight_room t tag s x n same e h = (put_room t tag s (to_be_bytes w64 x) n same e h).1
 
-pub eight_done : (t : Tree) (tag : ℕ) (s : Scalar) (x : ℕ) (old new : Room) → scalar tag s ≡ t → to_be_bytes w64 x ≡ value_bytes s → Appends old new (item_bytes tag (code_of (kind_of_scalar s)) (to_be_bytes w64 x)) 16 → Writes (bytes t) old new
+pub eight_done : (t : Tree) (tag : ℕ) (s : Scalar) (x : ℕ) (old new : Room) → scalar tag s ≡ t → to_be_bytes w64 x ≡ value_bytes s → Appends old new (item_bytes tag (code_of (kind_of_scalar s)) (to_be_bytes w64 x)) 16 → Puts (bytes t) old new
 eight_done t tag s x old new same e a = put_done t tag s (to_be_bytes w64 x) old new same e a
 
 -- the items of a structure: what is written, and what still is to be, for which there is room
@@ -255,10 +255,10 @@ rest_first ts i t start now h e r =
     let P : Option (List ℕ) → Type 0 = λ o. HasRoom o now.spare in
     subst P (sym p.2) (omega (arith, r.room, ap length p.4, length-append p.0 p.1))
 
-pub rest_next : (ts : List Tree) (i : ℕ) (t : Tree) (start now new : Room) → i < length ts → get_or ts i t ≡ t → Rest ts i start now → Writes (bytes t) now new → Rest ts (i + 1) start new
+pub rest_next : (ts : List Tree) (i : ℕ) (t : Tree) (start now new : Room) → i < length ts → get_or ts i t ≡ t → Rest ts i start now → Puts (bytes t) now new → Rest ts (i + 1) start new
 rest_next ts i t start now new h e r w =
     let p = both_some (bytes t) (all_bytes (trees_of (drop (i + 1) ts))) r.back (sym (ap (λ xs. all_bytes (trees_of xs)) (drop_at_one ts i t h e)) ∙ r.to_come) in
-    let P : Option (List ℕ) → Type 0 = λ o. Writes o now new in
+    let P : Option (List ℕ) → Type 0 = λ o. Puts o now new in
     let a : Appends now new p.0 (length p.0) = subst P p.2 w in
     record {
       front = r.front ++ p.0;
@@ -340,7 +340,7 @@ set_head a front tag code n len =
 pub structure_set : (ts : List Tree) (tag k len : ℕ) (old start now new : Room) → HasRoom (bytes (structure tag (trees_of ts))) old.spare
     → Appends old start (head_bytes tag 1 0) 8 → length ts ≤ k → Rest ts k start now → len ≡ length now.bytes - length old.bytes - 8
     → new.bytes ≡ take (length old.bytes + 4) now.bytes ++ (to_be_bytes w32 len ++ drop (length old.bytes + 8) now.bytes) → new.spare ≡ now.spare
-    → Writes (bytes (structure tag (trees_of ts))) old new
+    → Puts (bytes (structure tag (trees_of ts))) old new
 structure_set ts tag k len old start now new h head le r e set spare =
     let f = fits tag (trees_of ts) old.spare h in
     let p = all_put ts tag old.spare k start now f le r in
@@ -355,5 +355,5 @@ structure_set ts tag k len old start now new h head le r e set spare =
           ∙ set_head old.bytes p.0 tag 1 0 len ∙ ap (λ x. old.bytes ++ x) (sym text);
       spare = omega (arith, spare, p.2.spare, head.spare, ap length p.1, item_bytes-length tag 1 f.value, no_pads (length f.value) f.even);
     } in
-    let P : Option (List ℕ) → Type 0 = λ o. Writes (structure_bytes tag o) old new in
+    let P : Option (List ℕ) → Type 0 = λ o. Puts (structure_bytes tag o) old new in
     subst P (sym f.all) (writes_if (ltb (length f.value) (2 ^ 32)) (item_bytes tag 1 f.value) old new all)

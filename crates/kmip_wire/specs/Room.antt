@@ -16,6 +16,6 @@ HasRoom None spare = ⊥
 HasRoom (Some b) spare = length b ≤ spare
 
 -- the text was appended, where there is one
-abbrev pub Writes : Option (List ℕ) → Room → Room → Type 0
-Writes None old new = Unit {0}
-Writes (Some b) old new = Appends old new b (length b)
+abbrev pub Puts : Option (List ℕ) → Room → Room → Type 0
+Puts None old new = Unit {0}
+Puts (Some b) old new = Appends old new b (length b)

@@ -1,7 +1,7 @@
 // The tree of some bytes, owned.
 ghost use Rattle.std.specs.Prelude.{◌≡◌, IsTrue, IfOk, IfSome, Some, option_map, drop};
 ghost use Rattle.std.specs.Option.{is_some};
-ghost use Rattle.kmip_wire.specs.Sees.{tree_of};
+ghost use Rattle.kmip_wire.specs.Sees.{tree_of_node};
 ghost use Rattle.kmip_wire.specs.Tree.{scalar};
 ghost use Rattle.kmip_wire.specs.Reading.{scalar_at, front_at};
 ghost use Rattle.kmip_wire.specs.Head.{size_at};
@@ -25,7 +25,7 @@ use std::str;
 fn read_scalar(alloc: Global, kind: Kind, value: &[u8]) -> Result<Node, OutOfMemory>
     requires { IsTrue (is_some (scalar_at kind value.now)) }
     ensures { IfOk result (λ node. option_map (scalar 0) (scalar_at kind value.now) ≡
-        Some (tree_of 0 node)) }
+        Some (tree_of_node 0 node)) }
 {
     match kind {
         Kind::Structure => unreachable!(),

@@ -1,5 +1,5 @@
 // A TTLV item, seen as a tree of the definitions.
-ghost use Rattle.kmip_wire.specs.Sees.{tree_of};
+ghost use Rattle.kmip_wire.specs.Sees.{tree_of_node};
 ghost use Rattle.kmip_wire.specs.Same.{same_tree, same_trees};
 ghost use Rattle.kmip_wire.specs.Tree.{trees_of};
 ghost use Rattle.kmip_wire.specs.Bytes.{AreBytes, HasRanges, HaveRanges};
@@ -61,10 +61,10 @@ impl Model for Tree {
 
     ghost coded = { tree_code };
 
-    ghost use Rattle.kmip_wire.specs.Sees.{tree_of};
+    ghost use Rattle.kmip_wire.specs.Sees.{tree_of_node};
     ghost use Rattle.kmip_wire.specs.Sizes.{tree_size};
 
-    ghost view = { λ a. tree_of a.tag a.node };
+    ghost view = { λ a. tree_of_node a.tag a.node };
 
     ghost size = { tree_size };
 
@@ -163,7 +163,7 @@ fn tree_ranges(tree: &Tree)
 
 #[cycle(ranges)]
 fn node_ranges(node: &Node)
-    ensures { HasRanges (tree_of 0 node.now) }
+    ensures { HasRanges (tree_of_node 0 node.now) }
 {
     match node {
         Node::Structure(items) => items_ranges(&items.items),
@@ -254,7 +254,7 @@ fn are_same(left: &Tree, right: &Tree) -> bool
 
 #[cycle(same)]
 fn are_same_nodes(left: &Node, right: &Node) -> bool
-    ensures { result ≡ same_tree (tree_of 0 left.now) (tree_of 0 right.now) }
+    ensures { result ≡ same_tree (tree_of_node 0 left.now) (tree_of_node 0 right.now) }
 {
     match (left, right) {
         (Node::Structure(left), Node::Structure(right)) => are_same_items(

@@ -1,11 +1,11 @@
 // The canonical bytes of a tree, written into one buffer after their lengths were summed.
 ghost use Rattle.std.specs.Prelude.{◌≡◌, ◌^◌, length, nat_lt, Option, Some, None, if◌then◌else◌, option_map};
-ghost use Rattle.kmip_wire.specs.Sees.{tree_of};
+ghost use Rattle.kmip_wire.specs.Sees.{tree_of_node};
 ghost use Rattle.kmip_wire.specs.Tree.{structure, trees_of};
 ghost use Rattle.kmip_wire.specs.Bytes.{bytes, all_bytes};
 ghost use Rattle.kmip_wire.specs.Contents.{fitting, value_of_tree};
-ghost use Rattle.kmip_wire.specs.Room.{HasRoom, Writes as WritesInto};
-ghost use Rattle.kmip_wire.specs.Found.{Writes};
+ghost use Rattle.kmip_wire.specs.Room.{HasRoom, Puts};
+ghost use Rattle.kmip_wire.specs.Found.{GivesBytes};
 
 use crate::buffer::Buffer;
 use crate::error::WireError;
@@ -40,7 +40,7 @@ fn tree_len(tree: &Tree) -> Option<u64>
 // The length of the value of an item, where it has a form.
 #[cycle(length)]
 fn value_len(node: &Node) -> Option<u64>
-    ensures { result ≡ option_map length (value_of_tree (tree_of 0 node.now)) }
+    ensures { result ≡ option_map length (value_of_tree (tree_of_node 0 node.now)) }
 {
     match node {
         Node::Structure(items) => contents_len(items.as_slice()),
@@ -74,7 +74,7 @@ fn contents_len(items: &[Tree]) -> Option<u64>
 #[cycle(write)]
 fn put_tree(tree: &Tree, out: &mut Buffer)
     requires { HasRoom (bytes tree.now) out.old.spare }
-    ensures { WritesInto (bytes tree.now) out.old out.new }
+    ensures { Puts (bytes tree.now) out.old out.new }
 {
     let tag = tree.tag;
     match &tree.node {
@@ -95,7 +95,7 @@ fn put_tree(tree: &Tree, out: &mut Buffer)
 #[cycle(write)]
 fn put_structure(tag: Tag, items: &[Tree], out: &mut Buffer)
     requires { HasRoom (bytes (structure tag (trees_of items.now))) out.old.spare }
-    ensures { WritesInto (bytes (structure tag (trees_of items.now))) out.old out.new }
+    ensures { Puts (bytes (structure tag (trees_of items.now))) out.old out.new }
 {
     let start = out.len();
     out.put_head(tag, Kind::Structure, 0);
@@ -110,7 +110,7 @@ fn put_structure(tag: Tag, items: &[Tree], out: &mut Buffer)
 ///
 /// `NoForm` comes exactly where there are none: the length of an item reaches 2^32, or that of a Big Integer is no multiple of 8. `Malformed` never comes.
 pub fn write_tree(alloc: Global, tree: &Tree) -> Result<Blob, WireError>
-    ensures { Writes result (bytes tree.now) }
+    ensures { GivesBytes result (bytes tree.now) }
 {
     let Some(len) = tree_len(tree) else {
         return Err(WireError::NoForm);

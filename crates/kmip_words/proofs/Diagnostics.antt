@@ -1,6 +1,6 @@
 -- The lines of a call's diagnostics.
 use Rattle.std.proofs.Common.{◌≡◌, ◌≢◌, ℕ, Bool, true, false, List, [], take, refl, ◌∙◌, ap, Option, Some, None, Ok, Err}
-use Rattle.kmip_diag.specs.Diagnostic.{diagnostic, shown}
+use Rattle.kmip_diag.specs.Diagnostic.{diagnostic, shown_within}
 use Rattle.kmip_enums.specs.declared.operation.Operation.{Operation}
 use Rattle.kmip_client.specs.declared.error.Error.TheVariants.{SerializeError, RequestWriteError, OutOfMemory}
 use Rattle.kmip_client.specs.Message.{Message, message_at}
@@ -43,7 +43,7 @@ response_none : (buffered : Bool) (taken reason : List ℕ) (answer : Answer) (t
 response_none buffered taken reason answer text was is = rw was at is
 
 no_diagnostic : diagnostic (Some 0x4200) [] ≡ []
-unfolding diagnostic shown
+unfolding diagnostic shown_within
 no_diagnostic = refl
 
 -- they are the diagnostics of what was sent and taken

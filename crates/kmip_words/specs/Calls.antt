@@ -4,7 +4,7 @@ use Rattle.std.specs.Option.{option_map, option_and_then}
 use Rattle.std.specs.Str.{is_utf8}
 use Rattle.kmip_request_read.specs.Reading.{request_read}
 use Rattle.kmip_words.specs.Words.{words_of}
-use Rattle.kmip_words.specs.Values.{int_of, bytes_of, text_of}
+use Rattle.kmip_words.specs.Values.{int_of, bytes_of, word_text}
 use Rattle.kmip_words.specs.declared.call.Call.{Call}
 use Rattle.kmip_words.specs.declared.call.Call.TheVariants.{Query, CreateRsa, Rng, Sign, Activate, Revoke, Destroy, Rename, Get, Raw, Locate, Attributes, CreateAes, Discover}
 use Rattle.kmip_words.specs.declared.call.Recorded.{Recorded}
@@ -40,7 +40,7 @@ abbrev pub call_of_two : List ℕ → List ℕ → Option Call
 call_of_two name word =
     if bytes_eq name (codes "rng") then rng_of (int_of word)
     else if bytes_eq name (codes "raw") then raw_of (bytes_of word)
-    else key_call_of name (text_of word)
+    else key_call_of name (word_text word)
 
 abbrev pub sign_of : Option (List ℕ) → Option (List ℕ) → Option Call
 sign_of (Some id) (Some bytes) = Some (Sign id bytes)
@@ -53,8 +53,8 @@ rename_of id new_name = None
 -- the calls of three words: `sign TEXT HEX` and `rename TEXT TEXT`
 abbrev pub call_of_three : List ℕ → List ℕ → List ℕ → Option Call
 call_of_three name id word =
-    if bytes_eq name (codes "sign") then sign_of (text_of id) (bytes_of word)
-    else if bytes_eq name (codes "rename") then rename_of (text_of id) (text_of word)
+    if bytes_eq name (codes "sign") then sign_of (word_text id) (bytes_of word)
+    else if bytes_eq name (codes "rename") then rename_of (word_text id) (word_text word)
     else None
 
 abbrev pub create_rsa_of : Option ℤ → Option (List ℕ) → Option (List ℕ) → Option Call
@@ -66,7 +66,7 @@ create_rsa_of key_length private_key_name public_key_name = None
 abbrev pub call_of_four : List ℕ → List ℕ → List ℕ → List ℕ → Option Call
 call_of_four name number first second =
     if bytes_eq name (codes "create-rsa")
-    then create_rsa_of (int_of number) (text_of first) (text_of second)
+    then create_rsa_of (int_of number) (word_text first) (word_text second)
     else None
 
 abbrev pub with_response : Option Call → Option (List ℕ) → Option Recorded
@@ -120,8 +120,8 @@ attributes_of None = None
 -- `locate TEXT` and `attributes TEXT`
 abbrev pub typed_of_two : List ℕ → List ℕ → Option Call
 typed_of_two name word =
-    if bytes_eq name (codes "locate") then locate_of (text_of word)
-    else if bytes_eq name (codes "attributes") then attributes_of (text_of word)
+    if bytes_eq name (codes "locate") then locate_of (word_text word)
+    else if bytes_eq name (codes "attributes") then attributes_of (word_text word)
     else call_of_two name word
 
 abbrev pub create_aes_of : Option ℤ → Option (List ℕ) → Option Call
@@ -131,7 +131,7 @@ create_aes_of key_length name = None
 -- `create-aes INT TEXT`
 abbrev pub typed_of_three : List ℕ → List ℕ → List ℕ → Option Call
 typed_of_three name first second =
-    if bytes_eq name (codes "create-aes") then create_aes_of (int_of first) (text_of second)
+    if bytes_eq name (codes "create-aes") then create_aes_of (int_of first) (word_text second)
     else call_of_three name first second
 
 -- the call of words that are typed

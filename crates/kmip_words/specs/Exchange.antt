@@ -15,7 +15,7 @@ use Rattle.kmip_request.specs.declared.payload.RequestPayload.{RequestPayload}
 use Rattle.kmip_request_read.specs.Reading.{Request, message_bytes}
 use Rattle.kmip_response.specs.Tables.{response_payload, query_payload, rng_retrieve_payload, sign_payload, attribute_edit_payload, get_payload, locate_payload, get_attributes_payload, create_payload, discover_versions_payload}
 use Rattle.kmip_client.specs.Client.{ClientState}
-use Rattle.kmip_client.specs.Errors.{error_shown, text_of}
+use Rattle.kmip_client.specs.Errors.{error_shown, error_text}
 use Rattle.kmip_client.specs.Outcome.{Answer, Outcome, outcome_of}
 use Rattle.kmip_client.specs.Requests.{query_request, key_pair_request, rng_request, sign_request, activate_request, revoke_request, destroy_request, rename_request, get_request}
 use Rattle.kmip_client.specs.declared.error.Error.{Error}
@@ -130,7 +130,7 @@ error_line error Bare = codes "- " ++ (error_shown error ++ codes "\n")
 error_line error Json =
     codes "{\"error\":\""
     ++ (error_name error
-    ++ (codes "\",\"text\":" ++ (text_styled (text_of error) Json ++ codes "}\n")))
+    ++ (codes "\",\"text\":" ++ (text_styled (error_text error) Json ++ codes "}\n")))
 
 -- the line of a value, given its text
 abbrev pub value_line : List ℕ → Style → List ℕ

@@ -1,10 +1,10 @@
 //! What words ask for: those of a line of a script, and those that are typed.
 ghost use Rattle.std.specs.Prelude.{◌≡◌, map, option_map, IfOk};
-ghost use Rattle.kmip_words.specs.Values.{int_of, bytes_of, text_of};
+ghost use Rattle.kmip_words.specs.Values.{int_of, bytes_of, word_text};
 ghost use Rattle.kmip_words.specs.Calls.{typed_of_one, locate_of, attributes_of, typed_of_two, create_aes_of, typed_of_three, typed_call, rng_of, raw_of, key_call, call_of_one, call_of_two, sign_of, rename_of, call_of_three, create_rsa_of, call_of_four, with_response, call_of_words, call_of, call_in, call_alone};
 
 use crate::raw::RawRequest;
-use crate::values::{bytes_of, int_of, text_of};
+use crate::values::{bytes_of, int_of, word_text};
 use crate::words::words_of;
 use kmip_wire::{Blob, OutOfMemory, Text};
 use std::alloc::Global;
@@ -135,7 +135,7 @@ fn call_of_two(alloc: Global, name: &str, word: &str) -> Result<Option<Call>, Ou
     if name == "raw" {
         return raw_of(alloc, word);
     }
-    match text_of(alloc, word)? {
+    match word_text(alloc, word)? {
         Some(id) => Ok(key_call(name, id)),
         None => Ok(None),
     }
@@ -143,9 +143,9 @@ fn call_of_two(alloc: Global, name: &str, word: &str) -> Result<Option<Call>, Ou
 
 /// `sign TEXT HEX`.
 fn sign_of(alloc: Global, id: &str, bytes: &str) -> Result<Option<Call>, OutOfMemory>
-    ensures { IfOk result (λ call. call ≡ sign_of (text_of id.now) (bytes_of bytes.now)) }
+    ensures { IfOk result (λ call. call ≡ sign_of (word_text id.now) (bytes_of bytes.now)) }
 {
-    let Some(id) = text_of(alloc, id)? else {
+    let Some(id) = word_text(alloc, id)? else {
         return Ok(None);
     };
     let Some(bytes) = bytes_of(alloc, bytes)? else {
@@ -156,12 +156,12 @@ fn sign_of(alloc: Global, id: &str, bytes: &str) -> Result<Option<Call>, OutOfMe
 
 /// `rename TEXT TEXT`.
 fn rename_of(alloc: Global, id: &str, new_name: &str) -> Result<Option<Call>, OutOfMemory>
-    ensures { IfOk result (λ call. call ≡ rename_of (text_of id.now) (text_of new_name.now)) }
+    ensures { IfOk result (λ call. call ≡ rename_of (word_text id.now) (word_text new_name.now)) }
 {
-    let Some(id) = text_of(alloc, id)? else {
+    let Some(id) = word_text(alloc, id)? else {
         return Ok(None);
     };
-    let Some(new_name) = text_of(alloc, new_name)? else {
+    let Some(new_name) = word_text(alloc, new_name)? else {
         return Ok(None);
     };
     Ok(Some(Call::Rename { id, new_name }))
@@ -192,16 +192,16 @@ fn create_rsa_of(
 ) -> Result<Option<Call>, OutOfMemory>
     ensures { IfOk result
         (λ call. call ≡
-        create_rsa_of (int_of key_length.now) (text_of private_key_name.now)
-        (text_of public_key_name.now)) }
+        create_rsa_of (int_of key_length.now) (word_text private_key_name.now)
+        (word_text public_key_name.now)) }
 {
     let Some(key_length) = int_of(key_length) else {
         return Ok(None);
     };
-    let Some(private_key_name) = text_of(alloc, private_key_name)? else {
+    let Some(private_key_name) = word_text(alloc, private_key_name)? else {
         return Ok(None);
     };
-    let Some(public_key_name) = text_of(alloc, public_key_name)? else {
+    let Some(public_key_name) = word_text(alloc, public_key_name)? else {
         return Ok(None);
     };
     Ok(Some(Call::CreateRsa {
@@ -319,9 +319,9 @@ fn typed_of_one(name: &str) -> Option<Call>
 
 /// `locate TEXT`.
 fn locate_of(alloc: Global, name: &str) -> Result<Option<Call>, OutOfMemory>
-    ensures { IfOk result (λ call. call ≡ locate_of (text_of name.now)) }
+    ensures { IfOk result (λ call. call ≡ locate_of (word_text name.now)) }
 {
-    match text_of(alloc, name)? {
+    match word_text(alloc, name)? {
         Some(name) => Ok(Some(Call::Locate { name })),
         None => Ok(None),
     }
@@ -329,9 +329,9 @@ fn locate_of(alloc: Global, name: &str) -> Result<Option<Call>, OutOfMemory>
 
 /// `attributes TEXT`.
 fn attributes_of(alloc: Global, id: &str) -> Result<Option<Call>, OutOfMemory>
-    ensures { IfOk result (λ call. call ≡ attributes_of (text_of id.now)) }
+    ensures { IfOk result (λ call. call ≡ attributes_of (word_text id.now)) }
 {
-    match text_of(alloc, id)? {
+    match word_text(alloc, id)? {
         Some(id) => Ok(Some(Call::Attributes { id })),
         None => Ok(None),
     }
@@ -351,12 +351,12 @@ fn typed_of_two(alloc: Global, name: &str, word: &str) -> Result<Option<Call>, O
 /// `create-aes INT TEXT`.
 fn create_aes_of(alloc: Global, key_length: &str, name: &str) -> Result<Option<Call>, OutOfMemory>
     ensures { IfOk result
-        (λ call. call ≡ create_aes_of (int_of key_length.now) (text_of name.now)) }
+        (λ call. call ≡ create_aes_of (int_of key_length.now) (word_text name.now)) }
 {
     let Some(key_length) = int_of(key_length) else {
         return Ok(None);
     };
-    match text_of(alloc, name)? {
+    match word_text(alloc, name)? {
         Some(name) => Ok(Some(Call::CreateAes { key_length, name })),
         None => Ok(None),
     }

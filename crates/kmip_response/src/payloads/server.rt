@@ -1,26 +1,146 @@
-//! The payload of Query.
-//!
-//! It stands in a file of its own, since a struct with an invariant leads to all that its file names.
+//! What a server tells of itself: the items of the payload of Query, and the payload of Discover Versions.
 
-ghost use Rattle.kmip_response.specs.Skipped.{IsSkipped, IsSkipped-prop};
+ghost use Rattle.std.specs.Prelude.{◌≡◌};
+ghost use Rattle.kmip_tags.specs.Tags as tags;
+ghost use Rattle.kmip_response.specs.Tables.{query_payload, discover_versions_payload};
+ghost use Rattle.kmip_response.specs.Values.{query_payload_val, discover_versions_payload_val};
+ghost use Rattle.kmip_response.specs.Same.{query_payload_same, discover_versions_payload_same};
 
+use crate::header::ProtocolVersion;
+use crate::payloads::query::QueryResponsePayload;
 use kmip_enums::{ObjectType, Operation};
-use kmip_wire::{List, Text};
+use kmip_shape::record::{End, Row};
+use kmip_shape::row_readers::{Opt, OptMany};
+use kmip_shape::{
+    Item, Outer, ReadError, ReadItem, ReadRoot, ShowItem, TextWriter, copy_optional_list, fields,
+    known_record, read_record, show_record,
+};
+use kmip_tags::tags::{
+    OBJECT_TYPE, OPERATION, PROTOCOL_VERSION, RESPONSE_PAYLOAD, VENDOR_IDENTIFICATION,
+};
+use kmip_wire::{ItemRef, List, OutOfMemory, Tag, Text, TryClone, clone_optional};
+use std::alloc::Global;
 
-/// The Server Information of a response (KMIP 1.0, 4.24), which is skipped.
-#[derive(Clone, Copy, PartialEq, Eq, Default, Drop)]
-pub struct ServerInformation;
+type QueryResponsePayloadRows = Row<
+    OptMany<Operation, OPERATION>,
+    Row<OptMany<ObjectType, OBJECT_TYPE>, Row<Opt<Text, VENDOR_IDENTIFICATION>, End>>,
+>;
 
-/// The response payload of Query: KMIP 1.0, 4.24.
+impl TryClone for QueryResponsePayload {
+    fn try_clone(&self, alloc: Global) -> Result<QueryResponsePayload, OutOfMemory> {
+        Ok(QueryResponsePayload {
+            operations: copy_optional_list(&self.operations, alloc)?,
+            object_types: copy_optional_list(&self.object_types, alloc)?,
+            vendor_identification: clone_optional(&self.vendor_identification, alloc)?,
+            server_information: None,
+        })
+    }
+}
+
+impl Item for QueryResponsePayload {
+    ghost shape = { query_payload };
+
+    ghost val = { query_payload_val };
+
+    fn known(&self) {
+        known_record::<QueryResponsePayloadRows>(fields![
+            &self.operations,
+            &self.object_types,
+            &self.vendor_identification
+        ]);
+    }
+
+    ghost same = { query_payload_same };
+}
+
+impl ReadItem for QueryResponsePayload {
+    fn read(alloc: Global, outer: Outer<'_>, item: ItemRef<'_>) -> Result<Self, ReadError> {
+        let fields![operations, object_types, vendor_identification] = read_record::<
+            QueryResponsePayloadRows,
+        >(alloc, outer, item)?;
+        Ok(QueryResponsePayload {
+            operations,
+            object_types,
+            vendor_identification,
+            server_information: None,
+        })
+    }
+}
+
+impl ReadRoot for QueryResponsePayload {
+    ghost root_tag = { tags.RESPONSE_PAYLOAD };
+
+    fn root_tag() -> Tag {
+        Tag::of(RESPONSE_PAYLOAD)
+    }
+}
+
+impl ShowItem for QueryResponsePayload {
+    fn show_into(&self, out: &mut TextWriter) {
+        show_record::<QueryResponsePayloadRows>(
+            fields![
+                &self.operations,
+                &self.object_types,
+                &self.vendor_identification
+            ],
+            fields!["operations", "object_types", "vendor_identification"],
+            out,
+        );
+    }
+}
+
+/// The response payload of Discover Versions: KMIP 1.1, 4.26.
 #[derive(PartialEq, Eq, Drop)]
-pub struct QueryResponsePayload {
-    /// The operations that the server supports, where that was asked for.
-    pub operations: Option<List<Operation>>,
-    /// The types of objects that the server supports, where that was asked for.
-    pub object_types: Option<List<ObjectType>>,
-    /// What the vendor calls the server.
-    pub vendor_identification: Option<Text>,
-    /// Always `None`: Server Information is skipped.
-    pub server_information: Option<ServerInformation>,
-    ghost skipped: { IsSkipped server_information } by { IsSkipped-prop server_information },
+pub struct DiscoverVersionsResponsePayload {
+    /// The versions that both sides know, the one that the server likes best first.
+    pub supported_versions: Option<List<ProtocolVersion>>,
+}
+
+type DiscoverVersionsResponsePayloadRows = Row<OptMany<ProtocolVersion, PROTOCOL_VERSION>, End>;
+
+impl TryClone for DiscoverVersionsResponsePayload {
+    fn try_clone(&self, alloc: Global) -> Result<DiscoverVersionsResponsePayload, OutOfMemory> {
+        Ok(DiscoverVersionsResponsePayload {
+            supported_versions: copy_optional_list(&self.supported_versions, alloc)?,
+        })
+    }
+}
+
+impl Item for DiscoverVersionsResponsePayload {
+    ghost shape = { discover_versions_payload };
+
+    ghost val = { discover_versions_payload_val };
+
+    fn known(&self) {
+        known_record::<DiscoverVersionsResponsePayloadRows>(fields![&self.supported_versions]);
+    }
+
+    ghost same = { discover_versions_payload_same };
+}
+
+impl ReadItem for DiscoverVersionsResponsePayload {
+    fn read(alloc: Global, outer: Outer<'_>, item: ItemRef<'_>) -> Result<Self, ReadError> {
+        let fields![supported_versions] = read_record::<DiscoverVersionsResponsePayloadRows>(
+            alloc, outer, item,
+        )?;
+        Ok(DiscoverVersionsResponsePayload { supported_versions })
+    }
+}
+
+impl ReadRoot for DiscoverVersionsResponsePayload {
+    ghost root_tag = { tags.RESPONSE_PAYLOAD };
+
+    fn root_tag() -> Tag {
+        Tag::of(RESPONSE_PAYLOAD)
+    }
+}
+
+impl ShowItem for DiscoverVersionsResponsePayload {
+    fn show_into(&self, out: &mut TextWriter) {
+        show_record::<DiscoverVersionsResponsePayloadRows>(
+            fields![&self.supported_versions],
+            fields!["supported_versions"],
+            out,
+        );
+    }
 }

@@ -1,7 +1,7 @@
 use Rattle.std.proofs.Common.{sym, ap, ◌∙◌, ◌+◌, arith, Some, length}
 use Rattle.std.specs.Option.{option_map}
 use Rattle.kmip_wire.specs.Bytes.{bytes}
-use Rattle.kmip_wire.specs.Sees.{tree_of}
+use Rattle.kmip_wire.specs.Sees.{tree_of_node}
 use Rattle.kmip_wire.proofs.Writing.{child_smaller, bytes_length, bytes_short, sum_more, sum_over, sum_none, sum_all, value_at}
 use Rattle.kmip_wire.proofs.write.+length.Goals as goal
 
@@ -32,5 +32,5 @@ contents_len-returns t c = sum_all c.args.items.now c.loop-item.item-index c.loo
 
 pub tree_len-returns : goal.tree_len-returns
 tree_len-returns t c =
-    bytes_length (tree_of c.tree.inside.tag c.tree.inside.node) (Some c.in-Some.len) (c.in-Some.ensures ∙ ap (option_map length) (value_at c.tree.inside.tag c.tree.inside.node))
+    bytes_length (tree_of_node c.tree.inside.tag c.tree.inside.node) (Some c.in-Some.len) (c.in-Some.ensures ∙ ap (option_map length) (value_at c.tree.inside.tag c.tree.inside.node))
     ∙ ap (λ t. option_map length (bytes t)) c.tree.view_is

@@ -1,13 +1,13 @@
 use Rattle.std.proofs.Common.{sym, ◌∙◌, ap, arith, ◌++◌, false}
 use Rattle.kmip_wire.specs.Items.{item_tree}
-use Rattle.kmip_diag.specs.Diagnostic.{diagnostic, shown_text, shown}
+use Rattle.kmip_diag.specs.Diagnostic.{diagnostic, shown_text, shown_within}
 use Rattle.kmip_diag.proofs.Wire.{some_bytes, no_bytes}
 use Rattle.kmip_diag.proofs.Showing.{diag_start, diag_item, diag_torn, diag_stop, diag_end_torn, diag_end}
 use Rattle.kmip_diag.proofs.printer.PrettyPrinter.to_diag_string.Goals as goal
 use Rattle.kmip_diag.proofs.printer.PrettyPrinter.to_diag_string.Goals.{then-is_torn+in_ok-push_str-2, else-is_torn}
 
 pub loop-rest-init : goal.loop-rest-init
-loop-rest-init c = (omega arith, omega arith, diag_start c.args.self.now c.args.bytes.now ∙ ap (λ x. x ++ shown_text c.args.self.now false (shown 1 c.args.bytes.now)) (sym c.new-text.ensures))
+loop-rest-init c = (omega arith, omega arith, diag_start c.args.self.now c.args.bytes.now ∙ ap (λ x. x ++ shown_text c.args.self.now false (shown_within 1 c.args.bytes.now)) (sym c.new-text.ensures))
 
 pub loop-rest-preserved-in-Some : goal.loop-rest-preserved-in-Some
 loop-rest-preserved-in-Some c =
