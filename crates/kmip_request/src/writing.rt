@@ -5,7 +5,7 @@ ghost use Rattle.std.specs.Prelude.{OnOk, OnErr, IfOk, IfErr, IsErrOf};
 ghost use Rattle.std.specs.Option.{option_map};
 ghost use Rattle.kmip_wire.specs.Found.{GivesBytes};
 ghost use Rattle.kmip_wire.specs.Room.{Appends};
-ghost use Rattle.kmip_shape.specs.GivesBytes.{HasForm, size_of, text_of, wire_len_of, bytes_of};
+ghost use Rattle.kmip_shape.specs.Writes.{HasForm, size_of, text_of, wire_len_of, bytes_of};
 ghost use Rattle.kmip_request.specs.Tables.{request_header, batch_item_of, request_message_of};
 ghost use Rattle.kmip_request.specs.Values.{lent_header_val, lent_item_val, lent_message_val};
 ghost use Rattle.kmip_request.specs.Message.{request_bytes, credential_of};

@@ -4,7 +4,7 @@ ghost use Rattle.std.specs.Prelude.{◌≡◌, ◌≤◌, Some, length, IfOk, If
 ghost use Rattle.std.specs.Option.{option_map};
 ghost use Rattle.kmip_wire.specs.Found.{GivesBytes};
 ghost use Rattle.kmip_wire.specs.Room.{Appends};
-ghost use Rattle.kmip_shape.specs.GivesBytes.{bytes_of};
+ghost use Rattle.kmip_shape.specs.Writes.{bytes_of};
 ghost use Rattle.kmip_response.specs.Values.{response_message_val};
 ghost use Rattle.kmip_response_write.specs.Settled.{IsSettled, response_bytes, response_read};
 

@@ -4,7 +4,7 @@ ghost use Rattle.std.specs.Prelude.{◌≡◌, ◌≤◌, ℕ, List, Some, lengt
 ghost use Rattle.std.specs.Option.{option_map};
 ghost use Rattle.kmip_wire.specs.Room.{Appends};
 ghost use Rattle.kmip_wire.specs.Found.{GivesBytes};
-ghost use Rattle.kmip_shape.specs.GivesBytes.{bytes_of};
+ghost use Rattle.kmip_shape.specs.Writes.{bytes_of};
 
 use crate::item::WriteItem;
 use kmip_wire::{Blob, Buffer, Tag, WireError};
