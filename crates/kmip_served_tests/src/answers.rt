@@ -1,25 +1,14 @@
 //! Each helper's call, answered.
-use crate::helpers::{denies, item, request, tells, text};
+use crate::helpers::{
+    activate, denies, destroy, get, is_of, item, known, pair, rename, request_by_alice, revoke,
+    server, sign, tells,
+};
 use kmip_enums::{Operation, ResultReason, ResultStatus};
-use kmip_served::{Call, Server, call_known, is_request_of};
+use kmip_served::{Call, Server};
 use kmip_store::PlainMaker;
-use kmip_types::auth::{CredentialType, UsernameAndPasswordCredential};
-use kmip_wire::Blob;
 use std::alloc::Global;
 use std::process::Abort;
 use std::test::Fail;
-
-fn server(alloc: Global) -> Server<PlainMaker> {
-    Server::new(alloc, PlainMaker::new(alloc), 7)
-}
-
-fn pair(alloc: Global) -> Result<Call, Fail> {
-    Ok(Call::CreateRsaKeyPair(2048, text(alloc, "priv")?, text(alloc, "pub")?))
-}
-
-fn sign(alloc: Global, id: &str) -> Result<Call, Fail> {
-    Ok(Call::Sign(text(alloc, id)?, Blob::of(alloc, b"\x01")?))
-}
 
 const DENIED: &str = "not allowed in this state";
 
@@ -58,7 +47,7 @@ fn a_life(rt: HostRuntime) -> Result<(), Fail> {
         &rt,
         alloc,
         &mut server,
-        &pair(alloc)?,
+        &pair(alloc, 2048)?,
         0,
         "CreateKeyPair{private_key_unique_identifier=\"1\",public_key_unique_identifier=\"2\"}",
     )?;
@@ -78,7 +67,7 @@ fn a_life(rt: HostRuntime) -> Result<(), Fail> {
         &rt,
         alloc,
         &mut server,
-        &Call::ActivateKey(text(alloc, "1")?),
+        &activate(alloc, "1")?,
         0,
         "Activate{unique_identifier=\"1\"}",
     )?;
@@ -94,7 +83,7 @@ fn a_life(rt: HostRuntime) -> Result<(), Fail> {
         &rt,
         alloc,
         &mut server,
-        &Call::GetKey(text(alloc, "1")?),
+        &get(alloc, "1")?,
         0,
         "Get{object_type=PrivateKey,unique_identifier=\"1\",cryptographic_object=PrivateKey{key_block={key_format_type=PKCS1,key_value={key_material=Bytes(x\"000000000000000101\")},cryptographic_algorithm=RSA,cryptographic_length=2048}}}",
     )?;
@@ -103,7 +92,7 @@ fn a_life(rt: HostRuntime) -> Result<(), Fail> {
 
 /// The end of that key.
 fn ended(rt: &impl Abort, alloc: Global, server: &mut Server<PlainMaker>) -> Result<(), Fail> {
-    let destroy = Call::DestroyKey(text(alloc, "1")?);
+    let destroy = destroy(alloc, "1")?;
     denies(
         rt,
         alloc,
@@ -120,7 +109,7 @@ fn ended(rt: &impl Abort, alloc: Global, server: &mut Server<PlainMaker>) -> Res
         rt,
         alloc,
         server,
-        &Call::RenameKey(text(alloc, "1")?, text(alloc, "old")?),
+        &rename(alloc, "1", "old")?,
         0,
         "ModifyAttribute{unique_identifier=\"1\",attribute={name=\"Name\",value=Name{name_value=\"old\",name_type=UninterpretedTextString}}}",
     )?;
@@ -128,7 +117,7 @@ fn ended(rt: &impl Abort, alloc: Global, server: &mut Server<PlainMaker>) -> Res
         rt,
         alloc,
         server,
-        &Call::RevokeKey(text(alloc, "1")?),
+        &revoke(alloc, "1")?,
         0,
         "Revoke{unique_identifier=\"1\"}",
     )?;
@@ -144,7 +133,7 @@ fn ended(rt: &impl Abort, alloc: Global, server: &mut Server<PlainMaker>) -> Res
         rt,
         alloc,
         server,
-        &Call::GetKey(text(alloc, "1")?),
+        &get(alloc, "1")?,
         0,
         (Some(Operation::Get), ResultReason::PermissionDenied, DENIED),
     )?;
@@ -152,7 +141,7 @@ fn ended(rt: &impl Abort, alloc: Global, server: &mut Server<PlainMaker>) -> Res
         rt,
         alloc,
         server,
-        &Call::ActivateKey(text(alloc, "9")?),
+        &activate(alloc, "9")?,
         0,
         (
             Some(Operation::Activate),
@@ -166,11 +155,7 @@ fn ended(rt: &impl Abort, alloc: Global, server: &mut Server<PlainMaker>) -> Res
 #[test]
 fn with_a_credential(rt: HostRuntime) -> Result<(), Fail> {
     let alloc = rt.alloc();
-    let credential = CredentialType::UsernameAndPassword(UsernameAndPasswordCredential {
-        username: text(alloc, "alice")?,
-        password: None,
-    });
-    let bytes = request(alloc, &Call::RngRetrieve(1), Some(credential))?;
+    let bytes = request_by_alice(alloc, &Call::RngRetrieve(1), None)?;
     let item = item(&rt, alloc, &mut server(alloc), bytes.as_slice(), 2)?;
     assert!(rt; item.result_status == ResultStatus::Success);
     Ok(())
@@ -181,14 +166,10 @@ fn with_a_credential(rt: HostRuntime) -> Result<(), Fail> {
 fn the_call_of_a_request(rt: HostRuntime) -> Result<(), Fail> {
     let alloc = rt.alloc();
     let call = sign(alloc, "1")?;
-    call_known(alloc, &call)?;
-    let credential = CredentialType::UsernameAndPassword(UsernameAndPasswordCredential {
-        username: text(alloc, "alice")?,
-        password: Some(text(alloc, "secret")?),
-    });
-    let bytes = request(alloc, &call, Some(credential))?;
-    assert!(rt; is_request_of(alloc, &call, bytes.as_slice())?);
-    assert!(rt; !is_request_of(alloc, &sign(alloc, "2")?, bytes.as_slice())?);
-    assert!(rt; !is_request_of(alloc, &call, b"\x42\x00\x78")?);
+    known(alloc, &call)?;
+    let bytes = request_by_alice(alloc, &call, Some("secret"))?;
+    assert!(rt; is_of(alloc, &call, bytes.as_slice())?);
+    assert!(rt; !is_of(alloc, &sign(alloc, "2")?, bytes.as_slice())?);
+    assert!(rt; !is_of(alloc, &call, b"\x42\x00\x78")?);
     Ok(())
 }

@@ -1,28 +1,35 @@
 //! Calls over a server that was just made.
-use crate::helpers::{activate, answers_are, calls, joined, pair, sign, text};
-use kmip_client::ClientBuilder;
-use kmip_server::{Call, ServerLink, call_all};
-use kmip_store::{Made, MemoryMaker, PlainMaker};
-use kmip_wire::{Blob, Config, List};
+use crate::helpers::{
+    activate, add, answers_are, asked, calls, destroy, first_is, get, is_sound, joined, limited,
+    pair, plain_link, refusing_link, rename, revoke, sign,
+};
+use kmip_server::Call;
+use kmip_wire::List;
+use std::alloc::Global;
 use std::test::Fail;
+
+/// The calls of a life, and a call on a key that there is not.
+fn life(alloc: Global) -> Result<List<Call>, Fail> {
+    let mut list = calls(alloc);
+    add(&mut list, pair(alloc)?)?;
+    add(&mut list, sign(alloc, "1")?)?;
+    add(&mut list, activate(alloc, "1")?)?;
+    add(&mut list, sign(alloc, "1")?)?;
+    add(&mut list, get(alloc, "1")?)?;
+    add(&mut list, destroy(alloc, "1")?)?;
+    add(&mut list, revoke(alloc, "1")?)?;
+    add(&mut list, destroy(alloc, "1")?)?;
+    add(&mut list, get(alloc, "1")?)?;
+    add(&mut list, activate(alloc, "9")?)?;
+    Ok(list)
+}
 
 /// The life of a key.
 #[test]
 fn a_life(rt: HostRuntime) -> Result<(), Fail> {
     let alloc = rt.alloc();
-    let mut client = joined(alloc, PlainMaker::new(alloc));
-    let mut list = calls(alloc);
-    list.push(pair(alloc)?)?;
-    list.push(sign(alloc, "1")?)?;
-    list.push(activate(alloc, "1")?)?;
-    list.push(sign(alloc, "1")?)?;
-    list.push(Call::GetKey(text(alloc, "1")?))?;
-    list.push(Call::DestroyKey(text(alloc, "1")?))?;
-    list.push(Call::RevokeKey(text(alloc, "1")?))?;
-    list.push(Call::DestroyKey(text(alloc, "1")?))?;
-    list.push(Call::GetKey(text(alloc, "1")?))?;
-    list.push(activate(alloc, "9")?)?;
-    let answers = call_all(alloc, &mut client, list)?;
+    let mut client = joined(plain_link(alloc));
+    let answers = asked(alloc, &mut client, life(alloc)?)?;
     answers_are(
         &rt,
         alloc,
@@ -46,13 +53,13 @@ fn a_life(rt: HostRuntime) -> Result<(), Fail> {
 #[test]
 fn other_calls(rt: HostRuntime) -> Result<(), Fail> {
     let alloc = rt.alloc();
-    let mut client = joined(alloc, PlainMaker::new(alloc));
+    let mut client = joined(plain_link(alloc));
     let mut list = calls(alloc);
-    list.push(Call::RngRetrieve(2))?;
-    list.push(Call::Query)?;
-    list.push(pair(alloc)?)?;
-    list.push(Call::RenameKey(text(alloc, "2")?, text(alloc, "new")?))?;
-    let answers = call_all(alloc, &mut client, list)?;
+    add(&mut list, Call::RngRetrieve(2))?;
+    add(&mut list, Call::Query)?;
+    add(&mut list, pair(alloc)?)?;
+    add(&mut list, rename(alloc, "2", "new")?)?;
+    let answers = asked(alloc, &mut client, list)?;
     answers_are(
         &rt,
         alloc,
@@ -64,32 +71,26 @@ fn other_calls(rt: HostRuntime) -> Result<(), Fail> {
             "{unique_identifier=\"2\",attribute={name=\"Name\",value=Name{name_value=\"new\",name_type=UninterpretedTextString}}}",
         ],
     )?;
-    let first = answers.as_slice().first().ok_or("no call")?;
-    assert_eq!(rt; first.sent.len(), 120);
-    let request = first.req_diag.as_ref().ok_or("no diagnostic")?;
-    assert_eq!(rt; request.as_str(), "78[77[69[6Ai6Bi]0Di]0F[5Ce25:79[C4i]]]");
-    let response = first.res_diag.as_ref().ok_or("no diagnostic")?;
-    assert_eq!(rt;
-        response.as_str(),
-        "7B[7A[69[6Ai6Bi]92d0Di]0F[5Ce25:7Fe0:7C[C2x]]]"
-    );
-    Ok(())
+    first_is(
+        &rt,
+        &answers,
+        120,
+        "78[77[69[6Ai6Bi]0Di]0F[5Ce25:79[C4i]]]",
+        "7B[7A[69[6Ai6Bi]92d0Di]0F[5Ce25:7Fe0:7C[C2x]]]",
+    )
 }
 
 /// A maker that refuses its second answer.
 #[test]
 fn a_maker_that_refuses(rt: HostRuntime) -> Result<(), Fail> {
     let alloc = rt.alloc();
-    let mut given = List::new(alloc);
-    given.push(Made::Pair(Blob::of(alloc, b"\x01")?, Blob::of(alloc, b"\x02")?))?;
-    given.push(Made::Bytes(Blob::of(alloc, b"\x03")?))?;
-    let mut client = joined(alloc, MemoryMaker::new(alloc, given, &[1])?);
+    let mut client = joined(refusing_link(alloc)?);
     let mut list = calls(alloc);
-    list.push(pair(alloc)?)?;
-    list.push(activate(alloc, "1")?)?;
-    list.push(sign(alloc, "1")?)?;
-    list.push(sign(alloc, "1")?)?;
-    let answers = call_all(alloc, &mut client, list)?;
+    add(&mut list, pair(alloc)?)?;
+    add(&mut list, activate(alloc, "1")?)?;
+    add(&mut list, sign(alloc, "1")?)?;
+    add(&mut list, sign(alloc, "1")?)?;
+    let answers = asked(alloc, &mut client, list)?;
     answers_are(
         &rt,
         alloc,
@@ -107,20 +108,16 @@ fn a_maker_that_refuses(rt: HostRuntime) -> Result<(), Fail> {
 #[test]
 fn over_the_limit(rt: HostRuntime) -> Result<(), Fail> {
     let alloc = rt.alloc();
-    let link = ServerLink::new(alloc, PlainMaker::new(alloc), 0);
-    let mut client = ClientBuilder::new(link)
-        .with_reader_config(Config::new().with_max_bytes(16))
-        .build();
+    let mut client = limited(plain_link(alloc), 16);
     let mut list = calls(alloc);
-    list.push(Call::RngRetrieve(2))?;
-    let answers = call_all(alloc, &mut client, list)?;
+    add(&mut list, Call::RngRetrieve(2))?;
+    let answers = asked(alloc, &mut client, list)?;
     answers_are(
         &rt,
         alloc,
         &answers,
         &["response size 152 exceeds limit 16"],
     )?;
-    let link = client.inner();
-    assert!(rt; !link.faulted() && !link.starved());
+    assert!(rt; is_sound(&mut client));
     Ok(())
 }
