@@ -2,15 +2,16 @@
 """Runs `rt ci` and says what each crate took of it, in processor minutes.
 
 usage: gate_times.py [--anew] [NAME..]      at the top of the repository; the words are those of `rt ci`
-       gate_times.py --read LOG             prints the table of an earlier run again
+       gate_times.py --read LOG..           prints the table of earlier runs again: of each count the largest
 
 It watches the prover's processes five times a second, and counts the processor time of each to its crate: its own
 proof, the proof of its tests, and its must-fail edits with the check that they begin with. What a process takes in its
 last fifth of a second is not counted. Each count is also written to gate_times.log beside what `rt ci` says.
 The longest chain is the largest sum of own proofs of crates of which each stands on the one before: no number of
-processors makes a run shorter than that. What an earlier run kept takes no time, so give --anew for a run from nothing.
+processors makes a run shorter than that. What an earlier run kept takes no time, so give --anew for a run from nothing. A run that is ended by a signal prints
+what it took up to there.
 """
-import os, re, subprocess, sys, time
+import os, re, signal, subprocess, sys, time
 
 PHASES = ('own', 'tests', 'edits')
 TICKS = os.sysconf('SC_CLK_TCK')
@@ -87,26 +88,35 @@ def table(crates, spent, wall):
     print(f'from first to last: {wall / 60:.1f} minutes')
 
 
-def read(log):
+def read(logs):
     spent, wall = {}, 0
-    for line in open(log):
+    for line in (line for log in logs for line in open(log)):
         row = re.fullmatch(r'gate_times: (\w+) (own|tests|edits) ([\d.]+)\n', line)
         if row:
-            spent[row[1], row[2]] = float(row[3])
+            spent[row[1], row[2]] = max(float(row[3]), spent.get((row[1], row[2]), 0))
         whole = re.fullmatch(r'gate_times: wall ([\d.]+)\n', line)
-        wall = float(whole[1]) if whole else wall
+        wall += float(whole[1]) if whole else 0
     return spent, wall
+
+
+def ended(*_):
+    raise KeyboardInterrupt
 
 
 def main():
     if sys.argv[1:2] == ['--read']:
-        return table(crates_of('.'), *read(sys.argv[2]))
+        return table(crates_of('.'), *read(sys.argv[2:]))
     begin, known, seen = time.time(), {}, {}
     with open('gate_times.log', 'w') as log:
         run = subprocess.Popen(['rt', 'ci', *sys.argv[1:]], stdout=log, stderr=subprocess.STDOUT, stdin=subprocess.DEVNULL)
-        while run.poll() is None:
-            watched(run.pid, known, seen)
-            time.sleep(0.2)
+        signal.signal(signal.SIGTERM, ended)
+        try:
+            while run.poll() is None:
+                watched(run.pid, known, seen)
+                time.sleep(0.2)
+        except KeyboardInterrupt:
+            run.terminate()
+            run.wait()
         spent, wall = {}, time.time() - begin
         for key, seconds in seen.values():
             spent[key] = spent.get(key, 0) + seconds
