@@ -50,7 +50,7 @@ loop-payload-preserved g c =
     let told : Told = telling seen new.request_text new.response_text in
     let before : List Told = map (exchange_told all) c.loop-payload.exchanges in
     let is : map (exchange_told all) c.push.new.self ≡ before ++ told ∷ [] =
-    ap (λ l. map (exchange_told all) l) c.in_ok-push.ensures ∙ pushed all c.loop-payload.exchanges c.in_ok-told.field-0 told (ap (exchange_told all) c.in_ok-told.ensures) in
+    ap (λ l. map (exchange_told all) l) c.in_ok-push.ensures ∙ pushed all c.loop-payload.exchanges c.in_ok-exchange_of.field-0 told (ap (exchange_told all) c.in_ok-exchange_of.ensures) in
     let stops : StopsOn c.args.payloads.items before (payload ∷ rest) = rw steps.0 at i.stops in
     let so_far : CallsOn g.T.Link.state c.args.payloads.items start before old (payload ∷ rest) = rw steps.0 at i.calls in
     record {
@@ -93,7 +93,7 @@ returns-then-lost-clause-session g c = λ tells same.
     let told : Told = telling seen new.request_text new.response_text in
     let before : List Told = map (exchange_told all) c.loop-payload.exchanges in
     let is : map (exchange_told all) c.push.new.self ≡ before ++ told ∷ [] =
-    ap (λ l. map (exchange_told all) l) c.in_ok-push.ensures ∙ pushed all c.loop-payload.exchanges c.in_ok-told.field-0 told (ap (exchange_told all) c.in_ok-told.ensures) in
+    ap (λ l. map (exchange_told all) l) c.in_ok-push.ensures ∙ pushed all c.loop-payload.exchanges c.in_ok-exchange_of.field-0 told (ap (exchange_told all) c.in_ok-exchange_of.ensures) in
     let tells_on : IsTrue (g.T.Link.state old.link).tells = rw i.keeps.tells tells in
     let quiet = same_before (i.grows tells) (exchanged_grows (call.exchange tells_on)) same in
     let step : Step start.buffered start.credential start.limit payload (g.T.Link.state old.link) (g.T.Link.state new.link) seen new.request_text new.response_text =
@@ -113,7 +113,7 @@ returns-then-lost-clause-stops g c =
     let told : Told = telling seen new.request_text new.response_text in
     let before : List Told = map (exchange_told all) c.loop-payload.exchanges in
     let is : map (exchange_told all) c.push.new.self ≡ before ++ told ∷ [] =
-    ap (λ l. map (exchange_told all) l) c.in_ok-push.ensures ∙ pushed all c.loop-payload.exchanges c.in_ok-told.field-0 told (ap (exchange_told all) c.in_ok-told.ensures) in
+    ap (λ l. map (exchange_told all) l) c.in_ok-push.ensures ∙ pushed all c.loop-payload.exchanges c.in_ok-exchange_of.field-0 told (ap (exchange_told all) c.in_ok-exchange_of.ensures) in
     let stops : StopsOn c.args.payloads.items before (payload ∷ rest) = rw steps.0 at i.stops in
     rw is (stops (told ∷ []) (at_loss payload rest told lost))
 
@@ -133,7 +133,7 @@ returns-then-lost-clause-calls g c =
     let told : Told = told_by seen new in
     let before : List Told = map (exchange_told all) c.loop-payload.exchanges in
     let is : map (exchange_told all) c.push.new.self ≡ before ++ told ∷ [] =
-    ap (λ l. map (exchange_told all) l) c.in_ok-push.ensures ∙ pushed all c.loop-payload.exchanges c.in_ok-told.field-0 told (ap (exchange_told all) c.in_ok-told.ensures) in
+    ap (λ l. map (exchange_told all) l) c.in_ok-push.ensures ∙ pushed all c.loop-payload.exchanges c.in_ok-exchange_of.field-0 told (ap (exchange_told all) c.in_ok-exchange_of.ensures) in
     let so_far : CallsOn g.T.Link.state c.args.payloads.items start before old (payload ∷ rest) = rw steps.0 at i.calls in
     let made : Calls g.T.Link.state c.args.payloads.items start (before ++ told ∷ []) new =
     calls_end _ _ _ (before ++ told ∷ []) new rest (calls_on _ _ _ before old new payload rest seen call so_far) in
@@ -155,7 +155,7 @@ returns-then-lost-clause-texts g c =
     let told : Told = told_by seen new in
     let before : List Told = map (exchange_told all) c.loop-payload.exchanges in
     let is : map (exchange_told all) c.push.new.self ≡ before ++ told ∷ [] =
-    ap (λ l. map (exchange_told all) l) c.in_ok-push.ensures ∙ pushed all c.loop-payload.exchanges c.in_ok-told.field-0 told (ap (exchange_told all) c.in_ok-told.ensures) in
+    ap (λ l. map (exchange_told all) l) c.in_ok-push.ensures ∙ pushed all c.loop-payload.exchanges c.in_ok-exchange_of.field-0 told (ap (exchange_told all) c.in_ok-exchange_of.ensures) in
     let so_far : CallsOn g.T.Link.state c.args.payloads.items start before old (payload ∷ rest) = rw steps.0 at i.calls in
     let made : Calls g.T.Link.state c.args.payloads.items start (before ++ told ∷ []) new =
     calls_end _ _ _ (before ++ told ∷ []) new rest (calls_on _ _ _ before old new payload rest seen call so_far) in
@@ -178,7 +178,7 @@ returns-then-lost-clause-requests g c =
     let told : Told = told_by seen new in
     let before : List Told = map (exchange_told all) c.loop-payload.exchanges in
     let is : map (exchange_told all) c.push.new.self ≡ before ++ told ∷ [] =
-    ap (λ l. map (exchange_told all) l) c.in_ok-push.ensures ∙ pushed all c.loop-payload.exchanges c.in_ok-told.field-0 told (ap (exchange_told all) c.in_ok-told.ensures) in
+    ap (λ l. map (exchange_told all) l) c.in_ok-push.ensures ∙ pushed all c.loop-payload.exchanges c.in_ok-exchange_of.field-0 told (ap (exchange_told all) c.in_ok-exchange_of.ensures) in
     let so_far : CallsOn g.T.Link.state c.args.payloads.items start before old (payload ∷ rest) = rw steps.0 at i.calls in
     let made : Calls g.T.Link.state c.args.payloads.items start (before ++ told ∷ []) new =
     calls_end _ _ _ (before ++ told ∷ []) new rest (calls_on _ _ _ before old new payload rest seen call so_far) in
@@ -198,7 +198,7 @@ returns-then-lost-clause-count g c =
     let told : Told = telling seen new.request_text new.response_text in
     let before : List Told = map (exchange_told all) c.loop-payload.exchanges in
     let is : map (exchange_told all) c.push.new.self ≡ before ++ told ∷ [] =
-    ap (λ l. map (exchange_told all) l) c.in_ok-push.ensures ∙ pushed all c.loop-payload.exchanges c.in_ok-told.field-0 told (ap (exchange_told all) c.in_ok-told.ensures) in
+    ap (λ l. map (exchange_told all) l) c.in_ok-push.ensures ∙ pushed all c.loop-payload.exchanges c.in_ok-exchange_of.field-0 told (ap (exchange_told all) c.in_ok-exchange_of.ensures) in
     call.count ∙ ap (λ (n : ℕ). count_after n (loses_connection seen)) i.errors ∙ ap (λ (lost : Bool). count_after start.errors lost) (sym (ap ends_lost is ∙ ends_one before told))
 
 pub returns-clause-session : goal.returns-clause-session
@@ -247,8 +247,8 @@ returns-then-lacks_memory-clause-cut g c =
     let so_far : CallsOn g.T.Link.state c.args.payloads.items start before old (payload ∷ rest) = rw steps.0 at i.calls in
     cut_off _ _ _ before old new payload rest seen call so_far i.all
 
-pub returns-in_err-told-clause-cut : goal.returns-in_err-told-clause-cut
-returns-in_err-told-clause-cut g c =
+pub returns-in_err-exchange_of-clause-cut : goal.returns-in_err-exchange_of-clause-cut
+returns-in_err-exchange_of-clause-cut g c =
     let i = c.loop-payload.invariant in
     let start = c.args.client.now in
     let payload = c.in-Some.payload in
