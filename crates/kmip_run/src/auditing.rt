@@ -70,7 +70,8 @@ fn captured_in(alloc: Global, script: &[u8]) -> Result<Captured, OutOfMemory>
 /// Adds the report on the two streams of a script, or the first line that is not of the grammar, and returns the status.
 pub fn audit_script(alloc: Global, script: &[u8], output: &mut Text) -> Result<u8, OutOfMemory>
     ensures bound { IfOk result (λ status. status < 3) }
-    ensures status { IfOk result (λ status. status ≡ (audit_transcript (lines_of script.now)).status) }
+    ensures status { IfOk result (λ status. status ≡
+        (audit_transcript (lines_of script.now)).status) }
     ensures text { IfOk result
         (λ status. output.new ≡ output.old ++ (audit_transcript (lines_of script.now)).text) }
 {

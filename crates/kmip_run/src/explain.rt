@@ -31,7 +31,8 @@ fn line_expansion(
 /// Adds the expansions of the lines, up to a line that is no diagnostic, and returns the status.
 pub fn explain(alloc: Global, script: &[u8], output: &mut Text) -> Result<u8, OutOfMemory>
     ensures bound { IfOk result (λ status. status < 3) }
-    ensures status { IfOk result (λ status. status ≡ (explanations_from (lines_of script.now) 1).status) }
+    ensures status { IfOk result (λ status. status ≡
+        (explanations_from (lines_of script.now) 1).status) }
     ensures text { IfOk result
         (λ status. output.new ≡ output.old ++ (explanations_from (lines_of script.now) 1).text) }
 {

@@ -30,8 +30,12 @@ fn joined_lines(
     requires buffered { diag ≡ client.old.buffered }
     requires joined { IsJoined client.old.link }
     ensures bound { IfOk result (λ status. status < 3) }
-    ensures status { IfOk result (λ status. status ≡ (joined (settings_of client.old) (lines_of script.now) 1 0 (world_of client.old.link)).status) }
-    ensures text { IfOk result (λ status. output.new ≡ output.old ++ (joined (settings_of client.old) (lines_of script.now) 1 0 (world_of client.old.link)).text) }
+    ensures status { IfOk result (λ status. status ≡
+        (joined (settings_of client.old) (lines_of script.now) 1 0
+        (world_of client.old.link)).status) }
+    ensures text { IfOk result (λ status. output.new ≡ output.old ++
+        (joined (settings_of client.old) (lines_of script.now) 1 0
+        (world_of client.old.link)).text) }
 {
     let mut status = 0;
     let mut number = 0;
@@ -58,8 +62,10 @@ pub fn run_joined(
     output: &mut Text,
 ) -> Result<u8, OutOfMemory>
     ensures bound { IfOk result (λ status. status < 3) }
-    ensures status { IfOk result (λ status. status ≡ (joined (settings_for options) (lines_of script.now) 1 0 nothing_yet).status) }
-    ensures text { IfOk result (λ status. output.new ≡ output.old ++ (joined (settings_for options) (lines_of script.now) 1 0 nothing_yet).text) }
+    ensures status { IfOk result (λ status. status ≡
+        (joined (settings_for options) (lines_of script.now) 1 0 nothing_yet).status) }
+    ensures text { IfOk result (λ status. output.new ≡ output.old ++
+        (joined (settings_for options) (lines_of script.now) 1 0 nothing_yet).text) }
 {
     let diag = options.diag;
     let mut client = client_of(joined_link(alloc), options);

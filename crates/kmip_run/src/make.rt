@@ -93,7 +93,8 @@ fn make_calls(
 ) -> Result<Tally, OutOfMemory>
     ensures { IfOk result
         (λ tally. Makes
-        (counts_after (settings_of client.old) count 1 (drop client.old.link.pos client.old.link.ever))
+        (counts_after (settings_of client.old) count 1
+        (drop client.old.link.pos client.old.link.ever))
         client.old.link client.new.link tally.ok tally.errors tally.taken) }
 {
     let mut tally = Tally {
@@ -142,7 +143,8 @@ pub fn make(
     ensures bound { IfOk result (λ status. status < 3) }
     ensures replays { IfOk result (λ status. Replays
         (counted_transcript count
-        (counts_after (settings_of client.old) count 1 (drop client.old.link.pos client.old.link.ever)))
+        (counts_after (settings_of client.old) count 1
+        (drop client.old.link.pos client.old.link.ever)))
         client.old.link client.new.link status output.old output.new) }
 {
     let before = sent_len(client);

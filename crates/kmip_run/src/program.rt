@@ -81,7 +81,8 @@ fn make_on(
 ) -> Result<u8, OutOfMemory>
     ensures bound { IfOk result (λ status. status < 3) }
     ensures replays { IfOk result (λ status. Replays
-        (counted_transcript count (counts_after made_settings count 1 (drop link.old.pos link.old.ever)))
+        (counted_transcript count
+        (counts_after made_settings count 1 (drop link.old.pos link.old.ever)))
         link.old link.new status output.old output.new) }
 {
     let moved = mem::replace(link, MemoryLink::new(alloc));
