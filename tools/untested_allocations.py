@@ -10,6 +10,8 @@ end. A call takes memory where it answers `OutOfMemory` or an error that may be 
   `helper::<Type>(`, where the helper is generic and makes that call on a value of its type parameter, as
   `Type::read(`, or as `from_slice::<Type>(` and its like.
 
+A function that no test names may be made by one that a test makes: it is printed as `TEST, through NAME`.
+
 It reads the sources alone: whether the test compares what the call gives is for its reader to see.
 """
 import glob
@@ -166,6 +168,38 @@ def test_of(crate, call, files, made, sources):
     return None
 
 
+def above():
+    """Each crate, and itself with the crates that stand on it."""
+    rows = [line.split("#")[0].partition(":") for line in open(os.path.join(TOP, "crates.txt"))]
+    below = {name.split()[0]: set(uses.split()) for name, colon, uses in rows if colon}
+
+    def stands_on(crate, other):
+        return crate == other or any(stands_on(it, other) for it in below.get(crate, ()))
+    return {other: {crate for crate in below if stands_on(crate, other)} for other in below}
+
+
+def callers(name, code):
+    """The functions outside of tests that call a function by its name."""
+    found = set()
+    for text in code:
+        for place in re.finditer(r"(?<![\w.])(?<!fn )%s(?:::<[^;()]*>)?\(" % name, text):
+            found.update(re.findall(r"\bfn (\w+)", text[:place.start()])[-1:])
+    return found - {name}
+
+
+def test_through(name, files, code):
+    """The test file that makes a function through others, and the one of them that it names, or None."""
+    seen, ahead = {name}, [name]
+    while ahead:
+        ahead = sorted({it for below in ahead for it in callers(below, code)} - seen)
+        seen.update(ahead)
+        for it in ahead:
+            for where, text, _ in files:
+                if re.search(r"(?<!fn )\b%s(?:::<[^;()]*>)?\(" % it, text):
+                    return f"{where}, through {it}"
+    return None
+
+
 # the crates from which a crate hands a name on: (crate, name) to crates
 FROM = {}
 
@@ -188,6 +222,10 @@ def main():
     files = test_files()
     made = helpers(files)
     sources = handed_out()
+    paths = sorted(glob.glob(os.path.join(CRATES, "*", "src", "**", "*.rt"), recursive=True))
+    code = [(path[len(CRATES) + 1:].split(os.sep)[0], without_comments(open(path).read()))
+            for path in paths if not is_test_file(path)]
+    stand = above()
     missing = 0
     for crate in sorted(sources):
         if crate == "kmip_tests":
@@ -196,6 +234,9 @@ def main():
         for call in sorted(public_calls(os.path.join(CRATES, crate))):
             _, kind, name = call
             where = test_of(crate, call, own_first, made, sources)
+            if where is None and call[0] == "function":
+                near = [it for it in own_first if it[0].split("/")[0] in stand[crate]]
+                where = test_through(name, near, [text for of, text in code if of in stand[crate]])
             missing += where is None
             print(f"{crate:22} {(kind + '::' if kind else '') + name:50} {where or 'NO TEST'}")
     print(f"{missing} public calls that take memory have no test")
