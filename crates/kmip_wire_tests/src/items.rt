@@ -1,7 +1,8 @@
-// What no contract says: bytes made by another program, and that calls succeed where there is memory.
+// What no contract says: bytes made by another program, and that calls succeed where there is
+// memory.
 ghost use Rattle.std.specs.Prelude.{◌<◌};
 
-use crate::{
+use kmip_wire::{
     Blob, Boxed, Buffer, Kind, List, Node, OutOfMemory, Tag, Text, Tree, Trees, TryClone,
     WireError, check, clone_optional, read_tree, wipe, write_tree,
 };

@@ -1,5 +1,5 @@
 // The tables that follow are worked rows: bytes or a text, and what is to be printed for them.
-use crate::{DiagError, PrettyPrinter};
+use kmip_diag::{DiagError, PrettyPrinter};
 
 // A response of random bytes, as two servers send it: with 4 and with 43 of them.
 const RESPONSE: [u8; 152] = [
