@@ -1,4 +1,4 @@
-//! The forms of key material.
+//! The formats of key material.
 
 ghost use Rattle.std.specs.Prelude.{◌≡◌, Some, refl};
 ghost use Rattle.kmip_cryptography.specs.KeyFormatTypes.{key_format_type_line, key_format_type_variants, key_format_type_found};
@@ -8,7 +8,7 @@ use kmip_shape::read::Outer;
 use kmip_shape::row_readers::Chooses;
 use std::fmt::{self, Display, Formatter, Write};
 
-/// The form of the key material in a key block: KMIP 1.0, 9.1.3.2.3.
+/// The format of the key material in a key block: KMIP 1.0, 9.1.3.2.3.
 #[derive(Clone, Copy, PartialEq, Eq, Drop)]
 pub enum KeyFormatType {
     Raw = 1,

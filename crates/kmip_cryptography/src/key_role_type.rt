@@ -6,7 +6,7 @@ ghost use Rattle.kmip_cryptography.specs.KeyRoleTypes.{key_role_type_line, key_r
 use kmip_shape::Enumeration;
 use std::fmt::{self, Display, Formatter, Write};
 
-/// What a key is used for in payment systems: KMIP 1.0, 9.1.3.2.16.
+/// The role of a key, mostly in payment systems: KMIP 1.0, 9.1.3.2.16.
 #[derive(Clone, Copy, PartialEq, Eq, Drop)]
 pub enum KeyRoleType {
     BDK = 1,

@@ -27,7 +27,7 @@ username_and_password = Rows
     (AndRow (codes "password") (Under PASSWORD) Optional Plain (Scalar TextString)
     NoRow))
 
--- a credential value is chosen by the number of its credential's type
+-- a credential value is chosen by the number of its credential's type (KMIP 1.0, 2.1.2)
 abbrev pub credential_values : Cases
 credential_values =
     AndCase 1 (codes "UsernameAndPassword") (ByNumbers (1 ∷ [])) None username_and_password
@@ -174,7 +174,7 @@ rng_retrieve = Rows
     (AndRow (codes "data_length") (Under DATA_LENGTH) Required Plain (Scalar Integer)
     NoRow)
 
--- a payload is chosen by the number of its batch item's operation
+-- a payload is chosen by the number of its batch item's operation (KMIP 1.0, 7.2)
 abbrev pub request_payloads : Cases
 request_payloads =
     AndCase 1 (codes "Create") (ByNumbers (1 ∷ [])) None create
