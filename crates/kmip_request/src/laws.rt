@@ -20,8 +20,9 @@ pub fn distinct_requests()
         request_bytes p c ≡ Some b → request_bytes q d ≡ Some (b ++ rest) → rest ≡ [] }
 {}
 
-/// In the table of a request's message and of each payload no tag stands twice, at any depth, and at most one field
-/// chooses, above what it chooses. So what is read of a field never depends on the order of the items.
+/// In the table of a request's message and of each payload no tag appears twice, at any depth, and
+/// at most one field chooses, above what it chooses. So what is read of a field never depends on
+/// the order of the items.
 pub fn tables_stand()
     ensures { all_stand root_tables ≡ true }
 {}

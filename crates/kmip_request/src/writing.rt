@@ -92,7 +92,7 @@ fn message_len<P: WriteItem>(
     ])
 }
 
-/// That length, and what it says of the message.
+/// The same length, in terms of the canonical bytes, the form and the size of the message.
 fn message_size<P: WriteItem>(
     version: &ProtocolVersion,
     authentication: &Option<Authentication>,
@@ -205,11 +205,12 @@ fn write_empty(
 /// `out` held: its version, the credential where there is one, no maximum response size, batch
 /// count 1 and no batch item identifier. The payload and the credential are borrowed, not copied,
 /// and
-/// the room of `out` is used again.
+/// the capacity of `out` is reused.
 ///
 /// `NoForm` comes exactly where the request is not valid: where an item's length reaches 2^32, or a
 /// value has no wire form. `Malformed` never comes. Memory is asked for once, before the first byte
-/// is written, and only where `out` has too little room. After an error `out` has no bytes.
+/// is written, and only where the capacity of `out` is too small. After an error `out` has no
+/// bytes.
 pub fn write_request_into(
     payload: &RequestPayload,
     authentication: &Option<Authentication>,

@@ -202,8 +202,8 @@ impl ReadItem for KeyWrappingData {
     }
 }
 
-/// How a key is to be wrapped: KMIP 1.0, 2.1.6. Its attributes stand where KMIP has attribute
-/// names.
+/// How a key is to be wrapped: KMIP 1.0, 2.1.6, which has attribute names where this type has
+/// attributes.
 #[derive(PartialEq, Eq, Drop)]
 pub struct KeyWrappingSpecification(
     pub WrappingMethod,

@@ -47,7 +47,8 @@ message_with request authentication = option_and_then bytes (option_map
 abbrev pub message_bytes : Request → Option CredentialType → Option (List ℕ)
 message_bytes request credential = message_with request (authentication_trees credential)
 
--- the request in a batch item, which has no identifier, and whose operation is that of its payload (KMIP 1.0, 7.2)
+-- the request in a batch item that has no identifier, and whose operation is that of its payload
+-- (KMIP 1.0, 7.2)
 abbrev pub item_request : Val → Option Request
 item_request (Record (AndField (One (Number (pos n))) (AndField Absent (AndField (One (Case m val)) NoField)))) =
     if m == n then option_map (λ operation. record { operation = operation; payload = Case m val }) (variant_at operation_line operation_variants n) else None

@@ -51,8 +51,8 @@ pub fn request_parses()
         request_bytes p c ≡ Some b → Parses t 1 b → HasRanges t }
 {}
 
-/// The bytes of a request are one message: a head of 8 bytes, and after it as many bytes as its length field says
-/// (KMIP 1.0, 9.1.1.3).
+/// The bytes of a request are one message: 8 bytes of tag, type and length, and after them as many
+/// bytes as the length says (KMIP 1.0, 9.1.1.3).
 pub fn request_is_message()
     ensures { (p : RequestPayload) (c : Option CredentialType) (b : List ℕ) →
         request_bytes p c ≡ Some b → (8 ≤ length b) × (length b ≡ 8 + head_length b) }

@@ -170,7 +170,8 @@ impl CryptographicParameters {
         }
     }
 
-    /// With a length of the counter of the initialization vector in bits, and the other twelve fields as they are.
+    /// With a length of the counter of the initialization vector in bits, and the other twelve
+    /// fields as they are.
     pub fn with_counter_length(self, value: CounterLength) -> Self
         ensures { result ≡ record self { counter_length = Some value } }
     {
