@@ -15,7 +15,7 @@ use std::alloc::Global;
 pub struct MACOrSignature(pub Blob);
 
 impl MACOrSignature {
-    /// Of the bytes `bytes`. It takes no memory.
+    /// Holds these bytes. It takes no memory.
     pub fn new(bytes: Blob) -> Self
         ensures { result.0 ≡ bytes }
     {
@@ -62,7 +62,7 @@ impl ReadItem for MACOrSignature {
 pub struct IVOrCounterOrNonce(pub Blob);
 
 impl IVOrCounterOrNonce {
-    /// Of the bytes `bytes`. It takes no memory.
+    /// Holds these bytes. It takes no memory.
     pub fn new(bytes: Blob) -> Self
         ensures { result.0 ≡ bytes }
     {

@@ -48,7 +48,7 @@ pub enum AttributeValue {
     ApplicationSpecificInformation(ApplicationNamespace, ApplicationData),
     /// Under `Contact Information`: KMIP 1.0, 3.31.
     ContactInformation(Text),
-    /// A custom structure. It has no wire form where a member writes a structure.
+    /// A custom structure: KMIP 1.0, 3.33. It has no wire form where a member writes a structure.
     Structure(Values),
     /// A value of type Integer.
     Integer(i32),
@@ -72,7 +72,8 @@ pub enum AttributeValue {
     Interval(u32),
 }
 
-/// The members of a custom structure, in order. Contracts see them as the list of their values.
+/// The members of a custom structure, in order: KMIP 1.0, 3.33. Contracts see them as the list of
+/// their values.
 #[cycle(attribute_value)]
 #[derive(Drop)]
 pub struct Values {
