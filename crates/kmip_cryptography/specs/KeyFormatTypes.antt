@@ -1,4 +1,4 @@
--- The forms of key material: KMIP 1.2, 9.1.3.2.
+-- The formats of key material: KMIP 1.2, 9.1.3.2.
 use Rattle.std.specs.Prelude.{List, [], ◌∷◌, map, codes}
 use Rattle.std.proofs.Common.{rules}
 use Rattle.kmip_shape.specs.Val.{Val}

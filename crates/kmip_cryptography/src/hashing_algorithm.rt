@@ -6,7 +6,7 @@ ghost use Rattle.kmip_cryptography.specs.HashingAlgorithms.{hashing_algorithm_li
 use kmip_shape::Enumeration;
 use std::fmt::{self, Display, Formatter, Write};
 
-/// The algorithm of a hash: KMIP 1.0, 9.1.3.2.15.
+/// The algorithm that makes a digest: KMIP 1.0, 9.1.3.2.15.
 #[derive(Clone, Copy, PartialEq, Eq, Drop)]
 pub enum HashingAlgorithm {
     MD2 = 1,

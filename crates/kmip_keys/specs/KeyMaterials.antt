@@ -1,4 +1,4 @@
--- Key material, in the form that its key block names.
+-- Key material, in the format that its key block names.
 use Rattle.std.specs.Prelude.{ℕ, [], ◌∷◌, None, codes}
 use Rattle.std.proofs.Common.{ap}
 use Rattle.kmip_wire.specs.declared.kind.Kind.TheVariants.{ByteString}
@@ -9,7 +9,7 @@ use Rattle.kmip_keys.specs.TransparentKeys.{transparent_symmetric_key, transpare
 use Rattle.kmip_keys.specs.declared.key_material.KeyMaterial.{KeyMaterial}
 use Rattle.kmip_keys.specs.declared.key_material.KeyMaterial.TheVariants.{Bytes, TransparentSymmetricKey, TransparentDSAPrivateKey, TransparentDSAPublicKey, TransparentRSAPrivateKey, TransparentRSAPublicKey, TransparentDHPrivateKey, TransparentDHPublicKey, Structure, Wrapped}
 
--- key material is chosen by the number of its key block's format (KMIP 1.0, 2.1.3)
+-- key material is chosen by the number of its key block's Key Format Type (KMIP 1.0, 2.1.3)
 abbrev pub key_materials : Cases
 key_materials =
     AndCase 1 (codes "Bytes") (ByNumbers (1 ∷ 2 ∷ 3 ∷ 4 ∷ 5 ∷ 6 ∷ [])) None (Scalar ByteString)
@@ -24,7 +24,7 @@ key_materials =
     (AndCase 10 (codes "Wrapped") Formless None (Scalar ByteString)
     NoCase)))))))))
 
--- the case of a wrapped key, which stands only in the byte form of a key value
+-- the case of a wrapped key, which is only in a Key Value that is a Byte String (KMIP 1.0, 2.1.4)
 abbrev pub wrapped_case : ℕ
 wrapped_case = 10
 

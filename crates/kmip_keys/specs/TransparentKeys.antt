@@ -1,4 +1,4 @@
--- Keys whose parts are told.
+-- Transparent keys: each part of a key is an item of its own.
 use Rattle.std.specs.Prelude.{codes, ℕ, List, Option}
 use Rattle.kmip_tags.specs.Tags.{CRT_COEFFICIENT, G, J, KEY, MODULUS, P, PRIME_EXPONENT_P, PRIME_EXPONENT_Q, PRIVATE_EXPONENT, PUBLIC_EXPONENT, Q, X, Y}
 use Rattle.kmip_wire.specs.declared.kind.Kind.TheVariants.{BigInteger, ByteString}

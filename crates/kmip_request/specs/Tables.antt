@@ -27,7 +27,7 @@ username_and_password = Rows
     (AndRow (codes "password") (Under PASSWORD) Optional Plain (Scalar TextString)
     NoRow))
 
--- a credential value is chosen by the number of its credential's type
+-- a credential value is chosen by the number of its credential's type (KMIP 1.0, 2.1.2)
 abbrev pub credential_values : Cases
 credential_values =
     AndCase 1 (codes "UsernameAndPassword") (ByNumbers (1 ∷ [])) None username_and_password
@@ -174,7 +174,7 @@ rng_retrieve = Rows
     (AndRow (codes "data_length") (Under DATA_LENGTH) Required Plain (Scalar Integer)
     NoRow)
 
--- a payload is chosen by the number of its batch item's operation
+-- a payload is chosen by the number of its batch item's operation (KMIP 1.0, 7.2)
 abbrev pub request_payloads : Cases
 request_payloads =
     AndCase 1 (codes "Create") (ByNumbers (1 ∷ [])) None create
@@ -220,7 +220,7 @@ request_message_of payload = Rows
 abbrev pub request_message : Shape
 request_message = request_message_of request_payload
 
--- the tables of a request's roots: its message, what stands in that, and each payload
+-- the tables of a request: its message, the structures in it, and each payload
 abbrev pub root_tables : List Shape
 root_tables =
     request_message ∷ batch_item ∷ request_header ∷ authentication ∷ credential ∷ request_payload
@@ -228,7 +228,7 @@ root_tables =
     ∷ modify_attribute ∷ delete_attribute ∷ activate ∷ revoke ∷ destroy ∷ query ∷ discover_versions ∷ sign
     ∷ rng_retrieve ∷ []
 
--- in each table no tag stands twice, at any depth, and choosers stand above what they choose
+-- in each table no tag appears twice, at any depth, and choosers are above what they choose
 abbrev pub all_stand : List Shape → Bool
 all_stand [] = true
 all_stand (table ∷ tables) = tags_once table && (choosers_stand table && all_stand tables)

@@ -1,4 +1,5 @@
--- The typed values of a request, as contracts see them: each a record of its fields in the order of its table.
+-- The typed values of a request, as contracts see them: each a record of its fields in the order of
+-- its table.
 use Rattle.std.specs.Prelude.{pos, Option, None}
 use Rattle.kmip_shape.specs.Val.{Val, Number, Text, Record, Case, AndField, NoField, Absent, One, Many, NoVal, AndVal}
 use Rattle.kmip_shape.specs.Writes.{optional, optional_list, vals}
@@ -114,8 +115,8 @@ request_message_val x = Record
     (AndField (Many (vals batch_item_val x.1))
     NoField))
 
--- The message that is written for a payload: a head with its version and the credential, and one batch item with no
--- identifier.
+-- The message that is written for a payload: a header with its version and the credential, and one
+-- batch item with no identifier.
 abbrev pub lent_header_val : ProtocolVersion → Option Authentication → Val
 lent_header_val version authentication = request_header_val (record { 0 = version; 1 = None; 2 = authentication; 3 = record { 0 = pos 1 } })
 

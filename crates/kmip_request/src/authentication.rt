@@ -1,4 +1,4 @@
-//! Who makes a request.
+//! The authentication of a request: the credential of its client.
 
 ghost use Rattle.std.specs.Prelude.{◌≡◌};
 ghost use Rattle.kmip_wire.specs.declared.kind.Kind.TheVariants.{TextString};
@@ -20,7 +20,7 @@ use kmip_types::auth;
 use kmip_wire::{Buffer, ItemRef, OutOfMemory, Tag, Text, TryClone, clone_optional};
 use std::alloc::Global;
 
-/// The name of who makes a request: KMIP 1.0, 2.1.2.
+/// The username of a credential: KMIP 1.0, 2.1.2.
 #[derive(PartialEq, Eq, Drop)]
 pub struct Username(pub Text);
 
@@ -58,7 +58,7 @@ impl ReadItem for Username {
     }
 }
 
-/// The secret of who makes a request: KMIP 1.0, 2.1.2.
+/// The password of a credential: KMIP 1.0, 2.1.2.
 #[derive(PartialEq, Eq, Drop)]
 pub struct Password(pub Text);
 
@@ -96,7 +96,7 @@ impl ReadItem for Password {
     }
 }
 
-/// What a credential of each type holds: KMIP 1.0, 2.1.2.
+/// The contents of a credential, one variant for each type: KMIP 1.0, 2.1.2.
 #[derive(PartialEq, Eq, Drop)]
 pub enum CredentialValue {
     /// A username, and a password where there is one.
@@ -217,7 +217,7 @@ impl ReadItem for Credential {
 pub struct Authentication(pub Credential);
 
 impl Authentication {
-    /// The item of a credential. It takes no memory.
+    /// The Authentication that holds this credential. It takes no memory.
     pub fn build(credential: auth::CredentialType) -> Authentication
         ensures { credential_of result ≡ credential }
     {

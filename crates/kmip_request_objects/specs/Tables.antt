@@ -1,5 +1,6 @@
--- The tables of what requests tell of objects: for each type its fields in order, with their tags, marks and types.
--- What stands in a field is opened only where it is looked at, so that a proof over one table has no other before it.
+-- The tables of the objects in requests: each type's fields in order, with tags, marks and types.
+-- A table that a field names is unfolded only where a proof looks into it, so a proof over one
+-- table does not see the others.
 use Rattle.std.specs.Prelude.{Some, codes}
 use Rattle.kmip_tags.specs.Tags.{ATTRIBUTE, ATTRIBUTE_INDEX, ATTRIBUTE_NAME, ATTRIBUTE_VALUE, CRYPTOGRAPHIC_ALGORITHM, CRYPTOGRAPHIC_LENGTH, CRYPTOGRAPHIC_PARAMETERS, ENCRYPTION_KEY_INFORMATION, IV_COUNTER_NONCE, KEY_BLOCK, KEY_COMPRESSION_TYPE, KEY_FORMAT_TYPE, KEY_MATERIAL, KEY_VALUE, KEY_WRAPPING_DATA, MAC_SIGNATURE, MAC_SIGNATURE_KEY_INFORMATION, NAME, NAME_TYPE, NAME_VALUE, PRIVATE_KEY, PUBLIC_KEY, REVOCATION_MESSAGE, REVOCATION_REASON_CODE, SYMMETRIC_KEY, TEMPLATE, UNIQUE_IDENTIFIER, WRAPPING_METHOD}
 use Rattle.kmip_wire.specs.declared.kind.Kind.TheVariants.{Integer, TextString, ByteString}
@@ -29,7 +30,8 @@ attribute = Rows
     (AndRow (codes "attribute_value") (Under ATTRIBUTE_VALUE) Required Chosen attribute_value
     NoRow)))
 
--- Template-Attribute, Common Template-Attribute, Private Key Template-Attribute and Public Key Template-Attribute (KMIP 1.0, 2.1.8)
+-- Template-Attribute, Common Template-Attribute, Private Key Template-Attribute and
+-- Public Key Template-Attribute (KMIP 1.0, 2.1.8)
 unfoldable pub template_attribute : Shape
 template_attribute = Rows
     (AndRow (codes "names") (Under NAME) OptionalList Plain name
@@ -112,7 +114,7 @@ template = Rows
     (AndRow (codes "attributes") (Under ATTRIBUTE) AnyNumber Plain attribute
     NoRow)
 
--- the object that is registered is chosen by its own tag (KMIP 1.0, 2.2)
+-- the object that is registered, chosen by its own tag (KMIP 1.0, 2.2)
 abbrev pub managed_objects : Cases
 managed_objects =
     AndCase 1 (codes "SymmetricKey") (ByTag SYMMETRIC_KEY) (Some SYMMETRIC_KEY) symmetric_key

@@ -15,7 +15,7 @@ use std::alloc::Global;
 pub struct MACOrSignature(pub Blob);
 
 impl MACOrSignature {
-    /// Of these bytes. It takes no memory.
+    /// Holds these bytes. It takes no memory.
     pub fn new(bytes: Blob) -> Self
         ensures { result.0 ≡ bytes }
     {
@@ -57,12 +57,12 @@ impl ReadItem for MACOrSignature {
     }
 }
 
-/// What a wrapping began from: KMIP 1.0, 2.1.5.
+/// The IV, counter or nonce of a wrapped key: KMIP 1.0, 2.1.5.
 #[derive(PartialEq, Eq, Drop)]
 pub struct IVOrCounterOrNonce(pub Blob);
 
 impl IVOrCounterOrNonce {
-    /// Of these bytes. It takes no memory.
+    /// Holds these bytes. It takes no memory.
     pub fn new(bytes: Blob) -> Self
         ensures { result.0 ≡ bytes }
     {

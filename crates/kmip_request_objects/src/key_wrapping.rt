@@ -21,7 +21,7 @@ use kmip_types::{CryptographicParameters, UniqueIdentifier, WrappingMethod};
 use kmip_wire::{Buffer, ItemRef, List, OutOfMemory, Tag, TryClone, clone_optional};
 use std::alloc::Global;
 
-/// The key that wraps by encryption, and how: KMIP 1.0, 2.1.5.
+/// The key that encrypts a wrapped key, and its parameters: KMIP 1.0, 2.1.5.
 #[derive(PartialEq, Eq, Drop)]
 pub struct EncryptionKeyInformation(pub UniqueIdentifier, pub Option<CryptographicParameters>);
 
@@ -70,7 +70,7 @@ impl ReadItem for EncryptionKeyInformation {
     }
 }
 
-/// The key that wraps by a MAC or a signature, and how: KMIP 1.0, 2.1.5.
+/// The key that MACs or signs a wrapped key, and its parameters: KMIP 1.0, 2.1.5.
 #[derive(PartialEq, Eq, Drop)]
 pub struct MACOrSignatureKeyInformation(pub UniqueIdentifier, pub Option<CryptographicParameters>);
 
@@ -119,7 +119,7 @@ impl ReadItem for MACOrSignatureKeyInformation {
     }
 }
 
-/// How a key was wrapped: KMIP 1.0, 2.1.5. KMIP has no attributes here.
+/// How a key was wrapped: KMIP 1.0, 2.1.5. The attributes at its end are not in KMIP.
 #[derive(PartialEq, Eq, Drop)]
 pub struct KeyWrappingData(
     pub WrappingMethod,
@@ -202,7 +202,8 @@ impl ReadItem for KeyWrappingData {
     }
 }
 
-/// How a key is to be wrapped: KMIP 1.0, 2.1.6. KMIP has attribute names where this has attributes.
+/// How a key is to be wrapped: KMIP 1.0, 2.1.6, which has attribute names where this type has
+/// attributes.
 #[derive(PartialEq, Eq, Drop)]
 pub struct KeyWrappingSpecification(
     pub WrappingMethod,

@@ -142,7 +142,7 @@ impl ReadItem for PrivateKey {
     }
 }
 
-/// Attributes that other requests may name: KMIP 1.0, 2.2.6.
+/// A named set of attributes that other requests may cite: KMIP 1.0, 2.2.6.
 #[derive(PartialEq, Eq, Drop)]
 pub struct Template(pub List<Attribute>);
 
@@ -183,7 +183,7 @@ impl ReadItem for Template {
     }
 }
 
-/// An object that is handed to the server, under its own tag: KMIP 1.0, 2.2.
+/// An object that is registered, under the tag of its type: KMIP 1.0, 2.2.
 #[derive(PartialEq, Eq, Drop)]
 pub enum ManagedObject {
     /// A symmetric key: KMIP 1.0, 2.2.2.

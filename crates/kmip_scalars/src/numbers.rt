@@ -11,12 +11,12 @@ use kmip_shape::{Item, ShowItem, TextWriter, WriteItem};
 use kmip_wire::{Buffer, ItemRef, Tag};
 use std::alloc::Global;
 
-/// Which of the attributes of one name, from 0: KMIP 1.0, 2.1.1.
+/// Which instance of the attributes of one name, counted from 0: KMIP 1.0, 2.1.1.
 #[derive(Clone, Copy, PartialEq, Eq, Drop)]
 pub struct AttributeIndex(pub i32);
 
 impl AttributeIndex {
-    /// Whether it is this index.
+    /// Whether the index is `other`.
     pub fn is(&self, other: i32) -> bool
         ensures { Decides result (self.now.0 ≡ other) }
     {
@@ -58,7 +58,7 @@ impl ShowItem for AttributeIndex {
     }
 }
 
-/// How many bytes are asked for: KMIP 1.2, 4.35.
+/// How many random bytes are asked for: KMIP 1.2, 4.35.
 #[derive(Clone, Copy, PartialEq, Eq, Drop)]
 pub struct DataLength(pub i32);
 
@@ -134,7 +134,9 @@ impl ShowItem for CryptographicLength {
     }
 }
 
-/// When an object was first compromised, in seconds from 1970 on: KMIP 1.0, 3.24.
+/// When an object is thought to have been first compromised: KMIP 1.0, 3.24.
+///
+/// In seconds since 1970-01-01 UTC, a negative number as its 64 bits in two's complement.
 #[derive(Clone, Copy, PartialEq, Eq, Drop)]
 pub struct CompromiseOccurrenceDate(pub u64);
 

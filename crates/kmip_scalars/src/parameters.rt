@@ -9,7 +9,7 @@ use kmip_shape::{Item, ShowItem, TextWriter, WriteItem};
 use kmip_wire::{Buffer, ItemRef, Tag};
 use std::alloc::Global;
 
-/// Whether the server makes the initialization vector: KMIP 1.2, 3.6.
+/// Whether the server is asked to make the initialization vector: KMIP 1.2, 3.6.
 #[derive(Clone, Copy, PartialEq, Eq, Drop)]
 pub struct RandomIV(pub bool);
 
@@ -237,7 +237,7 @@ impl ShowItem for CounterLength {
     }
 }
 
-/// Where the counter begins: KMIP 1.2, 3.6.
+/// The first value of the counter: KMIP 1.2, 3.6.
 #[derive(Clone, Copy, PartialEq, Eq, Drop)]
 pub struct InitialCounterValue(pub i32);
 

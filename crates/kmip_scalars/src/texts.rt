@@ -17,14 +17,14 @@ use std::fmt::{self, Display, Formatter, Write};
 pub struct UniqueIdentifier(pub Text);
 
 impl UniqueIdentifier {
-    /// Its text.
+    /// The text of the identifier.
     pub fn as_str(&self) -> &str
         ensures { result.now ≡ self.now.0 }
     {
         self.0.as_str()
     }
 
-    /// Whether it is this identifier.
+    /// Whether the identifier is `other`.
     pub fn is(&self, other: &str) -> bool
         ensures { Decides result (self.now.0 ≡ other.now) }
     {
@@ -124,7 +124,7 @@ impl ShowItem for NameValue {
     }
 }
 
-/// What is said beside the reason for a revocation: KMIP 1.0, 3.26.
+/// The message that goes with the reason for a revocation: KMIP 1.0, 3.26.
 #[derive(PartialEq, Eq, Drop)]
 pub struct RevocationMessage(pub Text);
 
@@ -212,7 +212,7 @@ impl ShowItem for LinkedObjectIdentifier {
     }
 }
 
-/// The application, or the kind of application, that keeps data with an object: KMIP 1.0, 3.30.
+/// The namespace of the application that keeps data with an object: KMIP 1.0, 3.30.
 #[derive(PartialEq, Eq, Drop)]
 pub struct ApplicationNamespace(pub Text);
 
@@ -256,7 +256,7 @@ impl ShowItem for ApplicationNamespace {
     }
 }
 
-/// What an application keeps with an object: KMIP 1.0, 3.30.
+/// The data that an application keeps with an object: KMIP 1.0, 3.30.
 #[derive(PartialEq, Eq, Drop)]
 pub struct ApplicationData(pub Text);
 

@@ -43,7 +43,8 @@ application_specific_information = Rows
     (AndRow (codes "application_data") (Under APPLICATION_DATA) Required Plain (Scalar kinds.TextString)
     NoRow))
 
--- the cases of an attribute's value: by the name of the attribute, and under any other name by the type of the item
+-- the cases of an attribute's value: by the attribute's name, and under any other by the item's
+-- type
 -- (KMIP 1.0, 2.1.1 and 3)
 abbrev pub attribute_values : Cases
 attribute_values =

@@ -1,4 +1,4 @@
--- Each value among the members of a custom structure is smaller.
+-- Each member of a custom structure is smaller than the structure.
 use Rattle.std.specs.Prelude.{◌≤◌, List, [], ◌∷◌, map}
 use Rattle.std.proofs.Common.{arith}
 use denote.Param.Weighed.{most}

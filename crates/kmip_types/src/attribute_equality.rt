@@ -51,7 +51,7 @@ impl Eq for Values {
     ghost laws = { same_members-equiv };
 }
 
-/// Whether two fields that may be absent are equal: both absent, or both there with the same contents.
+/// Whether two optional fields are equal: both absent, or both present with equal contents.
 macro_rules! same_option {
     ($left:ident, $right:ident) => {
         match $left {
@@ -67,7 +67,7 @@ macro_rules! same_option {
     };
 }
 
-/// Whether two variants that may be absent are equal.
+/// Whether two optional variants are equal.
 fn same_variants<T: Enumeration>(left: &Option<T>, right: &Option<T>) -> bool
     ensures { result ≡
         same_field (optional (enumeration_val T.line) left.now)

@@ -1,4 +1,4 @@
-//! Attribute values shown as text.
+//! Showing attribute values as text.
 
 ghost use Rattle.std.specs.Prelude.{◌≡◌, false};
 ghost use Rattle.kmip_shape.specs.Val.{vals_of, Case as case};
@@ -44,7 +44,7 @@ fn show_structure(values: &Values, out: &mut TextWriter)
     out.close_case();
 }
 
-/// A value that is no record, as what appends it takes it.
+/// A value that is no record, as the writer of text takes it.
 #[derive(Drop)]
 enum Piece<'a> {
     Word(&'static str),
@@ -123,7 +123,7 @@ fn show_piece(piece: Piece<'_>, out: &mut TextWriter)
     }
 }
 
-/// Appends the name of a variant, and its value in round brackets.
+/// Appends the name of a variant, and its value in parentheses.
 fn show_plain(value: &AttributeValue, out: &mut TextWriter)
     ensures { Grows out.old out.new (in_brackets (case_name value.now) (plain_styled value.now)) }
 {
