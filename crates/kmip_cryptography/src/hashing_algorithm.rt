@@ -1,7 +1,9 @@
 //! The hashing algorithms.
 
 ghost use Rattle.std.specs.Prelude.{◌≡◌, Some, refl};
-ghost use Rattle.kmip_cryptography.specs.HashingAlgorithms.{hashing_algorithm_line, hashing_algorithm_variants, hashing_algorithm_found};
+ghost use Rattle.kmip_cryptography.specs.HashingAlgorithms.{hashing_algorithm_line};
+ghost use Rattle.kmip_cryptography.specs.HashingAlgorithms.{hashing_algorithm_variants};
+ghost use Rattle.kmip_cryptography.specs.HashingAlgorithms.{hashing_algorithm_found};
 
 use kmip_shape::Enumeration;
 use std::fmt::{self, Display, Formatter, Write};

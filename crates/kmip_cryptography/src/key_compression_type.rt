@@ -1,7 +1,9 @@
 //! The ways in which a key is compressed.
 
 ghost use Rattle.std.specs.Prelude.{◌≡◌, Some, refl};
-ghost use Rattle.kmip_cryptography.specs.KeyCompressionTypes.{key_compression_type_line, key_compression_type_variants, key_compression_type_found};
+ghost use Rattle.kmip_cryptography.specs.KeyCompressionTypes.{key_compression_type_line};
+ghost use Rattle.kmip_cryptography.specs.KeyCompressionTypes.{key_compression_type_variants};
+ghost use Rattle.kmip_cryptography.specs.KeyCompressionTypes.{key_compression_type_found};
 
 use kmip_shape::Enumeration;
 use std::fmt::{self, Display, Formatter, Write};

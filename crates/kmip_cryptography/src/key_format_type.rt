@@ -1,7 +1,9 @@
 //! The formats of key material.
 
 ghost use Rattle.std.specs.Prelude.{◌≡◌, Some, refl};
-ghost use Rattle.kmip_cryptography.specs.KeyFormatTypes.{key_format_type_line, key_format_type_variants, key_format_type_found};
+ghost use Rattle.kmip_cryptography.specs.KeyFormatTypes.{key_format_type_line};
+ghost use Rattle.kmip_cryptography.specs.KeyFormatTypes.{key_format_type_variants};
+ghost use Rattle.kmip_cryptography.specs.KeyFormatTypes.{key_format_type_found};
 
 use kmip_shape::Enumeration;
 use kmip_shape::read::Outer;

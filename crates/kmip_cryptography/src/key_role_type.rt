@@ -1,7 +1,8 @@
 //! The roles of keys.
 
 ghost use Rattle.std.specs.Prelude.{◌≡◌, Some, refl};
-ghost use Rattle.kmip_cryptography.specs.KeyRoleTypes.{key_role_type_line, key_role_type_variants, key_role_type_found};
+ghost use Rattle.kmip_cryptography.specs.KeyRoleTypes.{key_role_type_line, key_role_type_variants};
+ghost use Rattle.kmip_cryptography.specs.KeyRoleTypes.{key_role_type_found};
 
 use kmip_shape::Enumeration;
 use std::fmt::{self, Display, Formatter, Write};

@@ -1,7 +1,9 @@
 //! The ways to wrap a key.
 
 ghost use Rattle.std.specs.Prelude.{◌≡◌, Some, refl};
-ghost use Rattle.kmip_cryptography.specs.WrappingMethods.{wrapping_method_line, wrapping_method_variants, wrapping_method_found};
+ghost use Rattle.kmip_cryptography.specs.WrappingMethods.{wrapping_method_line};
+ghost use Rattle.kmip_cryptography.specs.WrappingMethods.{wrapping_method_variants};
+ghost use Rattle.kmip_cryptography.specs.WrappingMethods.{wrapping_method_found};
 
 use kmip_shape::Enumeration;
 use std::fmt::{self, Display, Formatter, Write};

@@ -1,7 +1,8 @@
 //! The kinds of managed objects.
 
 ghost use Rattle.std.specs.Prelude.{◌≡◌, Some, refl};
-ghost use Rattle.kmip_enums.specs.ObjectTypes.{object_type_line, object_type_variants, object_type_found};
+ghost use Rattle.kmip_enums.specs.ObjectTypes.{object_type_line, object_type_variants};
+ghost use Rattle.kmip_enums.specs.ObjectTypes.{object_type_found};
 
 use kmip_shape::Enumeration;
 use kmip_shape::read::Outer;

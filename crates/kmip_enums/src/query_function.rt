@@ -1,7 +1,8 @@
 //! The functions of a Query.
 
 ghost use Rattle.std.specs.Prelude.{◌≡◌, Some, refl};
-ghost use Rattle.kmip_enums.specs.QueryFunctions.{query_function_line, query_function_variants, query_function_found};
+ghost use Rattle.kmip_enums.specs.QueryFunctions.{query_function_line, query_function_variants};
+ghost use Rattle.kmip_enums.specs.QueryFunctions.{query_function_found};
 
 use kmip_shape::Enumeration;
 use std::fmt::{self, Display, Formatter, Write};

@@ -1,7 +1,8 @@
 //! The reasons for a failure.
 
 ghost use Rattle.std.specs.Prelude.{◌≡◌, Some, refl};
-ghost use Rattle.kmip_enums.specs.ResultReasons.{result_reason_line, result_reason_variants, result_reason_found};
+ghost use Rattle.kmip_enums.specs.ResultReasons.{result_reason_line, result_reason_variants};
+ghost use Rattle.kmip_enums.specs.ResultReasons.{result_reason_found};
 
 use kmip_shape::Enumeration;
 use std::fmt::{self, Display, Formatter, Write};

@@ -1,7 +1,8 @@
 //! The ways in which an operation ends.
 
 ghost use Rattle.std.specs.Prelude.{◌≡◌, Some, refl};
-ghost use Rattle.kmip_enums.specs.ResultStatuses.{result_status_line, result_status_variants, result_status_found};
+ghost use Rattle.kmip_enums.specs.ResultStatuses.{result_status_line, result_status_variants};
+ghost use Rattle.kmip_enums.specs.ResultStatuses.{result_status_found};
 
 use kmip_shape::Enumeration;
 use std::fmt::{self, Display, Formatter, Write};

@@ -1,7 +1,9 @@
 //! The reasons for a revocation.
 
 ghost use Rattle.std.specs.Prelude.{◌≡◌, Some, refl};
-ghost use Rattle.kmip_enums.specs.RevocationReasonCodes.{revocation_reason_code_line, revocation_reason_code_variants, revocation_reason_code_found};
+ghost use Rattle.kmip_enums.specs.RevocationReasonCodes.{revocation_reason_code_line};
+ghost use Rattle.kmip_enums.specs.RevocationReasonCodes.{revocation_reason_code_variants};
+ghost use Rattle.kmip_enums.specs.RevocationReasonCodes.{revocation_reason_code_found};
 
 use kmip_shape::Enumeration;
 use std::fmt::{self, Display, Formatter, Write};

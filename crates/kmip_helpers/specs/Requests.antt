@@ -14,12 +14,15 @@ use Rattle.kmip_request.specs.declared.payload.RequestPayload.{RequestPayload}
 
 -- the operations and types of objects that the server supports, and who it is (KMIP 1.0, 4.24)
 abbrev pub query_request : RequestPayload
-query_request = RequestPayload.Query (QueryFunction.QueryOperations ∷ QueryFunction.QueryObjects ∷ QueryFunction.QueryServerInformation ∷ [])
+query_request = RequestPayload.Query
+    (QueryFunction.QueryOperations ∷ QueryFunction.QueryObjects ∷
+    QueryFunction.QueryServerInformation ∷ [])
 
 -- the attributes of both keys of an RSA pair, whose length is in bits
 abbrev pub pair_attributes : ℤ → List Attribute
 pair_attributes key_length =
-    attribute_of (codes "Cryptographic Algorithm") (values.CryptographicAlgorithm CryptographicAlgorithm.RSA)
+    attribute_of (codes "Cryptographic Algorithm")
+    (values.CryptographicAlgorithm CryptographicAlgorithm.RSA)
     ∷ attribute_of (codes "Cryptographic Length") (values.Integer key_length)
     ∷ []
 
@@ -61,7 +64,8 @@ signing_parameters = record {
 
 -- a signature of these bytes (KMIP 1.2, 4.31)
 abbrev pub sign_request : List ℕ → List ℕ → RequestPayload
-sign_request id bytes = RequestPayload.Sign (Some (record { 0 = id })) (Some signing_parameters) (record { 0 = bytes })
+sign_request id bytes =
+    RequestPayload.Sign (Some (record { 0 = id })) (Some signing_parameters) (record { 0 = bytes })
 
 -- a key made active (KMIP 1.0, 4.18)
 abbrev pub activate_request : List ℕ → RequestPayload
@@ -69,7 +73,8 @@ activate_request id = RequestPayload.Activate (Some (record { 0 = id }))
 
 -- a key that is no longer needed revoked, with no message and no date (KMIP 1.0, 4.19)
 abbrev pub revoke_request : List ℕ → RequestPayload
-revoke_request id = RequestPayload.Revoke (Some (record { 0 = id })) (record { 0 = RevocationReasonCode.CessationOfOperation; 1 = None }) None
+revoke_request id = RequestPayload.Revoke (Some (record { 0 = id }))
+    (record { 0 = RevocationReasonCode.CessationOfOperation; 1 = None }) None
 
 -- an object destroyed (KMIP 1.0, 4.20)
 abbrev pub destroy_request : List ℕ → RequestPayload

@@ -2,7 +2,9 @@
 //! `OutOfMemory`.
 ghost use Rattle.std.specs.Prelude.{◌≡◌, ◌∷◌, [], ℕ, List, None, Some, IfOk};
 ghost use Rattle.std.specs.Int.{cast_signed, w32};
-ghost use Rattle.kmip_enums.specs.declared.query_function.QueryFunction.TheVariants.{QueryOperations, QueryObjects, QueryServerInformation};
+ghost use Rattle.kmip_enums.specs.declared.query_function.QueryFunction.TheVariants.{QueryOperations};
+ghost use Rattle.kmip_enums.specs.declared.query_function.QueryFunction.TheVariants.{QueryObjects};
+ghost use Rattle.kmip_enums.specs.declared.query_function.QueryFunction.TheVariants.{QueryServerInformation};
 ghost use Rattle.kmip_types.specs.UsageMask.{usage_bits};
 ghost use Rattle.kmip_helpers.specs.Requests as requests;
 

@@ -4,7 +4,27 @@
 //! first (KMIP 1.0, 9.1.1.4). Where its length is no multiple of 8 bytes it has no wire form.
 
 ghost use Rattle.std.specs.Prelude.{◌≡◌};
-ghost use Rattle.kmip_keys.specs.TransparentKeys.{transparent_symmetric_key, transparent_dsa_private_key, transparent_dsa_public_key, transparent_rsa_private_key, transparent_rsa_public_key, transparent_dh_private_key, transparent_dh_public_key, transparent_symmetric_key_val, transparent_dsa_private_key_val, transparent_dsa_public_key_val, transparent_rsa_private_key_val, transparent_rsa_public_key_val, transparent_dh_private_key_val, transparent_dh_public_key_val, transparent_symmetric_key_same, transparent_dsa_private_key_same, transparent_dsa_public_key_same, transparent_rsa_private_key_same, transparent_rsa_public_key_same, transparent_dh_private_key_same, transparent_dh_public_key_same};
+ghost use Rattle.kmip_keys.specs.TransparentKeys.{transparent_symmetric_key};
+ghost use Rattle.kmip_keys.specs.TransparentKeys.{transparent_dsa_private_key};
+ghost use Rattle.kmip_keys.specs.TransparentKeys.{transparent_dsa_public_key};
+ghost use Rattle.kmip_keys.specs.TransparentKeys.{transparent_rsa_private_key};
+ghost use Rattle.kmip_keys.specs.TransparentKeys.{transparent_rsa_public_key};
+ghost use Rattle.kmip_keys.specs.TransparentKeys.{transparent_dh_private_key};
+ghost use Rattle.kmip_keys.specs.TransparentKeys.{transparent_dh_public_key};
+ghost use Rattle.kmip_keys.specs.TransparentKeys.{transparent_symmetric_key_val};
+ghost use Rattle.kmip_keys.specs.TransparentKeys.{transparent_dsa_private_key_val};
+ghost use Rattle.kmip_keys.specs.TransparentKeys.{transparent_dsa_public_key_val};
+ghost use Rattle.kmip_keys.specs.TransparentKeys.{transparent_rsa_private_key_val};
+ghost use Rattle.kmip_keys.specs.TransparentKeys.{transparent_rsa_public_key_val};
+ghost use Rattle.kmip_keys.specs.TransparentKeys.{transparent_dh_private_key_val};
+ghost use Rattle.kmip_keys.specs.TransparentKeys.{transparent_dh_public_key_val};
+ghost use Rattle.kmip_keys.specs.TransparentKeys.{transparent_symmetric_key_same};
+ghost use Rattle.kmip_keys.specs.TransparentKeys.{transparent_dsa_private_key_same};
+ghost use Rattle.kmip_keys.specs.TransparentKeys.{transparent_dsa_public_key_same};
+ghost use Rattle.kmip_keys.specs.TransparentKeys.{transparent_rsa_private_key_same};
+ghost use Rattle.kmip_keys.specs.TransparentKeys.{transparent_rsa_public_key_same};
+ghost use Rattle.kmip_keys.specs.TransparentKeys.{transparent_dh_private_key_same};
+ghost use Rattle.kmip_keys.specs.TransparentKeys.{transparent_dh_public_key_same};
 
 use kmip_shape::record::{End, Row};
 use kmip_shape::row_readers::One;

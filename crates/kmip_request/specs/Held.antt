@@ -11,7 +11,8 @@ use Rattle.kmip_request.specs.Values.{request_payload_val}
 -- the username and the password of a credential are UTF-8
 abbrev pub AreTexts : Option CredentialType → Type 0
 AreTexts None = Unit {0}
-AreTexts (Some (UsernameAndPassword c)) = IsUtf8 c.username × IfSome c.password (λ password. IsUtf8 password)
+AreTexts (Some (UsernameAndPassword c)) =
+    IsUtf8 c.username × IfSome c.password (λ password. IsUtf8 password)
 
 abbrev pub IsHeld : RequestPayload → Option CredentialType → Type 0
 IsHeld payload credential = Fits request_payload (request_payload_val payload) × AreTexts credential

@@ -61,20 +61,27 @@ authentication_trees (Some (UsernameAndPassword c)) =
     structure AUTHENTICATION (trees_of (
     structure CREDENTIAL (trees_of (
     scalar CREDENTIAL_TYPE (enumeration 1)
-    ∷ structure CREDENTIAL_VALUE (trees_of (scalar USERNAME (text_string c.username) ∷ password_trees c.password))
+    ∷ structure CREDENTIAL_VALUE
+    (trees_of (scalar USERNAME (text_string c.username) ∷ password_trees c.password))
     ∷ []))
     ∷ []))
     ∷ []
 
 -- the credential that an Authentication holds
 abbrev pub credential_of : Authentication → CredentialType
-credential_of a = elim ((a.0).1) [ values.UsernameAndPassword username password ↦ UsernameAndPassword (record { username = username.0; password = option_map (λ p. p.0) password }) ]
+credential_of a = elim ((a.0).1) [
+  | values.UsernameAndPassword username password ↦
+      UsernameAndPassword
+      (record { username = username.0; password = option_map (λ p. p.0) password })
+]
 
 -- the header of a request: its version, the credential where there is one, and batch count 1
 abbrev pub header_tree : ℕ → List Tree → Tree
 header_tree minor authentication =
     structure REQUEST_HEADER (trees_of (
-    structure PROTOCOL_VERSION (trees_of (scalar PROTOCOL_VERSION_MAJOR (integer (pos 1)) ∷ scalar PROTOCOL_VERSION_MINOR (integer (pos minor)) ∷ []))
+    structure PROTOCOL_VERSION
+    (trees_of (scalar PROTOCOL_VERSION_MAJOR (integer (pos 1)) ∷
+    scalar PROTOCOL_VERSION_MINOR (integer (pos minor)) ∷ []))
     ∷ (authentication ++ scalar BATCH_COUNT (integer (pos 1)) ∷ [])))
 
 -- the message of a header, the number of an operation and the item of a payload
@@ -88,7 +95,8 @@ message_tree header operation payload =
 -- the request message round a payload and a credential, where the payload has a tree
 abbrev pub request_tree : RequestPayload → Option CredentialType → Option Tree
 request_tree payload credential =
-    option_map (message_tree (header_tree (minor_of payload) (authentication_trees credential)) (operation_line (operation_of payload)).number)
+    option_map (message_tree (header_tree (minor_of payload) (authentication_trees credential))
+    (operation_line (operation_of payload)).number)
     (tree_of request_payload REQUEST_PAYLOAD (request_payload_val payload))
 
 -- the one canonical message of a request, where it has one

@@ -5,8 +5,10 @@ ghost use Rattle.kmip_wire.specs.declared.kind.Kind.TheVariants.{TextString};
 ghost use Rattle.kmip_shape.specs.Shape.{Scalar, Choice, OfNumber};
 ghost use Rattle.kmip_request.specs.Tables.{authentication, credential, credential_values};
 ghost use Rattle.kmip_request.specs.Message.{credential_of};
-ghost use Rattle.kmip_request.specs.Values.{username_val, password_val, authentication_val, credential_val, credential_value_val};
-ghost use Rattle.kmip_request.specs.Same.{username_same, password_same, authentication_same, credential_same, credential_value_same};
+ghost use Rattle.kmip_request.specs.Values.{username_val, password_val, authentication_val};
+ghost use Rattle.kmip_request.specs.Values.{credential_val, credential_value_val};
+ghost use Rattle.kmip_request.specs.Same.{username_same, password_same, authentication_same};
+ghost use Rattle.kmip_request.specs.Same.{credential_same, credential_value_same};
 
 use kmip_enums::CredentialType;
 use kmip_shape::record::{Choosing, End, Row};

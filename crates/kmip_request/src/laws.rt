@@ -21,8 +21,7 @@ pub fn distinct_requests()
 {}
 
 /// In the table of a request's message and of each payload no tag appears twice, at any depth, and
-/// at most one field chooses, above what it chooses. So what is read of a field never depends on
-/// the order of the items.
+/// at most one field chooses, above what it chooses.
 pub fn tables_stand()
     ensures { all_stand root_tables ≡ true }
 {}

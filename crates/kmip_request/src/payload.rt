@@ -3,7 +3,8 @@
 ghost use Rattle.std.specs.Prelude.{◌≡◌};
 ghost use Rattle.kmip_request.specs.Message.{operation_of, version_of};
 ghost use Rattle.kmip_request.specs.Tables.{request_payload};
-ghost use Rattle.kmip_request_objects.specs.Tables.{attribute, name, public_key, private_key, template};
+ghost use Rattle.kmip_request_objects.specs.Tables.{attribute, name, public_key, private_key};
+ghost use Rattle.kmip_request_objects.specs.Tables.{template};
 ghost use Rattle.kmip_request.specs.Values.{request_payload_val};
 ghost use Rattle.kmip_request.specs.Same.{request_payload_same};
 

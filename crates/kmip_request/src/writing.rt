@@ -204,10 +204,9 @@ fn write_empty(
 /// Writes the canonical bytes of the request message round `payload` into `out`, in place of what
 /// `out` held: its version, the credential where there is one, no maximum response size, batch
 /// count 1 and no batch item identifier. The payload and the credential are borrowed, not copied,
-/// and
-/// the capacity of `out` is reused.
+/// and the capacity of `out` is reused.
 ///
-/// `NoForm` comes exactly where the request is not valid: where an item's length reaches 2^32, or a
+/// `NoForm` means that the request is not valid: an item's length reaches 2^32, or a
 /// value has no wire form. `Malformed` never comes. Memory is asked for once, before the first byte
 /// is written, and only where the capacity of `out` is too small. After an error `out` has no
 /// bytes.
@@ -228,47 +227,24 @@ pub fn write_request_into(
     write_empty(payload, authentication, out)
 }
 
-/// The canonical bytes of the request message round a payload and a credential, both borrowed.
-fn write_lent(
+/// As [`to_vec`], of a payload and a credential that the caller keeps: both are borrowed.
+pub fn write_request(
     alloc: Global,
     payload: &RequestPayload,
     authentication: &Option<Authentication>,
 ) -> Result<Blob, WireError>
     ensures bytes { GivesBytes result
         (request_bytes payload.now (option_map credential_of authentication.now)) }
-    ensures ok { IfOk result (λ b.
-        request_bytes payload.now (option_map credential_of authentication.now) ≡ Some b) }
-    ensures no_form { IsErrOf result WireError.NoForm →
-        request_bytes payload.now (option_map credential_of authentication.now) ≡ None }
-    ensures never { IfErr result (λ e. e ≢ WireError.Malformed) }
 {
     let mut out = Buffer::new(alloc);
     write_empty(payload, authentication, &mut out)?;
     Ok(out.into_blob())
 }
 
-/// As `to_vec`, with a credential that the caller keeps: it is borrowed, not copied or changed.
-pub fn write_request(
-    alloc: Global,
-    payload: RequestPayload,
-    authentication: &mut Option<Authentication>,
-) -> Result<Blob, WireError>
-    ensures bytes { GivesBytes result
-        (request_bytes payload (option_map credential_of authentication.old)) }
-    ensures ok { IfOk result (λ b.
-        request_bytes payload (option_map credential_of authentication.old) ≡ Some b) }
-    ensures no_form { IsErrOf result WireError.NoForm →
-        request_bytes payload (option_map credential_of authentication.old) ≡ None }
-    ensures never { IfErr result (λ e. e ≢ WireError.Malformed) }
-    ensures kept { authentication.new ≡ authentication.old }
-{
-    write_lent(alloc, &payload, &*authentication)
-}
-
 /// The canonical bytes of the request message round `payload`: its version, the credential where
 /// there is one, no maximum response size, batch count 1 and no batch item identifier.
 ///
-/// `NoForm` comes exactly where the request is not valid: where an item's length reaches 2^32, or a
+/// `NoForm` means that the request is not valid: an item's length reaches 2^32, or a
 /// value has no wire form. `Malformed` never comes. Memory is taken once, before the first byte is
 /// written.
 pub fn to_vec(
@@ -278,6 +254,6 @@ pub fn to_vec(
 ) -> Result<Blob, WireError>
     ensures { GivesBytes result (request_bytes payload credential) }
 {
-    let mut authentication = credential.map(Authentication::build);
-    write_request(alloc, payload, &mut authentication)
+    let authentication = credential.map(Authentication::build);
+    write_request(alloc, &payload, &authentication)
 }

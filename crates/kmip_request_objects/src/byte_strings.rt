@@ -3,8 +3,10 @@
 ghost use Rattle.std.specs.Prelude.{◌≡◌};
 ghost use Rattle.kmip_wire.specs.declared.kind.Kind.TheVariants.{ByteString};
 ghost use Rattle.kmip_shape.specs.Shape.{Scalar};
-ghost use Rattle.kmip_request_objects.specs.Values.{mac_or_signature_val, iv_or_counter_or_nonce_val};
-ghost use Rattle.kmip_request_objects.specs.Same.{mac_or_signature_same, iv_or_counter_or_nonce_same};
+ghost use Rattle.kmip_request_objects.specs.Values.{mac_or_signature_val};
+ghost use Rattle.kmip_request_objects.specs.Values.{iv_or_counter_or_nonce_val};
+ghost use Rattle.kmip_request_objects.specs.Same.{mac_or_signature_same};
+ghost use Rattle.kmip_request_objects.specs.Same.{iv_or_counter_or_nonce_same};
 
 use kmip_shape::{Item, Outer, ReadError, ReadItem, WriteItem};
 use kmip_wire::{Blob, Buffer, ItemRef, OutOfMemory, Tag, TryClone};

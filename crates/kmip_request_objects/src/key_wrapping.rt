@@ -1,9 +1,17 @@
 //! How keys are wrapped.
 
 ghost use Rattle.std.specs.Prelude.{◌≡◌};
-ghost use Rattle.kmip_request_objects.specs.Tables.{attribute, encryption_key_information, mac_or_signature_key_information, key_wrapping_data, key_wrapping_specification};
-ghost use Rattle.kmip_request_objects.specs.Values.{encryption_key_information_val, mac_or_signature_key_information_val, key_wrapping_data_val, key_wrapping_specification_val};
-ghost use Rattle.kmip_request_objects.specs.Same.{encryption_key_information_same, mac_or_signature_key_information_same, key_wrapping_data_same, key_wrapping_specification_same};
+ghost use Rattle.kmip_request_objects.specs.Tables.{attribute, encryption_key_information};
+ghost use Rattle.kmip_request_objects.specs.Tables.{mac_or_signature_key_information};
+ghost use Rattle.kmip_request_objects.specs.Tables.{key_wrapping_data, key_wrapping_specification};
+ghost use Rattle.kmip_request_objects.specs.Values.{encryption_key_information_val};
+ghost use Rattle.kmip_request_objects.specs.Values.{mac_or_signature_key_information_val};
+ghost use Rattle.kmip_request_objects.specs.Values.{key_wrapping_data_val};
+ghost use Rattle.kmip_request_objects.specs.Values.{key_wrapping_specification_val};
+ghost use Rattle.kmip_request_objects.specs.Same.{encryption_key_information_same};
+ghost use Rattle.kmip_request_objects.specs.Same.{mac_or_signature_key_information_same};
+ghost use Rattle.kmip_request_objects.specs.Same.{key_wrapping_data_same};
+ghost use Rattle.kmip_request_objects.specs.Same.{key_wrapping_specification_same};
 
 use crate::attribute::Attribute;
 use crate::byte_strings::{IVOrCounterOrNonce, MACOrSignature};

@@ -4,8 +4,14 @@ ghost use Rattle.std.specs.Prelude.{◌≡◌};
 ghost use Rattle.std.specs.Prelude.{◌∷◌, [], IfOk, None, Some};
 ghost use Rattle.kmip_request_objects.specs.Constructors.{uninterpreted_name};
 ghost use Rattle.kmip_request_objects.specs.Tables.{name, template_attribute};
-ghost use Rattle.kmip_request_objects.specs.Values.{template_attribute_val, common_template_attribute_val, private_key_template_attribute_val, public_key_template_attribute_val};
-ghost use Rattle.kmip_request_objects.specs.Same.{template_attribute_same, common_template_attribute_same, private_key_template_attribute_same, public_key_template_attribute_same};
+ghost use Rattle.kmip_request_objects.specs.Values.{template_attribute_val};
+ghost use Rattle.kmip_request_objects.specs.Values.{common_template_attribute_val};
+ghost use Rattle.kmip_request_objects.specs.Values.{private_key_template_attribute_val};
+ghost use Rattle.kmip_request_objects.specs.Values.{public_key_template_attribute_val};
+ghost use Rattle.kmip_request_objects.specs.Same.{template_attribute_same};
+ghost use Rattle.kmip_request_objects.specs.Same.{common_template_attribute_same};
+ghost use Rattle.kmip_request_objects.specs.Same.{private_key_template_attribute_same};
+ghost use Rattle.kmip_request_objects.specs.Same.{public_key_template_attribute_same};
 
 use crate::attribute::Attribute;
 use crate::name::Name;

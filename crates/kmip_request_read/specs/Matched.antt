@@ -35,7 +35,8 @@ under_operation payload = under_number (operation_of payload)
 -- - no optional list is `Some` of an empty list.
 abbrev pub IsMatchedValue : Operation → Val → Type 0
 IsMatchedValue operation payload =
-    IsSome (tree_of request_payload REQUEST_PAYLOAD payload) × selected_in payload NoCase request_payload (under_number operation) REQUEST_PAYLOAD
+    IsSome (tree_of request_payload REQUEST_PAYLOAD payload) ×
+    selected_in payload NoCase request_payload (under_number operation) REQUEST_PAYLOAD
 
 abbrev pub IsMatched : RequestPayload → Type 0
 IsMatched payload = IsMatchedValue (operation_of payload) (request_payload_val payload)

@@ -21,11 +21,13 @@ message_of payload authentication = record {
 
 -- the message is one that is written for a payload
 abbrev pub IsPlain : RequestMessage → Type 0
-IsPlain message = (payload : RequestPayload) × (authentication : Option Authentication) × (message ≡ message_of payload authentication)
+IsPlain message = (payload : RequestPayload) × (authentication : Option Authentication) ×
+    (message ≡ message_of payload authentication)
 
 -- the value is read from the tree, and written as the bytes
 abbrev pub IsWrittenAs : Shape → ℕ → Tree → List ℕ → Val → Type 0
-IsWrittenAs shape tag tree bytes val = (root_read shape tag tree ≡ Some val) × (bytes_of shape tag val ≡ Some bytes)
+IsWrittenAs shape tag tree bytes val =
+    (root_read shape tag tree ≡ Some val) × (bytes_of shape tag val ≡ Some bytes)
 
 -- the same, and the value fits its shape
 abbrev pub IsCanonical : Shape → ℕ → Tree → List ℕ → Val → Type 0

@@ -10,7 +10,8 @@ ghost use Rattle.kmip_request.specs.declared.payload.RequestPayload.{RequestPayl
 ghost use Rattle.kmip_request.specs.Message.{request_bytes};
 ghost use Rattle.kmip_request.specs.Held.{IsHeld};
 ghost use Rattle.kmip_request_read.specs.Matched.{IsMatched, IsMatchedValue};
-ghost use Rattle.kmip_request_read.specs.Reading.{Request, request_for, message_bytes, message_with, request_read};
+ghost use Rattle.kmip_request_read.specs.Reading.{Request, request_for, message_bytes};
+ghost use Rattle.kmip_request_read.specs.Reading.{message_with, request_read};
 
 /// Two matched requests of the same bytes are equal, in payload and credential. The premises
 /// `IsHeld` hold of every payload and credential that Rust can hold.

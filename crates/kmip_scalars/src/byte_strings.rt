@@ -4,7 +4,8 @@ ghost use Rattle.std.specs.Prelude.{◌≡◌};
 ghost use Rattle.std.specs.Bool.{Decides};
 ghost use Rattle.kmip_wire.specs.declared.kind.Kind.TheVariants.{ByteString};
 ghost use Rattle.kmip_shape.specs.Shape.{Scalar};
-ghost use Rattle.kmip_scalars.specs.ByteStrings.{data_val, data_same, unique_batch_item_id_val, unique_batch_item_id_same};
+ghost use Rattle.kmip_scalars.specs.ByteStrings.{data_val, data_same, unique_batch_item_id_val};
+ghost use Rattle.kmip_scalars.specs.ByteStrings.{unique_batch_item_id_same};
 
 use kmip_shape::read::{Outer, ReadError, ReadItem};
 use kmip_shape::{Item, ShowItem, TextWriter, WriteItem};

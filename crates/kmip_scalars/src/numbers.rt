@@ -4,7 +4,11 @@ ghost use Rattle.std.specs.Prelude.{◌≡◌};
 ghost use Rattle.std.specs.Bool.{Decides};
 ghost use Rattle.kmip_wire.specs.declared.kind.Kind.TheVariants.{DateTime, Integer};
 ghost use Rattle.kmip_shape.specs.Shape.{Scalar};
-ghost use Rattle.kmip_scalars.specs.Numbers.{attribute_index_val, attribute_index_same, data_length_val, data_length_same, cryptographic_length_val, cryptographic_length_same, compromise_occurrence_date_val, compromise_occurrence_date_same};
+ghost use Rattle.kmip_scalars.specs.Numbers.{attribute_index_val, attribute_index_same};
+ghost use Rattle.kmip_scalars.specs.Numbers.{data_length_val, data_length_same};
+ghost use Rattle.kmip_scalars.specs.Numbers.{cryptographic_length_val, cryptographic_length_same};
+ghost use Rattle.kmip_scalars.specs.Numbers.{compromise_occurrence_date_val};
+ghost use Rattle.kmip_scalars.specs.Numbers.{compromise_occurrence_date_same};
 
 use kmip_shape::read::{Outer, ReadError, ReadItem};
 use kmip_shape::{Item, ShowItem, TextWriter, WriteItem};

@@ -4,7 +4,12 @@ ghost use Rattle.std.specs.Prelude.{◌≡◌, Some};
 ghost use Rattle.std.specs.Bool.{Decides};
 ghost use Rattle.kmip_wire.specs.declared.kind.Kind.TheVariants.{TextString};
 ghost use Rattle.kmip_shape.specs.Shape.{Scalar};
-ghost use Rattle.kmip_scalars.specs.Texts.{unique_identifier_val, unique_identifier_same, name_value_val, name_value_same, revocation_message_val, revocation_message_same, linked_object_identifier_val, linked_object_identifier_same, application_namespace_val, application_namespace_same, application_data_val, application_data_same};
+ghost use Rattle.kmip_scalars.specs.Texts.{unique_identifier_val, unique_identifier_same};
+ghost use Rattle.kmip_scalars.specs.Texts.{name_value_val, name_value_same, revocation_message_val};
+ghost use Rattle.kmip_scalars.specs.Texts.{revocation_message_same, linked_object_identifier_val};
+ghost use Rattle.kmip_scalars.specs.Texts.{linked_object_identifier_same};
+ghost use Rattle.kmip_scalars.specs.Texts.{application_namespace_val, application_namespace_same};
+ghost use Rattle.kmip_scalars.specs.Texts.{application_data_val, application_data_same};
 
 use kmip_shape::read::{Outer, ReadError, ReadItem};
 use kmip_shape::{Item, ShowItem, TextWriter, WriteItem};

@@ -8,7 +8,8 @@ ghost use Rattle.kmip_shape.specs.Val.{Case, vals_of};
 ghost use Rattle.kmip_shape.specs.Shape.{type_key};
 ghost use Rattle.kmip_shape.specs.Reads.{each, read_case, read_of, read_plain};
 ghost use Rattle.kmip_shape.specs.Resume.{outer_of};
-ghost use Rattle.kmip_types.specs.AttributeValues.{attribute_values, attribute_value_val, name, link, application_specific_information};
+ghost use Rattle.kmip_types.specs.AttributeValues.{attribute_values, attribute_value_val, name};
+ghost use Rattle.kmip_types.specs.AttributeValues.{link, application_specific_information};
 
 use crate::attribute_value::{AttributeValue, InformationRows, LinkRows, NameRows, Values};
 use crate::cryptographic_parameters::CryptographicParameters;
@@ -18,7 +19,7 @@ use kmip_shape::{BigInteger, Outer, ReadError, ReadItem, fields, read_record};
 use kmip_wire::{Blob, ItemRef, Kind, Text};
 use std::alloc::Global;
 
-/// A child of a custom structure, read by its type alone. `Unread` comes exactly where it is a
+/// A child of a custom structure, read by its type alone. `Unread` comes only where it is a
 /// structure itself.
 fn read_child(alloc: Global, child: ItemRef<'_>) -> Result<AttributeValue, ReadError>
     ensures ok { IfOk result (λ x. read_plain attribute_values (item_tree child.entry) ≡
@@ -47,7 +48,7 @@ fn read_child(alloc: Global, child: ItemRef<'_>) -> Result<AttributeValue, ReadE
     }
 }
 
-/// The members of a custom structure. `Unread` comes exactly where the item is no Structure, or a
+/// The members of a custom structure. `Unread` comes only where the item is no Structure, or a
 /// member is one.
 #[tactic(auto, using(kmip_shape::proofs::Gathered::gathering))]
 fn read_values(alloc: Global, item: ItemRef<'_>) -> Result<Values, ReadError>

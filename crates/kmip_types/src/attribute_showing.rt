@@ -7,7 +7,9 @@ ghost use Rattle.kmip_shape.specs.Shown.{Grows, shown_as, list_styled, in_bracke
 ghost use Rattle.kmip_types.specs.AttributeValues.{attribute_value, attribute_value_val};
 ghost use Rattle.kmip_types.specs.AttributesShown.{case_name, plain_styled, plain_text};
 ghost use Rattle.kmip_types.specs.Parameters.{cryptographic_parameters_val};
-ghost use Rattle.kmip_types.specs.declared.attribute_value.AttributeValue.TheVariants.{Name, Link, ApplicationSpecificInformation, Structure};
+ghost use Rattle.kmip_types.specs.declared.attribute_value.AttributeValue.TheVariants.{Name, Link};
+ghost use Rattle.kmip_types.specs.declared.attribute_value.AttributeValue.TheVariants.{ApplicationSpecificInformation};
+ghost use Rattle.kmip_types.specs.declared.attribute_value.AttributeValue.TheVariants.{Structure};
 
 use crate::attribute_value::{AttributeValue, InformationRows, LinkRows, NameRows, Values};
 use crate::cryptographic_parameters::CryptographicParameters;

@@ -1,11 +1,13 @@
 //! Attribute values, and the members of custom structures.
 
-ghost use Rattle.std.specs.Prelude.{◌≡◌, [], ◌∷◌, ◌++◌, length, map, is_ok, if◌then◌else◌, option_copied, slice_get};
+ghost use Rattle.std.specs.Prelude.{◌≡◌, [], ◌∷◌, ◌++◌, length, map, is_ok, if◌then◌else◌};
+ghost use Rattle.std.specs.Prelude.{option_copied, slice_get};
 ghost use Rattle.std.specs.Option.{option_map};
 ghost use Rattle.kmip_shape.specs.Val.{vals_of};
 ghost use Rattle.kmip_shape.specs.Shape.{NoCase};
 ghost use Rattle.kmip_shape.specs.Fits.{vals_fit};
-ghost use Rattle.kmip_types.specs.AttributeValues.{attribute_value, attribute_value_val, attribute_value_same};
+ghost use Rattle.kmip_types.specs.AttributeValues.{attribute_value, attribute_value_val};
+ghost use Rattle.kmip_types.specs.AttributeValues.{attribute_value_same};
 
 use crate::cryptographic_parameters::CryptographicParameters;
 use kmip_cryptography::CryptographicAlgorithm;

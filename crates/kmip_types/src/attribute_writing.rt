@@ -4,7 +4,9 @@ ghost use Rattle.std.specs.Prelude.{◌≡◌, ◌≤◌, ◌<◌, ◌^◌, IfSo
 ghost use Rattle.kmip_wire.specs.Room.{Appends};
 ghost use Rattle.kmip_shape.specs.Val.{vals_of};
 ghost use Rattle.kmip_shape.specs.Shape.{attribute_value as tag_of_children};
-ghost use Rattle.kmip_shape.specs.Writes.{maybe_form, maybe_len, maybe_size, maybe_text, plain_leaf, plains_form, plains_len, plains_size, plains_text};
+ghost use Rattle.kmip_shape.specs.Writes.{maybe_form, maybe_len, maybe_size, maybe_text};
+ghost use Rattle.kmip_shape.specs.Writes.{plain_leaf, plains_form, plains_len, plains_size};
+ghost use Rattle.kmip_shape.specs.Writes.{plains_text};
 ghost use Rattle.kmip_types.specs.AttributeValues.{attribute_values, attribute_value_val};
 
 use crate::attribute_value::{AttributeValue, InformationRows, LinkRows, NameRows};

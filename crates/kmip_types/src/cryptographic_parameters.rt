@@ -1,7 +1,9 @@
 //! Parameters of a cryptographic operation.
 
 ghost use Rattle.std.specs.Prelude.{◌≡◌, Some};
-ghost use Rattle.kmip_types.specs.Parameters.{cryptographic_parameters, cryptographic_parameters_val, cryptographic_parameters_same};
+ghost use Rattle.kmip_types.specs.Parameters.{cryptographic_parameters};
+ghost use Rattle.kmip_types.specs.Parameters.{cryptographic_parameters_val};
+ghost use Rattle.kmip_types.specs.Parameters.{cryptographic_parameters_same};
 
 use kmip_cryptography::{
     BlockCipherMode, CryptographicAlgorithm, DigitalSignatureAlgorithm, HashingAlgorithm,
