@@ -13,8 +13,6 @@ mod lines;
 mod outcomes;
 mod reports;
 mod responses;
-#[cfg(test)]
-mod tests;
 
 pub use auditing::audit;
 pub use laws::{answered_exactly_where_ok, reports_tell_skeletons, sessions_are_reported};

@@ -32,8 +32,7 @@ block_cipher_mode_line X9_102_AKW2 = entry 0x11 (codes "X9_102_AKW2")
 abbrev pub block_cipher_mode_variants : List BlockCipherMode
 block_cipher_mode_variants =
     CBC ∷ ECB ∷ PCBC ∷ CFB ∷ OFB ∷ CTR ∷ CMAC ∷ CCM ∷ GCM ∷ CBC_MAC ∷ XTS ∷ AESKeyWrapPadding ∷
-    NISTKeyWrap ∷
-    X9_102_AESKW ∷ X9_102_TDKW ∷ X9_102_AKW1 ∷ X9_102_AKW2 ∷ []
+    NISTKeyWrap ∷ X9_102_AESKW ∷ X9_102_TDKW ∷ X9_102_AKW1 ∷ X9_102_AKW2 ∷ []
 
 abbrev pub block_cipher_modes : List Entry
 block_cipher_modes = map block_cipher_mode_line block_cipher_mode_variants

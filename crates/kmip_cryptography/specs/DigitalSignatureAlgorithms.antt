@@ -38,12 +38,11 @@ digital_signature_algorithm_line ECDSAWithSHA512 = entry 0x10 (codes "ECDSAWithS
 abbrev pub digital_signature_algorithm_variants : List DigitalSignatureAlgorithm
 digital_signature_algorithm_variants =
     MD2WithRSAEncryption_PKCS1_v1_5 ∷ MD5WithRSAEncryption_PKCS1_v1_5 ∷
-    SHA1WithRSAEncryption_PKCS1_v1_5 ∷
-    SHA224WithRSAEncryption_PKCS1_v1_5 ∷ SHA256WithRSAEncryption_PKCS1_v1_5 ∷
-    SHA384WithRSAEncryption_PKCS1_v1_5 ∷
+    SHA1WithRSAEncryption_PKCS1_v1_5 ∷ SHA224WithRSAEncryption_PKCS1_v1_5 ∷
+    SHA256WithRSAEncryption_PKCS1_v1_5 ∷ SHA384WithRSAEncryption_PKCS1_v1_5 ∷
     SHA512WithRSAEncryption_PKCS1_v1_5 ∷ RSASSA_PSS_PKCS1_v1_5 ∷ DSAWithSHA1 ∷ DSAWithSHA224 ∷
-    DSAWithSHA256 ∷
-    ECDSAWithSHA1 ∷ ECDSAWithSHA224 ∷ ECDSAWithSHA256 ∷ ECDSAWithSHA384 ∷ ECDSAWithSHA512 ∷ []
+    DSAWithSHA256 ∷ ECDSAWithSHA1 ∷ ECDSAWithSHA224 ∷ ECDSAWithSHA256 ∷ ECDSAWithSHA384 ∷
+    ECDSAWithSHA512 ∷ []
 
 abbrev pub digital_signature_algorithms : List Entry
 digital_signature_algorithms =

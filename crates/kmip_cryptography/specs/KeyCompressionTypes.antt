@@ -22,8 +22,7 @@ key_compression_type_line ECPUblicKeyTypeX962Hybrid = entry 0x4 (codes "ECPUblic
 abbrev pub key_compression_type_variants : List KeyCompressionType
 key_compression_type_variants =
     ECPUblicKeyTypeUncompressed ∷ ECPUblicKeyTypeX962CompressedPrime ∷
-    ECPUblicKeyTypeX962CompressedChar2 ∷
-    ECPUblicKeyTypeX962Hybrid ∷ []
+    ECPUblicKeyTypeX962CompressedChar2 ∷ ECPUblicKeyTypeX962Hybrid ∷ []
 
 abbrev pub key_compression_types : List Entry
 key_compression_types = map key_compression_type_line key_compression_type_variants

@@ -34,11 +34,9 @@ key_format_type_line TransparentECMQVPublicKey = entry 0x13 (codes "TransparentE
 abbrev pub key_format_type_variants : List KeyFormatType
 key_format_type_variants =
     Raw ∷ Opaque ∷ PKCS1 ∷ PKCS8 ∷ X509 ∷ ECPrivateKey ∷ TransparentSymmetricKey ∷
-    TransparentDSAPrivateKey ∷
-    TransparentDSAPublicKey ∷ TransparentRSAPrivateKey ∷ TransparentRSAPublicKey ∷
-    TransparentDHPrivateKey ∷
-    TransparentDHPublicKey ∷ TransparentECDSAPrivateKey ∷ TransparentECDSAPublicKey ∷
-    TransparentECHDPrivateKey ∷
+    TransparentDSAPrivateKey ∷ TransparentDSAPublicKey ∷ TransparentRSAPrivateKey ∷
+    TransparentRSAPublicKey ∷ TransparentDHPrivateKey ∷ TransparentDHPublicKey ∷
+    TransparentECDSAPrivateKey ∷ TransparentECDSAPublicKey ∷ TransparentECHDPrivateKey ∷
     TransparentECDHPublicKey ∷ TransparentECMQVPrivateKey ∷ TransparentECMQVPublicKey ∷ []
 
 abbrev pub key_format_types : List Entry

@@ -35,11 +35,9 @@ result_reason_line GeneralFailure = entry 0x100 (codes "GeneralFailure")
 abbrev pub result_reason_variants : List ResultReason
 result_reason_variants =
     ItemNotFound ∷ ResponseTooLarge ∷ AuthenticationNotSuccessful ∷ InvalidMessage ∷
-    OperationNotSupported ∷
-    MissingData ∷ InvalidField ∷ FeatureNotSupported ∷ OperationCanceledByRequester ∷
-    CryptographicFailure ∷
-    IllegalOperation ∷ PermissionDenied ∷ ObjectArchived ∷ IndexOutOfBounds ∷
-    ApplicationNamespaceNotSupported ∷
+    OperationNotSupported ∷ MissingData ∷ InvalidField ∷ FeatureNotSupported ∷
+    OperationCanceledByRequester ∷ CryptographicFailure ∷ IllegalOperation ∷ PermissionDenied ∷
+    ObjectArchived ∷ IndexOutOfBounds ∷ ApplicationNamespaceNotSupported ∷
     KeyFormatTypeNotSupported ∷ KeyCompressionTypeNotSupported ∷ GeneralFailure ∷ []
 
 abbrev pub result_reasons : List Entry

@@ -22,8 +22,7 @@ revocation_reason_code_line PrivilegeWithdrawn = entry 0x7 (codes "PrivilegeWith
 abbrev pub revocation_reason_code_variants : List RevocationReasonCode
 revocation_reason_code_variants =
     Unspecified ∷ KeyCompromise ∷ CACompromise ∷ AffiliationChanged ∷ Superseded ∷
-    CessationOfOperation ∷
-    PrivilegeWithdrawn ∷ []
+    CessationOfOperation ∷ PrivilegeWithdrawn ∷ []
 
 abbrev pub revocation_reason_codes : List Entry
 revocation_reason_codes = map revocation_reason_code_line revocation_reason_code_variants

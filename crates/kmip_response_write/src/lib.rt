@@ -19,6 +19,3 @@ pub use laws::{
     one_response, response_is_one_message, response_is_read, settled_is_read, tables_stand,
 };
 pub use writing::to_vec;
-
-#[cfg(test)]
-mod tests;

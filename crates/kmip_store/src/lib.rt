@@ -29,6 +29,3 @@ pub use memory_maker::MemoryMaker;
 pub use object::Object;
 pub use plain_maker::PlainMaker;
 pub use store::Store;
-
-#[cfg(test)]
-mod tests;

@@ -1,12 +1,12 @@
 //! Responses written: each as the bytes that it was read of, which come from outside.
 
-use crate::to_vec;
 use kmip_enums::{ObjectType, Operation, ResultStatus};
 use kmip_response::{
     BatchItem, GetResponsePayload, KeyBlock, KeyValue, ManagedObject, ProtocolVersion,
     ResponseHeader, ResponseMessage, ResponsePayload, SymmetricKey,
     UniqueIdentifierResponsePayload, from_slice,
 };
+use kmip_response_write::to_vec;
 use kmip_types::{KeyFormatType, KeyMaterial, UniqueIdentifier};
 use kmip_wire::{Blob, Boxed, List, Text, WireError};
 use std::alloc::Global;
