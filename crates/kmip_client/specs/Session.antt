@@ -1,15 +1,15 @@
 -- Several requests over one client.
-use Rattle.std.specs.Prelude.{◌≡◌, ℕ, ◌+◌, ◌<◌, ◌≤◌, List, [], ◌∷◌, ◌++◌, length, take, drop, map, Bool, true, false, Option, None, if◌then◌else◌, Ok, Err, codes}
+use Rattle.std.specs.Prelude.{◌≡◌, ℕ, ◌+◌, ◌<◌, ◌≤◌, List, [], ◌∷◌, ◌++◌, length, take, drop, map, Bool, true, false, Option, None, if◌then◌else◌, Ok, Err, codes, IsTrue}
 use Rattle.kmip_shape.specs.Val.{Val}
 use Rattle.kmip_types.specs.declared.auth.CredentialType.{CredentialType}
 use Rattle.kmip_request.specs.Message.{request_bytes}
 use Rattle.kmip_request.specs.declared.payload.RequestPayload.{RequestPayload}
-use Rattle.kmip_link.specs.State.{LinkState, Rose}
+use Rattle.kmip_link.specs.State.{LinkState, Rose, left}
 use Rattle.kmip_client.specs.declared.error.Error.{Error}
 use Rattle.kmip_client.specs.declared.error.Error.TheVariants.{SerializeError, RequestWriteError, ResponseReadError}
 use Rattle.kmip_client.specs.declared.session.Exchange.{Exchange}
 use Rattle.kmip_client.specs.Outcome.{Answer, seen_by, Outcome, outcome, Moves}
-use Rattle.kmip_client.specs.Client.{ClientState, loses_connection, lacks_memory}
+use Rattle.kmip_client.specs.Client.{ClientState, loses_connection, lacks_memory, count_after}
 use Rattle.kmip_client.specs.Calls.{IsCall}
 use Rattle.kmip_client.specs.Diagnostics.{diagnostic_for, diagnostic_of}
 
@@ -138,3 +138,23 @@ abbrev pub ends_lost : List Told → Bool
 ends_lost [] = false
 ends_lost (exchange ∷ []) = loses_connection exchange.answer
 ends_lost (exchange ∷ next ∷ exchanges) = ends_lost (next ∷ exchanges)
+
+-- What `exchange_all` promises of a session for these requests that returned these exchanges, found
+-- the client as `before` and left it as `after`. `state` is what the link means.
+pub record IsSession {T : Type 0} (state : T → LinkState) (payloads : List RequestPayload)
+    (before after : ClientState T) (exchanges : List Told) : Type 0 where
+  -- where nothing came to a link that tells its bytes: what was sent, taken and told, and at a fault
+  pub ran : IsTrue (state before.link).tells → (state after.link).ever ≡ (state before.link).ever →
+      Ran before.buffered
+      (session payloads before.credential before.limit (left (state before.link)))
+      (state before.link) (state after.link) exchanges
+  -- there is an exchange for each request, up to the first that lost the connection
+  pub stops : Stops payloads exchanges
+  -- each exchange is what a call of `do_request` told, made on the client that the call before left
+  pub calls : Calls state payloads before exchanges after
+  -- the client holds the diagnostics of the last exchange, and with none those that it held
+  pub texts : held_texts after ≡ last_texts (held_texts before) exchanges
+  -- each exchange has the diagnostic of its request
+  pub requests : AreRequestTexts before.buffered before.credential payloads exchanges
+  -- one more connection error was counted, modulo 256, exactly if the last answer is one
+  pub count : after.errors ≡ count_after before.errors (ends_lost exchanges)
