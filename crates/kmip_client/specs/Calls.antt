@@ -16,9 +16,9 @@ use Rattle.kmip_client.specs.Headline.{Headline}
 use Rattle.kmip_client.specs.Client.{ClientState, loses_connection, count_after}
 use Rattle.kmip_client.specs.Diagnostics.{IsRequestText, IsResponseText}
 
--- What `do_request` promises of a call for this request, which found the client as `before`, left it
--- as `after` and answered so. `state` is what the link means. What is said where the link `tells` is
--- said of a link that tells its bytes, and the rest of any link.
+-- What `do_request` promises of a call for this request, which found the client as `before`, left
+-- it as `after` and answered so. `state` is what the link means. What is said where the link
+-- `tells` is said of a link that tells its bytes, and the rest of any link.
 pub record IsCall {T : Type 0} (state : T → LinkState) (payload : RequestPayload)
     (before after : ClientState T) (answer : Answer) : Type 0 where
   -- outcome: what was answered, sent and taken, as it should be or broken off

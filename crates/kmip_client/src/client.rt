@@ -86,8 +86,8 @@ impl<T> Client<T> {
         self.errors
     }
 
-    /// The diagnostic of the last call's request, where the buffer is on and the request was written.
-    /// It takes no memory.
+    /// The diagnostic of the last call's request, where the buffer is on and the request was
+    /// written. It takes no memory.
     pub fn last_req_diag_str(&self) -> Option<&str>
         ensures { option_map (λ s. s.now) result ≡ self.now.request_text }
     {
@@ -149,25 +149,26 @@ impl<T: Link> Client<T> {
     /// Sends a request, and returns what its response says.
     ///
     /// It sends the one canonical message of the request, with the credential where the client has
-    /// one, reads the 8 bytes of a head and then exactly the contents that the head says. Link faults
-    /// and lack of memory aside, it returns a payload exactly where the bytes left begin with a valid
-    /// response to the request, of which it then took every byte and no other. Both diagnostics are
-    /// those of this call. Its errors are:
+    /// one, reads the 8 bytes of a head and then exactly the contents that the head says. Link
+    /// faults and lack of memory aside, it returns a payload exactly where the bytes left begin
+    /// with a valid response to the request, of which it then took every byte and no other. Both
+    /// diagnostics are those of this call. Its errors are:
     ///
     /// - `SerializeError`: the request has no wire form. Nothing was sent or taken.
-    /// - `RequestWriteError`: the link failed. A part of the request was sent, and nothing was taken.
+    /// - `RequestWriteError`: the link failed. A part of the request was sent, and nothing was
+    ///   taken.
     /// - `ResponseReadError`: the link failed, or ended within a message. The request was sent, as
     ///   after each error below.
     /// - `DeserializeError`: the head is not that of a structure or announces more than the limit,
-    ///   and its 8 bytes were taken; or the message is not well formed, and was taken whole, as after
-    ///   the next three.
+    ///   and its 8 bytes were taken; or the message is not well formed, and was taken whole, as
+    ///   after the next three.
     /// - `ServerError`, `ItemNotFound`: the server refused the request, or there is not one batch
     ///   item.
     /// - `InternalError`: the message is no success of the request's operation.
     /// - `OutOfMemory`: a first part of the request was sent, of which none or all may be, and
-    ///   nothing was taken; or all of it was sent, and a first part was taken of what would have been
-    ///   taken with memory, of which none or all may be. Each diagnostic is then that of this call or
-    ///   none.
+    ///   nothing was taken; or all of it was sent, and a first part was taken of what would have
+    ///   been taken with memory, of which none or all may be. Each diagnostic is then that of this
+    ///   call or none.
     ///
     /// The clause `call` promises it part by part, each a field of `IsCall` (specs/Calls.antt):
     ///
