@@ -56,7 +56,8 @@ pub fn send<L: Link>(alloc: Global, link: &mut L, request: &[u8]) -> Result<(), 
     }
 }
 
-/// Sends a request and returns what its response says. `taken`, which is empty, gets the bytes that were read.
+/// Sends a request and returns what its response says. `taken`, which is empty, gets the bytes that
+/// were read.
 pub fn exchange<L: Link, P: Answered>(
     alloc: Global,
     link: &mut L,

@@ -51,7 +51,8 @@ fn contents_len(bytes: &[u8], config: &Config) -> Result<u32, MessageStop>
     }
 }
 
-/// Reads one message to the end of `taken`, which is empty: the head, then exactly the contents that it says.
+/// Reads one message to the end of `taken`, which is empty: the head, then exactly the contents
+/// that it says.
 pub fn read_message<L: Link>(
     link: &mut L,
     config: &Config,

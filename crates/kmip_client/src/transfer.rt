@@ -98,7 +98,8 @@ fn read_piece<L: Link>(link: &mut L, room: usize, taken: &mut Vec<u8>) -> Result
     }
 }
 
-/// Reads `count` bytes to the end of `taken`, in pieces of at most 65,536. Room is taken only piece by piece.
+/// Reads `count` bytes to the end of `taken`, in pieces of at most 65,536. Room is taken only piece
+/// by piece.
 pub fn read_more<L: Link>(link: &mut L, count: usize, taken: &mut Vec<u8>) -> Result<(), ReadStop>
     ensures keeps { Keeps (L.state link.old) (L.state link.new) }
     ensures kept { take (length taken.old.items) taken.new.items ≡ taken.old.items }
