@@ -1,9 +1,10 @@
 //! The program `kmip_call`: it makes a call of a KMIP client over its own standard input and output.
 //!
 //! These are the wire: what it writes there is the request's one canonical message, and what it
-//! reads there is one response. So any program that carries bytes to a server and back, as `openssl
-//! s_client`, `socat` or `stunnel` does over TLS, makes it a client of that server. The answer is a
-//! line of JSON on standard error, and the status is one from 0 to 5, as `program::run` says.
+//! reads there is one response. So any program that carries bytes to a server and back, as
+//! `openssl s_client`, `socat` or `stunnel` does over TLS, makes it a client of that server. The
+//! answer is a line of JSON on standard error. The status is one from 0 to 5, as `program::run`
+//! says.
 #![tactic(auto)]
 
 mod command;

@@ -33,8 +33,9 @@ pub struct BatchItem {
     pub result_reason: Option<ResultReason>,
     /// The server's text about the result: KMIP 1.0, 6.11.
     pub result_message: Option<Text>,
-    /// What the operation returned: KMIP 1.0, 4 and 7.2. `operation` selects its variant; with no
-    /// `operation`, or of another one, a payload makes the whole message `Unread`.
+    /// What the operation returned: KMIP 1.0, 4 and 7.2. `operation` selects its variant. A payload
+    /// with no `operation` beside it, or without the fields of that operation, makes the whole
+    /// message `Unread`.
     pub payload: Option<ResponsePayload>,
     /// A vendor's extension: KMIP 1.0, 6.16.
     pub message_extension: Option<MessageExtension>,

@@ -66,7 +66,7 @@ pub fn call_all<M: Maker>(
     calls_over(alloc, client, calls)
 }
 
-/// The same calls, of which the clauses do not speak of the object map.
+/// Makes the same calls; its clauses do not speak of the object map.
 fn calls_over<M: Maker>(
     alloc: Global,
     client: &mut Client<ServerLink<M>>,

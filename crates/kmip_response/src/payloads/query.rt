@@ -1,7 +1,6 @@
 //! The payload of Query.
 //!
-//! It has a file of its own, since all that the file of a struct with an invariant names belongs to
-//! what that struct depends on.
+//! It has a file of its own, since a struct with an invariant depends on all that its file imports.
 
 ghost use Rattle.kmip_response.specs.Skipped.{IsSkipped, IsSkipped-prop};
 
