@@ -383,8 +383,8 @@ fn typed_of_three(
 }
 
 /// The call of words that are typed, without a response: a call that a script may have, or
-/// `locate TEXT`, `attributes TEXT`, `create-aes INT TEXT` or `discover`. `None` where the words are
-/// not of this grammar.
+/// `locate TEXT`, `attributes TEXT`, `create-aes INT TEXT` or `discover`. `None` where the words
+/// are not of this grammar.
 pub fn typed_call(alloc: Global, words: &[Text]) -> Result<Option<Call>, OutOfMemory>
     ensures { IfOk result (λ call. call ≡ typed_call words.now) }
 {
