@@ -20,7 +20,7 @@ use std::alloc::Global;
 pub struct ResponseMessage {
     /// Version, time stamp and number of batch items: KMIP 1.0, 7.2.
     pub header: ResponseHeader,
-    /// One for each operation, at least one: KMIP 1.0, 6.15.
+    /// The batch items, at least one: KMIP 1.0, 6.15.
     pub batch_items: List<BatchItem>,
 }
 

@@ -77,8 +77,8 @@ IsLeft link Left.Open = (link.starved ≡ false) × (link.faults ≡ 0)
 IsLeft link Left.Faulted = (link.starved ≡ false) × (0 < link.faults)
 IsLeft link Left.Starved = Unit {0}
 
--- After a call with this answer, the link is not faulted; or it faulted at the request of this
--- call, which was not sent whole.
+-- After a call with this answer the link is not starved. It is not faulted either, or it faulted at
+-- the request of this call, which was not sent whole.
 abbrev pub IsSettledBy : {M : Type 0} → Call → Answer → ServerLinkState M → Type 0
 IsSettledBy call answer link = (link.starved ≡ false) × ((link.faults ≡ 0) ⊎ ((0 < link.faults) × ((fails_writing answer ≡ true) × IsRequestOf call link.kept)))
 

@@ -6,7 +6,7 @@ use std::alloc::AllocError;
 
 /// Why a call of the store was refused. The objects are then as they were.
 ///
-/// The first two come exactly where the step of the object map has them; where both fit, the first.
+/// Memory aside, the first two come exactly where the step of the object map has them.
 #[derive(Clone, Copy, Debug, PartialEq, Eq, Drop)]
 pub enum StoreError {
     /// No object has the identifier; the maker was not asked.
