@@ -36,8 +36,8 @@ pub record Makes (order : Order) (w0 w1 : SinkState) (s0 s1 : SourceState)
   pub line_is : line ≡ json_line call answer
   pub ending_is : ending ≡ ending_of answer
 
--- The program made the call: over its sink and source, the record and the line of the answer. After 4 one of the last
--- two could not be written.
+-- The program made the call over its sink and source, and wrote the record and the line of the
+-- answer; after 4, one of these two could not be written.
 pub record Ran (order : Order) (w0 w1 : SinkState) (s0 s1 : SourceState) (f0 f1 k0 k1 : SinkState)
     (status : ℕ) : Type 0 where
   pub call : Call

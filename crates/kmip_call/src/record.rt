@@ -20,7 +20,7 @@ fn push_spaced(words: &[Text], line: &mut Text) -> Result<(), OutOfMemory>
     Ok(())
 }
 
-/// Adds a response as a word: `-` where there is none, or else upper-case hex.
+/// Adds a response as a word: `-` where it is empty, or else upper-case hex.
 fn push_response(alloc: Global, response: &[u8], line: &mut Text) -> Result<(), OutOfMemory>
     ensures { OnOk result (line.new ≡ line.old ++ response_word response.now) }
 {
@@ -31,7 +31,7 @@ fn push_response(alloc: Global, response: &[u8], line: &mut Text) -> Result<(), 
     line.push_str(text.as_str())
 }
 
-/// The line of a call by its words, and its response.
+/// The line of a call, by its words, and its response, with no line feed.
 fn record_line(alloc: Global, words: &[Text], response: &[u8]) -> Result<Text, OutOfMemory>
     ensures { IfOk result (λ line. line ≡ record_line words.now response.now) }
 {

@@ -1,4 +1,4 @@
--- Equal values make equal typed values.
+-- Typed values with equal `Val`s are equal.
 use Rattle.std.specs.Prelude.{ℕ, ℤ, Bool, List, Option, Some, None, ◌≡◌}
 use Rattle.std.proofs.Common.{ap}
 use Rattle.kmip_shape.specs.Val.{Number, Text, Bytes, Truth}
@@ -157,7 +157,7 @@ unique_identifier_payload_same x y h =
 abbrev whole_query_payload : Option (List Operation) × (Option (List ObjectType) × (Option (List ℕ) × Unit {0})) → (server : Option ServerInformation) → IsSkipped server → QueryResponsePayload
 whole_query_payload t server skipped = record { operations = t.0; object_types = (t.1).0; vendor_identification = ((t.1).1).0; server_information = server; skipped = skipped }
 
--- what is skipped is one value
+-- payloads of Query that skip Server Information are equal where their other fields are
 same_skipped : {t u : Option (List Operation) × (Option (List ObjectType) × (Option (List ℕ) × Unit {0}))} → t ≡ u → (a b : Option ServerInformation) (p : IsSkipped a) (q : IsSkipped b) → whole_query_payload t a p ≡ whole_query_payload u b q
 same_skipped h None None p q = ap (λ (t : Option (List Operation) × (Option (List ObjectType) × (Option (List ℕ) × Unit {0}))). whole_query_payload t None tt) h
 same_skipped h None (Some b) p q = absurd q

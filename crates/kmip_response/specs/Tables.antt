@@ -121,7 +121,7 @@ rng_retrieve_payload = Rows
     (AndRow (codes "random_bytes") (Under DATA) Required Plain (Scalar ByteString)
     NoRow)
 
--- a payload is chosen by the number of its batch item's operation
+-- the operation of a batch item chooses its payload, by its number
 abbrev pub response_payloads : Cases
 response_payloads =
     AndCase 1 (codes "Create") (ByNumbers (1 ∷ [])) None create_payload

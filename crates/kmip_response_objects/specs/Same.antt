@@ -1,4 +1,4 @@
--- Equal values make equal typed values.
+-- Typed values with equal `Val`s are equal.
 use Rattle.std.specs.Prelude.{ℕ, ℤ, List, Option}
 use Rattle.std.proofs.Common.{ap}
 use Rattle.kmip_shape.specs.Val.{Number, Bytes}

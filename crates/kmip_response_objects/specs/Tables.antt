@@ -1,4 +1,5 @@
--- The tables of what responses tell of objects: for each type its fields in order, with their tags, marks and types.
+-- The tables of the objects of responses: for each type its fields in order, with their tags,
+-- marks and types.
 use Rattle.std.specs.Prelude.{[], ◌∷◌, Some, codes}
 use Rattle.kmip_tags.specs.Tags.{ATTRIBUTE, ATTRIBUTE_INDEX, ATTRIBUTE_NAME, ATTRIBUTE_VALUE, CERTIFICATE, CERTIFICATE_TYPE, CERTIFICATE_VALUE, CRYPTOGRAPHIC_ALGORITHM, CRYPTOGRAPHIC_LENGTH, CRYPTOGRAPHIC_PARAMETERS, ENCRYPTION_KEY_INFORMATION, IV_COUNTER_NONCE, KEY_BLOCK, KEY_COMPRESSION_TYPE, KEY_FORMAT_TYPE, KEY_MATERIAL, KEY_VALUE, KEY_WRAPPING_DATA, MAC_SIGNATURE, MAC_SIGNATURE_KEY_INFORMATION, NAME, NAME_TYPE, NAME_VALUE, PRIVATE_KEY, PUBLIC_KEY, SYMMETRIC_KEY, UNIQUE_IDENTIFIER, WRAPPING_METHOD}
 use Rattle.kmip_wire.specs.declared.kind.Kind.TheVariants.{Integer, TextString, ByteString}
@@ -102,7 +103,8 @@ private_key = Rows
     (AndRow (codes "key_block") (Under KEY_BLOCK) Required Plain key_block
     NoRow)
 
--- the object of a payload is chosen by the number of its object type, and stands under its own tag (KMIP 1.0, 2.2)
+-- The payload's object type chooses by its number which object it holds; each stands under its
+-- own tag (KMIP 1.0, 2.2).
 abbrev pub managed_objects : Cases
 managed_objects =
     AndCase 1 (codes "Certificate") (ByNumbers (1 ∷ [])) (Some CERTIFICATE) certificate

@@ -237,7 +237,7 @@ impl ShowItem for PrivateKey {
     }
 }
 
-/// An object of the type that stands beside it: KMIP 1.0, 2.2.
+/// A managed object, which stands beside its object type: KMIP 1.0, 2.2.
 #[derive(PartialEq, Eq, Drop)]
 pub enum ManagedObject {
     /// A certificate: KMIP 1.0, 2.2.1.

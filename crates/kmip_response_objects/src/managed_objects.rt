@@ -22,8 +22,8 @@ use kmip_tags::tags::{CERTIFICATE, PRIVATE_KEY, PUBLIC_KEY, SYMMETRIC_KEY};
 use kmip_wire::ItemRef;
 use std::alloc::Global;
 
-/// The items under the tags of managed objects. The chosen object type says under which one the object stands; the
-/// others are not looked at.
+/// The items under the tags of managed objects. The object type says under which of them the object
+/// stands; the others are not looked at.
 #[derive(Drop)]
 pub struct ManagedObjects<'a> {
     certificate: Case<'a, Certificate, 1, CERTIFICATE>,

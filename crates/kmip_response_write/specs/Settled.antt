@@ -1,4 +1,5 @@
--- Which responses reading gives back: each choice in them holds the case that is selected where it stands.
+-- The responses that are read back as they were written: each choice in them holds the case that is
+-- selected where it stands.
 use Rattle.std.specs.Prelude.{ℕ, List, Option, IsSome}
 use Rattle.kmip_tags.specs.Tags.{RESPONSE_MESSAGE}
 use Rattle.std.specs.Option.{option_and_then}
@@ -14,15 +15,15 @@ use Rattle.kmip_response.specs.Values.{response_message_val}
 use Rattle.kmip_response.specs.Reading.{front_structure}
 use Rattle.kmip_response.specs.declared.message.ResponseMessage.{ResponseMessage}
 
--- the tree that a message is written as, where there is one
+-- the tree that a message is written as, where it has one
 abbrev pub response_tree : ResponseMessage → Option Tree
 response_tree message = tree_of response_message RESPONSE_MESSAGE (response_message_val message)
 
--- the one canonical message, where there is one
+-- the canonical bytes of a message, where it has any
 abbrev pub response_bytes : ResponseMessage → Option (List ℕ)
 response_bytes message = bytes_of response_message RESPONSE_MESSAGE (response_message_val message)
 
--- what `from_slice` reads of bytes
+-- what `from_slice` reads from bytes
 abbrev pub response_read : List ℕ → Option Val
 response_read b = option_and_then (root_read response_message RESPONSE_MESSAGE) (front_structure b)
 

@@ -1,7 +1,7 @@
 //! Responses, each written as its one canonical message: what a server sends.
 //!
-//! What is written is the canonical bytes of the message's tree. Settled messages, whose choices are
-//! those that a reader makes, are read back as what was written.
+//! What is written is the canonical bytes of the message's tree. A settled message, whose choices
+//! are those that a reader makes, is read back as it was.
 //!
 //!     let bytes = to_vec(alloc, &message)?;
 //!     let again = from_slice::<ResponseMessage>(alloc, bytes.as_slice())?;

@@ -7,7 +7,7 @@ use Rattle.kmip_run.specs.declared.command.Command.{Command}
 use Rattle.kmip_run.specs.declared.command.Command.TheVariants.{Replay, Explain, Make, Audit, Joined}
 use Rattle.kmip_run.specs.declared.command.Options.{Options}
 
--- whether the last word is `diag`, where no other is left
+-- whether the words left are `diag`; none where they are anything else
 abbrev pub diag_of : List (List ℕ) → Option Bool
 diag_of [] = Some false
 diag_of (word ∷ []) = if bytes_eq word (codes "diag") then Some true else None

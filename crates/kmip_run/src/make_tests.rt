@@ -99,7 +99,7 @@ const MANY: &[Row] = &[
     },
 ];
 
-/// Whether the program answers each row as it says.
+/// The program writes for each row what the row says, and ends with its status.
 fn rows_hold(rt: &impl Abort, alloc: Global, rows: &[Row]) -> Result<(), Fail> {
     for row in rows {
         let words = list_of(alloc, row.words)?;

@@ -17,7 +17,7 @@ use Rattle.kmip_served.specs.Served.{served_call}
 use Rattle.kmip_server.specs.Machine.{first_for, rest_for}
 use Rattle.kmip_server.specs.Joined.{Settings, part_for, CallTold}
 
--- what a helper returns where a call was done; a call never answers another's payload
+-- what a helper returns where a call was done; no call has the payload of another
 abbrev pub done_answer : Call → Option ResponsePayload → Answer
 done_answer call None = Err (InternalError (codes "Unable to process response payload due to wrong deserialized type!"))
 done_answer call (Some payload) = Ok (part_for call (response_payload_val payload))
@@ -49,7 +49,7 @@ pub record Fits' (settings : Settings) (objects : List Object) (call : Call) (ma
   pub formed : response_bytes (served_call objects call made settings.time).message ≡ Some response
   pub within : IsWithin settings.limit response
 
--- So for each call in order.
+-- So it is for each call in order.
 abbrev pub AllFit : Settings → List Object → List Made → List Call → Type 0
 AllFit settings objects given [] = Unit {0}
 AllFit settings objects given (call ∷ calls) =

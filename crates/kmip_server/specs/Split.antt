@@ -2,11 +2,11 @@
 use Rattle.std.specs.Prelude.{◌≡◌, ℕ, ◌+◌, ◌<◌, ◌≤◌, ◌==◌, ◌&&◌, nat_le, Bool, true, false, List, [], ◌∷◌, ◌++◌, length, take, fold, if◌then◌else◌}
 use Rattle.kmip_wire.specs.Head.{head_length}
 
--- whether bytes are a head and as many more as it tells, whatever its type (KMIP 1.0, 9.1.1)
+-- whether bytes are a head and as many more as its length says, whatever its type (KMIP 1.0, 9.1.1)
 unfoldable pub is_message : List ℕ → Bool
 is_message b = nat_le 8 (length b) && (length b == 8 + head_length b)
 
--- the bytes are a head and as many more as it tells
+-- the bytes are a head and as many more as its length says
 pub record IsMessage (b : List ℕ) : Type 0 where
   pub head : 8 ≤ length b
   pub size : length b ≡ 8 + head_length b

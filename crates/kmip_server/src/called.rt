@@ -36,7 +36,7 @@ fn loses_connection(answer: &Result<Answered>) -> bool
     }
 }
 
-/// Whether memory ran out.
+/// Whether the call ran out of memory.
 fn lacks_memory(answer: &Result<Answered>) -> bool
     ensures { result ≡ lacks_memory (answered_seen answer.now) }
 {
@@ -86,7 +86,7 @@ fn keeps_request_of<M: Maker>(
     is_request_of(alloc, call, client.inner().kept())
 }
 
-/// Whether a request was not sent.
+/// Whether the call failed at sending its request.
 fn fails_writing(answer: &Result<Answered>) -> bool
     ensures { result ≡ fails_writing (answered_seen answer.now) }
 {
@@ -96,7 +96,8 @@ fn fails_writing(answer: &Result<Answered>) -> bool
     }
 }
 
-/// Sees to it that a call left the link open, or was cut short by a response with no wire form.
+/// Checks that a call left the link open, or was cut short by a response with no wire form. Else it
+/// returns `OutOfMemory`.
 fn settle<M: Maker>(
     alloc: Global,
     client: &mut Client<ServerLink<M>>,
@@ -124,7 +125,7 @@ fn settle<M: Maker>(
     }
 }
 
-/// What was sent from there on.
+/// A copy of what was sent after the first `from` bytes.
 fn sent_from<M: Maker>(
     alloc: Global,
     client: &mut Client<ServerLink<M>>,
@@ -141,7 +142,7 @@ fn sent_from<M: Maker>(
     }
 }
 
-/// A copy of a text that there may be.
+/// A copy of a text that may be absent.
 fn copy_text(alloc: Global, text: Option<&str>) -> std::result::Result<Option<Text>, OutOfMemory>
     ensures { IfOk result (λ made. made ≡ option_map (λ s. s.now) text.entry) }
 {
@@ -151,7 +152,7 @@ fn copy_text(alloc: Global, text: Option<&str>) -> std::result::Result<Option<Te
     }
 }
 
-/// An answer beside what was sent for it and copies of its diagnostics.
+/// The report of a call: what it sent, its answer, and copies of its diagnostics.
 fn call_answer<M: Maker>(
     alloc: Global,
     client: &mut Client<ServerLink<M>>,
@@ -175,7 +176,7 @@ fn call_answer<M: Maker>(
     })
 }
 
-/// The request of the call, where it is valid, is read as it.
+/// The bytes of the call's request, where it is valid, are read as that request.
 fn reads_back<T>(
     alloc: Global,
     client: &Client<T>,
@@ -189,7 +190,7 @@ fn reads_back<T>(
     call_known(alloc, call)
 }
 
-/// One call, and whether it was the last.
+/// Makes a call, and says whether it was the last: its answer is a connection error.
 pub fn make_call<M: Maker>(
     alloc: Global,
     client: &mut Client<ServerLink<M>>,

@@ -23,7 +23,7 @@ use std::alloc::Global;
 pub struct GetAttributesResponsePayload {
     /// The identifier of the object.
     pub unique_identifier: UniqueIdentifier,
-    /// The attributes asked for that the object has.
+    /// Those of the attributes asked for that the object has.
     pub attributes: Option<List<Attribute>>,
 }
 
@@ -91,7 +91,7 @@ impl ShowItem for GetAttributesResponsePayload {
 pub struct GetAttributeListResponsePayload {
     /// The identifier of the object.
     pub unique_identifier: UniqueIdentifier,
-    /// At least one.
+    /// The names of the attributes that the object has, at least one.
     pub attributes: List<AttributeName>,
 }
 
@@ -154,12 +154,13 @@ impl ShowItem for GetAttributeListResponsePayload {
     }
 }
 
-/// The response payload of Add Attribute, Modify Attribute and Delete Attribute: KMIP 1.0, 4.13 to 4.15.
+/// The response payload of Add Attribute, Modify Attribute and Delete Attribute:
+/// KMIP 1.0, 4.13 to 4.15.
 #[derive(PartialEq, Eq, Drop)]
 pub struct AttributeEditResponsePayload {
     /// The identifier of the object.
     pub unique_identifier: UniqueIdentifier,
-    /// The attribute that was added, changed or taken away.
+    /// The attribute that was added, modified or deleted.
     pub attribute: Boxed<Attribute>,
 }
 

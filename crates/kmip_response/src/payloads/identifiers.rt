@@ -241,10 +241,10 @@ impl ShowItem for RegisterResponsePayload {
     }
 }
 
-/// The response payload of Locate: the objects that have all the attributes: KMIP 1.0, 4.8.
+/// The response payload of Locate: KMIP 1.0, 4.8.
 #[derive(PartialEq, Eq, Drop)]
 pub struct LocateResponsePayload {
-    /// The identifiers of all objects found, none where there is none.
+    /// The identifiers of the objects that have all the attributes asked for; empty where none has.
     pub unique_identifiers: List<UniqueIdentifier>,
 }
 
@@ -297,7 +297,7 @@ impl ShowItem for LocateResponsePayload {
     }
 }
 
-/// The identifier of the object that Activate, Revoke or Destroy was made on: KMIP 1.0, 4.18 to 4.20.
+/// The response payload of Activate, Revoke and Destroy: KMIP 1.0, 4.18 to 4.20.
 #[derive(PartialEq, Eq, Drop)]
 pub struct UniqueIdentifierResponsePayload {
     /// The identifier of the object.
