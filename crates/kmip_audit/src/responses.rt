@@ -6,9 +6,11 @@ ghost use Rattle.kmip_wire.specs.Reading.{item_of};
 ghost use Rattle.kmip_shape.specs.Writes.{optional};
 ghost use Rattle.kmip_shape.specs.Enumerations.{enumeration_val};
 ghost use Rattle.kmip_enums.specs.Operations.{operation_line};
-ghost use Rattle.kmip_response.specs.Values.{batch_item_val, response_message_val, response_payload_val};
+ghost use Rattle.kmip_response.specs.Values.{batch_item_val, response_message_val};
+ghost use Rattle.kmip_response.specs.Values.{response_payload_val};
 ghost use Rattle.kmip_client.specs.Check.{is_number, one_of};
-ghost use Rattle.kmip_audit.specs.Outcomes.{payload_outcome, item_outcome, message_outcome, tree_outcome};
+ghost use Rattle.kmip_audit.specs.Outcomes.{payload_outcome, item_outcome, message_outcome};
+ghost use Rattle.kmip_audit.specs.Outcomes.{tree_outcome};
 
 use crate::outcomes::Outcome;
 use kmip_enums::{Operation, ResultStatus};

@@ -12,7 +12,8 @@ use Rattle.kmip_call.specs.Record.{is_recordable, record_of}
 use Rattle.kmip_call.specs.Exchange.{Carried}
 use Rattle.kmip_call.specs.declared.command.Order.{Order}
 
--- whether a call of these words may be made: where it is to be recorded, only if a script may hold it
+-- whether a call of these words may be made: where it is to be recorded, only if a script may hold
+-- it
 abbrev pub is_allowed : Option (List ℕ) → List (List ℕ) → Bool
 is_allowed (Some file) words = is_recordable words
 is_allowed None words = true

@@ -1,5 +1,6 @@
 //! One call over a sink and a source, and the line of its answer.
-ghost use Rattle.std.specs.Prelude.{◌≡◌, ◌++◌, [], cond, true, false, Some, IsSome, option_map, IfOk, OnOk};
+ghost use Rattle.std.specs.Prelude.{◌≡◌, ◌++◌, [], cond, true, false, Some, IsSome, option_map};
+ghost use Rattle.std.specs.Prelude.{IfOk, OnOk};
 ghost use Rattle.kmip_words.specs.Exchange.{ending_of, loses_link, json_line, call_outcome};
 ghost use Rattle.kmip_words.specs.declared.ending.Ending.TheVariants as endings;
 ghost use Rattle.kmip_words.specs.declared.call.Call.{Call as TheCall};

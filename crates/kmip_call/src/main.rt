@@ -1,4 +1,5 @@
-//! The program `kmip_call`: it makes a call of a KMIP client over its own standard input and output.
+//! The program `kmip_call`: it makes a call of a KMIP client over its own standard input and
+//! output.
 //!
 //! These are the wire: what it writes there is the request's one canonical message, and what it
 //! reads there is one response. So any program that carries bytes to a server and back, as

@@ -1,5 +1,6 @@
 //! The program.
-ghost use Rattle.std.specs.Prelude.{◌≡◌, ◌≢◌, ◌≤◌, ◌++◌, ◌⊎◌, [], option_map, true, None, IfOk, OnOk, IsErrOf, IsTrue, MatchOption};
+ghost use Rattle.std.specs.Prelude.{◌≡◌, ◌≢◌, ◌≤◌, ◌++◌, ◌⊎◌, [], option_map, true, None, IfOk};
+ghost use Rattle.std.specs.Prelude.{OnOk, IsErrOf, IsTrue, MatchOption};
 ghost use Rattle.kmip_link.specs.State.{Rose};
 ghost use Rattle.kmip_words.specs.Streams.{WrotePart};
 ghost use Rattle.kmip_call.specs.Exchange.{response_if, Requests};
@@ -89,7 +90,8 @@ fn make_call<W: Sink, S: Source>(
     Ok(Some(end))
 }
 
-/// Records the response of a call, where a file for it is given and the answer is what the response says.
+/// Records the response of a call, where a file for it is given and the answer is what the response
+/// says.
 fn keep<F: Sink>(
     alloc: Global,
     order: &Order,

@@ -2,7 +2,8 @@
 ghost use Rattle.std.specs.Prelude.{◌≡◌, ◌++◌, [], codes, IfOk, OnOk, IsErrOf, IsTrue};
 ghost use Rattle.kmip_link.specs.State.{Rose};
 ghost use Rattle.kmip_call.specs.Exchange.{response_if};
-ghost use Rattle.kmip_call.specs.Record.{with_spaces, response_word, record_line, is_recordable, record_text, record_of};
+ghost use Rattle.kmip_call.specs.Record.{with_spaces, response_word, record_line, is_recordable};
+ghost use Rattle.kmip_call.specs.Record.{record_text, record_of};
 
 use kmip_link::{LinkError, Sink};
 use kmip_wire::{OutOfMemory, Text};
@@ -41,7 +42,8 @@ fn record_line(alloc: Global, words: &[Text], response: &[u8]) -> Result<Text, O
     Ok(line)
 }
 
-/// Whether a script may hold these words as a call: no word is empty or has a space, and the call is one of a script.
+/// Whether a script may hold these words as a call: no word is empty or has a space, and the call
+/// is one of a script.
 pub fn is_recordable(alloc: Global, words: &[Text]) -> Result<bool, OutOfMemory>
     ensures { IfOk result (λ recordable. recordable ≡ is_recordable words.now) }
 {

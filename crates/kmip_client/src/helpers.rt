@@ -2,7 +2,8 @@
 //! payload.
 ghost use Rattle.std.specs.Prelude.{◌≡◌, IfOk};
 ghost use Rattle.kmip_response.specs.declared.payload.ResponsePayload.TheVariants as payloads;
-ghost use Rattle.kmip_client.specs.Calls.{IsCall, Helped, Asked, part_of, nothing_of, identifiers_of};
+ghost use Rattle.kmip_client.specs.Calls.{IsCall, Helped, Asked, part_of, nothing_of};
+ghost use Rattle.kmip_client.specs.Calls.{identifiers_of};
 ghost use Rattle.kmip_response.specs.Values.{response_payload_val};
 ghost use Rattle.kmip_client.specs.Outcome.{seen_by};
 ghost use Rattle.kmip_helpers.specs.Requests as requests;

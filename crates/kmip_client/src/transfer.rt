@@ -1,5 +1,6 @@
 //! Loops over the calls of a link: all of a request, and so many bytes of a response.
-ghost use Rattle.std.specs.Prelude.{◌≡◌, ◌+◌, ◌-◌, ◌<◌, ◌≤◌, ◌++◌, [], ℕ, length, take, drop, min, IfOk, IfErr, OnErr, OnOk, IsErrOf, IsTrue, vec_len};
+ghost use Rattle.std.specs.Prelude.{◌≡◌, ◌+◌, ◌-◌, ◌<◌, ◌≤◌, ◌++◌, [], ℕ, length, take, drop, min};
+ghost use Rattle.std.specs.Prelude.{IfOk, IfErr, OnErr, OnOk, IsErrOf, IsTrue, vec_len};
 ghost use Rattle.kmip_link.specs.State.{Keeps, Writes, Rose, left};
 ghost use Rattle.kmip_client.specs.Transfer.{WritesPart, Takes, TakesPart};
 

@@ -19,7 +19,8 @@ if_helper call = Some call
 -- a helper's call, as the call of a line
 abbrev pub line_call : HelperCall → Call
 line_call helpers.Query = Query
-line_call (helpers.CreateRsaKeyPair key_length private_name public_name) = CreateRsa key_length private_name public_name
+line_call (helpers.CreateRsaKeyPair key_length private_name public_name) =
+    CreateRsa key_length private_name public_name
 line_call (helpers.RngRetrieve num_bytes) = Rng num_bytes
 line_call (helpers.Sign id bytes) = Sign id bytes
 line_call (helpers.ActivateKey id) = Activate id

@@ -36,9 +36,11 @@ abbrev pub answered_shown : Answered → List ℕ
 answered_shown answered.Unit = done_styled Bare
 answered_shown (answered.Pair first second) = pair_styled first second Bare
 answered_shown (answered.Query payload) = shown_as query_payload (query_payload_val payload) Bare
-answered_shown (answered.Random payload) = shown_as rng_retrieve_payload (rng_retrieve_payload_val payload) Bare
+answered_shown (answered.Random payload) =
+    shown_as rng_retrieve_payload (rng_retrieve_payload_val payload) Bare
 answered_shown (answered.Signed payload) = shown_as sign_payload (sign_payload_val payload) Bare
-answered_shown (answered.Renamed payload) = shown_as attribute_edit_payload (attribute_edit_payload_val payload) Bare
+answered_shown (answered.Renamed payload) =
+    shown_as attribute_edit_payload (attribute_edit_payload_val payload) Bare
 answered_shown (answered.Got payload) = shown_as get_payload (get_payload_val payload) Bare
 
 -- whether it is the one call that returns two identifiers
@@ -53,16 +55,20 @@ is_pair x = false
 -- What is known of a call that was made, whose answer is the one in the list: the link is not
 -- faulted, its maker's answers are those by their numbers, and the call came as the definitions of
 -- kmip_server say.
-pub record IsMade (before after : ClientState (ServerLinkState PlainMemory)) (call : Call) (answers : List CallAnswer) : Type 0 where
+pub record IsMade (before after : ClientState (ServerLinkState PlainMemory)) (call : Call)
+    (answers : List CallAnswer) : Type 0 where
   pub known : IsKnown plain_state before.link
   pub plain : IsPlain before.link
   pub plain_after : IsPlain after.link
   pub sound : after.link.faults ≡ 0
   pub settings : settings_of after ≡ settings_of before
-  pub meet : Meet (settings_of before) (expected_of plain_state before after.link (call ∷ [])) (map call_told answers)
+  pub meet : Meet (settings_of before) (expected_of plain_state before after.link (call ∷ []))
+      (map call_told answers)
   pub ends : standing plain_state after.link ≡ finish_of plain_state before after.link (call ∷ [])
-  pub faulted : has_unsent (expected_of plain_state before after.link (call ∷ [])) ≡ true → 0 < after.link.faults
-  pub opened : has_unsent (expected_of plain_state before after.link (call ∷ [])) ≡ false → IsOpen plain_state after.link
+  pub faulted : has_unsent (expected_of plain_state before after.link (call ∷ [])) ≡ true →
+      0 < after.link.faults
+  pub opened : has_unsent (expected_of plain_state before after.link (call ∷ [])) ≡ false →
+      IsOpen plain_state after.link
 
 -- the report of a call is that of this step
 pub record Tells (s : Step) (buffered : Bool) (told : CallAnswer) : Type 0 where
@@ -83,11 +89,14 @@ ended_so (Ok _) = Ok ended
 ended_so (Err error) = Err error
 
 -- a call was made on a client, with this report
-pub record IsMadeSo (before after : ClientState (ServerLinkState PlainMemory)) (call : Call) (told : CallAnswer) : Type 0 where
+pub record IsMadeSo (before after : ClientState (ServerLinkState PlainMemory)) (call : Call)
+    (told : CallAnswer) : Type 0 where
   pub settings : line_settings after ≡ line_settings before
   pub joined : IsJoined after.link
-  pub world : world_of after.link ≡ (joined_step (line_settings before) (line_call call) (world_of before.link)).after
-  pub tells : Tells (joined_step (line_settings before) (line_call call) (world_of before.link)).step before.buffered told
+  pub world : world_of after.link ≡ (joined_step (line_settings before) (line_call call)
+      (world_of before.link)).after
+  pub tells : Tells (joined_step (line_settings before) (line_call call)
+      (world_of before.link)).step before.buffered told
 
 -- what a call did to the client and its server, and to the text
 pub record Runs (it : Joined) (after : World) (failed : Bool) (old new : List ℕ) : Type 0 where
@@ -96,6 +105,7 @@ pub record Runs (it : Joined) (after : World) (failed : Bool) (old new : List �
   pub world : after ≡ it.after
 
 -- the text was added of each step that has this report
-pub record IsShown (buffered : Bool) (told : CallAnswer) (failed : Bool) (old new : List ℕ) : Type 0 where
+pub record IsShown (buffered : Bool) (told : CallAnswer) (failed : Bool) (old new : List ℕ) : Type
+    0 where
   pub text : (s : Step) → Tells s buffered told → new ≡ old ++ call_text s
   pub failed_is : failed ≡ is_error told.answer

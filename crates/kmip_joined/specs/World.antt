@@ -59,7 +59,8 @@ step_on settings call world =
 
 -- what a call comes to: its step over the bytes left and the response to its request
 unfoldable pub joined_step : Settings → Call → World → Joined
-joined_step settings call world = step_on settings call (after_sending world (request_asked call settings.credential).message)
+joined_step settings call world =
+    step_on settings call (after_sending world (request_asked call settings.credential).message)
 
 -- the state of a client that is joined by this link
 abbrev pub world_of : ServerLinkState PlainMemory → World

@@ -2,9 +2,15 @@
 
 ghost use Rattle.std.specs.Prelude.{◌≡◌};
 ghost use Rattle.kmip_tags.specs.Tags as tags;
-ghost use Rattle.kmip_response_objects.specs.Tables.{encryption_key_information, mac_or_signature_key_information, key_wrapping_data};
-ghost use Rattle.kmip_response_objects.specs.Values.{encryption_key_information_val, mac_or_signature_key_information_val, key_wrapping_data_val};
-ghost use Rattle.kmip_response_objects.specs.Same.{encryption_key_information_same, mac_or_signature_key_information_same, key_wrapping_data_same};
+ghost use Rattle.kmip_response_objects.specs.Tables.{encryption_key_information};
+ghost use Rattle.kmip_response_objects.specs.Tables.{mac_or_signature_key_information};
+ghost use Rattle.kmip_response_objects.specs.Tables.{key_wrapping_data};
+ghost use Rattle.kmip_response_objects.specs.Values.{encryption_key_information_val};
+ghost use Rattle.kmip_response_objects.specs.Values.{mac_or_signature_key_information_val};
+ghost use Rattle.kmip_response_objects.specs.Values.{key_wrapping_data_val};
+ghost use Rattle.kmip_response_objects.specs.Same.{encryption_key_information_same};
+ghost use Rattle.kmip_response_objects.specs.Same.{mac_or_signature_key_information_same};
+ghost use Rattle.kmip_response_objects.specs.Same.{key_wrapping_data_same};
 
 use kmip_shape::record::{End, Row};
 use kmip_shape::row_readers::{One, Opt};

@@ -63,7 +63,8 @@ gone_trees =
     ∷ scalar RESULT_MESSAGE (text_string (codes "gone"))
     ∷ []
 
--- a response to a request, of its version and its operation, with the fields that follow the operation
+-- a response to a request, of its version and its operation, with the fields that follow the
+-- operation
 abbrev pub response_to : RequestPayload → List Tree → Tree
 response_to request fields =
     response_tree (pos (minor_of request)) (operation_tree (operation_of request) ∷ fields)
@@ -142,7 +143,8 @@ counts_after settings zero x rest = no_counts
 counts_after settings (suc count) x rest =
     let it : Recorded = made_of (next_of x) in
     let s : Step = step settings it.call (rest ++ it.response) in
-    then_made it.response s (counts_after settings count (next_of x) (drop s.taken (rest ++ it.response)))
+    then_made it.response s
+    (counts_after settings count (next_of x) (drop s.taken (rest ++ it.response)))
 
 -- what an exchange did to the link, and how many bytes it took
 pub record MakesCall (s : Step) (fed : List ℕ) (before after : MemoryState) (failed : Bool)

@@ -89,7 +89,8 @@ joined settings (line ∷ lines) number status world = elim (helper_call line) [
   | None ↦ bad_line number
   | Some call ↦
       let it : Joined = joined_step settings call world in
-      then_text (call_text it.step) (joined settings lines (number + 1) (status_after status it.step.failed) it.after)
+      then_text (call_text it.step)
+      (joined settings lines (number + 1) (status_after status it.step.failed) it.after)
 ]
 
 -- the report on two captured streams
@@ -121,7 +122,8 @@ lines_transcript (Replay options) lines = replay_from (settings_for options) lin
 lines_transcript Explain lines = explanations_from lines 1
 lines_transcript (Make count) lines = made_transcript count
 lines_transcript Audit lines = audit_transcript lines
-lines_transcript (Command.Joined options) lines = joined (settings_for options) lines 1 0 nothing_yet
+lines_transcript (Command.Joined options) lines =
+    joined (settings_for options) lines 1 0 nothing_yet
 
 -- whether the command reads a script
 abbrev pub reads_script : Option Command → Bool
@@ -172,7 +174,8 @@ IsLineOf (Some Audit) line = Unit {0}
 IsLineOf (Some (Command.Joined options)) line = IsSome (helper_call line)
 IsLineOf None line = ⊥
 
--- The lines together are of the grammar of a command: those of `audit` are two, each one word in hex.
+-- The lines together are of the grammar of a command: those of `audit` are two, each one word in
+-- hex.
 abbrev pub AreLinesOf : Option Command → List (List ℕ) → Type 0
 AreLinesOf (Some Audit) lines = AreStreams (captured_in lines)
 AreLinesOf command lines = Unit {0}

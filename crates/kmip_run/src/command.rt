@@ -1,6 +1,7 @@
 //! What the words of the command line ask for.
 ghost use Rattle.std.specs.Prelude.{◌≡◌, option_map, IfOk, Some};
-ghost use Rattle.kmip_run.specs.Commands.{diag_of, options_of, replay_of, explain_of, make_of, audit_of, joined_of, command_of};
+ghost use Rattle.kmip_run.specs.Commands.{diag_of, options_of, replay_of, explain_of, make_of};
+ghost use Rattle.kmip_run.specs.Commands.{audit_of, joined_of, command_of};
 
 use kmip_wire::{OutOfMemory, Text};
 use kmip_words::{copy_text, given_after, number_of, option_given};
@@ -25,7 +26,8 @@ pub struct Options {
 /// What the program is to do.
 #[derive(Drop)]
 pub enum Command {
-    /// `replay [user=U] [password=P] [limit=N] [diag]`: makes the calls of the script, over recorded responses.
+    /// `replay [user=U] [password=P] [limit=N] [diag]`: makes the calls of the script, over
+    /// recorded responses.
     Replay(Options),
     /// `explain`: expands the diagnostics of the script.
     Explain,
@@ -33,7 +35,8 @@ pub enum Command {
     Make(u32),
     /// `audit`: reports on two captured streams, each one line of the script.
     Audit,
-    /// `joined`, with the options of `replay`: makes the calls of the script, over a server in memory.
+    /// `joined`, with the options of `replay`: makes the calls of the script, over a server in
+    /// memory.
     Joined(Options),
 }
 

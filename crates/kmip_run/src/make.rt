@@ -1,7 +1,8 @@
 //! Exchanges that are made from a number, and what they come to.
 ghost use Rattle.std.specs.Prelude.{◌≡◌, ◌+◌, ◌<◌, ◌++◌, ◌^◌, drop, length, IfOk, OnOk};
 ghost use Rattle.kmip_words.specs.Exchange.{settings_of, step};
-ghost use Rattle.kmip_run.specs.Making.{next_of, one_ok, one_error, counts_after, made_text, MakesCall, Makes};
+ghost use Rattle.kmip_run.specs.Making.{next_of, one_ok, one_error, counts_after, made_text};
+ghost use Rattle.kmip_run.specs.Making.{MakesCall, Makes};
 ghost use Rattle.kmip_run.specs.Transcript.{counted_transcript, Replays};
 
 use crate::exchange::{feed, sent_len};

@@ -1,12 +1,15 @@
 //! The program.
-ghost use Rattle.std.specs.Prelude.{◌≡◌, ◌≢◌, ◌+◌, ◌<◌, ◌≤◌, ◌++◌, ◌⊎◌, [], length, drop, codes, false, true, None, Some, IsTrue, IfOk};
+ghost use Rattle.std.specs.Prelude.{◌≡◌, ◌≢◌, ◌+◌, ◌<◌, ◌≤◌, ◌++◌, ◌⊎◌, [], length, drop, codes};
+ghost use Rattle.std.specs.Prelude.{false, true, None, Some, IsTrue, IfOk};
 ghost use Rattle.kmip_link.specs.State.{SourceKeeps, SinkKeeps, Rose, source_left};
 ghost use Rattle.kmip_run.specs.Script.{lines_of};
 ghost use Rattle.kmip_run.specs.Commands.{command_of};
 ghost use Rattle.kmip_run.specs.Setup.{settings_for};
 ghost use Rattle.kmip_words.specs.Streams.{WrotePart};
 ghost use Rattle.kmip_run.specs.Making.{counts_after, made_settings};
-ghost use Rattle.kmip_run.specs.Transcript.{most_script, reads_script, read_by, makes_calls, replay_from, counted_transcript, lines_transcript, script_transcript, transcript, IsOfGrammar, Replays};
+ghost use Rattle.kmip_run.specs.Transcript.{most_script, reads_script, read_by, makes_calls};
+ghost use Rattle.kmip_run.specs.Transcript.{replay_from, counted_transcript, lines_transcript};
+ghost use Rattle.kmip_run.specs.Transcript.{script_transcript, transcript, IsOfGrammar, Replays};
 
 use crate::auditing::audit_script;
 use crate::command::{Command, Options, command_of};

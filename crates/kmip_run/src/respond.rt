@@ -3,7 +3,9 @@ ghost use Rattle.std.specs.Prelude.{◌≡◌, ◌∷◌, [], ◌<◌, ◌^◌, 
 ghost use Rattle.kmip_wire.specs.Sees.{tree_of_node};
 ghost use Rattle.kmip_wire.specs.Bytes.{bytes};
 ghost use Rattle.kmip_words.specs.Exchange.{or_empty};
-ghost use Rattle.kmip_run.specs.Making.{version_tree, head_tree, response_tree, operation_tree, done_trees, gone_trees, random_made, activated_made, queried_made, destroyed_made, made_of};
+ghost use Rattle.kmip_run.specs.Making.{version_tree, head_tree, response_tree, operation_tree};
+ghost use Rattle.kmip_run.specs.Making.{done_trees, gone_trees, random_made, activated_made};
+ghost use Rattle.kmip_run.specs.Making.{queried_made, destroyed_made, made_of};
 
 use itoa::Buffer;
 use kmip_enums::{Operation, ResultReason, ResultStatus};

@@ -23,13 +23,15 @@ list_of_option None = []
 list_of_option (Some x) = x ∷ []
 
 -- the lists of a maker grew by the question, where there is one, and by the answer to it
-pub record Took (question : Option Asked) (made : Option Made) (before after : MakerState) : Type 0 where
+pub record Took (question : Option Asked) (made : Option Made) (before after : MakerState) : Type
+    0 where
   pub asked : after.asked ≡ before.asked ++ list_of_option question
   pub given : after.given ≡ before.given ++ list_of_option made
 
 -- There is an answer exactly where there is a question, of the question's kind or a refusal. A
 -- maker that tells was asked this question and gave this answer, and nothing else.
-pub record IsGiven (question : Option Asked) (made : Option Made) (before after : MakerState) : Type 0 where
+pub record IsGiven (question : Option Asked) (made : Option Made) (before after : MakerState) : Type
+    0 where
   pub suits_it : suits question made ≡ true
   pub took : IsTrue before.tells → Took question made before after
 
@@ -48,7 +50,8 @@ IsTold time item bytes = IsWritten (message_with time item) (Ok bytes)
 -- done, and returned as bytes; or the message has no wire form, and the objects stay; or memory ran
 -- out, and the objects stay.
 pub data AnswersBy (question : Option Asked) (serve : Option Made → Served) (objects : List Object)
-    (before after : MakerState) (new : List Object) (result : Result (List ℕ) WireError) : Type 0 where
+    (before after : MakerState) (new : List Object) (result : Result (List ℕ) WireError) : Type
+    0 where
   answered : (made : Option Made) (bytes : List ℕ) → IsGiven question made before after →
       IsHeld (serve made).message → response_bytes (serve made).message ≡ Some bytes →
       result ≡ Ok bytes → new ≡ (serve made).objects →
@@ -79,7 +82,8 @@ Tells answer call result item = option_map (item_for call) (answer_of answer res
 -- ---- a helper's call
 
 -- what a server returned for the request of a helper's call, and did
-abbrev pub Serves : Call → ℤ → List Object → MakerState → MakerState → List Object → Result (List ℕ) WireError → Type 0
+abbrev pub Serves : Call → ℤ → List Object → MakerState → MakerState → List Object →
+    Result (List ℕ) WireError → Type 0
 Serves call time objects before after new result = AnswersBy (question objects call)
     (λ made. served_call objects call made time) objects before after new result
 
@@ -101,7 +105,8 @@ response_of _ response = Ok response
 
 -- of two responses, one that reports a pair and one that refuses it, that which reports the store's
 -- result
-abbrev pub response_of_pair : Result (List ℕ × List ℕ) StoreError → List ℕ → List ℕ → Result (List ℕ) WireError
+abbrev pub response_of_pair : Result (List ℕ × List ℕ) StoreError → List ℕ → List ℕ →
+    Result (List ℕ) WireError
 response_of_pair (Ok pair) made refused = Ok made
 response_of_pair (Err errors.CryptographicFailure) made refused = Ok refused
 response_of_pair (Err _) made refused = Err OutOfMemory

@@ -3,11 +3,13 @@
 ghost use Rattle.std.specs.Prelude.{◌≡◌, ◌∷◌, [], ℕ, ℤ, List, Some, None, IfOk};
 ghost use Rattle.std.specs.Option.{option_map};
 ghost use Rattle.kmip_enums.specs.declared.object_type.ObjectType.TheVariants as types;
-ghost use Rattle.kmip_store.specs.Steps.{Supports, Created, Random, Signed, Done, step, supported_operations};
+ghost use Rattle.kmip_store.specs.Steps.{Supports, Created, Random, Signed, Done, step};
+ghost use Rattle.kmip_store.specs.Steps.{supported_operations};
 ghost use Rattle.kmip_store.specs.declared.call.Call.{Call};
 ghost use Rattle.kmip_store.specs.declared.call.Call.TheVariants as calls;
 ghost use Rattle.kmip_served.specs.Answering.{refusal_of, Tells};
-ghost use Rattle.kmip_served.specs.Items.{failed_item, done_item, item_for, key_type, key_block_of, key_object, name_attribute, pair_item};
+ghost use Rattle.kmip_served.specs.Items.{failed_item, done_item, item_for, key_type, key_block_of};
+ghost use Rattle.kmip_served.specs.Items.{key_object, name_attribute, pair_item};
 ghost use Rattle.kmip_served.specs.Requests.{call_operation};
 
 use kmip_enums::{NameType, ObjectType, Operation, ResultReason, ResultStatus};

@@ -2,7 +2,8 @@
 
 ghost use Rattle.std.specs.Prelude.{◌≡◌, not, ◌||◌, Some, None, Ok, Err, cond};
 ghost use Rattle.std.specs.Option.{option_map};
-ghost use Rattle.kmip_store.specs.Objects.{find_in, object_of, is_pre_active, is_active, is_destroyed};
+ghost use Rattle.kmip_store.specs.Objects.{find_in, object_of, is_pre_active, is_active};
+ghost use Rattle.kmip_store.specs.Objects.{is_destroyed};
 ghost use Rattle.kmip_store.specs.Steps.{Done, Denied};
 ghost use Rattle.kmip_store.specs.declared.call.Call.TheVariants as calls;
 ghost use Rattle.kmip_served.specs.Answering.{answer_of, change_answer, response_of, ServesAlone};

@@ -3,7 +3,9 @@
 ghost use Rattle.std.specs.Prelude.{◌≡◌, Some, IfOk};
 ghost use Rattle.kmip_request.specs.Message.{request_bytes};
 ghost use Rattle.kmip_request_read.specs.Reading.{request_for, request_read};
-ghost use Rattle.kmip_served.specs.Picked.{id_text, value_name, value_number, first_name, second_number, length_in, private_name, public_name, candidate_call};
+ghost use Rattle.kmip_served.specs.Picked.{id_text, value_name, value_number, first_name};
+ghost use Rattle.kmip_served.specs.Picked.{second_number, length_in, private_name, public_name};
+ghost use Rattle.kmip_served.specs.Picked.{candidate_call};
 ghost use Rattle.kmip_served.specs.Requests as calls;
 
 use crate::own::is_made_by;

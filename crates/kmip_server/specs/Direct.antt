@@ -19,14 +19,18 @@ use Rattle.kmip_server.specs.Joined.{Settings, part_for, CallTold}
 
 -- what a helper returns where a call was done; no call has the payload of another
 abbrev pub done_answer : Call → Option ResponsePayload → Answer
-done_answer call None = Err (InternalError (codes "Unable to process response payload due to wrong deserialized type!"))
+done_answer call None =
+    Err (InternalError (codes "Unable to process response payload due to wrong deserialized type!"))
 done_answer call (Some payload) = Ok (part_for call (response_payload_val payload))
 
 -- a reply of the object map, as a client's helper returns it
 abbrev pub reply_answer : Call → Reply → Answer
-reply_answer call NotFound = Err (ItemNotFound (failed_text (call_operation call) (codes "no such object")))
-reply_answer call Denied = Err (ServerError (failed_text (call_operation call) (codes "not allowed in this state")))
-reply_answer call Failed = Err (ServerError (failed_text (call_operation call) (codes "maker failed")))
+reply_answer call NotFound =
+    Err (ItemNotFound (failed_text (call_operation call) (codes "no such object")))
+reply_answer call Denied =
+    Err (ServerError (failed_text (call_operation call) (codes "not allowed in this state")))
+reply_answer call Failed =
+    Err (ServerError (failed_text (call_operation call) (codes "maker failed")))
 reply_answer call reply = done_answer call (payload_for call reply)
 
 -- the answers of the object map to these calls, with the maker's answers in order
@@ -42,7 +46,8 @@ IsWithin None bytes = Unit {0}
 IsWithin (Some limit) bytes = length bytes ≤ limit
 
 -- The request of a call is valid, and the response to it has a wire form within the limit.
-pub record Fits' (settings : Settings) (objects : List Object) (call : Call) (made : Option Made) : Type 0 where
+pub record Fits' (settings : Settings) (objects : List Object) (call : Call)
+    (made : Option Made) : Type 0 where
   pub request : List ℕ
   pub valid : request_bytes (request_of call) settings.credential ≡ Some request
   pub response : List ℕ

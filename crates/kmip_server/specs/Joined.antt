@@ -68,7 +68,12 @@ pub record CallTold : Type 0 where
 abbrev pub turn_call_told : Settings → Call → Turn → CallTold
 turn_call_told settings call turn =
     let told = told_of settings.buffered turn.request turn.outcome.answer (take turn.outcome.taken turn.rest) in
-    record { sent = turn.outcome.sent; answer = helper_answer call turn.outcome.answer; request_text = told.request_text; response_text = told.response_text }
+    record {
+      sent = turn.outcome.sent;
+      answer = helper_answer call turn.outcome.answer;
+      request_text = told.request_text;
+      response_text = told.response_text;
+    }
 
 -- what is to come of a call
 pub data Expected : Type 0 where
@@ -85,7 +90,12 @@ pub record Next : Type 0 where
 
 -- the turn of a call whose request has these bytes, if it is valid, over these bytes left to read
 abbrev pub turn_with : Settings → Call → Option (List ℕ) → List ℕ → Turn
-turn_with settings call request rest = record { request = request; rest = rest; outcome = outcome_of request (operation_of (request_of call)) settings.limit rest }
+turn_with settings call request rest =
+    record {
+      request = request;
+      rest = rest;
+      outcome = outcome_of request (operation_of (request_of call)) settings.limit rest;
+    }
 
 abbrev pub next_with : Settings → Call → Turn → Between → Next
 next_with settings call turn after = record {
@@ -96,32 +106,49 @@ next_with settings call turn after = record {
 
 -- where the response has no wire form, the objects stay
 abbrev pub answered_with : Settings → Call → Between → Between → List ℕ → Option (List ℕ) → Next
-answered_with settings call now after request None = record { expected = Unsent request; stops = true; after = record after { objects = now.objects } }
+answered_with settings call now after request None =
+    record {
+      expected = Unsent request;
+      stops = true;
+      after = record after { objects = now.objects };
+    }
 answered_with settings call now after request (Some response) =
     next_with settings call (turn_with settings call (Some request) (after.rest ++ response)) after
 
 abbrev pub sent_with : Settings → Call → Between → Option (List ℕ) → Next
-sent_with settings call now None = next_with settings call (turn_with settings call None now.rest) now
+sent_with settings call now None =
+    next_with settings call (turn_with settings call None now.rest) now
 sent_with settings call now (Some request) =
     let q = asks now.objects request in
     let s = served now.objects request (first_for q now.given) settings.time in
-    answered_with settings call now (record { objects = s.objects; given = rest_for q now.given; asked = now.asked ++ list_of_option q; rest = now.rest }) request (response_bytes s.message)
+    answered_with settings call now
+    (record {
+      objects = s.objects;
+      given = rest_for q now.given;
+      asked = now.asked ++ list_of_option q;
+      rest = now.rest;
+    }) request
+    (response_bytes s.message)
 
 -- one call: where its request is valid the response to it is added to the bytes left, and the
 -- outcome of the call is that over these bytes
 unfoldable pub next : Settings → Between → Call → Next
-next settings now call = sent_with settings call now (request_bytes (request_of call) settings.credential)
+next settings now call =
+    sent_with settings call now (request_bytes (request_of call) settings.credential)
 
 -- the calls in order, none after a lost connection
 unfoldable pub expected_calls : Settings → Between → List Call → List Expected
 expected_calls settings now [] = []
 expected_calls settings now (call ∷ calls) = (next settings now call).expected ∷
-    (if (next settings now call).stops then [] else expected_calls settings (next settings now call).after calls)
+    (if (next settings now call).stops then []
+    else expected_calls settings (next settings now call).after calls)
 
 -- server and client after the last of the calls that are made
 unfoldable pub finish : Settings → Between → List Call → Between
 finish settings now [] = now
-finish settings now (call ∷ calls) = if (next settings now call).stops then (next settings now call).after else finish settings (next settings now call).after calls
+finish settings now (call ∷ calls) =
+    if (next settings now call).stops then (next settings now call).after
+    else finish settings (next settings now call).after calls
 
 -- whether the response to one of the calls has no wire form
 abbrev pub has_unsent : List Expected → Bool
@@ -131,15 +158,20 @@ has_unsent (Told' told ∷ es) = has_unsent es
 
 -- The bytes of a call's request, where it is valid, are read as that request.
 abbrev pub IsReadBack : Call → Option CredentialType → Type 0
-IsReadBack call credential = (request : List ℕ) → request_bytes (request_of call) credential ≡ Some request → request_read request ≡ Some (request_for (request_of call))
+IsReadBack call credential = (request : List ℕ) →
+    request_bytes (request_of call) credential ≡ Some request →
+    request_read request ≡ Some (request_for (request_of call))
 
 -- The request is read back, and the response to it, where it has a wire form, is a message that
 -- Rust can hold.
 pub record IsHeldNext (settings : Settings) (now : Between) (call : Call) : Type 0 where
   pub reads : IsReadBack call settings.credential
-  pub holds : (request response : List ℕ) → request_bytes (request_of call) settings.credential ≡ Some request →
-      response_bytes (served now.objects request (first_for (asks now.objects request) now.given) settings.time).message ≡ Some response →
-      IsHeldResponse (served now.objects request (first_for (asks now.objects request) now.given) settings.time).message
+  pub holds : (request response : List ℕ) →
+      request_bytes (request_of call) settings.credential ≡ Some request →
+      response_bytes (served now.objects request (first_for (asks now.objects request) now.given)
+      settings.time).message ≡ Some response →
+      IsHeldResponse (served now.objects request (first_for (asks now.objects request) now.given)
+      settings.time).message
 
 abbrev pub Unless : Bool → Type 0 → Type 0
 Unless true P = Unit {0}
@@ -148,7 +180,10 @@ Unless false P = P
 -- so it is for each of the calls that are made
 unfoldable pub AreHeldNext : Settings → Between → List Call → Type 0
 AreHeldNext settings now [] = Unit {0}
-AreHeldNext settings now (call ∷ calls) = IsHeldNext settings now call × Unless (next settings now call).stops (AreHeldNext settings (next settings now call).after calls)
+AreHeldNext settings now (call ∷ calls) =
+    IsHeldNext settings now call ×
+    Unless (next settings now call).stops
+    (AreHeldNext settings (next settings now call).after calls)
 
 -- a call that the link cut short: a proper part of the request was sent
 pub record IsUnsent (settings : Settings) (request : List ℕ) (told : CallTold) : Type 0 where

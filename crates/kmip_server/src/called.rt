@@ -1,7 +1,8 @@
 //! One call of a client over a server.
 ghost use Rattle.std.specs.Prelude.{◌≡◌, List, IfOk, IfErr, option_map, drop, length, true};
 ghost use Rattle.kmip_link.specs.State.{Keeps};
-ghost use Rattle.kmip_client.specs.Client.{loses_connection, lacks_memory, count_after, ClientState};
+ghost use Rattle.kmip_client.specs.Client.{loses_connection, lacks_memory, count_after};
+ghost use Rattle.kmip_client.specs.Client.{ClientState};
 ghost use Rattle.kmip_client.specs.Outcome.{seen_by};
 ghost use Rattle.kmip_client.specs.declared.error.Error.TheVariants.{OutOfMemory as no_memory};
 ghost use Rattle.kmip_server.specs.Calls.{answered_val, answered_seen, call_told, settings_of};

@@ -1,9 +1,11 @@
 //! A link over a server of its own.
-ghost use Rattle.std.specs.Prelude.{◌≡◌, ◌<◌, ◌≤◌, ◌++◌, [], true, false, IsTrue, length, take, ◌≢◌, IfOk, IfErr, OnErr, IsErrOf, ℕ, List};
+ghost use Rattle.std.specs.Prelude.{◌≡◌, ◌<◌, ◌≤◌, ◌++◌, [], true, false, IsTrue, length, take};
+ghost use Rattle.std.specs.Prelude.{◌≢◌, IfOk, IfErr, OnErr, IsErrOf, ℕ, List};
 ghost use Rattle.kmip_link.specs.declared.link.LinkError.{LinkError};
 ghost use Rattle.kmip_link.specs.State.{Keeps, IsIdle, Reads, Writes, Rose};
 ghost use Rattle.kmip_store.specs.Makers.{MakerKeeps};
-ghost use Rattle.kmip_server.specs.Link.{ServerLinkState, server_link_state, IsKept, IsKnown, Holds, Accepted, IsRefused, IsUnused, Did, WritesTo};
+ghost use Rattle.kmip_server.specs.Link.{ServerLinkState, server_link_state, IsKept, IsKnown};
+ghost use Rattle.kmip_server.specs.Link.{Holds, Accepted, IsRefused, IsUnused, Did, WritesTo};
 ghost use Rattle.kmip_server.specs.Split.{messages_in};
 
 use crate::take::{grow_both, take_bytes};

@@ -35,7 +35,8 @@ abbrev pub raw_of : Option (List ℕ) → Option Call
 raw_of (Some bytes) = option_map Raw (request_read bytes)
 raw_of None = None
 
--- the calls of two words: `rng INT`, `raw HEX`, and `activate TEXT`, `revoke TEXT`, `destroy TEXT`, `get TEXT`
+-- the calls of two words: `rng INT`, `raw HEX`, and `activate TEXT`, `revoke TEXT`, `destroy TEXT`,
+-- `get TEXT`
 abbrev pub call_of_two : List ℕ → List ℕ → Option Call
 call_of_two name word =
     if bytes_eq name (codes "rng") then rng_of (int_of word)

@@ -207,7 +207,8 @@ step_of value style buffered rest o = record {
 -- the outcome of a call over these bytes left
 abbrev pub call_outcome : Settings → Call → List ℕ → Outcome
 call_outcome settings call rest =
-    outcome_of (request_asked call settings.credential).message (request_asked call settings.credential).operation
+    outcome_of (request_asked call settings.credential).message
+    (request_asked call settings.credential).operation
     settings.limit rest
 
 -- what a call comes to over these bytes left, with its answer in this style

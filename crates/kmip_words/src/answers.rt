@@ -7,7 +7,8 @@ ghost use Rattle.kmip_client.specs.Calls.{IsCall};
 ghost use Rattle.kmip_client.specs.Client.{IsOfOperation};
 ghost use Rattle.kmip_client.specs.Outcome.{seen_by};
 ghost use Rattle.kmip_words.specs.Exchange.{settings_of, step_in, Answers};
-ghost use Rattle.kmip_words.specs.declared.call.Call.TheVariants.{CreateRsa, Rng, Get, Raw, Locate, Attributes, CreateAes, Discover};
+ghost use Rattle.kmip_words.specs.declared.call.Call.TheVariants.{CreateRsa, Rng, Get, Raw, Locate};
+ghost use Rattle.kmip_words.specs.declared.call.Call.TheVariants.{Attributes, CreateAes, Discover};
 ghost use Rattle.kmip_request_read.specs.Reading.{Request};
 
 use crate::call::Call;

@@ -1,7 +1,11 @@
 //! Which call words ask for: words of a line of a script, and words that are typed.
 ghost use Rattle.std.specs.Prelude.{◌≡◌, map, option_map, IfOk};
 ghost use Rattle.kmip_words.specs.Values.{int_of, bytes_of, word_text};
-ghost use Rattle.kmip_words.specs.Calls.{typed_of_one, locate_of, attributes_of, typed_of_two, create_aes_of, typed_of_three, typed_call, rng_of, raw_of, key_call, call_of_one, call_of_two, sign_of, rename_of, call_of_three, create_rsa_of, call_of_four, with_response, call_of_words, call_of, call_in, call_alone};
+ghost use Rattle.kmip_words.specs.Calls.{typed_of_one, locate_of, attributes_of, typed_of_two};
+ghost use Rattle.kmip_words.specs.Calls.{create_aes_of, typed_of_three, typed_call, rng_of, raw_of};
+ghost use Rattle.kmip_words.specs.Calls.{key_call, call_of_one, call_of_two, sign_of, rename_of};
+ghost use Rattle.kmip_words.specs.Calls.{call_of_three, create_rsa_of, call_of_four, with_response};
+ghost use Rattle.kmip_words.specs.Calls.{call_of_words, call_of, call_in, call_alone};
 
 use crate::raw::RawRequest;
 use crate::values::{bytes_of, int_of, word_text};

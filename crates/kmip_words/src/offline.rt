@@ -1,7 +1,8 @@
 //! Calls with no link: the bytes that a call sends, and the answer that the bytes sent back are.
 ghost use Rattle.std.specs.Prelude.{◌≡◌, ◌++◌, [], IfOk, OnOk, false, option_map};
 ghost use Rattle.kmip_client.specs.Client.{credential_for};
-ghost use Rattle.kmip_words.specs.Exchange.{Settings as TheSettings, settings_of, request_asked, ending_of, json_line, call_outcome};
+ghost use Rattle.kmip_words.specs.Exchange.{Settings as TheSettings, settings_of, request_asked};
+ghost use Rattle.kmip_words.specs.Exchange.{ending_of, json_line, call_outcome};
 
 use crate::answers::answer;
 use crate::call::Call;

@@ -2,7 +2,8 @@
 ghost use Rattle.std.specs.Prelude.{◌≡◌, ◌≢◌, ◌++◌, codes, cond, IfOk, OnOk};
 ghost use Rattle.kmip_shape.specs.Shown.{shown_as, text_styled};
 ghost use Rattle.kmip_shape.specs.declared.style.Style.TheVariants.{Bare, Json};
-ghost use Rattle.kmip_words.specs.Exchange.{pair_styled, done_styled, error_name, error_line, value_line, loses_link, Shows};
+ghost use Rattle.kmip_words.specs.Exchange.{pair_styled, done_styled, error_name, error_line};
+ghost use Rattle.kmip_words.specs.Exchange.{value_line, loses_link, Shows};
 ghost use Rattle.kmip_words.specs.declared.ending.Ending.TheVariants as endings;
 
 use crate::ending::Ending;

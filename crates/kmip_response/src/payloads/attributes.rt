@@ -2,9 +2,14 @@
 
 ghost use Rattle.std.specs.Prelude.{◌≡◌};
 ghost use Rattle.kmip_tags.specs.Tags as tags;
-ghost use Rattle.kmip_response.specs.Tables.{get_attributes_payload, get_attribute_list_payload, attribute_edit_payload};
-ghost use Rattle.kmip_response.specs.Values.{get_attributes_payload_val, get_attribute_list_payload_val, attribute_edit_payload_val};
-ghost use Rattle.kmip_response.specs.Same.{get_attributes_payload_same, get_attribute_list_payload_same, attribute_edit_payload_same};
+ghost use Rattle.kmip_response.specs.Tables.{get_attributes_payload, get_attribute_list_payload};
+ghost use Rattle.kmip_response.specs.Tables.{attribute_edit_payload};
+ghost use Rattle.kmip_response.specs.Values.{get_attributes_payload_val};
+ghost use Rattle.kmip_response.specs.Values.{get_attribute_list_payload_val};
+ghost use Rattle.kmip_response.specs.Values.{attribute_edit_payload_val};
+ghost use Rattle.kmip_response.specs.Same.{get_attributes_payload_same};
+ghost use Rattle.kmip_response.specs.Same.{get_attribute_list_payload_same};
+ghost use Rattle.kmip_response.specs.Same.{attribute_edit_payload_same};
 
 use kmip_response_objects::Attribute;
 use kmip_shape::record::{End, Row};
