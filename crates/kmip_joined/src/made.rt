@@ -40,7 +40,7 @@ pub fn makes_pair(call: &Call) -> bool
     matches!(call, Call::CreateRsaKeyPair(..))
 }
 
-/// Whether an answer is an error, or a pair where a pair was asked for.
+/// True only where an answer is an error, or is a pair if a pair was asked for.
 fn suits(pair: bool, answer: &Result<Answered, Error>) -> bool
     ensures { result ≡ true → pair ≡ true → IfOk answer.now (λ x. is_pair x ≡ true) }
 {

@@ -75,7 +75,7 @@ fn left_by<M: Maker>(client: &mut Client<ServerLink<M>>) -> Left
     }
 }
 
-/// Whether the link keeps the request of this call.
+/// True only where the link keeps the request of this call.
 fn keeps_request_of<M: Maker>(
     alloc: Global,
     client: &mut Client<ServerLink<M>>,
