@@ -119,15 +119,15 @@ impl<T> Client<T> {
         }
     }
 
-    /// A copy of the last call's request diagnostic.
-    pub(crate) fn copy_req_diag(&self, alloc: Global) -> Result<Option<Text>, OutOfMemory>
+    /// A copy of what `last_req_diag_str` returns.
+    pub fn copy_req_diag(&self, alloc: Global) -> Result<Option<Text>, OutOfMemory>
         ensures { IfOk result (λ text. text ≡ self.now.request_text) }
     {
         clone_optional(&self.diagnostics.request, alloc)
     }
 
-    /// A copy of the last call's response diagnostic.
-    pub(crate) fn copy_res_diag(&self, alloc: Global) -> Result<Option<Text>, OutOfMemory>
+    /// A copy of what `last_res_diag_str` returns.
+    pub fn copy_res_diag(&self, alloc: Global) -> Result<Option<Text>, OutOfMemory>
         ensures { IfOk result (λ text. text ≡ self.now.response_text) }
     {
         clone_optional(&self.diagnostics.response, alloc)

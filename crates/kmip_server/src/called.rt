@@ -1,5 +1,5 @@
 //! One call of a client over a server.
-ghost use Rattle.std.specs.Prelude.{◌≡◌, List, IfOk, IfErr, option_map, drop, length, true};
+ghost use Rattle.std.specs.Prelude.{◌≡◌, List, IfOk, IfErr, drop, length, true};
 ghost use Rattle.kmip_link.specs.State.{Keeps};
 ghost use Rattle.kmip_client.specs.Client.{loses_connection, lacks_memory, count_after};
 ghost use Rattle.kmip_client.specs.Client.{ClientState};
@@ -17,7 +17,7 @@ use kmip_client::{Client, Error, Result};
 use kmip_request_read::{request_is_message, request_is_read};
 use kmip_served::{call_known, helper_is_matched, is_request_of};
 use kmip_store::{Call, Maker};
-use kmip_wire::{Blob, OutOfMemory, Text};
+use kmip_wire::{Blob, OutOfMemory};
 use std::alloc::Global;
 
 /// How a call left its link.
@@ -143,16 +143,6 @@ fn sent_from<M: Maker>(
     }
 }
 
-/// A copy of a text that may be absent.
-fn copy_text(alloc: Global, text: Option<&str>) -> std::result::Result<Option<Text>, OutOfMemory>
-    ensures { IfOk result (λ made. made ≡ option_map (λ s. s.now) text.entry) }
-{
-    match text {
-        Some(text) => Ok(Some(Text::of(alloc, text)?)),
-        None => Ok(None),
-    }
-}
-
 /// The report of a call: what it sent, its answer, and copies of its diagnostics.
 fn call_answer<M: Maker>(
     alloc: Global,
@@ -172,8 +162,8 @@ fn call_answer<M: Maker>(
     Ok(CallAnswer {
         sent,
         answer,
-        req_diag: copy_text(alloc, client.last_req_diag_str())?,
-        res_diag: copy_text(alloc, client.last_res_diag_str())?,
+        req_diag: client.copy_req_diag(alloc)?,
+        res_diag: client.copy_res_diag(alloc)?,
     })
 }
 
