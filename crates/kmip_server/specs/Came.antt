@@ -11,7 +11,7 @@ use Rattle.kmip_served.specs.Requests.{request_of}
 use Rattle.kmip_server.specs.Split.{messages_in}
 use Rattle.kmip_server.specs.Machine.{Run, fresh, run_of}
 use Rattle.kmip_server.specs.Serving.{AreHeld}
-use Rattle.kmip_server.specs.Joined.{Settings, Between, CallTold, Expected, Told', Unsent, Next, next, expected_calls, finish, has_unsent, IsUnsent, IsHeldNext, AreHeldNext, Meet}
+use Rattle.kmip_server.specs.Joined.{Settings, Between, CallTold, Expected, AsTold, Unsent, Next, next, expected_calls, finish, has_unsent, IsUnsent, IsHeldNext, AreHeldNext, Meet}
 use Rattle.kmip_server.specs.Link.{ServerLinkState, server_link_state, IsOpen}
 use Rattle.kmip_server.specs.declared.called.Left.{Left}
 
@@ -46,7 +46,7 @@ pub record Came (settings : Settings) (call : Call) (before after : LinkState) (
   pub agrees : Agrees settings.time given before
   pub next_is : next settings (between settings.time given before)
       call ≡ record {
-        expected = Told' told;
+        expected = AsTold told;
         stops = stops;
         after = between settings.time given after;
       }

@@ -46,7 +46,7 @@ IsWithin None bytes = Unit {0}
 IsWithin (Some limit) bytes = length bytes ≤ limit
 
 -- The request of a call is valid, and the response to it has a wire form within the limit.
-pub record Fits' (settings : Settings) (objects : List Object) (call : Call)
+pub record OneFits (settings : Settings) (objects : List Object) (call : Call)
     (made : Option Made) : Type 0 where
   pub request : List ℕ
   pub valid : request_bytes (request_of call) settings.credential ≡ Some request
@@ -59,7 +59,7 @@ abbrev pub AllFit : Settings → List Object → List Made → List Call → Typ
 AllFit settings objects given [] = Unit {0}
 AllFit settings objects given (call ∷ calls) =
     let q = question objects call in
-    Fits' settings objects call (first_for q given)
+    OneFits settings objects call (first_for q given)
     × AllFit settings (step objects call (first_for q given)).objects (rest_for q given) calls
 
 abbrev pub answers_of : List CallTold → List Answer

@@ -78,7 +78,7 @@ turn_call_told settings call turn =
 -- what is to come of a call
 pub data Expected : Type 0 where
   -- it is reported so
-  Told' : CallTold → Expected
+  AsTold : CallTold → Expected
   -- the response has no wire form, so the request, of these bytes, is not sent whole
   Unsent : List ℕ → Expected
 
@@ -99,7 +99,7 @@ turn_with settings call request rest =
 
 abbrev pub next_with : Settings → Call → Turn → Between → Next
 next_with settings call turn after = record {
-  expected = Told' (turn_call_told settings call turn);
+  expected = AsTold (turn_call_told settings call turn);
   stops = loses_connection turn.outcome.answer;
   after = record after { rest = drop turn.outcome.taken turn.rest };
 }
@@ -154,7 +154,7 @@ finish settings now (call ∷ calls) =
 abbrev pub has_unsent : List Expected → Bool
 has_unsent [] = false
 has_unsent (Unsent request ∷ es) = true
-has_unsent (Told' told ∷ es) = has_unsent es
+has_unsent (AsTold told ∷ es) = has_unsent es
 
 -- The bytes of a call's request, where it is valid, are read as that request.
 abbrev pub IsReadBack : Call → Option CredentialType → Type 0
@@ -195,7 +195,7 @@ pub record IsUnsent (settings : Settings) (request : List ℕ) (told : CallTold)
   pub response_text : told.response_text ≡ None
 
 abbrev pub Meets : Settings → Expected → CallTold → Type 0
-Meets settings (Told' told) told' = told' ≡ told
+Meets settings (AsTold told) told' = told' ≡ told
 Meets settings (Unsent request) told' = IsUnsent settings request told'
 
 -- The calls were reported as expected, one for one.
