@@ -1,175 +1,137 @@
 //! Each helper's call, answered.
-use crate::helpers::{
-    activate, denies, destroy, get, is_of, item, known, pair, rename, request_by_alice, revoke,
-    server, sign, tells,
+use crate::helpers::Ask::{
+    self, Activate, Destroy, Get, Pair, Query, Random, Rename, Revoke, Sign,
 };
-use kmip_enums::{Operation, ResultReason, ResultStatus};
-use kmip_served::{Call, Server};
+use crate::helpers::Told::{Denied, Shown};
+use crate::helpers::{Row, alice, answers, call_of, request, server, tells};
+use kmip_enums::Operation;
+use kmip_enums::ResultReason::{ItemNotFound, PermissionDenied};
+use kmip_served::{Call, call_known, is_request_of};
 use kmip_store::PlainMaker;
+use kmip_wire::Blob;
 use std::alloc::Global;
 use std::process::Abort;
 use std::test::Fail;
 
-const DENIED: &str = "not allowed in this state";
+/// A server that was just made, with the plain maker, answers so.
+fn plainly(rt: &impl Abort, alloc: Global, rows: &[Row]) -> Result<(), Fail> {
+    tells(rt, alloc, &mut server(alloc, PlainMaker::new(alloc)), rows)
+}
 
 #[test]
 fn query(rt: HostRuntime) -> Result<(), Fail> {
-    let alloc = rt.alloc();
-    tells(
-        &rt,
-        alloc,
-        &mut server(alloc),
-        &Call::Query,
-        2,
-        "Query{operations=[CreateKeyPair,Get,ModifyAttribute,Activate,Revoke,Destroy,Query,Sign,RNGRetrieve],object_types=[PublicKey,PrivateKey]}",
-    )
+    let shown =
+        "Query{operations=[CreateKeyPair,Get,ModifyAttribute,Activate,Revoke,Destroy,Query,Sign,RNGRetrieve],object_types=[PublicKey,PrivateKey]}";
+    plainly(&rt, rt.alloc(), &[(Query, 2, Shown(shown))])
 }
 
 #[test]
 fn random_bytes(rt: HostRuntime) -> Result<(), Fail> {
-    let alloc = rt.alloc();
-    tells(
-        &rt,
-        alloc,
-        &mut server(alloc),
-        &Call::RngRetrieve(2),
-        2,
-        "RNGRetrieve{random_bytes=x\"0101\"}",
-    )
+    let shown = "RNGRetrieve{random_bytes=x\"0101\"}";
+    plainly(&rt, rt.alloc(), &[(Random(2), 2, Shown(shown))])
 }
 
-/// A key made, and what it does in each state.
+const DENIED: &str = "not allowed in this state";
+
+/// A key made, what it does in each state, and its end.
+const LIFE: &[Row] = &[
+    (
+        Pair(2048),
+        0,
+        Shown(
+            "CreateKeyPair{private_key_unique_identifier=\"1\",public_key_unique_identifier=\"2\"}",
+        ),
+    ),
+    (
+        Sign("1"),
+        2,
+        Denied(Some(Operation::Sign), PermissionDenied, DENIED),
+    ),
+    (Activate("1"), 0, Shown("Activate{unique_identifier=\"1\"}")),
+    (
+        Sign("1"),
+        2,
+        Shown("Sign{unique_identifier=\"1\",signature_data=x\"0000000000000002\"}"),
+    ),
+    (
+        Get("1"),
+        0,
+        Shown(
+            "Get{object_type=PrivateKey,unique_identifier=\"1\",cryptographic_object=PrivateKey{key_block={key_format_type=PKCS1,key_value={key_material=Bytes(x\"000000000000000101\")},cryptographic_algorithm=RSA,cryptographic_length=2048}}}",
+        ),
+    ),
+    (
+        Destroy("1"),
+        0,
+        Denied(Some(Operation::Destroy), PermissionDenied, DENIED),
+    ),
+    (
+        Rename("1", "old"),
+        0,
+        Shown(
+            "ModifyAttribute{unique_identifier=\"1\",attribute={name=\"Name\",value=Name{name_value=\"old\",name_type=UninterpretedTextString}}}",
+        ),
+    ),
+    (Revoke("1"), 0, Shown("Revoke{unique_identifier=\"1\"}")),
+    (Destroy("1"), 0, Shown("Destroy{unique_identifier=\"1\"}")),
+    (
+        Get("1"),
+        0,
+        Denied(Some(Operation::Get), PermissionDenied, DENIED),
+    ),
+    (
+        Activate("9"),
+        0,
+        Denied(Some(Operation::Activate), ItemNotFound, "no such object"),
+    ),
+];
+
 #[test]
 fn a_life(rt: HostRuntime) -> Result<(), Fail> {
-    let alloc = rt.alloc();
-    let mut server = server(alloc);
-    tells(
-        &rt,
-        alloc,
-        &mut server,
-        &pair(alloc, 2048)?,
-        0,
-        "CreateKeyPair{private_key_unique_identifier=\"1\",public_key_unique_identifier=\"2\"}",
-    )?;
-    denies(
-        &rt,
-        alloc,
-        &mut server,
-        &sign(alloc, "1")?,
-        2,
-        (
-            Some(Operation::Sign),
-            ResultReason::PermissionDenied,
-            DENIED,
-        ),
-    )?;
-    tells(
-        &rt,
-        alloc,
-        &mut server,
-        &activate(alloc, "1")?,
-        0,
-        "Activate{unique_identifier=\"1\"}",
-    )?;
-    tells(
-        &rt,
-        alloc,
-        &mut server,
-        &sign(alloc, "1")?,
-        2,
-        "Sign{unique_identifier=\"1\",signature_data=x\"0000000000000002\"}",
-    )?;
-    tells(
-        &rt,
-        alloc,
-        &mut server,
-        &get(alloc, "1")?,
-        0,
-        "Get{object_type=PrivateKey,unique_identifier=\"1\",cryptographic_object=PrivateKey{key_block={key_format_type=PKCS1,key_value={key_material=Bytes(x\"000000000000000101\")},cryptographic_algorithm=RSA,cryptographic_length=2048}}}",
-    )?;
-    ended(&rt, alloc, &mut server)
+    plainly(&rt, rt.alloc(), LIFE)
 }
 
-/// The end of that key.
-fn ended(rt: &impl Abort, alloc: Global, server: &mut Server<PlainMaker>) -> Result<(), Fail> {
-    let destroy = destroy(alloc, "1")?;
-    denies(
-        rt,
-        alloc,
-        server,
-        &destroy,
-        0,
-        (
-            Some(Operation::Destroy),
-            ResultReason::PermissionDenied,
-            DENIED,
-        ),
-    )?;
-    tells(
-        rt,
-        alloc,
-        server,
-        &rename(alloc, "1", "old")?,
-        0,
-        "ModifyAttribute{unique_identifier=\"1\",attribute={name=\"Name\",value=Name{name_value=\"old\",name_type=UninterpretedTextString}}}",
-    )?;
-    tells(
-        rt,
-        alloc,
-        server,
-        &revoke(alloc, "1")?,
-        0,
-        "Revoke{unique_identifier=\"1\"}",
-    )?;
-    tells(
-        rt,
-        alloc,
-        server,
-        &destroy,
-        0,
-        "Destroy{unique_identifier=\"1\"}",
-    )?;
-    denies(
-        rt,
-        alloc,
-        server,
-        &get(alloc, "1")?,
-        0,
-        (Some(Operation::Get), ResultReason::PermissionDenied, DENIED),
-    )?;
-    denies(
-        rt,
-        alloc,
-        server,
-        &activate(alloc, "9")?,
-        0,
-        (
-            Some(Operation::Activate),
-            ResultReason::ItemNotFound,
-            "no such object",
-        ),
-    )
+/// The bytes of the request of a call, with the credential of alice.
+fn by_alice(alloc: Global, ask: Ask, password: Option<&str>) -> Result<Blob, Fail> {
+    let credential = alice(alloc, password)?;
+    request(alloc, &call_of(alloc, ask)?, Some(credential))
 }
 
 /// A credential changes nothing.
 #[test]
 fn with_a_credential(rt: HostRuntime) -> Result<(), Fail> {
     let alloc = rt.alloc();
-    let bytes = request_by_alice(alloc, &Call::RngRetrieve(1), None)?;
-    let item = item(&rt, alloc, &mut server(alloc), bytes.as_slice(), 2)?;
-    assert!(rt; item.result_status == ResultStatus::Success);
-    Ok(())
+    let bytes = by_alice(alloc, Random(1), None)?;
+    let told = Shown("RNGRetrieve{random_bytes=x\"01\"}");
+    let maker = PlainMaker::new(alloc);
+    answers(
+        &rt,
+        alloc,
+        &mut server(alloc, maker),
+        bytes.as_slice(),
+        2,
+        told,
+    )
+}
+
+/// Whether these bytes are the request of the call, which is known to fit its table.
+fn is_of(alloc: Global, call: &Call, bytes: &[u8]) -> Result<bool, Fail> {
+    call_known(alloc, call)?;
+    Ok(is_request_of(alloc, call, bytes)?)
 }
 
 /// Bytes are the request of one call, whatever its credential.
 #[test]
 fn the_call_of_a_request(rt: HostRuntime) -> Result<(), Fail> {
     let alloc = rt.alloc();
-    let call = sign(alloc, "1")?;
-    known(alloc, &call)?;
-    let bytes = request_by_alice(alloc, &call, Some("secret"))?;
-    assert!(rt; is_of(alloc, &call, bytes.as_slice())?);
-    assert!(rt; !is_of(alloc, &sign(alloc, "2")?, bytes.as_slice())?);
-    assert!(rt; !is_of(alloc, &call, b"\x42\x00\x78")?);
+    let bytes = by_alice(alloc, Sign("1"), Some("secret"))?;
+    let rows: [(&str, &[u8], bool); 3] = [
+        ("1", bytes.as_slice(), true),
+        ("2", bytes.as_slice(), false),
+        ("1", b"\x42\x00\x78", false),
+    ];
+    for (id, bytes, expected) in rows {
+        assert!(rt; is_of(alloc, &call_of(alloc, Sign(id))?, bytes)? == expected);
+    }
     Ok(())
 }

@@ -1,28 +1,32 @@
 //! Many calls, and long ones.
-use crate::helpers::{
-    activate, add, answers_are, asked, calls, joined, pair, plain_link, stored, text, twice,
-};
-use kmip_server::Call;
-use kmip_wire::{List, Text};
+use crate::helpers::Ask::{Activate, Pair};
+use crate::helpers::{First, add, asked, joined, plain_link, tells, text};
+use kmip_client::Client;
+use kmip_server::{Call, ServerLink};
+use kmip_store::Maker;
+use kmip_wire::{List, Text, TryClone};
 use std::alloc::Global;
 use std::test::Fail;
 
+const NO_OBJECT: &str = "Operation Activate failed: no such object";
+
 /// So many calls for a pair.
 fn pairs(alloc: Global, count: usize) -> Result<List<Call>, Fail> {
-    let mut list = calls(alloc);
+    let mut calls = List::new(alloc);
     for _ in 0..count {
-        add(&mut list, pair(alloc)?)?;
+        add(alloc, &mut calls, Pair)?;
     }
-    Ok(list)
+    Ok(calls)
 }
 
-/// The text, doubled so often.
-fn doubled(alloc: Global, first: &str, times: usize) -> Result<Text, Fail> {
-    let mut made = text(alloc, first)?;
-    for _ in 0..times {
-        made = twice(alloc, &made)?;
-    }
-    Ok(made)
+/// How many answers so many calls for a pair have, and how many objects there are then.
+fn made<M: Maker>(
+    alloc: Global,
+    client: &mut Client<ServerLink<M>>,
+    count: usize,
+) -> Result<[usize; 2], Fail> {
+    let answers = asked(alloc, client, pairs(alloc, count)?)?.len();
+    Ok([answers, client.inner().server().store().len()])
 }
 
 /// 2,000 pairs, and the last of their keys.
@@ -30,36 +34,36 @@ fn doubled(alloc: Global, first: &str, times: usize) -> Result<Text, Fail> {
 fn many_pairs(rt: HostRuntime) -> Result<(), Fail> {
     let alloc = rt.alloc();
     let mut client = joined(plain_link(alloc));
-    let made = asked(alloc, &mut client, pairs(alloc, 2000)?)?;
-    assert_eq!(rt; made.len(), 2000);
-    assert_eq!(rt; stored(&mut client), 4000);
-    let mut list = calls(alloc);
-    add(&mut list, activate(alloc, "4000")?)?;
-    add(&mut list, activate(alloc, "4001")?)?;
-    let answers = asked(alloc, &mut client, list)?;
-    answers_are(
-        &rt,
-        alloc,
-        &answers,
-        &["()", "Operation Activate failed: no such object"],
-    )
+    assert!(rt; made(alloc, &mut client, 2000)? == [2000, 4000]);
+    let rows = [(Activate("4000"), "()"), (Activate("4001"), NO_OBJECT)];
+    tells(&rt, alloc, &mut client, &rows, None)
+}
+
+/// The text, doubled so often.
+fn doubled(alloc: Global, first: &str, times: usize) -> Result<Text, Fail> {
+    let mut made = text(alloc, first)?;
+    for _ in 0..times {
+        let half = made.try_clone(alloc)?;
+        made.push_str(half.as_str())?;
+    }
+    Ok(made)
 }
 
 /// An identifier of 16 MiB.
 #[test]
 fn a_long_identifier(rt: HostRuntime) -> Result<(), Fail> {
     let alloc = rt.alloc();
-    let mut client = joined(plain_link(alloc));
     let id = doubled(alloc, "0123456789abcdef", 20)?;
-    let mut list = calls(alloc);
-    add(&mut list, activate(alloc, id.as_str())?)?;
-    let answers = asked(alloc, &mut client, list)?;
-    let first = answers.as_slice().first().ok_or("no call")?;
-    assert_eq!(rt; first.sent.len(), 16_777_216 + 112);
-    answers_are(
+    let first = First {
+        sent: 16_777_216 + 112,
+        diagnostics: None,
+    };
+    let rows = [(Activate(id.as_str()), NO_OBJECT)];
+    tells(
         &rt,
         alloc,
-        &answers,
-        &["Operation Activate failed: no such object"],
+        &mut joined(plain_link(alloc)),
+        &rows,
+        Some(first),
     )
 }

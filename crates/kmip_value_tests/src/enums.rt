@@ -12,155 +12,57 @@ use std::test::Fail;
 
 #[test]
 fn names(rt: HostRuntime) -> Result<(), Fail> {
-    has_names::<CertificateType>(&rt, rt.alloc(), 1..3, &["X509", "PGP"])?;
-    has_names::<CredentialType>(&rt, rt.alloc(), 1..2, &["UsernameAndPassword"])?;
+    has_names::<CertificateType>(&rt, rt.alloc(), 1..3, "X509 PGP")?;
+    has_names::<CredentialType>(&rt, rt.alloc(), 1..2, "UsernameAndPassword")?;
     has_names::<LinkType>(
         &rt,
         rt.alloc(),
         0x101..0x108,
-        &[
-            "CertificateLink",
-            "PublicKeyLink",
-            "PrivateKeyLink",
-            "DerivationBaseObjectLink",
-            "DerivedKeyLink",
-            "ReplacementObjectLink",
-            "ReplacedObjectLink",
-        ],
+        "CertificateLink PublicKeyLink PrivateKeyLink DerivationBaseObjectLink DerivedKeyLink ReplacementObjectLink ReplacedObjectLink",
     )?;
-    has_names::<NameType>(&rt, rt.alloc(), 1..3, &["UninterpretedTextString", "URI"])?;
+    has_names::<NameType>(&rt, rt.alloc(), 1..3, "UninterpretedTextString URI")?;
     has_names::<ObjectType>(
         &rt,
         rt.alloc(),
         1..10,
-        &[
-            "Certificate",
-            "SymmetricKey",
-            "PublicKey",
-            "PrivateKey",
-            "SplitKey",
-            "Template",
-            "SecretData",
-            "OpaqueObject",
-            "PGPKey",
-        ],
+        "Certificate SymmetricKey PublicKey PrivateKey SplitKey Template SecretData OpaqueObject PGPKey",
     )?;
     has_names::<Operation>(
         &rt,
         rt.alloc(),
         1..42,
-        &[
-            "Create",
-            "CreateKeyPair",
-            "Register",
-            "Rekey",
-            "DeriveKey",
-            "Certify",
-            "Recertify",
-            "Locate",
-            "Check",
-            "Get",
-            "GetAttributes",
-            "GetAttributeList",
-            "AddAttribute",
-            "ModifyAttribute",
-            "DeleteAttribute",
-            "ObtainLease",
-            "GetUsageAllocation",
-            "Activate",
-            "Revoke",
-            "Destroy",
-            "Archive",
-            "Recover",
-            "Validate",
-            "Query",
-            "Cancel",
-            "Poll",
-            "Notify",
-            "Put",
-            "RekeyKeyPair",
-            "DiscoverVersions",
-            "Encrypt",
-            "Decrypt",
-            "Sign",
-            "SignatureVerify",
-            "MAC",
-            "MACVerify",
-            "RNGRetrieve",
-            "RNGSeed",
-            "Hash",
-            "CreateSplitKey",
-            "JoinSplitKey",
-        ],
+        "Create CreateKeyPair Register Rekey DeriveKey Certify Recertify Locate Check Get GetAttributes GetAttributeList AddAttribute ModifyAttribute DeleteAttribute ObtainLease GetUsageAllocation Activate Revoke Destroy Archive Recover Validate Query Cancel Poll Notify Put RekeyKeyPair DiscoverVersions Encrypt Decrypt Sign SignatureVerify MAC MACVerify RNGRetrieve RNGSeed Hash CreateSplitKey JoinSplitKey",
     )?;
     has_names::<QueryFunction>(
         &rt,
         rt.alloc(),
         1..4,
-        &["QueryOperations", "QueryObjects", "QueryServerInformation"],
+        "QueryOperations QueryObjects QueryServerInformation",
     )?;
     has_names::<ResultReason>(
         &rt,
         rt.alloc(),
         1..18,
-        &[
-            "ItemNotFound",
-            "ResponseTooLarge",
-            "AuthenticationNotSuccessful",
-            "InvalidMessage",
-            "OperationNotSupported",
-            "MissingData",
-            "InvalidField",
-            "FeatureNotSupported",
-            "OperationCanceledByRequester",
-            "CryptographicFailure",
-            "IllegalOperation",
-            "PermissionDenied",
-            "ObjectArchived",
-            "IndexOutOfBounds",
-            "ApplicationNamespaceNotSupported",
-            "KeyFormatTypeNotSupported",
-            "KeyCompressionTypeNotSupported",
-        ],
+        "ItemNotFound ResponseTooLarge AuthenticationNotSuccessful InvalidMessage OperationNotSupported MissingData InvalidField FeatureNotSupported OperationCanceledByRequester CryptographicFailure IllegalOperation PermissionDenied ObjectArchived IndexOutOfBounds ApplicationNamespaceNotSupported KeyFormatTypeNotSupported KeyCompressionTypeNotSupported",
     )?;
-    has_names::<ResultReason>(&rt, rt.alloc(), 0x100..0x101, &["GeneralFailure"])?;
+    has_names::<ResultReason>(&rt, rt.alloc(), 0x100..0x101, "GeneralFailure")?;
     has_names::<ResultStatus>(
         &rt,
         rt.alloc(),
         0..4,
-        &[
-            "Success",
-            "OperationFailed",
-            "OperationPending",
-            "OperationUndone",
-        ],
+        "Success OperationFailed OperationPending OperationUndone",
     )?;
     has_names::<RevocationReasonCode>(
         &rt,
         rt.alloc(),
         1..8,
-        &[
-            "Unspecified",
-            "KeyCompromise",
-            "CACompromise",
-            "AffiliationChanged",
-            "Superseded",
-            "CessationOfOperation",
-            "PrivilegeWithdrawn",
-        ],
+        "Unspecified KeyCompromise CACompromise AffiliationChanged Superseded CessationOfOperation PrivilegeWithdrawn",
     )?;
     has_names::<State>(
         &rt,
         rt.alloc(),
         1..7,
-        &[
-            "PreActive",
-            "Active",
-            "Deactivated",
-            "Compromised",
-            "Destroyed",
-            "DestroyedCompromised",
-        ],
+        "PreActive Active Deactivated Compromised Destroyed DestroyedCompromised",
     )?;
     Ok(())
 }

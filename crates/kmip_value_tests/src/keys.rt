@@ -6,7 +6,8 @@ use kmip_tags::tags::KEY_MATERIAL;
 use kmip_wire::{Blob, Tag, TryClone};
 use std::test::Fail;
 
-const BYTES: [Case; 9] = [
+/// By the number of the format.
+const MATERIALS: [Case; 16] = [
     // 43 xAA
     Case {
         under: Number(1),
@@ -61,14 +62,6 @@ const BYTES: [Case; 9] = [
         hex: "420043010000001042003F0800000002AABB000000000000",
         shown: None,
     },
-];
-
-#[test]
-fn bytes_by_their_format(rt: HostRuntime) -> Result<(), Fail> {
-    are_read::<KeyMaterial>(&rt, rt.alloc(), &BYTES)
-}
-
-const TRANSPARENT: [Case; 7] = [
     // 43{5E b0000000000000017,71 b000000000000000B,37 b0000000000000004,9F b0000000000000005}
     Case {
         under: Number(8),
@@ -126,25 +119,28 @@ const TRANSPARENT: [Case; 7] = [
 ];
 
 #[test]
-fn transparent_keys(rt: HostRuntime) -> Result<(), Fail> {
-    are_read::<KeyMaterial>(&rt, rt.alloc(), &TRANSPARENT)
+fn materials_by_their_format(rt: HostRuntime) -> Result<(), Fail> {
+    are_read::<KeyMaterial>(&rt, rt.alloc(), &MATERIALS)
 }
 
 #[test]
 fn without_a_form(rt: HostRuntime) -> Result<(), Fail> {
     let alloc = rt.alloc();
     let tag = Tag::of(KEY_MATERIAL);
-    let structure = KeyMaterial::Structure(Blob::of(alloc, b"\xAA")?);
-    assert!(&rt; item_len(&structure, tag).is_none());
-    let wrapped = KeyMaterial::Wrapped(Blob::of(alloc, b"\xAA")?);
-    assert!(&rt; item_len(&wrapped, tag).is_none());
-    assert!(&rt; wrapped.try_clone(alloc)? == wrapped);
-    assert!(&rt; structure != wrapped);
     // a Big Integer of seven bytes
+    let modulus = Blob::of(alloc, b"\x00\x00\x00\x00\xC5\xA1\xB3")?;
+    let public_exponent = Blob::of(alloc, b"\x00\x00\x00\x00\x00\x01\x00\x01")?;
     let key = TransparentRSAPublicKey {
-        modulus: Blob::of(alloc, b"\x00\x00\x00\x00\xC5\xA1\xB3")?,
-        public_exponent: Blob::of(alloc, b"\x00\x00\x00\x00\x00\x01\x00\x01")?,
+        modulus,
+        public_exponent,
     };
     assert!(&rt; item_len(&key, tag).is_none());
+    let (first, second) = (Blob::of(alloc, b"\xAA")?, Blob::of(alloc, b"\xAA")?);
+    let structure = KeyMaterial::Structure(first);
+    assert!(&rt; item_len(&structure, tag).is_none());
+    let wrapped = KeyMaterial::Wrapped(second);
+    assert!(&rt; item_len(&wrapped, tag).is_none());
+    assert!(&rt; structure != wrapped);
+    assert!(&rt; wrapped.try_clone(alloc)? == wrapped);
     Ok(())
 }

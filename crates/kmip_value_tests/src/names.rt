@@ -1,4 +1,4 @@
-use crate::support::{comes_back, is_copied};
+use crate::support::{are_read, comes_back, plain};
 use kmip_scalars::{
     ApplicationData, ApplicationNamespace, AttributeIndex, AttributeName, CompromiseOccurrenceDate,
     CounterLength, CryptographicLength, Data, DataLength, FixedFieldLength, IVLength,
@@ -11,119 +11,92 @@ use std::test::Fail;
 
 #[test]
 fn items(rt: HostRuntime) -> Result<(), Fail> {
+    let alloc = rt.alloc();
     // 02 "k1"
-    comes_back::<ApplicationData>(
+    are_read::<ApplicationData>(
         &rt,
-        rt.alloc(),
-        "42000207000000026B31000000000000",
-        "\"k1\"",
+        alloc,
+        &[plain("42000207000000026B31000000000000", "\"k1\"")],
     )?;
     // 03 "k1"
-    comes_back::<ApplicationNamespace>(
+    are_read::<ApplicationNamespace>(
         &rt,
-        rt.alloc(),
-        "42000307000000026B31000000000000",
-        "\"k1\"",
+        alloc,
+        &[plain("42000307000000026B31000000000000", "\"k1\"")],
     )?;
     // 0A "k1"
-    comes_back::<AttributeName>(
+    are_read::<AttributeName>(
         &rt,
-        rt.alloc(),
-        "42000A07000000026B31000000000000",
-        "\"k1\"",
+        alloc,
+        &[plain("42000A07000000026B31000000000000", "\"k1\"")],
     )?;
     // 4C "k1"
-    comes_back::<LinkedObjectIdentifier>(
+    are_read::<LinkedObjectIdentifier>(
         &rt,
-        rt.alloc(),
-        "42004C07000000026B31000000000000",
-        "\"k1\"",
+        alloc,
+        &[plain("42004C07000000026B31000000000000", "\"k1\"")],
     )?;
     // 55 "k1"
-    comes_back::<NameValue>(
+    are_read::<NameValue>(
         &rt,
-        rt.alloc(),
-        "42005507000000026B31000000000000",
-        "\"k1\"",
+        alloc,
+        &[plain("42005507000000026B31000000000000", "\"k1\"")],
     )?;
     // 80 "k1"
-    comes_back::<RevocationMessage>(
+    are_read::<RevocationMessage>(
         &rt,
-        rt.alloc(),
-        "42008007000000026B31000000000000",
-        "\"k1\"",
+        alloc,
+        &[plain("42008007000000026B31000000000000", "\"k1\"")],
     )?;
     // 94 "k1"
-    comes_back::<UniqueIdentifier>(
+    are_read::<UniqueIdentifier>(
         &rt,
-        rt.alloc(),
-        "42009407000000026B31000000000000",
-        "\"k1\"",
+        alloc,
+        &[plain("42009407000000026B31000000000000", "\"k1\"")],
     )?;
     // tag 420009, Integer -5
-    comes_back::<AttributeIndex>(&rt, rt.alloc(), "4200090200000004FFFFFFFB00000000", "-5")?;
+    comes_back::<AttributeIndex>(&rt, alloc, "4200090200000004FFFFFFFB00000000", "-5")?;
     // tag 4200D0, Integer -5
-    comes_back::<CounterLength>(&rt, rt.alloc(), "4200D00200000004FFFFFFFB00000000", "-5")?;
+    comes_back::<CounterLength>(&rt, alloc, "4200D00200000004FFFFFFFB00000000", "-5")?;
     // tag 42002A, Integer -5
-    comes_back::<CryptographicLength>(&rt, rt.alloc(), "42002A0200000004FFFFFFFB00000000", "-5")?;
+    comes_back::<CryptographicLength>(&rt, alloc, "42002A0200000004FFFFFFFB00000000", "-5")?;
     // tag 4200C4, Integer -5
-    comes_back::<DataLength>(&rt, rt.alloc(), "4200C40200000004FFFFFFFB00000000", "-5")?;
+    comes_back::<DataLength>(&rt, alloc, "4200C40200000004FFFFFFFB00000000", "-5")?;
     // tag 4200CF, Integer -5
-    comes_back::<FixedFieldLength>(&rt, rt.alloc(), "4200CF0200000004FFFFFFFB00000000", "-5")?;
+    comes_back::<FixedFieldLength>(&rt, alloc, "4200CF0200000004FFFFFFFB00000000", "-5")?;
     // tag 4200CD, Integer -5
-    comes_back::<IVLength>(&rt, rt.alloc(), "4200CD0200000004FFFFFFFB00000000", "-5")?;
+    comes_back::<IVLength>(&rt, alloc, "4200CD0200000004FFFFFFFB00000000", "-5")?;
     // tag 4200D1, Integer -5
-    comes_back::<InitialCounterValue>(&rt, rt.alloc(), "4200D10200000004FFFFFFFB00000000", "-5")?;
+    comes_back::<InitialCounterValue>(&rt, alloc, "4200D10200000004FFFFFFFB00000000", "-5")?;
     // tag 4200D2, Integer -5
-    comes_back::<InvocationFieldLength>(&rt, rt.alloc(), "4200D20200000004FFFFFFFB00000000", "-5")?;
+    comes_back::<InvocationFieldLength>(&rt, alloc, "4200D20200000004FFFFFFFB00000000", "-5")?;
     // tag 4200CE, Integer -5
-    comes_back::<TagLength>(&rt, rt.alloc(), "4200CE0200000004FFFFFFFB00000000", "-5")?;
+    comes_back::<TagLength>(&rt, alloc, "4200CE0200000004FFFFFFFB00000000", "-5")?;
     // C5 o1
-    comes_back::<RandomIV>(&rt, rt.alloc(), "4200C506000000080000000000000001", "true")?;
+    comes_back::<RandomIV>(&rt, alloc, "4200C506000000080000000000000001", "true")?;
     // C2 xDEADBEEF
-    comes_back::<Data>(
+    are_read::<Data>(
         &rt,
-        rt.alloc(),
-        "4200C20800000004DEADBEEF00000000",
-        "x\"DEADBEEF\"",
+        alloc,
+        &[plain("4200C20800000004DEADBEEF00000000", "x\"DEADBEEF\"")],
     )?;
     // 93 xDEADBEEF
-    comes_back::<UniqueBatchItemID>(
+    are_read::<UniqueBatchItemID>(
         &rt,
-        rt.alloc(),
-        "4200930800000004DEADBEEF00000000",
-        "x\"DEADBEEF\"",
+        alloc,
+        &[plain("4200930800000004DEADBEEF00000000", "x\"DEADBEEF\"")],
     )?;
     // 21 d1700000000
     comes_back::<CompromiseOccurrenceDate>(
         &rt,
-        rt.alloc(),
+        alloc,
         "4200210900000008000000006553F100",
         "1700000000",
     )?;
     // 94 xDEADBEEF
-    let bytes = hex::decode(rt.alloc(), "4200940800000004DEADBEEF00000000")?;
+    let bytes = hex::decode(alloc, "4200940800000004DEADBEEF00000000")?;
     let item = ItemRef::root(bytes.as_slice()).ok_or("no item")?;
-    assert!(rt; UniqueIdentifier::read(rt.alloc(), Outer::none(), item) == Err(ReadError::Unread));
-    Ok(())
-}
-
-// 94 "k1" and 93 xDEADBEEF
-const TEXT: &str = "42009407000000026B31000000000000";
-
-const BYTES: &str = "4200930800000004DEADBEEF00000000";
-
-#[test]
-fn copies(rt: HostRuntime) -> Result<(), Fail> {
-    is_copied::<ApplicationData>(&rt, rt.alloc(), TEXT)?;
-    is_copied::<ApplicationNamespace>(&rt, rt.alloc(), TEXT)?;
-    is_copied::<AttributeName>(&rt, rt.alloc(), TEXT)?;
-    is_copied::<LinkedObjectIdentifier>(&rt, rt.alloc(), TEXT)?;
-    is_copied::<NameValue>(&rt, rt.alloc(), TEXT)?;
-    is_copied::<RevocationMessage>(&rt, rt.alloc(), TEXT)?;
-    is_copied::<UniqueIdentifier>(&rt, rt.alloc(), TEXT)?;
-    is_copied::<Data>(&rt, rt.alloc(), BYTES)?;
-    is_copied::<UniqueBatchItemID>(&rt, rt.alloc(), BYTES)?;
+    assert!(rt; UniqueIdentifier::read(alloc, Outer::none(), item) == Err(ReadError::Unread));
     Ok(())
 }
 

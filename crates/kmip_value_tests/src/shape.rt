@@ -1,5 +1,4 @@
-use crate::support::Under::Nothing;
-use crate::support::{Case, are_read};
+use crate::support::{are_read, plain};
 use kmip_shape::{
     BigInteger, Boxed, Item, List, Outer, ReadError, ReadItem, ShowItem, Timestamp,
     copy_optional_list, read_list, read_one, read_opt, to_blob,
@@ -83,15 +82,6 @@ fn shown_and_written(rt: HostRuntime) {
 
 // 5C "a"
 const LETTER: &str = "42005C07000000016100000000000000";
-
-/// An item that no chooser stands above.
-fn plain(hex: &'static str, shown: &'static str) -> Case {
-    Case {
-        under: Nothing,
-        hex,
-        shown: Some(shown),
-    }
-}
 
 #[test]
 fn items_and_their_copies(rt: HostRuntime) -> Result<(), Fail> {

@@ -44,6 +44,15 @@ pub struct Case {
     pub shown: Option<&'static str>,
 }
 
+/// An item that no chooser stands above.
+pub fn plain(hex: &'static str, shown: &'static str) -> Case {
+    Case {
+        under: Under::Nothing,
+        hex,
+        shown: Some(shown),
+    }
+}
+
 /// Each item is read exactly where it shows something, is written as the same bytes, and has a copy that equals it.
 pub fn are_read<T: ReadItem + WriteItem + ShowItem + TryClone + PartialEq>(
     rt: &impl Abort,
@@ -85,29 +94,17 @@ pub fn comes_back<T: ReadItem + WriteItem + ShowItem>(
     Ok(())
 }
 
-/// What is read from the item has a copy that equals it.
-pub fn is_copied<T: ReadItem + TryClone + PartialEq>(
-    rt: &impl Abort,
-    alloc: Global,
-    hex: &str,
-) -> Result<(), Fail> {
-    let bytes = hex::decode(alloc, hex)?;
-    let item = ItemRef::root(bytes.as_slice()).ok_or("no item")?;
-    let value = T::read(alloc, Outer::none(), item)?;
-    assert!(rt; value.try_clone(alloc)? == value);
-    Ok(())
-}
-
-/// The variants of the numbers print the names, and the number after them has no variant.
+/// The variants of the numbers print the words, and the number after them has no variant.
 pub fn has_names<T: kmip_shape::Enumeration + std::fmt::Display>(
     rt: &impl Abort,
     alloc: Global,
     numbers: std::ops::Range<u32>,
-    names: &[&str],
+    names: &str,
 ) -> Result<(), Fail> {
+    let names: Vec<&str> = names.split(' ').collect(alloc)?;
     assert_eq!(rt; numbers.len(), names.len());
     assert!(rt; T::from_number(numbers.end).is_none());
-    for (number, name) in numbers.zip(names) {
+    for (number, name) in numbers.zip(names.iter()) {
         let variant = T::from_number(number).ok_or("no variant")?;
         assert_eq!(rt; variant.number(), number);
         assert_eq!(rt; format!(in alloc; "{variant}")?.as_str(), *name);

@@ -8,7 +8,8 @@ use kmip_wire::{Blob, ItemRef, Tag, TryClone};
 use std::alloc::Global;
 use std::test::Fail;
 
-const NAMED: [Case; 12] = [
+/// By the name, where it is one of the table's, and else by the type of the item.
+const VALUES: [Case; 25] = [
     // 0B{55 "my key",54 e1}
     Case {
         under: Name("Name"),
@@ -83,14 +84,6 @@ const NAMED: [Case; 12] = [
         hex: "42000B07000000034A6F650000000000",
         shown: Some("ContactInformation(\"Joe\")"),
     },
-];
-
-#[test]
-fn by_name(rt: HostRuntime) -> Result<(), Fail> {
-    are_read::<AttributeValue>(&rt, rt.alloc(), &NAMED)
-}
-
-const UNNAMED: [Case; 13] = [
     // 0B{0B i5,0B "a"}
     Case {
         under: Nothing,
@@ -172,8 +165,8 @@ const UNNAMED: [Case; 13] = [
 ];
 
 #[test]
-fn by_the_type_of_the_item(rt: HostRuntime) -> Result<(), Fail> {
-    are_read::<AttributeValue>(&rt, rt.alloc(), &UNNAMED)
+fn by_name_or_type(rt: HostRuntime) -> Result<(), Fail> {
+    are_read::<AttributeValue>(&rt, rt.alloc(), &VALUES)
 }
 
 // 0B{38 e6,35 xAABB}
@@ -188,25 +181,20 @@ fn digest(alloc: Global) -> Result<Values, Fail> {
     Ok(members)
 }
 
-#[test]
-fn children_of_any_tag(rt: HostRuntime) -> Result<(), Fail> {
-    let outer = Outer {
-        number: None,
-        name: Some("Digest"),
-    };
-    let bytes = hex::decode(rt.alloc(), DIGEST)?;
+/// Whether the item is read as this value.
+fn reads_as(alloc: Global, hex: &str, expected: &AttributeValue) -> Result<bool, Fail> {
+    let bytes = hex::decode(alloc, hex)?;
     let item = ItemRef::root(bytes.as_slice()).ok_or("no item")?;
-    let value = AttributeValue::read(rt.alloc(), outer, item)?;
-    assert!(&rt; value == AttributeValue::Structure(digest(rt.alloc())?));
-    Ok(())
+    Ok(AttributeValue::read(alloc, Name("Digest").outer(), item)? == *expected)
 }
 
 #[test]
-fn members_are_a_list(rt: HostRuntime) -> Result<(), Fail> {
+fn children_of_any_tag(rt: HostRuntime) -> Result<(), Fail> {
     let members = digest(rt.alloc())?;
     assert!(&rt; members.len() == 2);
     assert!(&rt; members.get(0) == Some(&AttributeValue::Enumeration(6)));
     assert!(&rt; members.get(2).is_none());
+    assert!(&rt; reads_as(rt.alloc(), DIGEST, &AttributeValue::Structure(members))?);
     Ok(())
 }
 
@@ -220,20 +208,29 @@ fn members_are_copied_and_compared(rt: HostRuntime) -> Result<(), Fail> {
     Ok(())
 }
 
+/// The length of a value as an item.
+fn len_of(value: &AttributeValue) -> Option<u64> {
+    item_len(value, Tag::of(ATTRIBUTE_VALUE))
+}
+
+/// That of a structure with this one member.
+fn len_around(alloc: Global, member: AttributeValue) -> Result<Option<u64>, Fail> {
+    let mut members = Values::new(alloc);
+    members.push(member)?;
+    Ok(len_of(&AttributeValue::Structure(members)))
+}
+
 #[test]
 fn without_a_form(rt: HostRuntime) -> Result<(), Fail> {
     let alloc = rt.alloc();
-    let tag = Tag::of(ATTRIBUTE_VALUE);
-    let mut members = Values::new(alloc);
-    members.push(AttributeValue::Structure(Values::new(alloc)))?;
-    assert!(&rt; item_len(&AttributeValue::Structure(members), tag).is_none());
-    let mut members = Values::new(alloc);
-    members.push(AttributeValue::from(CryptographicParameters::default()))?;
-    assert!(&rt; item_len(&AttributeValue::Structure(members), tag).is_none());
-    let seven = AttributeValue::BigInteger(Blob::of(alloc, &[0; 7])?);
-    assert!(&rt; item_len(&seven, tag).is_none());
-    let eight = AttributeValue::BigInteger(Blob::of(alloc, &[0; 8])?);
-    assert!(&rt; item_len(&eight, tag) == Some(16));
+    let seven = Blob::of(alloc, &[0; 7])?;
+    let eight = Blob::of(alloc, &[0; 8])?;
+    assert!(&rt; len_of(&AttributeValue::BigInteger(seven)).is_none());
+    assert!(&rt; len_of(&AttributeValue::BigInteger(eight)) == Some(16));
+    let empty = AttributeValue::Structure(Values::new(alloc));
+    assert!(&rt; len_around(alloc, empty)?.is_none());
+    let default = AttributeValue::from(CryptographicParameters::default());
+    assert!(&rt; len_around(alloc, default)?.is_none());
     Ok(())
 }
 
