@@ -1,13 +1,12 @@
 //! The client over links with planned faults, and over a link of this file's own.
+use crate::helpers::{client_fed, is_answered, text, told};
 use kmip_client::{Client, ClientBuilder, Error};
 use kmip_link::{Link, LinkError, MemoryLink, PlannedLink};
 use kmip_request::{Attribute, RequestPayload};
-use kmip_shape::ShowItem;
 use kmip_types::{AttributeName, AttributeValue, UniqueIdentifier, Values};
-use kmip_wire::{Blob, Config, List, Text, TryClone};
+use kmip_wire::{Config, List, Text, TryClone};
 use std::alloc::Global;
 use std::process::Abort;
-use std::test::Fail;
 
 /// A response to a request for random bytes: 152 bytes, of which the last item holds four.
 pub(crate) const RESPONSE: &[u8] =
@@ -20,82 +19,85 @@ pub(crate) const RESPONSE: &[u8] =
       \x00\x00\x00\x00\x00\x00\x00\x00\x42\x00\x7C\x01\x00\x00\x00\x10\x42\x00\xC2\x08\
       \x00\x00\x00\x04\xDE\xAD\xBE\xEF\x00\x00\x00\x00";
 
-/// A client over a link with these pieces that is fed with the response and fails at these calls.
-fn client_over(
-    alloc: Global,
-    pieces: &[usize],
-    failing: &[u64],
-) -> Result<Client<PlannedLink>, LinkError> {
+/// What a request for random bytes is answered by the response, and by a link that fails as it is written or read.
+const ANSWERED: &str = "{random_bytes=x\"DEADBEEF\"}";
+
+const UNSENT: &str = "Request send error: link failed";
+
+const UNREAD: &str = "Response read error: link failed";
+
+/// A link of pieces of 40 bytes that is fed with the response and fails at these calls.
+fn planned_link(rt: &impl Abort, alloc: Global, failing: &[u64]) -> PlannedLink {
     let mut memory = MemoryLink::new(alloc);
-    memory.feed(RESPONSE)?;
-    memory.plan_pieces(pieces)?;
-    let link = PlannedLink::new(alloc, memory, failing)?;
+    memory.feed(RESPONSE).expect(rt, "memory");
+    memory.plan_pieces(&[40]).expect(rt, "memory");
+    PlannedLink::new(alloc, memory, failing).expect(rt, "memory")
+}
+
+/// A client over a link, with diagnostics.
+pub(crate) fn client_over<L: Link>(link: L) -> Client<L> {
     let config = Config::new().with_read_buf();
-    Ok(ClientBuilder::new(link).with_reader_config(config).build())
+    ClientBuilder::new(link).with_reader_config(config).build()
 }
 
-/// What a request for random bytes answers: the bytes, or the printed error.
-fn random_bytes<L: Link>(
-    alloc: Global,
-    client: &mut Client<L>,
-) -> Result<Result<Blob, String>, Fail> {
-    match client.rng_retrieve(alloc, 16) {
-        Ok(payload) => Ok(Ok(payload.random_bytes)),
-        Err(error) => Ok(Err(error.to_string(alloc)?)),
-    }
+/// What a request for random bytes is answered.
+fn random_bytes<L: Link>(rt: &impl Abort, alloc: Global, client: &mut Client<L>) -> Text {
+    told(rt, alloc, client.rng_retrieve(alloc, 16))
+}
+
+/// A request for random bytes over a link that fails at this call is answered so, with so much then sent and left.
+fn planned_fault(rt: &impl Abort, alloc: Global, row: (u64, &str, usize, usize)) {
+    let (call, expected, sent, left) = row;
+    let mut client = client_over(planned_link(rt, alloc, &[call]));
+    let answer = random_bytes(rt, alloc, &mut client);
+    assert_eq!(rt; answer.as_str(), expected, "at {call}");
+    let lost = if expected == ANSWERED { 0 } else { 1 };
+    assert_eq!(rt; client.connection_error_count(), lost, "at {call}");
+    let request = "78[77[69[6Ai6Bi]0Di]0F[5Ce25:79[C4i]]]";
+    assert_eq!(rt; client.last_req_diag_str(), Some(request), "at {call}");
+    let is_unread = client.last_res_diag_str().is_none();
+    assert_eq!(rt; is_unread, expected == UNSENT, "at {call}");
+    let link = client.inner().inner();
+    assert_eq!(rt; link.sent().len(), sent, "sent at {call}");
+    assert_eq!(rt; link.rest().len(), left, "left at {call}");
 }
 
 #[test]
-fn planned_faults(rt: HostRuntime) -> Result<(), Fail> {
-    let writing = "Request send error: link failed";
-    let reading = "Response read error: link failed";
+fn planned_faults(rt: HostRuntime) {
     let rows = [
-        (0, Some(writing), 0, 152),
-        (1, Some(writing), 40, 152),
-        (2, Some(writing), 80, 152),
-        (3, Some(reading), 120, 152),
-        (4, Some(reading), 120, 144),
-        (5, Some(reading), 120, 104),
-        (6, Some(reading), 120, 64),
-        (7, Some(reading), 120, 24),
-        (8, None, 120, 0),
+        (0, UNSENT, 0, 152),
+        (1, UNSENT, 40, 152),
+        (2, UNSENT, 80, 152),
+        (3, UNREAD, 120, 152),
+        (4, UNREAD, 120, 144),
+        (5, UNREAD, 120, 104),
+        (6, UNREAD, 120, 64),
+        (7, UNREAD, 120, 24),
+        (8, ANSWERED, 120, 0),
     ];
-    for (call, expected, sent, left) in rows {
-        let mut client = client_over(rt.alloc(), &[40], &[call])?;
-        let answer = random_bytes(rt.alloc(), &mut client)?;
-        match (&answer, expected) {
-            (Ok(bytes), None) => assert_eq!(rt; bytes.as_slice(), b"\xDE\xAD\xBE\xEF".as_slice()),
-            (Err(text), Some(expected)) => assert_eq!(rt; text.as_str(), expected, "at {call}"),
-            _ => assert!(rt; false, "at {call}"),
-        }
-        let lost = if expected.is_some() { 1 } else { 0 };
-        assert_eq!(rt; client.connection_error_count(), lost, "at {call}");
-        let request = "78[77[69[6Ai6Bi]0Di]0F[5Ce25:79[C4i]]]";
-        assert_eq!(rt; client.last_req_diag_str(), Some(request), "at {call}");
-        assert_eq!(rt;
-            client.last_res_diag_str().is_none(),
-            expected == Some(writing),
-            "at {call}"
-        );
-        assert_eq!(rt; client.inner().inner().sent().len(), sent, "sent at {call}");
-        assert_eq!(rt; client.inner().inner().rest().len(), left, "left at {call}");
+    for row in rows {
+        planned_fault(&rt, rt.alloc(), row);
     }
-    Ok(())
 }
 
-#[test]
-fn connection_errors_count_modulo_256(rt: HostRuntime) -> Result<(), Fail> {
-    let mut failing = Vec::new(rt.alloc());
-    for request in 0..256u64 {
-        failing.push(3 * request + 2)?;
-    }
-    let mut client = client_over(rt.alloc(), &[40], &failing)?;
+/// Makes 256 requests, of which each fails and is counted.
+fn fail_256_times(rt: &impl Abort, alloc: Global, client: &mut Client<PlannedLink>) {
     for request in 0..256u32 {
         assert_eq!(rt; u32::from(client.connection_error_count()), request);
-        assert!(rt; random_bytes(rt.alloc(), &mut client)?.is_err());
+        let answer = random_bytes(rt, alloc, client);
+        assert_eq!(rt; answer.as_str(), UNSENT);
     }
-    assert_eq!(rt; client.connection_error_count(), 0);
-    Ok(())
+}
+
+#[test]
+fn connection_errors_count_modulo_256(rt: HostRuntime) {
+    let mut failing = Vec::new(rt.alloc());
+    for request in 0..256u64 {
+        failing.push(3 * request + 2).expect(&rt, "memory");
+    }
+    let mut client = client_over(planned_link(&rt, rt.alloc(), &failing));
+    fail_256_times(&rt, rt.alloc(), &mut client);
+    assert_eq!(&rt; client.connection_error_count(), 0);
 }
 
 /// A link that tells nothing, gives eight bytes and keeps the room that each read offers.
@@ -127,74 +129,45 @@ impl Link for Watched {
 }
 
 #[test]
-fn a_false_length_takes_room_piece_by_piece(rt: HostRuntime) -> Result<(), Fail> {
+fn a_false_length_takes_room_piece_by_piece(rt: HostRuntime) {
     let rooms = Vec::new(rt.alloc());
     let mut client = ClientBuilder::new(Watched { rooms }).build();
-    let answer = random_bytes(rt.alloc(), &mut client)?;
-    assert_eq!(rt;
-        answer.err().as_deref(),
-        Some("Response read error: end of input")
-    );
-    assert_eq!(rt; client.inner().rooms.as_slice(), [8, 65536].as_slice());
-    Ok(())
+    let answer = random_bytes(&rt, rt.alloc(), &mut client);
+    assert_eq!(&rt; answer.as_str(), "Response read error: end of input");
+    assert_eq!(&rt; client.inner().rooms.as_slice(), [8, 65536].as_slice());
+}
+
+/// The error is printed so, is that of a lost connection or not, and has a copy that equals it.
+fn is_error(rt: &impl Abort, alloc: Global, error: Error, expected: &str, is_lost: bool) {
+    let printed = error.to_string(alloc).expect(rt, "memory");
+    assert_eq!(rt; printed.as_str(), expected);
+    assert_eq!(rt; error.is_connection_error(), is_lost, "{expected}");
+    let copy = error.try_clone(alloc).expect(rt, "memory");
+    assert!(rt; copy == error, "{expected}");
 }
 
 #[test]
-fn errors_are_printed_and_cloned(rt: HostRuntime) -> Result<(), Fail> {
-    let rows = [
-        (
-            Error::ConfigurationError(Text::of(rt.alloc(), "x")?),
-            "Configuration error: x",
-            false,
-        ),
-        (
-            Error::SerializeError(Text::of(rt.alloc(), "x")?),
-            "Serialize error: x",
-            false,
-        ),
-        (
-            Error::RequestWriteError(Text::of(rt.alloc(), "x")?),
-            "Request send error: x",
-            true,
-        ),
-        (
-            Error::ResponseReadError(Text::of(rt.alloc(), "x")?),
-            "Response read error: x",
-            true,
-        ),
-        (
-            Error::DeserializeError(Text::of(rt.alloc(), "x")?),
-            "Deserialize error: x",
-            false,
-        ),
-        (
-            Error::ServerError(Text::of(rt.alloc(), "x")?),
-            "Server error: x",
-            false,
-        ),
-        (
-            Error::InternalError(Text::of(rt.alloc(), "x")?),
-            "Internal error: x",
-            false,
-        ),
-        (
-            Error::ItemNotFound(Text::of(rt.alloc(), "x")?),
-            "Item not found: x",
-            false,
-        ),
-        (
-            Error::Unknown(Text::of(rt.alloc(), "x")?),
-            "Unknown error: x",
-            false,
-        ),
-        (Error::OutOfMemory, "Out of memory", false),
-    ];
-    for (error, text, is_lost) in &rows {
-        assert_eq!(rt; error.to_string(rt.alloc())?.as_str(), *text);
-        assert_eq!(rt; error.is_connection_error(), *is_lost, "{text}");
-        assert!(rt; error.try_clone(rt.alloc())? == *error, "{text}");
-    }
-    Ok(())
+fn errors_are_printed_and_cloned(rt: HostRuntime) {
+    let alloc = rt.alloc();
+    let error = Error::ConfigurationError(text(&rt, alloc, "x"));
+    is_error(&rt, alloc, error, "Configuration error: x", false);
+    let error = Error::SerializeError(text(&rt, alloc, "x"));
+    is_error(&rt, alloc, error, "Serialize error: x", false);
+    let error = Error::RequestWriteError(text(&rt, alloc, "x"));
+    is_error(&rt, alloc, error, "Request send error: x", true);
+    let error = Error::ResponseReadError(text(&rt, alloc, "x"));
+    is_error(&rt, alloc, error, "Response read error: x", true);
+    let error = Error::DeserializeError(text(&rt, alloc, "x"));
+    is_error(&rt, alloc, error, "Deserialize error: x", false);
+    let error = Error::ServerError(text(&rt, alloc, "x"));
+    is_error(&rt, alloc, error, "Server error: x", false);
+    let error = Error::InternalError(text(&rt, alloc, "x"));
+    is_error(&rt, alloc, error, "Internal error: x", false);
+    let error = Error::ItemNotFound(text(&rt, alloc, "x"));
+    is_error(&rt, alloc, error, "Item not found: x", false);
+    let error = Error::Unknown(text(&rt, alloc, "x"));
+    is_error(&rt, alloc, error, "Unknown error: x", false);
+    is_error(&rt, alloc, Error::OutOfMemory, "Out of memory", false);
 }
 
 // The request of Activate for k1, and its response.
@@ -205,48 +178,44 @@ const ACTIVATED: &[u8] =
     b"\x42\x00\x7B\x01\x00\x00\x00\x90\x42\x00\x7A\x01\x00\x00\x00\x48\x42\x00\x69\x01\x00\x00\x00\x20\x42\x00\x6A\x02\x00\x00\x00\x04\x00\x00\x00\x01\x00\x00\x00\x00\x42\x00\x6B\x02\x00\x00\x00\x04\x00\x00\x00\x00\x00\x00\x00\x00\x42\x00\x92\x09\x00\x00\x00\x08\x00\x00\x00\x00\x00\x00\x00\x01\x42\x00\x0D\x02\x00\x00\x00\x04\x00\x00\x00\x01\x00\x00\x00\x00\x42\x00\x0F\x01\x00\x00\x00\x38\x42\x00\x5C\x05\x00\x00\x00\x04\x00\x00\x00\x12\x00\x00\x00\x00\x42\x00\x7F\x05\x00\x00\x00\x04\x00\x00\x00\x00\x00\x00\x00\x00\x42\x00\x7C\x01\x00\x00\x00\x10\x42\x00\x94\x07\x00\x00\x00\x02\x6B\x31\x00\x00\x00\x00\x00\x00";
 
 #[test]
-fn a_key_is_activated(rt: HostRuntime) -> Result<(), Fail> {
-    let mut link = MemoryLink::new(rt.alloc());
-    link.feed(ACTIVATED)?;
-    let mut client = ClientBuilder::new(link).build();
+fn a_key_is_activated(rt: HostRuntime) {
+    let mut client = client_fed(&rt, rt.alloc(), ACTIVATED);
     assert!(&rt; client.activate_key(rt.alloc(), "k1").is_ok());
     assert!(&rt; client.inner().sent() == ACTIVATE);
     assert!(&rt; client.inner().rest().is_empty());
-    Ok(())
+}
+
+/// The request for an object.
+fn get(rt: &impl Abort, alloc: Global, id: &str) -> RequestPayload {
+    RequestPayload::Get(Some(identifier(rt, alloc, id)), None, None, None)
 }
 
 /// The identifier of an object.
-fn id(alloc: Global, text: &str) -> Result<UniqueIdentifier, Fail> {
-    Ok(UniqueIdentifier(Text::of(alloc, text)?))
+fn identifier(rt: &impl Abort, alloc: Global, id: &str) -> UniqueIdentifier {
+    UniqueIdentifier(text(rt, alloc, id))
 }
 
-/// An answer as it is shown: the payload, or the printed error.
-fn shown<P: ShowItem + Drop>(alloc: Global, answer: kmip_client::Result<P>) -> Result<Text, Fail> {
-    let mut shown = Text::new(alloc);
-    match answer {
-        Ok(payload) => payload.show(alloc, &mut shown)?,
-        Err(error) => shown.push_str(error.to_string(alloc)?.as_str())?,
-    }
-    Ok(shown)
-}
-
-/// A client over a link that holds these bytes.
-fn client_fed(alloc: Global, response: &[u8]) -> Result<Client<MemoryLink>, Fail> {
-    let mut link = MemoryLink::new(alloc);
-    link.feed(response)?;
-    Ok(ClientBuilder::new(link).build())
-}
-
-/// That an answer is shown so, and that the whole response was taken.
-fn is_answered(
+/// What a request is answered.
+fn answer(
     rt: &impl Abort,
+    alloc: Global,
     client: &mut Client<MemoryLink>,
-    answer: &Text,
+    request: RequestPayload,
+) -> Text {
+    told(rt, alloc, client.do_request(alloc, request))
+}
+
+/// The request is answered so by this response, which is taken whole.
+fn answers(
+    rt: &impl Abort,
+    alloc: Global,
+    response: &[u8],
+    request: RequestPayload,
     expected: &str,
-) -> Result<(), Fail> {
-    assert_eq!(rt; answer.as_str(), expected);
-    assert!(rt; client.inner().rest().is_empty());
-    Ok(())
+) {
+    let mut client = client_fed(rt, alloc, response);
+    let answer = answer(rt, alloc, &mut client, request);
+    is_answered(rt, client, &answer, expected);
 }
 
 // OK0(A, 57 e3,94 "p1",6D{40{42 eB,45{43{52 b0000000000C5A1B3,6C b0000000000010001}}}})
@@ -254,13 +223,11 @@ const A_TRANSPARENT_KEY_IS_GOT: &[u8] =
     b"\x42\x00\x7B\x01\x00\x00\x00\xF0\x42\x00\x7A\x01\x00\x00\x00\x48\x42\x00\x69\x01\x00\x00\x00\x20\x42\x00\x6A\x02\x00\x00\x00\x04\x00\x00\x00\x01\x00\x00\x00\x00\x42\x00\x6B\x02\x00\x00\x00\x04\x00\x00\x00\x00\x00\x00\x00\x00\x42\x00\x92\x09\x00\x00\x00\x08\x00\x00\x00\x00\x00\x00\x00\x01\x42\x00\x0D\x02\x00\x00\x00\x04\x00\x00\x00\x01\x00\x00\x00\x00\x42\x00\x0F\x01\x00\x00\x00\x98\x42\x00\x5C\x05\x00\x00\x00\x04\x00\x00\x00\x0A\x00\x00\x00\x00\x42\x00\x7F\x05\x00\x00\x00\x04\x00\x00\x00\x00\x00\x00\x00\x00\x42\x00\x7C\x01\x00\x00\x00\x70\x42\x00\x57\x05\x00\x00\x00\x04\x00\x00\x00\x03\x00\x00\x00\x00\x42\x00\x94\x07\x00\x00\x00\x02\x70\x31\x00\x00\x00\x00\x00\x00\x42\x00\x6D\x01\x00\x00\x00\x48\x42\x00\x40\x01\x00\x00\x00\x40\x42\x00\x42\x05\x00\x00\x00\x04\x00\x00\x00\x0B\x00\x00\x00\x00\x42\x00\x45\x01\x00\x00\x00\x28\x42\x00\x43\x01\x00\x00\x00\x20\x42\x00\x52\x04\x00\x00\x00\x08\x00\x00\x00\x00\x00\xC5\xA1\xB3\x42\x00\x6C\x04\x00\x00\x00\x08\x00\x00\x00\x00\x00\x01\x00\x01";
 
 #[test]
-fn a_transparent_key_is_got(rt: HostRuntime) -> Result<(), Fail> {
-    let mut client = client_fed(rt.alloc(), A_TRANSPARENT_KEY_IS_GOT)?;
-    let request = RequestPayload::Get(Some(id(rt.alloc(), "p1")?), None, None, None);
+fn a_transparent_key_is_got(rt: HostRuntime) {
+    let request = get(&rt, rt.alloc(), "p1");
     let expected =
         "Get{object_type=PublicKey,unique_identifier=\"p1\",cryptographic_object=PublicKey{key_block={key_format_type=TransparentRSAPublicKey,key_value={key_material=TransparentRSAPublicKey{modulus=x\"0000000000C5A1B3\",public_exponent=x\"0000000000010001\"}}}}}";
-    let answer = shown(rt.alloc(), client.do_request(rt.alloc(), request))?;
-    is_answered(&rt, &mut client, &answer, expected)
+    answers(&rt, rt.alloc(), A_TRANSPARENT_KEY_IS_GOT, request, expected);
 }
 
 // OK0(A, 57 e2,94 "s1",8F{40{42 e1,45{43 x00112233445566778899AABBCCDDEEFF},28 e3,2A i128}})
@@ -268,13 +235,11 @@ const A_KEY_IS_GOT: &[u8] =
     b"\x42\x00\x7B\x01\x00\x00\x01\x00\x42\x00\x7A\x01\x00\x00\x00\x48\x42\x00\x69\x01\x00\x00\x00\x20\x42\x00\x6A\x02\x00\x00\x00\x04\x00\x00\x00\x01\x00\x00\x00\x00\x42\x00\x6B\x02\x00\x00\x00\x04\x00\x00\x00\x00\x00\x00\x00\x00\x42\x00\x92\x09\x00\x00\x00\x08\x00\x00\x00\x00\x00\x00\x00\x01\x42\x00\x0D\x02\x00\x00\x00\x04\x00\x00\x00\x01\x00\x00\x00\x00\x42\x00\x0F\x01\x00\x00\x00\xA8\x42\x00\x5C\x05\x00\x00\x00\x04\x00\x00\x00\x0A\x00\x00\x00\x00\x42\x00\x7F\x05\x00\x00\x00\x04\x00\x00\x00\x00\x00\x00\x00\x00\x42\x00\x7C\x01\x00\x00\x00\x80\x42\x00\x57\x05\x00\x00\x00\x04\x00\x00\x00\x02\x00\x00\x00\x00\x42\x00\x94\x07\x00\x00\x00\x02\x73\x31\x00\x00\x00\x00\x00\x00\x42\x00\x8F\x01\x00\x00\x00\x58\x42\x00\x40\x01\x00\x00\x00\x50\x42\x00\x42\x05\x00\x00\x00\x04\x00\x00\x00\x01\x00\x00\x00\x00\x42\x00\x45\x01\x00\x00\x00\x18\x42\x00\x43\x08\x00\x00\x00\x10\x00\x11\x22\x33\x44\x55\x66\x77\x88\x99\xAA\xBB\xCC\xDD\xEE\xFF\x42\x00\x28\x05\x00\x00\x00\x04\x00\x00\x00\x03\x00\x00\x00\x00\x42\x00\x2A\x02\x00\x00\x00\x04\x00\x00\x00\x80\x00\x00\x00\x00";
 
 #[test]
-fn a_key_is_got(rt: HostRuntime) -> Result<(), Fail> {
-    let mut client = client_fed(rt.alloc(), A_KEY_IS_GOT)?;
-    let request = RequestPayload::Get(Some(id(rt.alloc(), "s1")?), None, None, None);
+fn a_key_is_got(rt: HostRuntime) {
+    let request = get(&rt, rt.alloc(), "s1");
     let expected =
         "Get{object_type=SymmetricKey,unique_identifier=\"s1\",cryptographic_object=SymmetricKey{key_block={key_format_type=Raw,key_value={key_material=Bytes(x\"00112233445566778899AABBCCDDEEFF\")},cryptographic_algorithm=AES,cryptographic_length=128}}}";
-    let answer = shown(rt.alloc(), client.do_request(rt.alloc(), request))?;
-    is_answered(&rt, &mut client, &answer, expected)
+    answers(&rt, rt.alloc(), A_KEY_IS_GOT, request, expected);
 }
 
 // OK0(A, 8F{40{42 e1,45{43 x00112233445566778899AABBCCDDEEFF},28 e3,2A i128}},94 "s1",57 e2)
@@ -282,13 +247,17 @@ const THE_OBJECT_TYPE_MAY_COME_LAST: &[u8] =
     b"\x42\x00\x7B\x01\x00\x00\x01\x00\x42\x00\x7A\x01\x00\x00\x00\x48\x42\x00\x69\x01\x00\x00\x00\x20\x42\x00\x6A\x02\x00\x00\x00\x04\x00\x00\x00\x01\x00\x00\x00\x00\x42\x00\x6B\x02\x00\x00\x00\x04\x00\x00\x00\x00\x00\x00\x00\x00\x42\x00\x92\x09\x00\x00\x00\x08\x00\x00\x00\x00\x00\x00\x00\x01\x42\x00\x0D\x02\x00\x00\x00\x04\x00\x00\x00\x01\x00\x00\x00\x00\x42\x00\x0F\x01\x00\x00\x00\xA8\x42\x00\x5C\x05\x00\x00\x00\x04\x00\x00\x00\x0A\x00\x00\x00\x00\x42\x00\x7F\x05\x00\x00\x00\x04\x00\x00\x00\x00\x00\x00\x00\x00\x42\x00\x7C\x01\x00\x00\x00\x80\x42\x00\x8F\x01\x00\x00\x00\x58\x42\x00\x40\x01\x00\x00\x00\x50\x42\x00\x42\x05\x00\x00\x00\x04\x00\x00\x00\x01\x00\x00\x00\x00\x42\x00\x45\x01\x00\x00\x00\x18\x42\x00\x43\x08\x00\x00\x00\x10\x00\x11\x22\x33\x44\x55\x66\x77\x88\x99\xAA\xBB\xCC\xDD\xEE\xFF\x42\x00\x28\x05\x00\x00\x00\x04\x00\x00\x00\x03\x00\x00\x00\x00\x42\x00\x2A\x02\x00\x00\x00\x04\x00\x00\x00\x80\x00\x00\x00\x00\x42\x00\x94\x07\x00\x00\x00\x02\x73\x31\x00\x00\x00\x00\x00\x00\x42\x00\x57\x05\x00\x00\x00\x04\x00\x00\x00\x02\x00\x00\x00\x00";
 
 #[test]
-fn the_object_type_may_come_last(rt: HostRuntime) -> Result<(), Fail> {
-    let mut client = client_fed(rt.alloc(), THE_OBJECT_TYPE_MAY_COME_LAST)?;
-    let request = RequestPayload::Get(Some(id(rt.alloc(), "s1")?), None, None, None);
+fn the_object_type_may_come_last(rt: HostRuntime) {
+    let request = get(&rt, rt.alloc(), "s1");
     let expected =
         "Get{object_type=SymmetricKey,unique_identifier=\"s1\",cryptographic_object=SymmetricKey{key_block={key_format_type=Raw,key_value={key_material=Bytes(x\"00112233445566778899AABBCCDDEEFF\")},cryptographic_algorithm=AES,cryptographic_length=128}}}";
-    let answer = shown(rt.alloc(), client.do_request(rt.alloc(), request))?;
-    is_answered(&rt, &mut client, &answer, expected)
+    answers(
+        &rt,
+        rt.alloc(),
+        THE_OBJECT_TYPE_MAY_COME_LAST,
+        request,
+        expected,
+    );
 }
 
 // OK0(A, 57 e2,94 "s1",8F{40{42 e1,45 xAABB,28 e3,2A i128,46{9E e1,36{94 "w1",2B{11 eD}}}}})
@@ -296,13 +265,11 @@ const A_WRAPPED_KEY_IS_GOT: &[u8] =
     b"\x42\x00\x7B\x01\x00\x00\x01\x38\x42\x00\x7A\x01\x00\x00\x00\x48\x42\x00\x69\x01\x00\x00\x00\x20\x42\x00\x6A\x02\x00\x00\x00\x04\x00\x00\x00\x01\x00\x00\x00\x00\x42\x00\x6B\x02\x00\x00\x00\x04\x00\x00\x00\x00\x00\x00\x00\x00\x42\x00\x92\x09\x00\x00\x00\x08\x00\x00\x00\x00\x00\x00\x00\x01\x42\x00\x0D\x02\x00\x00\x00\x04\x00\x00\x00\x01\x00\x00\x00\x00\x42\x00\x0F\x01\x00\x00\x00\xE0\x42\x00\x5C\x05\x00\x00\x00\x04\x00\x00\x00\x0A\x00\x00\x00\x00\x42\x00\x7F\x05\x00\x00\x00\x04\x00\x00\x00\x00\x00\x00\x00\x00\x42\x00\x7C\x01\x00\x00\x00\xB8\x42\x00\x57\x05\x00\x00\x00\x04\x00\x00\x00\x02\x00\x00\x00\x00\x42\x00\x94\x07\x00\x00\x00\x02\x73\x31\x00\x00\x00\x00\x00\x00\x42\x00\x8F\x01\x00\x00\x00\x90\x42\x00\x40\x01\x00\x00\x00\x88\x42\x00\x42\x05\x00\x00\x00\x04\x00\x00\x00\x01\x00\x00\x00\x00\x42\x00\x45\x08\x00\x00\x00\x02\xAA\xBB\x00\x00\x00\x00\x00\x00\x42\x00\x28\x05\x00\x00\x00\x04\x00\x00\x00\x03\x00\x00\x00\x00\x42\x00\x2A\x02\x00\x00\x00\x04\x00\x00\x00\x80\x00\x00\x00\x00\x42\x00\x46\x01\x00\x00\x00\x40\x42\x00\x9E\x05\x00\x00\x00\x04\x00\x00\x00\x01\x00\x00\x00\x00\x42\x00\x36\x01\x00\x00\x00\x28\x42\x00\x94\x07\x00\x00\x00\x02\x77\x31\x00\x00\x00\x00\x00\x00\x42\x00\x2B\x01\x00\x00\x00\x10\x42\x00\x11\x05\x00\x00\x00\x04\x00\x00\x00\x0D\x00\x00\x00\x00";
 
 #[test]
-fn a_wrapped_key_is_got(rt: HostRuntime) -> Result<(), Fail> {
-    let mut client = client_fed(rt.alloc(), A_WRAPPED_KEY_IS_GOT)?;
-    let request = RequestPayload::Get(Some(id(rt.alloc(), "s1")?), None, None, None);
+fn a_wrapped_key_is_got(rt: HostRuntime) {
+    let request = get(&rt, rt.alloc(), "s1");
     let expected =
         "Get{object_type=SymmetricKey,unique_identifier=\"s1\",cryptographic_object=SymmetricKey{key_block={key_format_type=Raw,key_value={key_material=Wrapped(x\"AABB\")},cryptographic_algorithm=AES,cryptographic_length=128,key_wrapping_data={wrapping_method=Encrypt,encryption_key_information={unique_identifier=\"w1\",cryptographic_parameters={block_cipher_mode=NISTKeyWrap}}}}}}";
-    let answer = shown(rt.alloc(), client.do_request(rt.alloc(), request))?;
-    is_answered(&rt, &mut client, &answer, expected)
+    answers(&rt, rt.alloc(), A_WRAPPED_KEY_IS_GOT, request, expected);
 }
 
 // OK0(8, )
@@ -310,12 +277,10 @@ const NOTHING_IS_LOCATED: &[u8] =
     b"\x42\x00\x7B\x01\x00\x00\x00\x80\x42\x00\x7A\x01\x00\x00\x00\x48\x42\x00\x69\x01\x00\x00\x00\x20\x42\x00\x6A\x02\x00\x00\x00\x04\x00\x00\x00\x01\x00\x00\x00\x00\x42\x00\x6B\x02\x00\x00\x00\x04\x00\x00\x00\x00\x00\x00\x00\x00\x42\x00\x92\x09\x00\x00\x00\x08\x00\x00\x00\x00\x00\x00\x00\x01\x42\x00\x0D\x02\x00\x00\x00\x04\x00\x00\x00\x01\x00\x00\x00\x00\x42\x00\x0F\x01\x00\x00\x00\x28\x42\x00\x5C\x05\x00\x00\x00\x04\x00\x00\x00\x08\x00\x00\x00\x00\x42\x00\x7F\x05\x00\x00\x00\x04\x00\x00\x00\x00\x00\x00\x00\x00\x42\x00\x7C\x01\x00\x00\x00\x00";
 
 #[test]
-fn nothing_is_located(rt: HostRuntime) -> Result<(), Fail> {
-    let mut client = client_fed(rt.alloc(), NOTHING_IS_LOCATED)?;
+fn nothing_is_located(rt: HostRuntime) {
     let request = RequestPayload::Locate(List::new(rt.alloc()));
     let expected = "Locate{unique_identifiers=[]}";
-    let answer = shown(rt.alloc(), client.do_request(rt.alloc(), request))?;
-    is_answered(&rt, &mut client, &answer, expected)
+    answers(&rt, rt.alloc(), NOTHING_IS_LOCATED, request, expected);
 }
 
 // OK0(B, 94 "2",08{0A "Name",0B{55 "priv",54 e1}},08{0A "Object Type",0B e4},08{0A "Cryptographic Algorithm",0B e4},08{0A "Cryptographic Length",0B i2048},08{0A "Cryptographic Usage Mask",0B i1},08{0A "State",0B e2},08{0A "Initial Date",0B d1700000000},08{0A "Link",0B{4B e102,4C "1"}},08{0A "Digest",0B{38 e6,35 xAABB,42 e3}},08{0A "Lease Time",0B n3600})
@@ -323,13 +288,11 @@ const ATTRIBUTES_ARE_GOT: &[u8] =
     b"\x42\x00\x7B\x01\x00\x00\x02\xC0\x42\x00\x7A\x01\x00\x00\x00\x48\x42\x00\x69\x01\x00\x00\x00\x20\x42\x00\x6A\x02\x00\x00\x00\x04\x00\x00\x00\x01\x00\x00\x00\x00\x42\x00\x6B\x02\x00\x00\x00\x04\x00\x00\x00\x00\x00\x00\x00\x00\x42\x00\x92\x09\x00\x00\x00\x08\x00\x00\x00\x00\x00\x00\x00\x01\x42\x00\x0D\x02\x00\x00\x00\x04\x00\x00\x00\x01\x00\x00\x00\x00\x42\x00\x0F\x01\x00\x00\x02\x68\x42\x00\x5C\x05\x00\x00\x00\x04\x00\x00\x00\x0B\x00\x00\x00\x00\x42\x00\x7F\x05\x00\x00\x00\x04\x00\x00\x00\x00\x00\x00\x00\x00\x42\x00\x7C\x01\x00\x00\x02\x40\x42\x00\x94\x07\x00\x00\x00\x01\x32\x00\x00\x00\x00\x00\x00\x00\x42\x00\x08\x01\x00\x00\x00\x38\x42\x00\x0A\x07\x00\x00\x00\x04\x4E\x61\x6D\x65\x00\x00\x00\x00\x42\x00\x0B\x01\x00\x00\x00\x20\x42\x00\x55\x07\x00\x00\x00\x04\x70\x72\x69\x76\x00\x00\x00\x00\x42\x00\x54\x05\x00\x00\x00\x04\x00\x00\x00\x01\x00\x00\x00\x00\x42\x00\x08\x01\x00\x00\x00\x28\x42\x00\x0A\x07\x00\x00\x00\x0B\x4F\x62\x6A\x65\x63\x74\x20\x54\x79\x70\x65\x00\x00\x00\x00\x00\x42\x00\x0B\x05\x00\x00\x00\x04\x00\x00\x00\x04\x00\x00\x00\x00\x42\x00\x08\x01\x00\x00\x00\x30\x42\x00\x0A\x07\x00\x00\x00\x17\x43\x72\x79\x70\x74\x6F\x67\x72\x61\x70\x68\x69\x63\x20\x41\x6C\x67\x6F\x72\x69\x74\x68\x6D\x00\x42\x00\x0B\x05\x00\x00\x00\x04\x00\x00\x00\x04\x00\x00\x00\x00\x42\x00\x08\x01\x00\x00\x00\x30\x42\x00\x0A\x07\x00\x00\x00\x14\x43\x72\x79\x70\x74\x6F\x67\x72\x61\x70\x68\x69\x63\x20\x4C\x65\x6E\x67\x74\x68\x00\x00\x00\x00\x42\x00\x0B\x02\x00\x00\x00\x04\x00\x00\x08\x00\x00\x00\x00\x00\x42\x00\x08\x01\x00\x00\x00\x30\x42\x00\x0A\x07\x00\x00\x00\x18\x43\x72\x79\x70\x74\x6F\x67\x72\x61\x70\x68\x69\x63\x20\x55\x73\x61\x67\x65\x20\x4D\x61\x73\x6B\x42\x00\x0B\x02\x00\x00\x00\x04\x00\x00\x00\x01\x00\x00\x00\x00\x42\x00\x08\x01\x00\x00\x00\x20\x42\x00\x0A\x07\x00\x00\x00\x05\x53\x74\x61\x74\x65\x00\x00\x00\x42\x00\x0B\x05\x00\x00\x00\x04\x00\x00\x00\x02\x00\x00\x00\x00\x42\x00\x08\x01\x00\x00\x00\x28\x42\x00\x0A\x07\x00\x00\x00\x0C\x49\x6E\x69\x74\x69\x61\x6C\x20\x44\x61\x74\x65\x00\x00\x00\x00\x42\x00\x0B\x09\x00\x00\x00\x08\x00\x00\x00\x00\x65\x53\xF1\x00\x42\x00\x08\x01\x00\x00\x00\x38\x42\x00\x0A\x07\x00\x00\x00\x04\x4C\x69\x6E\x6B\x00\x00\x00\x00\x42\x00\x0B\x01\x00\x00\x00\x20\x42\x00\x4B\x05\x00\x00\x00\x04\x00\x00\x01\x02\x00\x00\x00\x00\x42\x00\x4C\x07\x00\x00\x00\x01\x31\x00\x00\x00\x00\x00\x00\x00\x42\x00\x08\x01\x00\x00\x00\x48\x42\x00\x0A\x07\x00\x00\x00\x06\x44\x69\x67\x65\x73\x74\x00\x00\x42\x00\x0B\x01\x00\x00\x00\x30\x42\x00\x38\x05\x00\x00\x00\x04\x00\x00\x00\x06\x00\x00\x00\x00\x42\x00\x35\x08\x00\x00\x00\x02\xAA\xBB\x00\x00\x00\x00\x00\x00\x42\x00\x42\x05\x00\x00\x00\x04\x00\x00\x00\x03\x00\x00\x00\x00\x42\x00\x08\x01\x00\x00\x00\x28\x42\x00\x0A\x07\x00\x00\x00\x0A\x4C\x65\x61\x73\x65\x20\x54\x69\x6D\x65\x00\x00\x00\x00\x00\x00\x42\x00\x0B\x0A\x00\x00\x00\x04\x00\x00\x0E\x10\x00\x00\x00\x00";
 
 #[test]
-fn attributes_are_got(rt: HostRuntime) -> Result<(), Fail> {
-    let mut client = client_fed(rt.alloc(), ATTRIBUTES_ARE_GOT)?;
-    let request = RequestPayload::GetAttributes(Some(id(rt.alloc(), "2")?), None);
+fn attributes_are_got(rt: HostRuntime) {
+    let request = RequestPayload::GetAttributes(Some(identifier(&rt, rt.alloc(), "2")), None);
     let expected =
         "GetAttributes{unique_identifier=\"2\",attributes=[{name=\"Name\",value=Name{name_value=\"priv\",name_type=UninterpretedTextString}},{name=\"Object Type\",value=ObjectType(PrivateKey)},{name=\"Cryptographic Algorithm\",value=CryptographicAlgorithm(RSA)},{name=\"Cryptographic Length\",value=Integer(2048)},{name=\"Cryptographic Usage Mask\",value=Integer(1)},{name=\"State\",value=State(Active)},{name=\"Initial Date\",value=DateTime(1700000000)},{name=\"Link\",value=Link{link_type=PublicKeyLink,linked_object_identifier=\"1\"}},{name=\"Digest\",value=Structure[Enumeration(6),ByteString(x\"AABB\"),Enumeration(3)]},{name=\"Lease Time\",value=Interval(3600)}]}";
-    let answer = shown(rt.alloc(), client.do_request(rt.alloc(), request))?;
-    is_answered(&rt, &mut client, &answer, expected)
+    answers(&rt, rt.alloc(), ATTRIBUTES_ARE_GOT, request, expected);
 }
 
 // OK0(C, 94 "2",0A "Name")
@@ -337,12 +300,16 @@ const ATTRIBUTE_NAMES_ARE_LISTED: &[u8] =
     b"\x42\x00\x7B\x01\x00\x00\x00\xA0\x42\x00\x7A\x01\x00\x00\x00\x48\x42\x00\x69\x01\x00\x00\x00\x20\x42\x00\x6A\x02\x00\x00\x00\x04\x00\x00\x00\x01\x00\x00\x00\x00\x42\x00\x6B\x02\x00\x00\x00\x04\x00\x00\x00\x00\x00\x00\x00\x00\x42\x00\x92\x09\x00\x00\x00\x08\x00\x00\x00\x00\x00\x00\x00\x01\x42\x00\x0D\x02\x00\x00\x00\x04\x00\x00\x00\x01\x00\x00\x00\x00\x42\x00\x0F\x01\x00\x00\x00\x48\x42\x00\x5C\x05\x00\x00\x00\x04\x00\x00\x00\x0C\x00\x00\x00\x00\x42\x00\x7F\x05\x00\x00\x00\x04\x00\x00\x00\x00\x00\x00\x00\x00\x42\x00\x7C\x01\x00\x00\x00\x20\x42\x00\x94\x07\x00\x00\x00\x01\x32\x00\x00\x00\x00\x00\x00\x00\x42\x00\x0A\x07\x00\x00\x00\x04\x4E\x61\x6D\x65\x00\x00\x00\x00";
 
 #[test]
-fn attribute_names_are_listed(rt: HostRuntime) -> Result<(), Fail> {
-    let mut client = client_fed(rt.alloc(), ATTRIBUTE_NAMES_ARE_LISTED)?;
-    let request = RequestPayload::GetAttributeList(Some(id(rt.alloc(), "2")?));
+fn attribute_names_are_listed(rt: HostRuntime) {
+    let request = RequestPayload::GetAttributeList(Some(identifier(&rt, rt.alloc(), "2")));
     let expected = "GetAttributeList{unique_identifier=\"2\",attributes=[\"Name\"]}";
-    let answer = shown(rt.alloc(), client.do_request(rt.alloc(), request))?;
-    is_answered(&rt, &mut client, &answer, expected)
+    answers(
+        &rt,
+        rt.alloc(),
+        ATTRIBUTE_NAMES_ARE_LISTED,
+        request,
+        expected,
+    );
 }
 
 // OK0(C, 94 "2")
@@ -350,12 +317,16 @@ const AN_EMPTY_LIST_OF_NAMES_IS_NO_ANSWER: &[u8] =
     b"\x42\x00\x7B\x01\x00\x00\x00\x90\x42\x00\x7A\x01\x00\x00\x00\x48\x42\x00\x69\x01\x00\x00\x00\x20\x42\x00\x6A\x02\x00\x00\x00\x04\x00\x00\x00\x01\x00\x00\x00\x00\x42\x00\x6B\x02\x00\x00\x00\x04\x00\x00\x00\x00\x00\x00\x00\x00\x42\x00\x92\x09\x00\x00\x00\x08\x00\x00\x00\x00\x00\x00\x00\x01\x42\x00\x0D\x02\x00\x00\x00\x04\x00\x00\x00\x01\x00\x00\x00\x00\x42\x00\x0F\x01\x00\x00\x00\x38\x42\x00\x5C\x05\x00\x00\x00\x04\x00\x00\x00\x0C\x00\x00\x00\x00\x42\x00\x7F\x05\x00\x00\x00\x04\x00\x00\x00\x00\x00\x00\x00\x00\x42\x00\x7C\x01\x00\x00\x00\x10\x42\x00\x94\x07\x00\x00\x00\x01\x32\x00\x00\x00\x00\x00\x00\x00";
 
 #[test]
-fn an_empty_list_of_names_is_no_answer(rt: HostRuntime) -> Result<(), Fail> {
-    let mut client = client_fed(rt.alloc(), AN_EMPTY_LIST_OF_NAMES_IS_NO_ANSWER)?;
-    let request = RequestPayload::GetAttributeList(Some(id(rt.alloc(), "2")?));
+fn an_empty_list_of_names_is_no_answer(rt: HostRuntime) {
+    let request = RequestPayload::GetAttributeList(Some(identifier(&rt, rt.alloc(), "2")));
     let expected = "Internal error: not a response message";
-    let answer = shown(rt.alloc(), client.do_request(rt.alloc(), request))?;
-    is_answered(&rt, &mut client, &answer, expected)
+    answers(
+        &rt,
+        rt.alloc(),
+        AN_EMPTY_LIST_OF_NAMES_IS_NO_ANSWER,
+        request,
+        expected,
+    );
 }
 
 // OK1(1E, 69{6A i1,6B i2},69{6A i1,6B i0})
@@ -363,32 +334,36 @@ const VERSIONS_ARE_TOLD: &[u8] =
     b"\x42\x00\x7B\x01\x00\x00\x00\xD0\x42\x00\x7A\x01\x00\x00\x00\x48\x42\x00\x69\x01\x00\x00\x00\x20\x42\x00\x6A\x02\x00\x00\x00\x04\x00\x00\x00\x01\x00\x00\x00\x00\x42\x00\x6B\x02\x00\x00\x00\x04\x00\x00\x00\x01\x00\x00\x00\x00\x42\x00\x92\x09\x00\x00\x00\x08\x00\x00\x00\x00\x00\x00\x00\x01\x42\x00\x0D\x02\x00\x00\x00\x04\x00\x00\x00\x01\x00\x00\x00\x00\x42\x00\x0F\x01\x00\x00\x00\x78\x42\x00\x5C\x05\x00\x00\x00\x04\x00\x00\x00\x1E\x00\x00\x00\x00\x42\x00\x7F\x05\x00\x00\x00\x04\x00\x00\x00\x00\x00\x00\x00\x00\x42\x00\x7C\x01\x00\x00\x00\x50\x42\x00\x69\x01\x00\x00\x00\x20\x42\x00\x6A\x02\x00\x00\x00\x04\x00\x00\x00\x01\x00\x00\x00\x00\x42\x00\x6B\x02\x00\x00\x00\x04\x00\x00\x00\x02\x00\x00\x00\x00\x42\x00\x69\x01\x00\x00\x00\x20\x42\x00\x6A\x02\x00\x00\x00\x04\x00\x00\x00\x01\x00\x00\x00\x00\x42\x00\x6B\x02\x00\x00\x00\x04\x00\x00\x00\x00\x00\x00\x00\x00";
 
 #[test]
-fn versions_are_told(rt: HostRuntime) -> Result<(), Fail> {
-    let mut client = client_fed(rt.alloc(), VERSIONS_ARE_TOLD)?;
+fn versions_are_told(rt: HostRuntime) {
     let request = RequestPayload::DiscoverVersions(List::new(rt.alloc()));
     let expected = "DiscoverVersions{supported_versions=[{major=1,minor=2},{major=1,minor=0}]}";
-    let answer = shown(rt.alloc(), client.do_request(rt.alloc(), request))?;
-    is_answered(&rt, &mut client, &answer, expected)
+    answers(&rt, rt.alloc(), VERSIONS_ARE_TOLD, request, expected);
+}
+
+/// A request that has no wire form: a structure within a custom attribute.
+fn unformed(rt: &impl Abort, alloc: Global) -> RequestPayload {
+    let mut members = Values::new(alloc);
+    let inner = AttributeValue::Structure(Values::new(alloc));
+    members.push(inner).expect(rt, "memory");
+    let name = AttributeName(text(rt, alloc, "x-a"));
+    let attribute = Attribute(name, None, AttributeValue::Structure(members));
+    let mut attributes = List::new(alloc);
+    attributes.push(attribute).expect(rt, "memory");
+    RequestPayload::Locate(attributes)
 }
 
 #[test]
-fn a_request_without_a_form_is_not_sent(rt: HostRuntime) -> Result<(), Fail> {
-    let link = MemoryLink::new(rt.alloc());
-    let config = Config::new().with_read_buf();
-    let mut client = ClientBuilder::new(link).with_reader_config(config).build();
-    let mut members = Values::new(rt.alloc());
-    members.push(AttributeValue::Structure(Values::new(rt.alloc())))?;
-    let name = AttributeName(Text::of(rt.alloc(), "x-a")?);
-    let mut attributes = List::new(rt.alloc());
-    attributes.push(Attribute(name, None, AttributeValue::Structure(members)))?;
-    let request = RequestPayload::Locate(attributes);
-    let answer = shown(rt.alloc(), client.do_request(rt.alloc(), request))?;
-    assert_eq!(&rt;
-        answer.as_str(),
-        "Serialize error: request has no wire form"
-    );
+fn a_request_without_a_form_is_not_sent(rt: HostRuntime) {
+    let alloc = rt.alloc();
+    let mut client = client_over(MemoryLink::new(alloc));
+    let answer = answer(&rt, alloc, &mut client, unformed(&rt, alloc));
     assert!(&rt; client.last_req_diag_str().is_none());
     assert!(&rt; client.last_res_diag_str().is_none());
     assert!(&rt; client.inner().sent().is_empty());
-    Ok(())
+    is_answered(
+        &rt,
+        client,
+        &answer,
+        "Serialize error: request has no wire form",
+    );
 }
