@@ -12,6 +12,11 @@ pub fn text(rt: &impl Abort, alloc: Global, text: &str) -> Text {
     Text::of(alloc, text).expect(rt, "memory")
 }
 
+/// The bytes of a text in hex.
+pub fn bytes_of(rt: &impl Abort, alloc: Global, hex: &str) -> Vec<u8> {
+    hex::decode(alloc, hex).expect(rt, "hex")
+}
+
 /// The two are equal.
 pub fn are_equal<T: PartialEq>(rt: &impl Abort, value: &T, expected: &T) {
     assert!(rt; value == expected);
@@ -31,8 +36,9 @@ pub fn is_shown<T: ShowItem>(rt: &impl Abort, alloc: Global, value: &T, expected
 }
 
 /// The value of one item.
-pub fn is_read_alone<T: ReadItem>(rt: &impl Abort, alloc: Global, bytes: &[u8]) -> T {
-    let item = ItemRef::root(bytes).expect(rt, "an item");
+pub fn is_read_alone<T: ReadItem>(rt: &impl Abort, alloc: Global, hex: &str) -> T {
+    let bytes = bytes_of(rt, alloc, hex);
+    let item = ItemRef::root(&bytes).expect(rt, "an item");
     T::read(alloc, Outer::none(), item).expect(rt, "a value")
 }
 
@@ -41,9 +47,10 @@ pub fn is_read<T: ReadItem + TryClone + PartialEq>(
     rt: &impl Abort,
     alloc: Global,
     number: Option<u32>,
-    bytes: &[u8],
+    hex: &str,
 ) -> T {
-    let item = ItemRef::root(bytes).expect(rt, "an item");
+    let bytes = bytes_of(rt, alloc, hex);
+    let item = ItemRef::root(&bytes).expect(rt, "an item");
     let value = T::read(alloc, Outer { number, name: None }, item).expect(rt, "a value");
     assert!(rt; value.try_clone(alloc).expect(rt, "memory") == value);
     value
@@ -54,10 +61,11 @@ pub fn shows<T: ReadItem + ShowItem + TryClone + PartialEq>(
     rt: &impl Abort,
     alloc: Global,
     number: Option<u32>,
-    bytes: &[u8],
+    hex: &str,
     expected: &str,
 ) {
-    let item = ItemRef::root(bytes).expect(rt, "an item");
+    let bytes = bytes_of(rt, alloc, hex);
+    let item = ItemRef::root(&bytes).expect(rt, "an item");
     let value = T::read(alloc, Outer { number, name: None }, item).expect(rt, "a value");
     assert!(rt; value.try_clone(alloc).expect(rt, "memory") == value);
     let mut shown = Text::new(alloc);
@@ -70,60 +78,64 @@ pub fn is_written<T: ReadItem + WriteItem + TryClone + PartialEq>(
     rt: &impl Abort,
     alloc: Global,
     number: Option<u32>,
-    bytes: &[u8],
+    hex: &str,
 ) {
-    let item = ItemRef::root(bytes).expect(rt, "an item");
+    let bytes = bytes_of(rt, alloc, hex);
+    let item = ItemRef::root(&bytes).expect(rt, "an item");
     let value = T::read(alloc, Outer { number, name: None }, item).expect(rt, "a value");
     assert!(rt; value.try_clone(alloc).expect(rt, "memory") == value);
     let written = to_blob(alloc, &value, item.tag()).expect(rt, "a blob");
-    assert!(rt; written.as_slice() == bytes);
+    assert!(rt; written.as_slice() == bytes.as_slice());
 }
 
 /// The item is read as a value that is shown as this text, is written as the same bytes and has a copy that equals it.
 pub fn shows_what_is_written<T: ReadItem + ShowItem + WriteItem + TryClone + PartialEq>(
     rt: &impl Abort,
     alloc: Global,
-    bytes: &[u8],
+    hex: &str,
     expected: &str,
 ) {
-    let item = ItemRef::root(bytes).expect(rt, "an item");
+    let bytes = bytes_of(rt, alloc, hex);
+    let item = ItemRef::root(&bytes).expect(rt, "an item");
     let value = T::read(alloc, Outer::none(), item).expect(rt, "a value");
     assert!(rt; value.try_clone(alloc).expect(rt, "memory") == value);
     let written = to_blob(alloc, &value, item.tag()).expect(rt, "a blob");
-    assert!(rt; written.as_slice() == bytes);
+    assert!(rt; written.as_slice() == bytes.as_slice());
     let mut shown = Text::new(alloc);
     value.show(alloc, &mut shown).expect(rt, "memory");
     assert_eq!(rt; shown.as_str(), expected);
 }
 
 /// The item is read as a value, copied without memory, that is written as the same bytes.
-pub fn is_written_alone<T: ReadItem + WriteItem>(rt: &impl Abort, alloc: Global, bytes: &[u8]) {
-    let item = ItemRef::root(bytes).expect(rt, "an item");
+pub fn is_written_alone<T: ReadItem + WriteItem>(rt: &impl Abort, alloc: Global, hex: &str) {
+    let bytes = bytes_of(rt, alloc, hex);
+    let item = ItemRef::root(&bytes).expect(rt, "an item");
     let value = T::read(alloc, Outer::none(), item).expect(rt, "a value");
     let written = to_blob(alloc, &value, item.tag()).expect(rt, "a blob");
-    assert!(rt; written.as_slice() == bytes);
+    assert!(rt; written.as_slice() == bytes.as_slice());
 }
 
 /// The same, with what it is shown as.
 pub fn is_plain<T: ReadItem + WriteItem + ShowItem>(
     rt: &impl Abort,
     alloc: Global,
-    bytes: &[u8],
+    hex: &str,
     expected: &str,
 ) {
-    let item = ItemRef::root(bytes).expect(rt, "an item");
+    let bytes = bytes_of(rt, alloc, hex);
+    let item = ItemRef::root(&bytes).expect(rt, "an item");
     let value = T::read(alloc, Outer::none(), item).expect(rt, "a value");
     let written = to_blob(alloc, &value, item.tag()).expect(rt, "a blob");
-    assert!(rt; written.as_slice() == bytes);
+    assert!(rt; written.as_slice() == bytes.as_slice());
     let mut shown = Text::new(alloc);
     value.show(alloc, &mut shown).expect(rt, "memory");
     assert_eq!(rt; shown.as_str(), expected);
 }
 
 /// A client over a link that holds these bytes.
-pub fn client_fed(rt: &impl Abort, alloc: Global, response: &[u8]) -> Client<MemoryLink> {
+pub fn client_fed(rt: &impl Abort, alloc: Global, hex: &str) -> Client<MemoryLink> {
     let mut link = MemoryLink::new(alloc);
-    link.feed(response).expect(rt, "memory");
+    link.feed(&bytes_of(rt, alloc, hex)).expect(rt, "memory");
     ClientBuilder::new(link).build()
 }
 

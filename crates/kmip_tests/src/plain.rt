@@ -1,5 +1,5 @@
 //! Values of one item, and lists: each read, shown, written and copied once.
-use crate::helpers::{are_equal, is_copied, is_plain, is_shown, text};
+use crate::helpers::{are_equal, bytes_of, is_copied, is_plain, is_shown, text};
 use kmip_enums::ObjectType;
 use kmip_request::{RequestPayload, write_request};
 use kmip_response::{GetResponsePayload, from_slice};
@@ -19,39 +19,38 @@ use std::process::Abort;
 fn plain_values(rt: HostRuntime) {
     let alloc = rt.alloc();
     // 09 i-5
-    let bytes = b"\x42\x00\x09\x02\x00\x00\x00\x04\xFF\xFF\xFF\xFB\x00\x00\x00\x00";
-    is_plain::<i32>(&rt, alloc, bytes, "-5");
+    let hex = "4200090200000004FFFFFFFB00000000";
+    is_plain::<i32>(&rt, alloc, hex, "-5");
     // 0B l-5
-    let bytes = b"\x42\x00\x0B\x03\x00\x00\x00\x08\xFF\xFF\xFF\xFF\xFF\xFF\xFF\xFB";
-    is_plain::<i64>(&rt, alloc, bytes, "-5");
+    let hex = "42000B0300000008FFFFFFFFFFFFFFFB";
+    is_plain::<i64>(&rt, alloc, hex, "-5");
     // 26 t1
-    let bytes = b"\x42\x00\x26\x06\x00\x00\x00\x08\x00\x00\x00\x00\x00\x00\x00\x01";
-    is_plain::<bool>(&rt, alloc, bytes, "true");
+    let hex = "42002606000000080000000000000001";
+    is_plain::<bool>(&rt, alloc, hex, "true");
     // 92 d5
-    let bytes = b"\x42\x00\x92\x09\x00\x00\x00\x08\x00\x00\x00\x00\x00\x00\x00\x05";
-    is_plain::<u64>(&rt, alloc, bytes, "5");
+    let hex = "42009209000000080000000000000005";
+    is_plain::<u64>(&rt, alloc, hex, "5");
     // 49 n5
-    let bytes = b"\x42\x00\x49\x0A\x00\x00\x00\x04\x00\x00\x00\x05\x00\x00\x00\x00";
-    is_plain::<u32>(&rt, alloc, bytes, "5");
+    let hex = "4200490A000000040000000500000000";
+    is_plain::<u32>(&rt, alloc, hex, "5");
     // 92 d5
-    let bytes = b"\x42\x00\x92\x09\x00\x00\x00\x08\x00\x00\x00\x00\x00\x00\x00\x05";
-    is_plain::<Timestamp>(&rt, alloc, bytes, "5");
+    let hex = "42009209000000080000000000000005";
+    is_plain::<Timestamp>(&rt, alloc, hex, "5");
     // 94 "a"
-    let bytes = b"\x42\x00\x94\x07\x00\x00\x00\x01\x61\x00\x00\x00\x00\x00\x00\x00";
-    is_plain::<Text>(&rt, alloc, bytes, "\"a\"");
+    let hex = "42009407000000016100000000000000";
+    is_plain::<Text>(&rt, alloc, hex, "\"a\"");
     // C2 xAA
-    let bytes = b"\x42\x00\xC2\x08\x00\x00\x00\x01\xAA\x00\x00\x00\x00\x00\x00\x00";
-    is_plain::<Blob>(&rt, alloc, bytes, "x\"AA\"");
+    let hex = "4200C20800000001AA00000000000000";
+    is_plain::<Blob>(&rt, alloc, hex, "x\"AA\"");
     // 52 b0000000000000005
-    let bytes = b"\x42\x00\x52\x04\x00\x00\x00\x08\x00\x00\x00\x00\x00\x00\x00\x05";
-    is_plain::<BigInteger>(&rt, alloc, bytes, "x\"0000000000000005\"");
+    let hex = "42005204000000080000000000000005";
+    is_plain::<BigInteger>(&rt, alloc, hex, "x\"0000000000000005\"");
     // 57 e2
-    let bytes = b"\x42\x00\x57\x05\x00\x00\x00\x04\x00\x00\x00\x02\x00\x00\x00\x00";
-    is_plain::<ObjectType>(&rt, alloc, bytes, "SymmetricKey");
+    let hex = "42005705000000040000000200000000";
+    is_plain::<ObjectType>(&rt, alloc, hex, "SymmetricKey");
     // 2B{11 e1}
-    let bytes =
-        b"\x42\x00\x2B\x01\x00\x00\x00\x10\x42\x00\x11\x05\x00\x00\x00\x04\x00\x00\x00\x01\x00\x00\x00\x00";
-    is_plain::<CryptographicParameters>(&rt, alloc, bytes, "{block_cipher_mode=CBC}");
+    let hex = "42002B010000001042001105000000040000000100000000";
+    is_plain::<CryptographicParameters>(&rt, alloc, hex, "{block_cipher_mode=CBC}");
 }
 
 /// A list of one value.
@@ -92,22 +91,29 @@ fn copies(rt: HostRuntime) {
 fn copies_of_trees(rt: HostRuntime) {
     let alloc = rt.alloc();
     // 36{94 "k",2B{11 e1}}
-    let bytes =
-        b"\x42\x00\x36\x01\x00\x00\x00\x28\x42\x00\x94\x07\x00\x00\x00\x01\x6B\x00\x00\x00\x00\x00\x00\x00\x42\x00\x2B\x01\x00\x00\x00\x10\x42\x00\x11\x05\x00\x00\x00\x04\x00\x00\x00\x01\x00\x00\x00\x00";
-    let (tree, size) = read_tree(alloc, bytes).expect(&rt, "a tree");
+    let hex = concat!(
+        "420036010000002842009407000000016B0000000000000042002B01000000104200110500000004",
+        "0000000100000000",
+    );
+    let bytes = bytes_of(&rt, alloc, hex);
+    let (tree, size) = read_tree(alloc, &bytes).expect(&rt, "a tree");
     assert_eq!(&rt; size, 48);
     is_copied::<Tree>(&rt, alloc, &tree);
     is_copied::<Trees>(&rt, alloc, &trees(&rt, alloc, tree));
 }
 
 // 7C{57 e4,94 "k",64{40{42 e1,45{43 xAA}}}}
-const OBJECT: &[u8] =
-    b"\x42\x00\x7C\x01\x00\x00\x00\x58\x42\x00\x57\x05\x00\x00\x00\x04\x00\x00\x00\x04\x00\x00\x00\x00\x42\x00\x94\x07\x00\x00\x00\x01\x6B\x00\x00\x00\x00\x00\x00\x00\x42\x00\x64\x01\x00\x00\x00\x30\x42\x00\x40\x01\x00\x00\x00\x28\x42\x00\x42\x05\x00\x00\x00\x04\x00\x00\x00\x01\x00\x00\x00\x00\x42\x00\x45\x01\x00\x00\x00\x10\x42\x00\x43\x08\x00\x00\x00\x01\xAA\x00\x00\x00\x00\x00\x00\x00";
+const OBJECT: &str = concat!(
+    "42007C01000000584200570500000004000000040000000042009407000000016B00000000000000",
+    "42006401000000304200400100000028420042050000000400000001000000004200450100000010",
+    "4200430800000001AA00000000000000",
+);
 
 #[test]
 fn an_object(rt: HostRuntime) {
     let alloc = rt.alloc();
-    let payload = from_slice::<GetResponsePayload>(alloc, OBJECT).expect(&rt, "a payload");
+    let bytes = bytes_of(&rt, alloc, OBJECT);
+    let payload = from_slice::<GetResponsePayload>(alloc, &bytes).expect(&rt, "a payload");
     let object = &payload.cryptographic_object;
     is_shown::<ManagedObject>(
         &rt,
@@ -136,9 +142,9 @@ fn lists(rt: HostRuntime) {
 fn a_record(rt: HostRuntime) {
     let alloc = rt.alloc();
     // 08{09 i5}
-    let bytes =
-        b"\x42\x00\x08\x01\x00\x00\x00\x10\x42\x00\x09\x02\x00\x00\x00\x04\x00\x00\x00\x05\x00\x00\x00\x00";
-    let item = ItemRef::root(bytes).expect(&rt, "an item");
+    let hex = "420008010000001042000902000000040000000500000000";
+    let bytes = bytes_of(&rt, alloc, hex);
+    let item = ItemRef::root(&bytes).expect(&rt, "an item");
     let read = read_record::<Row<One<i32, ATTRIBUTE_INDEX>, End>>(alloc, Outer::none(), item);
     let fields![number] = read.expect(&rt, "a record");
     assert_eq!(&rt; number, 5);
@@ -146,7 +152,8 @@ fn a_record(rt: HostRuntime) {
 
 #[test]
 fn a_root(rt: HostRuntime) {
-    let item = ItemRef::root(OBJECT).expect(&rt, "an item");
+    let bytes = bytes_of(&rt, rt.alloc(), OBJECT);
+    let item = ItemRef::root(&bytes).expect(&rt, "an item");
     let payload = read_root::<GetResponsePayload>(rt.alloc(), item).expect(&rt, "a payload");
     assert_eq!(&rt; payload.unique_identifier.0.as_str(), "k");
 }
@@ -154,9 +161,13 @@ fn a_root(rt: HostRuntime) {
 #[test]
 fn a_request(rt: HostRuntime) {
     // 78{77{69{6A i1,6B i2},0D i1},0F{5C e37,79{C4 i16}}}
-    let bytes =
-        b"\x42\x00\x78\x01\x00\x00\x00\x70\x42\x00\x77\x01\x00\x00\x00\x38\x42\x00\x69\x01\x00\x00\x00\x20\x42\x00\x6A\x02\x00\x00\x00\x04\x00\x00\x00\x01\x00\x00\x00\x00\x42\x00\x6B\x02\x00\x00\x00\x04\x00\x00\x00\x02\x00\x00\x00\x00\x42\x00\x0D\x02\x00\x00\x00\x04\x00\x00\x00\x01\x00\x00\x00\x00\x42\x00\x0F\x01\x00\x00\x00\x28\x42\x00\x5C\x05\x00\x00\x00\x04\x00\x00\x00\x25\x00\x00\x00\x00\x42\x00\x79\x01\x00\x00\x00\x10\x42\x00\xC4\x02\x00\x00\x00\x04\x00\x00\x00\x10\x00\x00\x00\x00";
+    let hex = concat!(
+        "42007801000000704200770100000038420069010000002042006A02000000040000000100000000",
+        "42006B0200000004000000020000000042000D0200000004000000010000000042000F0100000028",
+        "42005C0500000004000000250000000042007901000000104200C402000000040000001000000000",
+    );
     let payload = RequestPayload::RNGRetrieve(DataLength(16));
     let written = write_request(rt.alloc(), &payload, &None).expect(&rt, "a request");
+    let bytes = bytes_of(&rt, rt.alloc(), hex);
     assert!(&rt; written.as_slice() == bytes.as_slice());
 }

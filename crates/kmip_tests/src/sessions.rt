@@ -1,6 +1,6 @@
 //! Sessions over links with planned pieces and faults.
 use crate::client::{RESPONSE, client_over};
-use crate::helpers::{client_fed, tell};
+use crate::helpers::{bytes_of, client_fed, tell};
 use kmip_client::{Client, ClientBuilder, Exchange, Result, exchange_all};
 use kmip_link::{Link, MemoryLink, PlannedLink};
 use kmip_request::RequestPayload;
@@ -11,25 +11,20 @@ use std::alloc::Global;
 use std::process::Abort;
 
 /// The request for 16 random bytes: 120 bytes.
-const REQUEST: &[u8] =
-    b"\x42\x00\x78\x01\x00\x00\x00\x70\x42\x00\x77\x01\x00\x00\x00\x38\x42\x00\x69\x01\
-      \x00\x00\x00\x20\x42\x00\x6A\x02\x00\x00\x00\x04\x00\x00\x00\x01\x00\x00\x00\x00\
-      \x42\x00\x6B\x02\x00\x00\x00\x04\x00\x00\x00\x02\x00\x00\x00\x00\x42\x00\x0D\x02\
-      \x00\x00\x00\x04\x00\x00\x00\x01\x00\x00\x00\x00\x42\x00\x0F\x01\x00\x00\x00\x28\
-      \x42\x00\x5C\x05\x00\x00\x00\x04\x00\x00\x00\x25\x00\x00\x00\x00\x42\x00\x79\x01\
-      \x00\x00\x00\x10\x42\x00\xC4\x02\x00\x00\x00\x04\x00\x00\x00\x10\x00\x00\x00\x00";
+const REQUEST: &str = concat!(
+    "42007801000000704200770100000038420069010000002042006A02000000040000000100000000",
+    "42006B0200000004000000020000000042000D0200000004000000010000000042000F0100000028",
+    "42005C0500000004000000250000000042007901000000104200C402000000040000001000000000",
+);
 
 /// The response with a text at the end of its batch item that is not UTF-8: 168 bytes.
-const BROKEN: &[u8] =
-    b"\x42\x00\x7B\x01\x00\x00\x00\xA0\x42\x00\x7A\x01\x00\x00\x00\x48\x42\x00\x69\x01\
-      \x00\x00\x00\x20\x42\x00\x6A\x02\x00\x00\x00\x04\x00\x00\x00\x01\x00\x00\x00\x00\
-      \x42\x00\x6B\x02\x00\x00\x00\x04\x00\x00\x00\x02\x00\x00\x00\x00\x42\x00\x92\x09\
-      \x00\x00\x00\x08\x00\x00\x00\x00\x00\x00\x00\x01\x42\x00\x0D\x02\x00\x00\x00\x04\
-      \x00\x00\x00\x01\x00\x00\x00\x00\x42\x00\x0F\x01\x00\x00\x00\x48\x42\x00\x5C\x05\
-      \x00\x00\x00\x04\x00\x00\x00\x25\x00\x00\x00\x00\x42\x00\x7F\x05\x00\x00\x00\x04\
-      \x00\x00\x00\x00\x00\x00\x00\x00\x42\x00\x7C\x01\x00\x00\x00\x10\x42\x00\xC2\x08\
-      \x00\x00\x00\x04\xDE\xAD\xBE\xEF\x00\x00\x00\x00\x54\x00\x01\x07\x00\x00\x00\x01\
-      \xFF\x00\x00\x00\x00\x00\x00\x00";
+const BROKEN: &str = concat!(
+    "42007B01000000A042007A0100000048420069010000002042006A02000000040000000100000000",
+    "42006B020000000400000002000000004200920900000008000000000000000142000D0200000004",
+    "000000010000000042000F010000004842005C0500000004000000250000000042007F0500000004",
+    "000000000000000042007C01000000104200C20800000004DEADBEEF000000005400010700000001",
+    "FF00000000000000",
+);
 
 /// How an exchange with the response, and one with the broken message, is told without diagnostics.
 pub(crate) const ANSWERED: &str = "RNGRetrieve{random_bytes=x\"DEADBEEF\"} | - | -\n";
@@ -39,9 +34,9 @@ pub(crate) const REFUSED: &str = "Deserialize error: malformed TTLV | - | -\n";
 /// A link with these pieces that is fed with the response, the broken message and the response.
 pub(crate) fn link_of(rt: &impl Abort, alloc: Global, pieces: usize) -> MemoryLink {
     let mut link = MemoryLink::new(alloc);
-    link.feed(RESPONSE).expect(rt, "memory");
-    link.feed(BROKEN).expect(rt, "memory");
-    link.feed(RESPONSE).expect(rt, "memory");
+    for hex in [RESPONSE, BROKEN, RESPONSE] {
+        link.feed(&bytes_of(rt, alloc, hex)).expect(rt, "memory");
+    }
     link.plan_pieces(&[pieces]).expect(rt, "memory");
     link
 }
@@ -115,7 +110,7 @@ fn is_whole_session(rt: &impl Abort, alloc: Global, pieces: usize) {
     assert_eq!(rt; client.connection_error_count(), 0, "pieces of {pieces}");
     let link = client.inner();
     assert_eq!(rt; link.sent().len(), 360, "pieces of {pieces}");
-    assert!(rt; is_first_part(link.sent()), "pieces of {pieces}");
+    assert!(rt; is_first_part(rt, alloc, link.sent()), "pieces of {pieces}");
     assert!(rt; link.rest().is_empty(), "pieces of {pieces}");
 }
 
@@ -192,9 +187,10 @@ fn each_exchange_has_its_own_diagnostics(rt: HostRuntime) {
 }
 
 /// Whether these bytes are a first part of the request, sent again and again.
-fn is_first_part(sent: &[u8]) -> bool {
+fn is_first_part(rt: &impl Abort, alloc: Global, sent: &[u8]) -> bool {
+    let request = bytes_of(rt, alloc, REQUEST);
     for part in sent.chunks(120) {
-        if !REQUEST.starts_with(part) {
+        if !request.starts_with(part) {
             return false;
         }
     }
@@ -213,6 +209,6 @@ fn what_is_sent_as_memory_runs_out(rt: HostRuntime) {
     let requests = requests(&rt, rt.alloc());
     let whole = is_whole(exchange_all(rt.alloc(), &mut client, requests));
     let sent = client.inner().sent();
-    assert!(&rt; is_first_part(sent), "sent otherwise");
+    assert!(&rt; is_first_part(&rt, rt.alloc(), sent), "sent otherwise");
     assert!(&rt; !whole || sent.len() == 360, "sent otherwise");
 }
