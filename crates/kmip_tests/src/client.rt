@@ -1,10 +1,10 @@
 //! The client over links with planned faults, and over a link of this file's own.
-use crate::helpers::{client_fed, is_answered, text, told};
+use crate::helpers::{client_fed, is_answered, is_copied, text, told};
 use kmip_client::{Client, ClientBuilder, Error};
 use kmip_link::{Link, LinkError, MemoryLink, PlannedLink};
 use kmip_request::{Attribute, RequestPayload};
 use kmip_types::{AttributeName, AttributeValue, UniqueIdentifier, Values};
-use kmip_wire::{Config, List, Text, TryClone};
+use kmip_wire::{Config, List, Text};
 use std::alloc::Global;
 use std::process::Abort;
 
@@ -60,6 +60,7 @@ fn planned_fault(rt: &impl Abort, alloc: Global, row: (u64, &str, usize, usize))
     let link = client.inner().inner();
     assert_eq!(rt; link.sent().len(), sent, "sent at {call}");
     assert_eq!(rt; link.rest().len(), left, "left at {call}");
+    drop(client);
 }
 
 #[test]
@@ -98,6 +99,7 @@ fn connection_errors_count_modulo_256(rt: HostRuntime) {
     let mut client = client_over(planned_link(&rt, rt.alloc(), &failing));
     fail_256_times(&rt, rt.alloc(), &mut client);
     assert_eq!(&rt; client.connection_error_count(), 0);
+    drop(client);
 }
 
 /// A link that tells nothing, gives eight bytes and keeps the room that each read offers.
@@ -135,6 +137,7 @@ fn a_false_length_takes_room_piece_by_piece(rt: HostRuntime) {
     let answer = random_bytes(&rt, rt.alloc(), &mut client);
     assert_eq!(&rt; answer.as_str(), "Response read error: end of input");
     assert_eq!(&rt; client.inner().rooms.as_slice(), [8, 65536].as_slice());
+    drop(client);
 }
 
 /// The error is printed so, is that of a lost connection or not, and has a copy that equals it.
@@ -142,8 +145,8 @@ fn is_error(rt: &impl Abort, alloc: Global, error: Error, expected: &str, is_los
     let printed = error.to_string(alloc).expect(rt, "memory");
     assert_eq!(rt; printed.as_str(), expected);
     assert_eq!(rt; error.is_connection_error(), is_lost, "{expected}");
-    let copy = error.try_clone(alloc).expect(rt, "memory");
-    assert!(rt; copy == error, "{expected}");
+    is_copied::<Error>(rt, alloc, &error);
+    drop(error);
 }
 
 #[test]
@@ -180,9 +183,11 @@ const ACTIVATED: &[u8] =
 #[test]
 fn a_key_is_activated(rt: HostRuntime) {
     let mut client = client_fed(&rt, rt.alloc(), ACTIVATED);
-    assert!(&rt; client.activate_key(rt.alloc(), "k1").is_ok());
+    let answer = client.activate_key(rt.alloc(), "k1");
+    answer.expect(&rt, "an answer");
     assert!(&rt; client.inner().sent() == ACTIVATE);
     assert!(&rt; client.inner().rest().is_empty());
+    drop(client);
 }
 
 /// The request for an object.

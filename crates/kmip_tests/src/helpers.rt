@@ -142,6 +142,7 @@ pub fn tell<P: ShowItem>(rt: &impl Abort, alloc: Global, answer: &Result<P>, tol
 pub fn told<P: ShowItem + Drop>(rt: &impl Abort, alloc: Global, answer: Result<P>) -> Text {
     let mut told = Text::new(alloc);
     tell(rt, alloc, &answer, &mut told);
+    drop(answer);
     told
 }
 
@@ -150,4 +151,5 @@ pub fn is_answered(rt: &impl Abort, client: Client<MemoryLink>, told: &Text, exp
     let mut client = client;
     assert_eq!(rt; told.as_str(), expected);
     assert!(rt; client.inner().rest().is_empty());
+    drop(client);
 }

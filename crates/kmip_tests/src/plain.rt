@@ -85,7 +85,9 @@ fn copies(rt: HostRuntime) {
     is_copied::<Blob>(&rt, alloc, &blob);
     is_copied::<BigInteger>(&rt, alloc, &BigInteger(blob));
     is_copied::<List<Text>>(&rt, alloc, &list(&rt, alloc, text(&rt, alloc, "a")));
-    is_copied::<Values>(&rt, alloc, &members(&rt, alloc));
+    let members = members(&rt, alloc);
+    is_copied::<Values>(&rt, alloc, &members);
+    drop(members);
 }
 
 #[test]
@@ -97,7 +99,9 @@ fn copies_of_trees(rt: HostRuntime) {
     let (tree, size) = read_tree(alloc, bytes).expect(&rt, "a tree");
     assert_eq!(&rt; size, 48);
     is_copied::<Tree>(&rt, alloc, &tree);
-    is_copied::<Trees>(&rt, alloc, &trees(&rt, alloc, tree));
+    let trees = trees(&rt, alloc, tree);
+    is_copied::<Trees>(&rt, alloc, &trees);
+    drop(trees);
 }
 
 // 7C{57 e4,94 "k",64{40{42 e1,45{43 xAA}}}}
@@ -116,6 +120,7 @@ fn an_object(rt: HostRuntime) {
         "PrivateKey{key_block={key_format_type=Raw,key_value={key_material=Bytes(x\"AA\")}}}",
     );
     is_copied::<ManagedObject>(&rt, alloc, object);
+    drop(payload);
 }
 
 #[test]
@@ -149,6 +154,7 @@ fn a_root(rt: HostRuntime) {
     let item = ItemRef::root(OBJECT).expect(&rt, "an item");
     let payload = read_root::<GetResponsePayload>(rt.alloc(), item).expect(&rt, "a payload");
     assert_eq!(&rt; payload.unique_identifier.0.as_str(), "k");
+    drop(payload);
 }
 
 #[test]
@@ -157,6 +163,8 @@ fn a_request(rt: HostRuntime) {
     let bytes =
         b"\x42\x00\x78\x01\x00\x00\x00\x70\x42\x00\x77\x01\x00\x00\x00\x38\x42\x00\x69\x01\x00\x00\x00\x20\x42\x00\x6A\x02\x00\x00\x00\x04\x00\x00\x00\x01\x00\x00\x00\x00\x42\x00\x6B\x02\x00\x00\x00\x04\x00\x00\x00\x02\x00\x00\x00\x00\x42\x00\x0D\x02\x00\x00\x00\x04\x00\x00\x00\x01\x00\x00\x00\x00\x42\x00\x0F\x01\x00\x00\x00\x28\x42\x00\x5C\x05\x00\x00\x00\x04\x00\x00\x00\x25\x00\x00\x00\x00\x42\x00\x79\x01\x00\x00\x00\x10\x42\x00\xC4\x02\x00\x00\x00\x04\x00\x00\x00\x10\x00\x00\x00\x00";
     let payload = RequestPayload::RNGRetrieve(DataLength(16));
-    let written = write_request(rt.alloc(), payload, &mut None).expect(&rt, "a request");
-    assert!(&rt; written.as_slice() == bytes.as_slice());
+    let mut authentication = None;
+    let written = write_request(rt.alloc(), payload, &mut authentication);
+    assert!(&rt; written.expect(&rt, "a request").as_slice() == bytes.as_slice());
+    drop(authentication);
 }

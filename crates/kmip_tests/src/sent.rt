@@ -19,6 +19,7 @@ fn sent(rt: &impl Abort, alloc: Global, client: Client<MemoryLink>) -> Vec<u8> {
     let mut sent = Vec::new(alloc);
     sent.extend_from_slice(client.inner().sent())
         .expect(rt, "memory");
+    drop(client);
     sent
 }
 
@@ -51,7 +52,7 @@ fn each_text_is_its_request(rt: HostRuntime) {
 }
 
 /// The credential is of Alice and her password.
-fn is_alice(rt: &impl Abort, alloc: Global, credential: Option<CredentialType>) {
+fn is_alice(rt: &impl Abort, alloc: Global, credential: &Option<CredentialType>) {
     match credential {
         Some(CredentialType::UsernameAndPassword(user)) => {
             assert!(rt; user.username == text(rt, alloc, "alice"));
@@ -71,6 +72,6 @@ fn each_text_has_the_credential(rt: HostRuntime) {
     let sent = sent(&rt, alloc, client);
     assert_eq!(&rt; sent.len(), 576);
     for text in sent.chunks(192) {
-        is_alice(&rt, alloc, credential_in(&rt, alloc, text));
+        is_alice(&rt, alloc, &credential_in(&rt, alloc, text));
     }
 }
