@@ -6,8 +6,7 @@ use kmip_wire::Text;
 use std::process::Abort;
 
 /// The call came to its end, and took the whole response.
-fn is_done(rt: &impl Abort, client: Client<MemoryLink>, answer: Result<()>) {
-    let mut client = client;
+fn is_done(rt: &impl Abort, mut client: Client<MemoryLink>, answer: Result<()>) {
     answer.expect(rt, "an answer");
     assert!(rt; client.inner().rest().is_empty());
     drop(client);

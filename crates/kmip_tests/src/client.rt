@@ -46,8 +46,14 @@ fn random_bytes<L: Link>(rt: &impl Abort, alloc: Global, client: &mut Client<L>)
 }
 
 /// A request for random bytes over a link that fails at this call is answered so, with so much then sent and left.
-fn planned_fault(rt: &impl Abort, alloc: Global, row: (u64, &str, usize, usize)) {
-    let (call, expected, sent, left) = row;
+fn planned_fault(
+    rt: &impl Abort,
+    alloc: Global,
+    call: u64,
+    expected: &str,
+    sent: usize,
+    left: usize,
+) {
     let mut client = client_over(planned_link(rt, alloc, &[call]));
     let answer = random_bytes(rt, alloc, &mut client);
     assert_eq!(rt; answer.as_str(), expected, "at {call}");
@@ -76,8 +82,8 @@ fn planned_faults(rt: HostRuntime) {
         (7, UNREAD, 120, 24),
         (8, ANSWERED, 120, 0),
     ];
-    for row in rows {
-        planned_fault(&rt, rt.alloc(), row);
+    for (call, expected, sent, left) in rows {
+        planned_fault(&rt, rt.alloc(), call, expected, sent, left);
     }
 }
 

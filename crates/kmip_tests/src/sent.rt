@@ -11,8 +11,7 @@ use std::alloc::Global;
 use std::process::Abort;
 
 /// What three requests for 16 random bytes send, two of which are answered.
-fn sent(rt: &impl Abort, alloc: Global, client: Client<MemoryLink>) -> Vec<u8> {
-    let mut client = client;
+fn sent(rt: &impl Abort, alloc: Global, mut client: Client<MemoryLink>) -> Vec<u8> {
     let told = session(rt, alloc, &mut client, requests(rt, alloc));
     let expected = joined(rt, alloc, &[ANSWERED, REFUSED, ANSWERED]);
     assert_eq!(rt; told.as_str(), expected.as_str());
