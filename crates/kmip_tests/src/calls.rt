@@ -6,10 +6,10 @@ use kmip_wire::Text;
 use std::process::Abort;
 
 /// The call came to its end, and took the whole response.
-fn is_done(rt: &impl Abort, client: Client<MemoryLink>, answer: Result<()>) {
-    let mut client = client;
-    assert!(rt; answer.is_ok());
+fn is_done(rt: &impl Abort, mut client: Client<MemoryLink>, answer: Result<()>) {
+    answer.expect(rt, "an answer");
     assert!(rt; client.inner().rest().is_empty());
+    drop(client);
 }
 
 #[test]
@@ -161,6 +161,7 @@ fn create_rsa_key_pair(rt: HostRuntime) {
     let (private_key, public_key) = (text(&rt, alloc, "x"), text(&rt, alloc, "y"));
     let made = client.create_rsa_key_pair(alloc, 2048, private_key, public_key);
     are_identifiers(&rt, made);
+    drop(client);
 }
 
 /// The call made a pair of these identifiers.
@@ -173,4 +174,5 @@ fn are_identifiers(rt: &impl Abort, made: Result<(Text, Text)>) {
 fn an_error_is_copied(rt: HostRuntime) {
     let error = Error::ServerError(text(&rt, rt.alloc(), "x"));
     is_copied::<Error>(&rt, rt.alloc(), &error);
+    drop(error);
 }

@@ -1,10 +1,10 @@
 //! The client over links with planned faults, and over a link of this file's own.
-use crate::helpers::{bytes_of, client_fed, is_answered, text, told};
+use crate::helpers::{bytes_of, client_fed, is_answered, is_copied, text, told};
 use kmip_client::{Client, ClientBuilder, Error};
 use kmip_link::{Link, LinkError, MemoryLink, PlannedLink};
 use kmip_request::{Attribute, RequestPayload};
 use kmip_types::{AttributeName, AttributeValue, UniqueIdentifier, Values};
-use kmip_wire::{Config, List, Text, TryClone};
+use kmip_wire::{Config, List, Text};
 use std::alloc::Global;
 use std::process::Abort;
 
@@ -45,8 +45,14 @@ fn random_bytes<L: Link>(rt: &impl Abort, alloc: Global, client: &mut Client<L>)
 }
 
 /// A request for random bytes over a link that fails at this call is answered so, with so much then sent and left.
-fn planned_fault(rt: &impl Abort, alloc: Global, row: (u64, &str, usize, usize)) {
-    let (call, expected, sent, left) = row;
+fn planned_fault(
+    rt: &impl Abort,
+    alloc: Global,
+    call: u64,
+    expected: &str,
+    sent: usize,
+    left: usize,
+) {
     let mut client = client_over(planned_link(rt, alloc, &[call]));
     let answer = random_bytes(rt, alloc, &mut client);
     assert_eq!(rt; answer.as_str(), expected, "at {call}");
@@ -59,6 +65,7 @@ fn planned_fault(rt: &impl Abort, alloc: Global, row: (u64, &str, usize, usize))
     let link = client.inner().inner();
     assert_eq!(rt; link.sent().len(), sent, "sent at {call}");
     assert_eq!(rt; link.rest().len(), left, "left at {call}");
+    drop(client);
 }
 
 #[test]
@@ -74,8 +81,8 @@ fn planned_faults(rt: HostRuntime) {
         (7, UNREAD, 120, 24),
         (8, ANSWERED, 120, 0),
     ];
-    for row in rows {
-        planned_fault(&rt, rt.alloc(), row);
+    for (call, expected, sent, left) in rows {
+        planned_fault(&rt, rt.alloc(), call, expected, sent, left);
     }
 }
 
@@ -97,6 +104,7 @@ fn connection_errors_count_modulo_256(rt: HostRuntime) {
     let mut client = client_over(planned_link(&rt, rt.alloc(), &failing));
     fail_256_times(&rt, rt.alloc(), &mut client);
     assert_eq!(&rt; client.connection_error_count(), 0);
+    drop(client);
 }
 
 /// A link that tells nothing, gives eight bytes and keeps the room that each read offers.
@@ -134,6 +142,7 @@ fn a_false_length_takes_room_piece_by_piece(rt: HostRuntime) {
     let answer = random_bytes(&rt, rt.alloc(), &mut client);
     assert_eq!(&rt; answer.as_str(), "Response read error: end of input");
     assert_eq!(&rt; client.inner().rooms.as_slice(), [8, 65536].as_slice());
+    drop(client);
 }
 
 /// The error is printed so, is that of a lost connection or not, and has a copy that equals it.
@@ -141,8 +150,8 @@ fn is_error(rt: &impl Abort, alloc: Global, error: Error, expected: &str, is_los
     let printed = error.to_string(alloc).expect(rt, "memory");
     assert_eq!(rt; printed.as_str(), expected);
     assert_eq!(rt; error.is_connection_error(), is_lost, "{expected}");
-    let copy = error.try_clone(alloc).expect(rt, "memory");
-    assert!(rt; copy == error, "{expected}");
+    is_copied::<Error>(rt, alloc, &error);
+    drop(error);
 }
 
 #[test]
@@ -186,10 +195,12 @@ const ACTIVATED: &str = concat!(
 #[test]
 fn a_key_is_activated(rt: HostRuntime) {
     let mut client = client_fed(&rt, rt.alloc(), ACTIVATED);
-    assert!(&rt; client.activate_key(rt.alloc(), "k1").is_ok());
+    let answer = client.activate_key(rt.alloc(), "k1");
+    answer.expect(&rt, "an answer");
     let request = bytes_of(&rt, rt.alloc(), ACTIVATE);
     assert!(&rt; client.inner().sent() == request.as_slice());
     assert!(&rt; client.inner().rest().is_empty());
+    drop(client);
 }
 
 /// The request for an object.

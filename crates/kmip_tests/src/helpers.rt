@@ -154,12 +154,13 @@ pub fn tell<P: ShowItem>(rt: &impl Abort, alloc: Global, answer: &Result<P>, tol
 pub fn told<P: ShowItem + Drop>(rt: &impl Abort, alloc: Global, answer: Result<P>) -> Text {
     let mut told = Text::new(alloc);
     tell(rt, alloc, &answer, &mut told);
+    drop(answer);
     told
 }
 
 /// The client told this text, and took the whole response.
-pub fn is_answered(rt: &impl Abort, client: Client<MemoryLink>, told: &Text, expected: &str) {
-    let mut client = client;
+pub fn is_answered(rt: &impl Abort, mut client: Client<MemoryLink>, told: &Text, expected: &str) {
     assert_eq!(rt; told.as_str(), expected);
     assert!(rt; client.inner().rest().is_empty());
+    drop(client);
 }

@@ -84,7 +84,9 @@ fn copies(rt: HostRuntime) {
     is_copied::<Blob>(&rt, alloc, &blob);
     is_copied::<BigInteger>(&rt, alloc, &BigInteger(blob));
     is_copied::<List<Text>>(&rt, alloc, &list(&rt, alloc, text(&rt, alloc, "a")));
-    is_copied::<Values>(&rt, alloc, &members(&rt, alloc));
+    let members = members(&rt, alloc);
+    is_copied::<Values>(&rt, alloc, &members);
+    drop(members);
 }
 
 #[test]
@@ -99,7 +101,9 @@ fn copies_of_trees(rt: HostRuntime) {
     let (tree, size) = read_tree(alloc, &bytes).expect(&rt, "a tree");
     assert_eq!(&rt; size, 48);
     is_copied::<Tree>(&rt, alloc, &tree);
-    is_copied::<Trees>(&rt, alloc, &trees(&rt, alloc, tree));
+    let trees = trees(&rt, alloc, tree);
+    is_copied::<Trees>(&rt, alloc, &trees);
+    drop(trees);
 }
 
 // 7C{57 e4,94 "k",64{40{42 e1,45{43 xAA}}}}
@@ -122,6 +126,7 @@ fn an_object(rt: HostRuntime) {
         "PrivateKey{key_block={key_format_type=Raw,key_value={key_material=Bytes(x\"AA\")}}}",
     );
     is_copied::<ManagedObject>(&rt, alloc, object);
+    drop(payload);
 }
 
 #[test]
@@ -156,6 +161,7 @@ fn a_root(rt: HostRuntime) {
     let item = ItemRef::root(&bytes).expect(&rt, "an item");
     let payload = read_root::<GetResponsePayload>(rt.alloc(), item).expect(&rt, "a payload");
     assert_eq!(&rt; payload.unique_identifier.0.as_str(), "k");
+    drop(payload);
 }
 
 #[test]
@@ -167,7 +173,9 @@ fn a_request(rt: HostRuntime) {
         "42005C0500000004000000250000000042007901000000104200C402000000040000001000000000",
     );
     let payload = RequestPayload::RNGRetrieve(DataLength(16));
-    let written = write_request(rt.alloc(), &payload, &None).expect(&rt, "a request");
+    let authentication = None;
+    let written = write_request(rt.alloc(), &payload, &authentication).expect(&rt, "a request");
     let bytes = bytes_of(&rt, rt.alloc(), hex);
     assert!(&rt; written.as_slice() == bytes.as_slice());
+    drop(authentication);
 }

@@ -143,12 +143,14 @@ fn items(rt: HostRuntime) {
     let expected = Some(extension(&rt, rt.alloc()));
     let item = is_read::<BatchItem>(&rt, rt.alloc(), None, ITEM);
     are_equal(&rt, &item.message_extension, &expected);
+    drop(item);
 }
 
 /// The first item of a message is that above.
 fn begins_with_item(rt: &impl Abort, alloc: Global, message: &ResponseMessage) {
     let item = is_read_alone::<BatchItem>(rt, alloc, ITEM);
     are_equal(rt, &message.batch_items.get(0), &Some(&item));
+    drop(item);
 }
 
 #[test]
@@ -172,6 +174,7 @@ fn messages(rt: HostRuntime) {
     let message = is_read::<ResponseMessage>(&rt, alloc, None, hex);
     are_equal(&rt, &message.header, &header);
     begins_with_item(&rt, alloc, &message);
+    drop(message);
 }
 
 #[test]

@@ -11,14 +11,14 @@ use std::alloc::Global;
 use std::process::Abort;
 
 /// What three requests for 16 random bytes send, two of which are answered.
-fn sent(rt: &impl Abort, alloc: Global, client: Client<MemoryLink>) -> Vec<u8> {
-    let mut client = client;
+fn sent(rt: &impl Abort, alloc: Global, mut client: Client<MemoryLink>) -> Vec<u8> {
     let told = session(rt, alloc, &mut client, requests(rt, alloc));
     let expected = joined(rt, alloc, &[ANSWERED, REFUSED, ANSWERED]);
     assert_eq!(rt; told.as_str(), expected.as_str());
     let mut sent = Vec::new(alloc);
     sent.extend_from_slice(client.inner().sent())
         .expect(rt, "memory");
+    drop(client);
     sent
 }
 
@@ -51,7 +51,7 @@ fn each_text_is_its_request(rt: HostRuntime) {
 }
 
 /// The credential is of Alice and her password.
-fn is_alice(rt: &impl Abort, alloc: Global, credential: Option<CredentialType>) {
+fn is_alice(rt: &impl Abort, alloc: Global, credential: &Option<CredentialType>) {
     match credential {
         Some(CredentialType::UsernameAndPassword(user)) => {
             assert!(rt; user.username == text(rt, alloc, "alice"));
@@ -71,6 +71,6 @@ fn each_text_has_the_credential(rt: HostRuntime) {
     let sent = sent(&rt, alloc, client);
     assert_eq!(&rt; sent.len(), 576);
     for text in sent.chunks(192) {
-        is_alice(&rt, alloc, credential_in(&rt, alloc, text));
+        is_alice(&rt, alloc, &credential_in(&rt, alloc, text));
     }
 }

@@ -79,6 +79,7 @@ fn told<P: ShowItem + Drop>(
         tell_diag(rt, &exchange.res_diag, &mut told);
         told.push_str("\n").expect(rt, "memory");
     }
+    drop(exchanges);
     told
 }
 
@@ -112,6 +113,7 @@ fn is_whole_session(rt: &impl Abort, alloc: Global, pieces: usize) {
     assert_eq!(rt; link.sent().len(), 360, "pieces of {pieces}");
     assert!(rt; is_first_part(rt, alloc, link.sent()), "pieces of {pieces}");
     assert!(rt; link.rest().is_empty(), "pieces of {pieces}");
+    drop(client);
 }
 
 #[test]
@@ -131,6 +133,7 @@ fn the_end_of_input_ends_a_session(rt: HostRuntime) {
     assert_eq!(&rt; told.as_str(), expected.as_str());
     assert_eq!(&rt; client.inner().sent().len(), 240);
     assert_eq!(&rt; client.connection_error_count(), 1);
+    drop(client);
 }
 
 /// A session over a link that fails at this call ends with this line, with so much sent.
@@ -144,6 +147,7 @@ fn is_cut_off(rt: &impl Abort, alloc: Global, call: u64, last: &str, sent: usize
     assert_eq!(rt; link.sent().len(), sent, "sent at {call}");
     // 472 bytes were fed, of which 320 are taken
     assert_eq!(rt; link.rest().len(), 152, "left at {call}");
+    drop(client);
 }
 
 #[test]
@@ -163,6 +167,7 @@ fn no_request_sends_nothing(rt: HostRuntime) {
     let link = client.inner();
     assert!(&rt; link.sent().is_empty());
     assert_eq!(&rt; link.rest().len(), 472);
+    drop(client);
 }
 
 /// A session with diagnostics over a link that fails at this call is told in these lines.
@@ -171,6 +176,7 @@ fn is_diagnosed(rt: &impl Abort, alloc: Global, call: u64, lines: &[&str]) {
     let told = session(rt, alloc, &mut client, requests(rt, alloc));
     let expected = joined(rt, alloc, lines);
     assert_eq!(rt; told.as_str(), expected.as_str(), "at {call}");
+    drop(client);
 }
 
 #[test]
@@ -211,4 +217,5 @@ fn what_is_sent_as_memory_runs_out(rt: HostRuntime) {
     let sent = client.inner().sent();
     assert!(&rt; is_first_part(&rt, rt.alloc(), sent), "sent otherwise");
     assert!(&rt; !whole || sent.len() == 360, "sent otherwise");
+    drop(client);
 }
