@@ -10,7 +10,9 @@ end. A call takes memory where it answers `OutOfMemory` or an error that may be 
   `helper::<Type>(`, where the helper is generic and makes that call on a value of its type parameter, as
   `Type::read(`, or as `from_slice::<Type>(` and its like.
 
-A function that no test names may be made by one that a test makes: it is printed as `TEST, through NAME`.
+A function or method that no test names may be made by a function that a test makes: it is printed as
+`TEST, through NAME`. Tests count in the crate that has the call and in the crates above it: a function where the file
+takes its name from that crate.
 
 It reads the sources alone: whether the test compares what the call gives is for its reader to see.
 """
@@ -156,6 +158,10 @@ def test_of(crate, call, files, made, sources):
     types = sources["kmip_enums"] if len(kind) == 1 else {kind}
     for where, text, names in files:
         own = where.split("/")[0]
+        givers = [source for source in sources if source == crate or crate in FROM.get((source, name), ())]
+        if sort == "function" and not any(name in names.get(source, ()) for source in givers) and not re.search(
+                r"\b(?:%s)::(?:\w+::)*%s\b" % ("|".join(givers), name), text):
+            continue
         if sort in TRAITS and len(kind) > 1 and kind in sources[crate]:
             handed_out = [source for source, given in sources.items() if kind in given and (
                 source == crate or crate in FROM.get((source, kind), ()) or source in FROM.get((crate, kind), ()))]
@@ -178,25 +184,38 @@ def above():
     return {other: {crate for crate in below if stands_on(crate, other)} for other in below}
 
 
-def callers(name, code):
-    """The functions outside of tests that call a function by its name."""
+def callers(form, code):
+    """The functions outside of tests that make a call of this form, each with its crate."""
     found = set()
-    for text in code:
-        for place in re.finditer(r"(?<![\w.])(?<!fn )%s(?:::<[^;()]*>)?\(" % name, text):
-            found.update(re.findall(r"\bfn (\w+)", text[:place.start()])[-1:])
-    return found - {name}
+    for crate, text in code:
+        for place in re.finditer(form, text):
+            found.update((crate, it) for it in re.findall(r"\bfn (\w+)", text[:place.start()])[-1:])
+    return found
 
 
-def test_through(name, files, code):
-    """The test file that makes a function through others, and the one of them that it names, or None."""
-    seen, ahead = {name}, [name]
+def test_through(crate, call, files, code, stand):
+    """The test file that makes a function or a method through functions, and the one of them that it names, or None.
+    Each function is looked for in its crate and in those above it alone."""
+    _, kind, name = call
+
+    def callers_of(of, it):
+        above_it = [row for row in code if row[0] in stand[of]]
+        return callers(r"(?<![\w.])(?<!fn )%s(?:::<[^;()]*>)?\(" % it, above_it) - {(of, it)}
+    if kind:
+        # a method, in the files that take its type from its crate
+        takes = r"use [^;.]*\b%s\b[^;.]*;" % kind
+        ahead = callers(r"\.%s\(" % name, [row for row in code if row[0] in stand[crate] and re.search(takes, row[1])])
+    else:
+        ahead = callers_of(crate, name)
+    seen = {(crate, name)}
     while ahead:
-        ahead = sorted({it for below in ahead for it in callers(below, code)} - seen)
+        ahead = sorted(ahead - seen)
         seen.update(ahead)
-        for it in ahead:
+        for of, it in ahead:
             for where, text, _ in files:
-                if re.search(r"(?<!fn )\b%s(?:::<[^;()]*>)?\(" % it, text):
+                if where.split("/")[0] in stand[of] and re.search(r"(?<!fn )\b%s(?:::<[^;()]*>)?\(" % it, text):
                     return f"{where}, through {it}"
+        ahead = {above_it for of, it in ahead for above_it in callers_of(of, it)}
     return None
 
 
@@ -230,13 +249,14 @@ def main():
     for crate in sorted(sources):
         if crate == "kmip_tests":
             continue
-        own_first = sorted(files, key=lambda item: (not item[0].startswith(crate + "/"), item[0]))
+        # the tests of this crate and of those above it, first those that name it
+        near = sorted((it for it in files if it[0].split("/")[0] in stand[crate]),
+                      key=lambda item: (crate not in item[2], item[0]))
         for call in sorted(public_calls(os.path.join(CRATES, crate))):
             _, kind, name = call
-            where = test_of(crate, call, own_first, made, sources)
-            if where is None and call[0] == "function":
-                near = [it for it in own_first if it[0].split("/")[0] in stand[crate]]
-                where = test_through(name, near, [text for of, text in code if of in stand[crate]])
+            where = test_of(crate, call, near, made, sources)
+            if where is None and call[0] in ("function", "method"):
+                where = test_through(crate, call, near, code, stand)
             missing += where is None
             print(f"{crate:22} {(kind + '::' if kind else '') + name:50} {where or 'NO TEST'}")
     print(f"{missing} public calls that take memory have no test")

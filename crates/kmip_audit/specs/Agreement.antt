@@ -1,4 +1,4 @@
--- What is told of exchanges, beside what a client answers.
+-- What is reported of exchanges, compared with what a client returns.
 use Rattle.std.specs.Prelude.{◌≡◌, ◌↔◌, ℕ, List, [], ◌∷◌, map, take, Option, Ok}
 use Rattle.kmip_shape.specs.Val.{Val}
 use Rattle.kmip_enums.specs.declared.operation.Operation.{Operation}
@@ -15,25 +15,25 @@ use Rattle.kmip_audit.specs.declared.outcomes.Outcome.{Outcome}
 use Rattle.kmip_audit.specs.declared.outcomes.Outcome.TheVariants.{Answered}
 use Rattle.kmip_audit.specs.declared.reports.End.TheVariants.{Whole}
 
--- The outcome is that the operation was answered exactly where the answer is a payload.
+-- The outcome is `Answered` exactly where the client's answer is a payload.
 abbrev pub Agree : Operation → Outcome → Answer → Type 0
 Agree operation outcome answer =
     (outcome ≡ Answered operation) ↔ ((payload : Val) × (answer ≡ Ok payload))
 
--- There is one outcome and one answer for each operation, and these agree at each place.
+-- There is one outcome and one answer for each operation, and the two agree.
 abbrev pub AllAgree : List Operation → List Outcome → List Answer → Type 0
 AllAgree [] [] [] = Unit {0}
 AllAgree (operation ∷ operations) (outcome ∷ outcomes) (answer ∷ answers) =
     Agree operation outcome answer × AllAgree operations outcomes answers
 AllAgree operations outcomes answers = ⊥
 
--- Each request is matched, and what the types of Rust keep.
+-- Each request is matched, and one that Rust can hold.
 abbrev pub AreMatched : List RequestPayload → Option CredentialType → Type 0
 AreMatched [] credential = Unit {0}
 AreMatched (payload ∷ payloads) credential =
     (IsHeld payload credential × IsMatched payload) × AreMatched payloads credential
 
--- What the turns of these requests sent, and what they took of the bytes left, is reported as they were answered.
+-- The report on what the turns of these requests sent and took agrees with their answers.
 pub record IsReported (payloads : List RequestPayload) (turns : List Turn)
     (rest : List ℕ) : Type 0 where
   pub sent_end : (report_of (all_sent turns) (take (all_taken turns) rest)).sent_end ≡ Whole

@@ -17,7 +17,7 @@ after_frame b None = b
 
 pub record Frames : Type 0 where
   pub all : List (List ℕ)
-  -- what stands behind them
+  -- the bytes after them
   pub rest : List ℕ
 
 abbrev pub then_frames : List ℕ → Option (List ℕ) → Frames → Frames
@@ -30,6 +30,6 @@ frames_by zero b = record { all = []; rest = b }
 frames_by (suc fuel) b =
     then_frames b (front_frame b) (frames_by fuel (after_frame b (front_frame b)))
 
--- as many frames as stand at the front
+-- all frames at the front, one after the other
 unfoldable pub frames : List ℕ → Frames
 frames b = frames_by (length b) b

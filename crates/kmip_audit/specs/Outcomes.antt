@@ -17,7 +17,7 @@ use Rattle.kmip_client.specs.Outcome.{response_tag}
 use Rattle.kmip_audit.specs.declared.outcomes.Outcome.{Outcome}
 use Rattle.kmip_audit.specs.declared.outcomes.Outcome.TheVariants.{NoRequest, UnreadRequest, NoResponse, Malformed, Unread, NotOne, Failed, Pending, Undone, OtherOperation, NoPayload, Answered}
 
--- the reason and the operation that a batch item gives
+-- the reason, and below the operation, that a batch item gives
 abbrev pub reason_in : Option Val → Option ResultReason
 reason_in (Some (Number (pos n))) = variant_at result_reason_line result_reason_variants n
 reason_in val = None
@@ -30,7 +30,7 @@ abbrev pub payload_outcome : Operation → Option Val → Outcome
 payload_outcome operation None = NoPayload
 payload_outcome operation (Some payload) = Answered operation
 
--- what a batch item tells to a request of the operation
+-- the outcome by a batch item, for a request of the operation
 abbrev pub item_outcome : Operation → Val → Outcome
 item_outcome operation item =
     if has_status OperationFailed item then Failed (reason_in (one_of (field_at 3 item)))
@@ -40,12 +40,12 @@ item_outcome operation item =
     then OtherOperation (operation_in (one_of (field_at 0 item)))
     else payload_outcome operation (one_of (field_at 5 item))
 
--- what the batch items tell, where it is said whether the header counts one
+-- the outcome by the batch items; the flag is whether the header counts one
 abbrev pub items_outcome : Operation → Bool → Vals → Outcome
 items_outcome operation true (AndVal item NoVal) = item_outcome operation item
 items_outcome operation _ items = NotOne
 
--- what a response message tells
+-- the outcome by a response message
 abbrev pub message_outcome : Operation → Val → Outcome
 message_outcome operation message =
     items_outcome operation (is_number (pos 1) (batch_count message)) (batch_items message)
@@ -59,7 +59,7 @@ tree_outcome operation None = Malformed
 tree_outcome operation (Some tree) =
     value_outcome operation (root_read response_message response_tag tree)
 
--- what a response tells, where there is one
+-- the outcome by the bytes of a response, where there is one
 abbrev pub response_outcome : Operation → Option (List ℕ) → Outcome
 response_outcome operation None = NoResponse
 response_outcome operation (Some m) = tree_outcome operation (item_of 64 m)
@@ -68,7 +68,7 @@ abbrev pub request_outcome : Option Request → Option (List ℕ) → Outcome
 request_outcome None response = UnreadRequest
 request_outcome (Some request) response = response_outcome request.operation response
 
--- what the exchange of a request and a response came to, each where there is one
+-- the outcome of an exchange, by its request and its response, where there are such
 abbrev pub outcome_of : Option (List ℕ) → Option (List ℕ) → Outcome
 outcome_of None response = NoRequest
 outcome_of (Some b) response = request_outcome (request_read b) response

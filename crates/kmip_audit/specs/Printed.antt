@@ -35,7 +35,7 @@ abbrev pub operation_name : Option Operation → List ℕ
 operation_name None = codes "none"
 operation_name (Some operation) = (operation_line operation).name
 
--- the name that follows them, of a reason or an operation
+-- the name that follows the words, of a reason or an operation
 abbrev pub outcome_name : Outcome → List ℕ
 outcome_name (Failed reason) = reason_name reason
 outcome_name (OtherOperation operation) = operation_name operation
@@ -62,7 +62,7 @@ entry_text number entry =
     ++ (shown_text entry.request
     ++ (codes "\n<~ " ++ (shown_text entry.response ++ codes "\n")))))))
 
--- those of the entries from this number on
+-- the lines of these entries, the first of which has this number
 abbrev pub entries_text : ℕ → List Entry → List ℕ
 entries_text number [] = []
 entries_text number (entry ∷ entries) = entry_text number entry ++ entries_text (number + 1) entries

@@ -13,7 +13,7 @@ abbrev pub are_none : Option (List ℕ) → Option (List ℕ) → Bool
 are_none None None = true
 are_none f g = false
 
--- the entry of the frames at one place, where each side has one
+-- the entry of the frames at one place, where the sides have them
 abbrev pub entry_of : Option (List ℕ) → Option (List ℕ) → Entry
 entry_of request response = record {
   request = option_map (diagnostic (Some 0x4200)) request;
@@ -21,14 +21,14 @@ entry_of request response = record {
   outcome = outcome_of request response;
 }
 
--- those of the frames of both sides by their places, as many as the longer side has
+-- the entries of the frames of both sides, place by place, as many as the longer side has
 abbrev pub entries_of : List (List ℕ) → List (List ℕ) → List Entry
 entries_of [] [] = []
 entries_of [] (r ∷ rs) = entry_of None (Some r) ∷ entries_of [] rs
 entries_of (q ∷ qs) [] = entry_of (Some q) None ∷ entries_of qs []
 entries_of (q ∷ qs) (r ∷ rs) = entry_of (Some q) (Some r) ∷ entries_of qs rs
 
--- the end of a stream of so many bytes, of which so many are behind the frames
+-- the end of a stream of `all` bytes, of which `rest` come after the frames
 abbrev pub end_of : ℕ → ℕ → End
 end_of all rest = if rest == 0 then Whole else Torn (all - rest)
 

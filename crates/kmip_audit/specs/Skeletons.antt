@@ -1,4 +1,4 @@
--- What the reports on captured streams tell of their frames.
+-- What the reports on captured streams show of their frames.
 use Rattle.std.specs.Prelude.{◌≡◌, ℕ, List, map, Option}
 use Rattle.std.specs.Option.{option_map}
 use Rattle.kmip_wire.specs.Bytes.{AreBytes}

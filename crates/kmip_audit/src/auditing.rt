@@ -21,7 +21,7 @@ fn are_none(request: Option<&[u8]>, response: Option<&[u8]>) -> bool
     }
 }
 
-/// How a stream ends, of which so much is left behind its frames.
+/// How a stream ends, of which these bytes are left after its frames.
 fn end_of(stream: &[u8], left: &[u8]) -> End
     requires { length left.now ≤ length stream.now }
     ensures { result ≡ end_of (length stream.now) (length left.now) }
@@ -35,8 +35,9 @@ fn end_of(stream: &[u8], left: &[u8]) -> End
 
 /// The report on the bytes that a client sent and on those that it received.
 ///
-/// Each stream is cut into frames from its front: the head of a structure and as many bytes as it says. The frames of
-/// both sides stand together by their places alone, whatever they hold. Fails where memory runs out alone.
+/// Each stream is cut into frames from its front: the head of a structure and as many bytes as it
+/// says (KMIP 1.0, 9.1.1). The first frame of one side is paired with the first of the other, and
+/// so on, whatever they hold. Its only error is `OutOfMemory`.
 pub fn audit(alloc: Global, sent: &[u8], received: &[u8]) -> Result<Report, OutOfMemory>
     ensures { IfOk result (λ report. report ≡ report_of sent.now received.now) }
 {

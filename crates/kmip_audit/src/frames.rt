@@ -21,7 +21,7 @@ pub fn front_frame(bytes: &[u8]) -> Option<&[u8]>
     Some(&bytes[..size])
 }
 
-/// The bytes without so many at the front.
+/// The bytes without the first `size`.
 fn rest_from(bytes: &[u8], size: usize) -> &[u8]
     requires { size ≤ length bytes.now }
     ensures { result.now ≡ drop size bytes.now }
@@ -29,7 +29,7 @@ fn rest_from(bytes: &[u8], size: usize) -> &[u8]
     &bytes[size..]
 }
 
-/// What follows the frame at the front, if there is one.
+/// The bytes after the frame at the front; all bytes where there is none.
 pub fn after_frame<'a>(bytes: &'a [u8], frame: Option<&[u8]>) -> &'a [u8]
     requires { option_map (λ frame. frame.now) frame ≡ front_frame bytes.now }
     ensures { result.now ≡ after_frame bytes.now (option_map (λ frame. frame.now) frame.entry) }

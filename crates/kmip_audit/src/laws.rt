@@ -17,8 +17,8 @@ use kmip_diag::diagnostics_tell_skeletons;
 use kmip_request_read::{request_is_message, request_is_read};
 use kmip_wire::tree_computed;
 
-/// A response is told as answered exactly where a client answers a payload: for a response message that was read, and
-/// for the bytes of a message.
+/// A response is reported as answered exactly where a client returns a payload: for a response
+/// message that was read, and for the bytes of a message.
 pub fn answered_exactly_where_ok()
     ensures message { (operation : Operation) (message : Val) →
         Agree operation (message_outcome operation message) (check_response operation message) }
@@ -26,9 +26,10 @@ pub fn answered_exactly_where_ok()
         Agree operation (response_outcome operation (Some m)) (read_answer operation m) }
 {}
 
-/// Where each request of a session is valid and matched, and the bytes left begin with a message for each, within the
-/// limit, what the session sent and took is reported as it was answered: both streams end whole, and there is an entry
-/// for each request, told as answered exactly where the client answered a payload.
+/// Where each request of a session is valid and matched, and the bytes left begin with a message
+/// for each, within the limit, the report on what the session sent and took agrees with its
+/// answers: both streams end whole, and there is an entry for each request, reported as answered
+/// exactly where the client returned a payload.
 pub fn sessions_are_reported()
     ensures { (payloads : List RequestPayload) (credential : Option CredentialType)
         (limit : Option ℕ) (messages : List (List ℕ)) (rest : List ℕ) →
@@ -39,9 +40,9 @@ pub fn sessions_are_reported()
     request_is_read();
 }
 
-/// Two pairs of streams with equal ends and equal outcomes, whose frames all parse, have equal reports exactly where
-/// the skeletons of their frames are equal, one by one. So a report shows tags, types, nesting and the numbers of
-/// enumerations, all of them, and, beside its ends and outcomes, nothing else.
+/// Two pairs of streams with equal ends and equal outcomes, whose frames all parse, have equal
+/// reports exactly where the skeletons of their frames are equal, one by one. So beside ends and
+/// outcomes a report shows all tags, types, nesting and numbers of enumerations, and nothing else.
 pub fn reports_tell_skeletons()
     ensures { (sent received other_sent other_received : List ℕ) → AllParse sent →
         AllParse received → AllParse other_sent → AllParse other_received →

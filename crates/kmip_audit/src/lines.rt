@@ -45,9 +45,11 @@ fn show_entries(alloc: Global, entries: &[Entry], output: &mut Text) -> Result<(
 }
 
 impl Report {
-    /// Adds the report to a text: three lines for each entry, counted from 1, as `#1 answered Get`, `>~ ` with the
-    /// diagnostic of the request and `<~ ` with that of the response, `-` where there is none; and then `sent ` and
-    /// `received ` with the ends, as `whole` or `torn at 152`. Where memory runs out, a first part is added.
+    /// Adds the report to a text: three lines for each entry, counted from 1, as `#1 answered Get`,
+    /// `>~ ` with the diagnostic of the request and `<~ ` with that of the response, `-` where
+    /// there is none; and then `sent ` and `received ` with the ends, as `whole` or `torn at 152`.
+    ///
+    /// `OutOfMemory` may leave a first part of it added.
     pub fn show(&self, alloc: Global, output: &mut Text) -> Result<(), OutOfMemory>
         ensures { OnOk result (output.new ≡ output.old ++ report_text self.now) }
     {

@@ -11,23 +11,24 @@ use std::fmt::{self, Display, Formatter, Write};
 pub enum Outcome {
     /// There is no request, but a response.
     NoRequest,
-    /// The request is not what a client writes: its bytes are those of no matched request, with any credential.
+    /// The request is not what a client writes: no matched request has these bytes, with any
+    /// credential.
     UnreadRequest,
     /// There is no response.
     NoResponse,
     /// The response is not one well-formed item.
     Malformed,
-    /// It is one, and not that of a response message.
+    /// The response is one well-formed item, but no response message.
     Unread,
-    /// The batch count is not 1, or there is not exactly one batch item.
+    /// The batch count is not 1, or there is not exactly one batch item (KMIP 1.0, 6.14 and 6.15).
     NotOne,
     /// The operation failed, for the reason that the server gives (KMIP 1.0, 6.10).
     Failed(Option<ResultReason>),
-    /// The server has not ended the operation.
+    /// The server has not completed the operation yet (KMIP 1.0, 6.9).
     Pending,
-    /// The server has undone the operation.
+    /// The server has undone the operation (KMIP 1.0, 6.9).
     Undone,
-    /// The batch item is of another operation than the request, or of none.
+    /// The batch item is of another operation than the request, or of none (KMIP 1.0, 6.2).
     OtherOperation(Option<Operation>),
     /// The batch item has no payload.
     NoPayload,
@@ -56,7 +57,7 @@ impl Outcome {
         }
     }
 
-    /// The name that follows them, of a reason or an operation.
+    /// The name that follows the words, of a reason or an operation.
     fn name(self) -> &'static str
         ensures { result.now ≡ outcome_name self }
     {

@@ -9,9 +9,9 @@ use std::fmt::{self, Display, Formatter, Write};
 /// How a stream ends.
 #[derive(Clone, Copy, Debug, PartialEq, Eq, Drop)]
 pub enum End {
-    /// With its last frame, or it is empty.
+    /// After its last frame, or it is empty.
     Whole,
-    /// After so many bytes, in frames, follow bytes that begin no frame.
+    /// After this many bytes of whole frames come bytes that are no whole frame.
     Torn(u64),
 }
 
@@ -29,9 +29,11 @@ impl Display for End {
 /// One exchange: the frames at one place of the two streams.
 #[derive(Drop)]
 pub struct Entry {
-    /// The diagnostic of the request, under the prefix 0x4200, where the sent bytes have a frame at this place.
+    /// The diagnostic of the request, with tags under 0x4200, where the sent bytes have a frame at
+    /// this place.
     pub request: Option<Text>,
-    /// The diagnostic of the response, under the prefix 0x4200, where the received bytes have a frame at this place.
+    /// The diagnostic of the response, with tags under 0x4200, where the received bytes have a
+    /// frame at this place.
     pub response: Option<Text>,
     /// What the exchange came to.
     pub outcome: Outcome,
@@ -40,7 +42,7 @@ pub struct Entry {
 /// The report on two captured streams.
 #[derive(Drop)]
 pub struct Report {
-    /// One for each place, as many as the longer side has frames.
+    /// One for each pair of frames, as many as the side with more frames has.
     pub entries: List<Entry>,
     /// How the sent bytes end.
     pub sent_end: End,

@@ -6,9 +6,11 @@ ghost use Rattle.kmip_wire.specs.Reading.{item_of};
 ghost use Rattle.kmip_shape.specs.Writes.{optional};
 ghost use Rattle.kmip_shape.specs.Enumerations.{enumeration_val};
 ghost use Rattle.kmip_enums.specs.Operations.{operation_line};
-ghost use Rattle.kmip_response.specs.Values.{batch_item_val, response_message_val, response_payload_val};
+ghost use Rattle.kmip_response.specs.Values.{batch_item_val, response_message_val};
+ghost use Rattle.kmip_response.specs.Values.{response_payload_val};
 ghost use Rattle.kmip_client.specs.Check.{is_number, one_of};
-ghost use Rattle.kmip_audit.specs.Outcomes.{payload_outcome, item_outcome, message_outcome, tree_outcome};
+ghost use Rattle.kmip_audit.specs.Outcomes.{payload_outcome, item_outcome, message_outcome};
+ghost use Rattle.kmip_audit.specs.Outcomes.{tree_outcome};
 
 use crate::outcomes::Outcome;
 use kmip_enums::{Operation, ResultStatus};
@@ -29,7 +31,7 @@ fn is_of(answered: Option<Operation>, asked: Operation) -> bool
     }
 }
 
-/// Whether there is a payload.
+/// The outcome by whether there is a payload.
 fn payload_outcome(operation: Operation, payload: &Option<ResponsePayload>) -> Outcome
     ensures { result ≡
         payload_outcome operation (one_of (optional response_payload_val payload.now)) }
@@ -40,7 +42,7 @@ fn payload_outcome(operation: Operation, payload: &Option<ResponsePayload>) -> O
     }
 }
 
-/// What a batch item says, by its status, its operation and its payload.
+/// The outcome by a batch item: its status, its operation and its payload.
 #[tactic(auto, using(crate::proofs::Variants::reason_back, crate::proofs::Variants::operation_back))]
 fn item_outcome(operation: Operation, item: &BatchItem) -> Outcome
     ensures { result ≡ item_outcome operation (batch_item_val item.now) }
@@ -66,7 +68,7 @@ fn counts_one(header: &ResponseHeader) -> bool
     header.batch_count == 1
 }
 
-/// What a response message says.
+/// The outcome by a response message.
 fn message_outcome(operation: Operation, message: &ResponseMessage) -> Outcome
     ensures { result ≡ message_outcome operation (response_message_val message.now) }
 {
@@ -79,7 +81,7 @@ fn message_outcome(operation: Operation, message: &ResponseMessage) -> Outcome
     }
 }
 
-/// What a response says to a request of this operation.
+/// The outcome by the bytes of a response, for a request of this operation.
 pub fn response_outcome(
     alloc: Global,
     operation: Operation,

@@ -19,11 +19,13 @@ call_from None = None
 abbrev pub call_of : List ℕ → Option Call
 call_of line = if is_utf8 line then call_from (words_of line) else None
 
--- what calls go by that have no credential, and no limit: how long a response may be was asked of its head
+-- the settings of calls with no credential, and no limit: the limit was already applied to the head
+-- of the response
 abbrev pub plain : Settings
 plain = record { credential = None; limit = None; buffered = false }
 
--- what calls go by that have a credential or none; none where they are to have one, and it is no text
+-- the settings of calls, by whether they carry a credential; none where they do, and the user name
+-- or the password is no UTF-8
 abbrev pub settings_of : Bool → List ℕ → List ℕ → Option Settings
 settings_of false user password = Some plain
 settings_of true user password =
@@ -35,13 +37,14 @@ settings_of true user password =
     })
     else None
 
--- what is told of a request, memory aside: its bytes, or that it has no form, or that what was given is not of the grammar
+-- what C gets for a request, memory aside: its bytes, or that it has no wire form, or that what was
+-- given is not of the grammar
 abbrev pub IsRequested : Option Settings → Option Call → List ℕ → ℤ → List ℕ → Type 0
 IsRequested (Some settings) (Some call) before result after =
     IsTold (request_asked call settings.credential).message no_form before result after
 IsRequested settings call before result after = (result ≡ grammar) × (after ≡ before)
 
--- 0, 1 and 3
+-- how a call ended, as 0, 1 or 3
 abbrev pub status_of : Ending → ℤ
 status_of Answered = pos 0
 status_of Refused = pos 1
@@ -51,7 +54,8 @@ status_of Lost = pos 3
 abbrev pub answer_to : Call → List ℕ → Answer
 answer_to call response = (call_outcome plain call response).answer
 
--- what is told of a response, memory aside: how the call ended, and the line of its answer; or that the call is not of the grammar
+-- what C gets for a response, memory aside: how the call ended, and the line of its answer; or that
+-- the call is not of the grammar
 abbrev pub IsAnswered : Option Call → List ℕ → ℤ → List ℕ → ℤ → List ℕ → Type 0
 IsAnswered (Some call) response status before length after =
     (status ≡ status_of (ending_of (answer_to call response)))

@@ -1,21 +1,22 @@
--- What C is told: lengths as snprintf tells them, and numbers below zero in place of a length.
+-- What C gets: lengths as `snprintf` returns them, and numbers below zero in place of a length.
 use Rattle.std.specs.Prelude.{◌≡◌, ℕ, ℤ, pos, negsuc, List, ◌++◌, drop, Option, Some, None, Result, Ok, Err, ◌==◌, nat_le, length, if◌then◌else◌}
 use Rattle.kmip_wire.specs.declared.error.HeadError.{HeadError}
 use Rattle.kmip_wire.specs.declared.error.HeadError.TheVariants.{NotStructure, TooLong}
 use Rattle.kmip_wire.specs.Heads.{head_says}
 
--- what stands in the room after some bytes were written to its front: all of them, where they fit, and else nothing
+-- the room after bytes were written to its front: all of them where they fit, and else none
 abbrev pub room_with : List ℕ → List ℕ → List ℕ
 room_with bytes room =
     if nat_le (length bytes) (length room) then bytes ++ drop (length bytes) room else room
 
--- the whole length is told, and the bytes are written where they fit; where there are none, a code is told, and nothing is written
+-- the whole length is returned, and the bytes are written where they fit; where there are none,
+-- this code is returned, and nothing is written
 abbrev pub IsTold : Option (List ℕ) → ℤ → List ℕ → ℤ → List ℕ → Type 0
 IsTold (Some bytes) code before result after =
     (result ≡ pos (length bytes)) × (after ≡ room_with bytes before)
 IsTold None code before result after = (result ≡ code) × (after ≡ before)
 
--- -2 to -6
+-- the codes from -2 to -6
 abbrev pub grammar : ℤ
 grammar = negsuc 1
 
@@ -31,7 +32,7 @@ memory = negsuc 4
 abbrev pub no_form : ℤ
 no_form = negsuc 5
 
--- the limit that a number is, where 0 is none
+-- the limit that a number stands for: 0 is no limit
 abbrev pub limit_of : ℕ → Option ℕ
 limit_of limit = if limit == 0 then None else Some limit
 
@@ -41,7 +42,7 @@ length_code (Ok n) = pos n
 length_code (Err NotStructure) = not_a_message
 length_code (Err (TooLong size limit)) = too_long
 
--- of bytes that are to be the eight of a head
+-- the same for bytes, which are refused unless they are the eight of a head
 abbrev pub contents_code : List ℕ → Option ℕ → ℤ
 contents_code bytes limit =
     if length bytes == 8 then length_code (head_says bytes limit) else grammar

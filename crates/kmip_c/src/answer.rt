@@ -1,4 +1,4 @@
-//! What a response answers to a call of C's bytes.
+//! The answer that a response is to a call, given by C as bytes.
 ghost use Rattle.std.specs.Prelude.{◌≡◌, IfOk, MatchOption, None, Some};
 ghost use Rattle.kmip_words.specs.declared.call.Call.{Call as TheCall};
 ghost use Rattle.kmip_words.specs.Exchange.{ending_of, json_line};
@@ -12,13 +12,13 @@ use std::alloc::Global;
 /// How a call ended, and the line of its answer.
 #[derive(Drop)]
 pub struct AnswerLine {
-    /// Whether it was answered, and whether the connection is good for the next call.
+    /// Whether it returned an error, and whether the connection is good for the next call.
     pub ending: Ending,
     /// The line of JSON, with its line feed.
     pub line: Text,
 }
 
-/// The status of a call that ended so.
+/// The status of a call that ended like this: 0, 1 or 3.
 pub fn status_of(ending: Ending) -> i32
     ensures { result ≡ status_of ending }
 {
@@ -29,7 +29,7 @@ pub fn status_of(ending: Ending) -> i32
     }
 }
 
-/// How a call ended that has this response, and its line. None where the call is not of the grammar.
+/// How a call with this response ended, and its line; `None` where the call is not of the grammar.
 pub fn answer_line(
     alloc: Global,
     call: &[u8],

@@ -1,4 +1,4 @@
-//! Calls of C's bytes.
+//! Calls and credentials, given by C as bytes.
 ghost use Rattle.std.specs.Prelude.{◌≡◌, IfOk, map};
 ghost use Rattle.kmip_c.specs.Calls.{call_of, settings_of};
 
@@ -7,7 +7,7 @@ use kmip_words::{Call, Settings, typed_call, words_of};
 use std::alloc::Global;
 use std::str;
 
-/// The words as texts of their own.
+/// Copies of the words.
 fn texts_of(alloc: Global, words: &[&str]) -> Result<List<Text>, OutOfMemory>
     ensures { IfOk result (λ texts. texts ≡ map (λ word. word.now) words.now) }
 {
@@ -18,7 +18,7 @@ fn texts_of(alloc: Global, words: &[&str]) -> Result<List<Text>, OutOfMemory>
     Ok(texts)
 }
 
-/// The call of a line, and none where the line is not of the grammar.
+/// The call of a line; `None` where the line is not of the grammar.
 pub fn call_of(alloc: Global, line: &[u8]) -> Result<Option<Call>, OutOfMemory>
     ensures { IfOk result (λ call. call ≡ call_of line.now) }
 {
@@ -32,7 +32,7 @@ pub fn call_of(alloc: Global, line: &[u8]) -> Result<Option<Call>, OutOfMemory>
     typed_call(alloc, words.as_slice())
 }
 
-/// What a call goes by: the credential, where it is to have one. None where that is no text.
+/// The settings of a call: the credential, where it is to have one. `None` where that is not UTF-8.
 pub fn settings_of(
     alloc: Global,
     has_credential: bool,

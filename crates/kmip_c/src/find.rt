@@ -17,7 +17,7 @@ struct Front<'a> {
     next: &'a [u8],
 }
 
-/// The item that the head at the front announces, where all its bytes are there.
+/// The item at the front, where there are all the bytes that its head says.
 #[tactic(auto, unfolding(kmip_wire::specs::Head::head_length, kmip_wire::specs::Head::head_tag))]
 fn first_item(bytes: &[u8]) -> Option<Front<'_>>
     ensures first { MatchOption result (length bytes.now < size_at bytes.now)
@@ -41,7 +41,8 @@ fn first_item(bytes: &[u8]) -> Option<Front<'_>>
     })
 }
 
-/// The value of the item number `index` with this tag, from 0 and from the front, of bytes that are one well-formed item.
+/// The value of the item number `index`, counted from 0 and from the front, among those with this
+/// tag. `None` where there is none, or the bytes are not one well-formed item.
 pub fn find_value(bytes: &[u8], tag: u32, index: usize) -> Option<&[u8]>
     ensures found { (tree : Tree) → Parses tree 1 bytes.now →
         option_map (λ value. value.now) result ≡ value_at tag index tree bytes.now }

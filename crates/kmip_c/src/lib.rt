@@ -1,8 +1,10 @@
-//! A KMIP client for C and every language that calls C: it makes the bytes of a request, and checks those of a response.
+//! A KMIP client for C and every language that calls C: it makes the bytes of a request, and checks
+//! those of a response.
 //!
-//! It opens nothing and keeps nothing: the caller has the connection, sends the bytes of `kmip_request`, reads 8 bytes,
-//! asks `kmip_contents_len` how many follow, reads them, and hands all to `kmip_answer`. `kmip_value` gives single values
-//! of a response that was answered. No call asks anything of its caller, since nothing checks a caller in C.
+//! It opens nothing and keeps nothing: the caller has the connection, sends the bytes of
+//! `kmip_request`, reads 8 bytes, asks `kmip_contents_len` how many follow, reads them, and passes
+//! all to `kmip_answer`. `kmip_value` returns single values of a response. No function has a
+//! precondition on its arguments, since nothing checks a caller in C.
 #![tactic(auto)]
 
 ghost use Rattle.std.specs.Prelude.{◌≡◌, ◌≢◌, pos};
@@ -37,11 +39,15 @@ const NO_MEMORY: i64 = -5;
 
 const NO_FORM: i64 = -6;
 
-/// Writes the request of a call, its one canonical message, and gives how many bytes it has. They are written only where
-/// they fit.
+/// Writes the request of a call, its one canonical message, to `into`, and returns how many bytes
+/// it has. Where they do not fit, nothing is written.
 ///
-/// `call` is a line as `sign ID HEX`. With `has_credential` the request carries this user name and password.
-/// -2: the call, or a text of the credential, is not of the grammar. -5: memory ran out. -6: the request has no wire form.
+/// `call` is a line as `sign ID HEX`. With `has_credential` the request carries this user name and
+/// password. After each code nothing is written:
+///
+/// - -2: the call is not of the grammar, or the user name or the password is not UTF-8.
+/// - -5: memory ran out.
+/// - -6: the request has no wire form.
 #[unsafe(no_mangle)]
 pub extern "C" fn kmip_request(
     alloc: Global,
@@ -73,7 +79,7 @@ pub extern "C" fn kmip_request(
     }
 }
 
-/// How responses are read, where a limit of 0 is none.
+/// How responses are read, where the limit 0 is no limit.
 fn config_of(limit: u32) -> Config
     ensures { result.max_bytes ≡ limit_of limit }
 {
@@ -84,10 +90,11 @@ fn config_of(limit: u32) -> Config
     }
 }
 
-/// How many bytes follow the 8 bytes at the front of a response.
+/// Returns how many bytes follow the 8 bytes at the front of a response.
 ///
-/// -2: `bytes` are not 8. -3: the head is not that of a structure. -4: the response is longer than `limit` bytes, its
-/// head counted, where `limit` is not 0.
+/// - -2: `bytes` are not 8.
+/// - -3: the head is not that of a structure.
+/// - -4: the response has more bytes than `limit`, its head counted; the limit 0 is no limit.
 #[unsafe(no_mangle)]
 pub extern "C" fn kmip_contents_len(bytes: &[u8], limit: u32) -> i64
     ensures { result ≡ contents_code bytes.now (limit_of limit) }
@@ -105,11 +112,17 @@ pub extern "C" fn kmip_contents_len(bytes: &[u8], limit: u32) -> i64
     }
 }
 
-/// Writes what a response answers to a call, as a line of JSON, and gives how many bytes that has in `length`. They are
-/// written only where they fit. What stands after the first message of `response` is not looked at.
+/// Writes the answer that a response is to a call to `into`, as a line of JSON, and sets `length`
+/// to how many bytes the line has. Where they do not fit, nothing is written. What stands after the
+/// first message of `response` is not looked at.
 ///
-/// 0: it is a valid response of success. 1: it is an error. 2: the call is not of the grammar. 3: the response ends
-/// early, or is no well-formed message. 5: memory ran out. After 2 and 5 there is no line.
+/// It returns one of these; after 2 and 5 there is no line, and `length` is 0:
+///
+/// - 0: the response is valid and reports success.
+/// - 1: the answer is an error, and the connection is good for the next call.
+/// - 2: the call is not of the grammar.
+/// - 3: the response ends early, or is no well-formed message.
+/// - 5: memory ran out.
 #[unsafe(no_mangle)]
 pub extern "C" fn kmip_answer(
     alloc: Global,
@@ -138,11 +151,12 @@ pub extern "C" fn kmip_answer(
     }
 }
 
-/// Writes the value of the item number `index`, from 0, with this tag, and gives how many bytes it has. They are written
-/// only where they fit. Items are counted in the order in which they stand in the response, a structure before what is in
-/// it, and the header's too.
+/// Writes the value of the item number `index`, counted from 0, among those with this tag, to
+/// `into`, and returns how many bytes it has. Where they do not fit, nothing is written. Items are
+/// counted in the order in which they stand in the response, those of its header too, a structure
+/// before the items in it.
 ///
-/// -3: there is no such item, or the response is not one well-formed message.
+/// - -3: there is no such item, or the response is not one well-formed message. Nothing is written.
 #[unsafe(no_mangle)]
 pub extern "C" fn kmip_value(response: &[u8], tag: u32, index: usize, into: &mut [u8]) -> i64
     ensures found { (tree : Tree) → Parses tree 1 response.now →

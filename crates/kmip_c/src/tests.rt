@@ -19,7 +19,8 @@ const RESPONSE: [u8; 152] = [
 /// The line of its answer.
 const LINE: &str = "{\"answer\":{\"random_bytes\":\"DEADBEEF\"}}\n";
 
-/// `kmip_request` with no clause, as are the three below, so that a test's proof looks into no definition.
+/// `kmip_request` without its clauses, so that the proof of a test looks into no definition; so are
+/// the three functions below.
 fn request(
     alloc: Global,
     call: &[u8],

@@ -33,8 +33,8 @@ order_limited credential None file words = Some (order_with credential None file
 order_limited credential (Some limit) file words =
     order_numbered credential (number_of limit) file words
 
--- `[user=U] [password=P] [limit=N] [record=FILE] CALL`: each option at most once and in this order, and a password only
--- after a user; without `password=P` it is that of the environment
+-- `[user=U] [password=P] [limit=N] [record=FILE] CALL`: each option at most once and in this order,
+-- and `password=P` only after `user=U`; without it the password is that of the environment
 unfoldable pub order_of : Option (List ℕ) → List (List ℕ) → Option Order
 order_of environment words =
     let user : Given = option_given (codes "user=") words in

@@ -1,4 +1,4 @@
--- What a call does to its sink and its source, and what it answers.
+-- What a call does to its sink and its source, and its answer.
 use Rattle.std.specs.Prelude.{◌≡◌, ℕ, List, ◌++◌, take, Bool, true, false, Option, Some, None, Err, codes, IsTrue}
 use Rattle.kmip_link.specs.State.{SourceState, SinkState, Rose, source_left}
 use Rattle.kmip_client.specs.Outcome.{Answer}
@@ -14,7 +14,7 @@ use Rattle.kmip_call.specs.Wire.{IsOneAtMost}
 abbrev pub answer_err : Error → Answer
 answer_err error = Err error
 
--- the bytes of a response, where the answer is what they say
+-- the bytes of a response, where `true` says that the answer is what they say
 abbrev pub response_if : Bool → List ℕ → Option (List ℕ)
 response_if true response = Some response
 response_if false response = None
@@ -27,11 +27,12 @@ request_bytes settings call = or_empty (request_asked call settings.credential).
 abbrev pub taken_by : Settings → Call → List ℕ → ℕ
 taken_by settings call rest = (call_outcome settings call rest).taken
 
--- A call went from these states of its sink and its source to those, and has this answer. What is said of bytes holds
--- where the sink, or the source, tells its bytes.
+-- A call went from these states of its sink and its source to those, and has this answer. What is
+-- said of bytes holds where the sink, or the source, tells its bytes.
 pub data Carried (settings : Settings) (call : Call) (w0 w1 : SinkState) (s0 s1 : SourceState)
     (response : Option (List ℕ)) (answer : Answer) : Type 0 where
-  -- the request was sent, and one message at most was read: the answer is what these bytes say, and what the bytes left say
+  -- the request was sent, and at most one message was read: the answer is what its bytes say, which
+  -- is what all the bytes left say
   answered : (bytes : List ℕ) → response ≡ Some bytes →
       answer ≡ (call_outcome settings call bytes).answer → IsOneAtMost settings.limit bytes →
       (IsTrue w0.tells → w1.sent ≡ w0.sent ++ request_bytes settings call) →
@@ -51,7 +52,8 @@ pub data Carried (settings : Settings) (call : Call) (w0 w1 : SinkState) (s0 s1 
       (IsTrue s0.tells → GivesPart s0 s1 (taken_by settings call (source_left s0))) →
       Carried settings call w0 w1 s0 s1 response answer
 
--- What a call of these words sends: its one canonical message, none where it has no wire form.
+-- The request is that of the call of these words: its one canonical message, none where it has no
+-- wire form.
 pub record Requests (settings : Settings) (words : List (List ℕ))
     (request : Option (List ℕ)) : Type 0 where
   pub call : Call

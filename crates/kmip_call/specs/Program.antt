@@ -12,7 +12,8 @@ use Rattle.kmip_call.specs.Record.{is_recordable, record_of}
 use Rattle.kmip_call.specs.Exchange.{Carried}
 use Rattle.kmip_call.specs.declared.command.Order.{Order}
 
--- whether a call of these words may be made: where it is to be recorded, only if a script may hold it
+-- whether a call of these words may be made: where it is to be recorded, only if a script may hold
+-- it
 abbrev pub is_allowed : Option (List ℕ) → List (List ℕ) → Bool
 is_allowed (Some file) words = is_recordable words
 is_allowed None words = true
@@ -36,8 +37,8 @@ pub record Makes (order : Order) (w0 w1 : SinkState) (s0 s1 : SourceState)
   pub line_is : line ≡ json_line call answer
   pub ending_is : ending ≡ ending_of answer
 
--- The program made the call: over its sink and source, the record and the line of the answer. After 4 one of the last
--- two could not be written.
+-- The program made the call over its sink and source, and wrote the record and the line of the
+-- answer; after 4, one of these two could not be written.
 pub record Ran (order : Order) (w0 w1 : SinkState) (s0 s1 : SourceState) (f0 f1 k0 k1 : SinkState)
     (status : ℕ) : Type 0 where
   pub call : Call

@@ -9,7 +9,7 @@ abbrev pub with_spaces : List (List ℕ) → List ℕ
 with_spaces [] = []
 with_spaces (word ∷ words) = word ++ 32 ∷ with_spaces words
 
--- a response as a word: `-` where there is none, or else upper-case hex
+-- a response as a word: `-` where it is empty, or else upper-case hex
 abbrev pub response_word : List ℕ → List ℕ
 response_word [] = codes "-"
 response_word (byte ∷ response) = encode_upper (byte ∷ response)

@@ -8,11 +8,11 @@ use Rattle.kmip_client.specs.Message.{message_at, taken_for}
 abbrev pub taken_at : List ℕ → Option ℕ → ℕ
 taken_at rest limit = taken_for rest (message_at rest limit)
 
--- how many bytes of contents a head says, where it is whole and not refused
+-- how many bytes of contents a head says, where all of it is there and it is not refused
 abbrev pub contents_of : List ℕ → Option ℕ → Option ℕ
 contents_of bytes limit =
     if nat_lt (length bytes) 8 then None else result_ok (head_says (take 8 bytes) limit)
 
--- The bytes are no more than one message: each is taken for it.
+-- The bytes are at most one message: all of them are taken for it.
 abbrev pub IsOneAtMost : Option ℕ → List ℕ → Type 0
 IsOneAtMost limit bytes = taken_at bytes limit ≡ length bytes

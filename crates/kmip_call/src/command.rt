@@ -11,7 +11,7 @@ use std::alloc::Global;
 /// A call that is to be made.
 #[derive(Drop)]
 pub struct Order {
-    /// `user=U`, `password=P` and `limit=N`.
+    /// `user=U`, `password=P` and `limit=N`: the credential, and the most bytes of a response.
     pub settings: Settings,
     /// `record=FILE`: where the call and its response are recorded.
     pub file: Option<Text>,
@@ -30,7 +30,7 @@ pub enum Command {
     Make(Order),
 }
 
-/// The first of two texts that may be absent.
+/// The first that is there of two texts that may be absent.
 fn first_of<'a>(first: Option<&'a str>, second: Option<&'a str>) -> Option<&'a str>
     ensures { option_map (λ text. text.now) result ≡
         first_of (option_map (λ text. text.now) first.entry)
@@ -67,8 +67,8 @@ fn order_with(
     }))
 }
 
-/// The call of these words, or none where its options are not of the grammar. The password is that of the words, or
-/// else that of the environment.
+/// The call of these words; `None` where its options are not of the grammar. The password is that
+/// of the words, or else that of the environment.
 fn order_of(
     alloc: Global,
     environment: Option<&str>,
@@ -101,7 +101,7 @@ fn make_command(order: Option<Order>) -> Option<Command>
     }
 }
 
-/// The command of words that are one alone, and else that of a call.
+/// The command of one word: `--help`, `--version`, or else a call.
 fn one_word(
     alloc: Global,
     environment: Option<&str>,
@@ -119,7 +119,7 @@ fn one_word(
     }
 }
 
-/// The command of the words after the program's name, or none where they are not of the grammar.
+/// The command of the words after the program's name; `None` where they are not of the grammar.
 pub fn command_of(
     alloc: Global,
     environment: Option<&str>,

@@ -1,5 +1,6 @@
 //! One call over a sink and a source, and the line of its answer.
-ghost use Rattle.std.specs.Prelude.{◌≡◌, ◌++◌, [], cond, true, false, Some, IsSome, option_map, IfOk, OnOk};
+ghost use Rattle.std.specs.Prelude.{◌≡◌, ◌++◌, [], cond, true, false, Some, IsSome, option_map};
+ghost use Rattle.std.specs.Prelude.{IfOk, OnOk};
 ghost use Rattle.kmip_words.specs.Exchange.{ending_of, loses_link, json_line, call_outcome};
 ghost use Rattle.kmip_words.specs.declared.ending.Ending.TheVariants as endings;
 ghost use Rattle.kmip_words.specs.declared.call.Call.{Call as TheCall};
@@ -17,13 +18,14 @@ use std::alloc::Global;
 /// How a call ended.
 #[derive(Clone, Copy)]
 pub struct CallEnd {
-    /// Whether it was answered, and whether the connection is good for the next call.
+    /// Whether it returned an error, and whether the connection is good for the next call.
     pub ending: Ending,
-    /// Whether the answer is what the bytes of the response say, and not that the sink or the source failed.
+    /// Whether the answer is what the bytes of the response say: else the sink or the source
+    /// failed.
     pub by_response: bool,
 }
 
-/// The answer that these bytes are to the call of these words.
+/// Adds the answer that these bytes are to the call of these words, as a line of JSON.
 fn answer_by(
     alloc: Global,
     settings: &Settings,
@@ -50,7 +52,7 @@ fn answer_by(
     })
 }
 
-/// The answer that the sink or the source failed.
+/// Adds the error of the sink or the source as the answer, as a line of JSON.
 fn answer_failed(alloc: Global, error: Error, line: &mut Text) -> Result<CallEnd, OutOfMemory>
     ensures line { OnOk result ((call : TheCall) →
         line.new ≡ line.old ++ json_line call (answer_err error)) }
@@ -65,8 +67,8 @@ fn answer_failed(alloc: Global, error: Error, line: &mut Text) -> Result<CallEnd
     })
 }
 
-/// Makes the call of these words, whose request is given, none where it has no wire form: sends it, reads one message at
-/// most to `response`, which is empty, and adds the answer as a line of JSON.
+/// Makes the call of these words: sends its `request`, which is `None` where it has no wire form,
+/// reads at most one message to `response`, which is empty, and adds the answer as a line of JSON.
 pub fn exchange<W: Sink, S: Source>(
     alloc: Global,
     settings: &Settings,

@@ -1,9 +1,11 @@
-//! The program `kmip_call`: it makes a call of a KMIP client over its own standard input and output.
+//! The program `kmip_call`: it makes a call of a KMIP client over its own standard input and
+//! output.
 //!
-//! These are the wire: what it writes there is the request's one canonical message, and what it reads there is one
-//! response. So any program that carries the two to a server, as `openssl s_client`, `socat` or `stunnel` does over
-//! TLS, makes it a client of that server. The answer is a line of JSON on standard error, and the status is one from 0
-//! to 5, as `program::run` says.
+//! These are the wire: what it writes there is the request's one canonical message, and what it
+//! reads there is one response. So any program that carries bytes to a server and back, as
+//! `openssl s_client`, `socat` or `stunnel` does over TLS, makes it a client of that server. The
+//! answer is a line of JSON on standard error. The status is one from 0 to 5, as `program::run`
+//! says.
 #![tactic(auto)]
 
 mod command;
@@ -65,7 +67,7 @@ After 3, 4 and 5 the connection is to be closed.
 
 const VERSION: &str = "kmip_call 1.0\n";
 
-/// The words after the program's name. There is no list of them where memory runs out, and where one is not UTF-8.
+/// The words after the program's name. `OutOfMemory` comes also where one of them is not UTF-8.
 fn given_words(rt: &HostRuntime) -> Result<List<Text>, OutOfMemory> {
     let mut words = List::new(rt.alloc());
     let Ok(args) = env::args(rt) else {
@@ -77,7 +79,8 @@ fn given_words(rt: &HostRuntime) -> Result<List<Text>, OutOfMemory> {
     Ok(words)
 }
 
-/// The password of the environment. There is an error where memory runs out, and where it is not UTF-8.
+/// The password of the environment, `KMIP_PASSWORD`. `OutOfMemory` comes also where it is not
+/// UTF-8.
 fn given_password(rt: &HostRuntime) -> Result<Option<Text>, OutOfMemory> {
     match env::var(rt, "KMIP_PASSWORD") {
         Ok(password) => Ok(Some(Text::of(rt.alloc(), password.as_str())?)),
@@ -86,7 +89,7 @@ fn given_password(rt: &HostRuntime) -> Result<Option<Text>, OutOfMemory> {
     }
 }
 
-/// Writes a text on standard output, and returns the status.
+/// Writes a text on standard output, and returns the status: 4 where that fails, and else 0.
 fn say(rt: &HostRuntime, text: &str) -> u8 {
     let mut sink = StdSink::new(rt.stdout());
     match kmip_words::write_out(&mut sink, text.as_bytes()) {
@@ -95,8 +98,8 @@ fn say(rt: &HostRuntime, text: &str) -> u8 {
     }
 }
 
-/// Makes a call over standard input and output. A file for the record that cannot be opened is a word out of the grammar,
-/// and nothing is sent.
+/// Makes a call over standard input and output, and returns the status. Where the file for the
+/// record cannot be opened, it returns 2, as for a word out of the grammar, and nothing is sent.
 fn perform(rt: &HostRuntime, order: &Order) -> u8 {
     let mut wire = StdSink::new(rt.stdout());
     let mut source = StdSource::new(rt.stdin());

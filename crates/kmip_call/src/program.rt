@@ -1,5 +1,6 @@
 //! The program.
-ghost use Rattle.std.specs.Prelude.{◌≡◌, ◌≢◌, ◌≤◌, ◌++◌, ◌⊎◌, [], option_map, true, None, IfOk, OnOk, IsErrOf, IsTrue, MatchOption};
+ghost use Rattle.std.specs.Prelude.{◌≡◌, ◌≢◌, ◌≤◌, ◌++◌, ◌⊎◌, [], option_map, true, None, IfOk};
+ghost use Rattle.std.specs.Prelude.{OnOk, IsErrOf, IsTrue, MatchOption};
 ghost use Rattle.kmip_link.specs.State.{Rose};
 ghost use Rattle.kmip_words.specs.Streams.{WrotePart};
 ghost use Rattle.kmip_call.specs.Exchange.{response_if, Requests};
@@ -14,7 +15,7 @@ use kmip_wire::{OutOfMemory, Text};
 use kmip_words::{Ending, request_of, typed_call, write_out};
 use std::alloc::Global;
 
-/// The status of a call that ended so.
+/// The status of a call that ended like this.
 fn status_of(ending: Ending) -> u8
     ensures { result ≡ status_of ending }
 {
@@ -35,7 +36,8 @@ fn is_allowed(alloc: Global, order: &Order) -> Result<bool, OutOfMemory>
     }
 }
 
-/// What a call sends, none where it has no wire form; none at all where its words are not of the grammar.
+/// The request of a call: `Some(None)` where it has no wire form, and `None` where its words are
+/// not of the grammar.
 fn request_for(alloc: Global, order: &Order) -> Result<Option<Option<Vec<u8>>>, OutOfMemory>
     ensures { IfOk result (λ found. MatchOption found (call_for order.now ≡ None)
         (λ request. (is_allowed order.now.file order.now.words ≡ true)
@@ -50,8 +52,9 @@ fn request_for(alloc: Global, order: &Order) -> Result<Option<Option<Vec<u8>>>, 
     }
 }
 
-/// Makes a call: its response goes to `response` and the line of its answer to `line`, which are empty. None where the
-/// words are not of the grammar, and then nothing was sent or read.
+/// Makes a call: its response goes to `response` and the line of its answer to `line`, which are
+/// empty. It returns `None` where the words are not of the grammar, and then nothing was sent or
+/// read.
 fn make_call<W: Sink, S: Source>(
     alloc: Global,
     order: &Order,
@@ -87,7 +90,8 @@ fn make_call<W: Sink, S: Source>(
     Ok(Some(end))
 }
 
-/// Records the response of a call, where a file for it is given and the answer is what the response says.
+/// Records the response of a call, where a file for it is given and the answer is what the response
+/// says.
 fn keep<F: Sink>(
     alloc: Global,
     order: &Order,
@@ -140,14 +144,17 @@ fn report<F: Sink, K: Sink>(
     }
 }
 
-/// Makes a call and answers the program's status.
+/// Makes a call, and returns the program's status.
 ///
-/// `wire` gets the request and `source` gives the response, `told` gets the answer as a line of JSON, and `kept` the
-/// record, where `record=FILE` asks for one.
+/// The request goes to `wire`, the response comes from `source`, the answer goes to `told` as a
+/// line of JSON, and the record to `kept`, where `record=FILE` asks for one.
 ///
-/// 0: the call was answered. 1: it has an error for an answer, and the connection is good for the next call. 2: the words
-/// are not of the grammar, and nothing was sent, read or written. 3: the connection failed or ended, or gave bytes that
-/// are no message: close it. 4: the record or the answer could not be written; the exchange was made. 5: memory ran out.
+/// - 0: the call returned a payload, or that it was done.
+/// - 1: it returned an error, and the connection is good for the next call.
+/// - 2: the words are not of the grammar, and nothing was sent, read or written.
+/// - 3: the connection failed or ended, or gave bytes that are no message: close it.
+/// - 4: the record or the answer could not be written; the exchange was made.
+/// - 5: memory ran out, and the request may have been sent: close the connection.
 pub fn run<W: Sink, S: Source, F: Sink, K: Sink>(
     alloc: Global,
     order: &Order,

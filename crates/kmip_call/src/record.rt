@@ -2,7 +2,8 @@
 ghost use Rattle.std.specs.Prelude.{◌≡◌, ◌++◌, [], codes, IfOk, OnOk, IsErrOf, IsTrue};
 ghost use Rattle.kmip_link.specs.State.{Rose};
 ghost use Rattle.kmip_call.specs.Exchange.{response_if};
-ghost use Rattle.kmip_call.specs.Record.{with_spaces, response_word, record_line, is_recordable, record_text, record_of};
+ghost use Rattle.kmip_call.specs.Record.{with_spaces, response_word, record_line, is_recordable};
+ghost use Rattle.kmip_call.specs.Record.{record_text, record_of};
 
 use kmip_link::{LinkError, Sink};
 use kmip_wire::{OutOfMemory, Text};
@@ -20,7 +21,7 @@ fn push_spaced(words: &[Text], line: &mut Text) -> Result<(), OutOfMemory>
     Ok(())
 }
 
-/// Adds a response as a word: `-` where there is none, or else upper-case hex.
+/// Adds a response as a word: `-` where it is empty, or else upper-case hex.
 fn push_response(alloc: Global, response: &[u8], line: &mut Text) -> Result<(), OutOfMemory>
     ensures { OnOk result (line.new ≡ line.old ++ response_word response.now) }
 {
@@ -31,7 +32,7 @@ fn push_response(alloc: Global, response: &[u8], line: &mut Text) -> Result<(), 
     line.push_str(text.as_str())
 }
 
-/// The line of a call by its words, and its response.
+/// The line of a call, by its words, and its response, with no line feed.
 fn record_line(alloc: Global, words: &[Text], response: &[u8]) -> Result<Text, OutOfMemory>
     ensures { IfOk result (λ line. line ≡ record_line words.now response.now) }
 {
@@ -41,7 +42,8 @@ fn record_line(alloc: Global, words: &[Text], response: &[u8]) -> Result<Text, O
     Ok(line)
 }
 
-/// Whether a script may hold these words as a call: no word is empty or has a space, and the call is one of a script.
+/// Whether a script may hold these words as a call: no word is empty or has a space, and the call
+/// is one of a script.
 pub fn is_recordable(alloc: Global, words: &[Text]) -> Result<bool, OutOfMemory>
     ensures { IfOk result (λ recordable. recordable ≡ is_recordable words.now) }
 {

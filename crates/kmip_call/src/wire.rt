@@ -14,12 +14,14 @@ use std::alloc::Global;
 pub enum TransferStop {
     /// The sink failed before it took the whole request, and nothing was read.
     WriteFault,
-    /// The source failed. The request was sent.
+    /// The source failed after the request was sent.
     ReadFault,
+    /// Out of memory; the request may have been sent, in whole or in part.
     OutOfMemory,
 }
 
-/// How many bytes of contents the head of a message tells, where it is whole and not refused under the limit.
+/// How many bytes of contents the head of a message says; `None` where it is not whole, or is
+/// refused under the limit.
 fn contents_of(bytes: &[u8], limit: Option<u32>) -> Option<u32>
     ensures { result ≡ contents_of bytes.now limit }
 {
@@ -30,8 +32,9 @@ fn contents_of(bytes: &[u8], limit: Option<u32>) -> Option<u32>
     }
 }
 
-/// Reads one message to `response`, which is empty: the 8 bytes of its head, and then just the contents that this says,
-/// unless it is refused. Where the source ends before, it is what there was.
+/// Reads one message to `response`, which is empty: the 8 bytes of its head, and then, unless the
+/// head is refused, as many bytes of contents as it says. Where the source ends early, `response`
+/// is all that there was.
 fn read_message<S: Source>(
     alloc: Global,
     source: &mut S,
@@ -60,7 +63,7 @@ fn read_message<S: Source>(
     }
 }
 
-/// Sends a request, and reads what is sent back to `response`, which is empty: one message at most.
+/// Sends a request, and reads at most one message to `response`, which is empty.
 pub fn transfer<W: Sink, S: Source>(
     alloc: Global,
     limit: Option<u32>,

@@ -7,5 +7,6 @@ pub mod Texts
 pub mod Variants
 pub mod Helped
 pub mod Sessions
+pub mod Going
 pub mod Said
 pub mod Orders

@@ -1,4 +1,5 @@
--- What a response message that was read answers to a request of an operation: by its batch count, and by the status, reason,
+-- What a response message that was read answers to a request of an operation: by its batch count,
+-- and by the status, reason,
 -- message and operation of its batch item (KMIP 1.0, 6.2, 6.9 to 6.11 and 6.14).
 use Rattle.std.specs.Prelude.{ℕ, zero, suc, ℤ, pos, List, [], ◌++◌, Bool, true, false, not, Option, Some, None, if◌then◌else◌, Result, Ok, Err, codes}
 use Rattle.std.specs.Ordering.{int_eq}
@@ -49,50 +50,64 @@ text_in val = []
 
 -- the parts of a response message: header and batch items (KMIP 1.0, 7.1 and 7.2)
 abbrev pub batch_count : Val → Option Val
-batch_count message = elim (one_of (field_at 0 message)) [ None ↦ None | Some header ↦ one_of (field_at 2 header) ]
+batch_count message =
+    elim (one_of (field_at 0 message)) [ None ↦ None | Some header ↦ one_of (field_at 2 header) ]
 
 abbrev pub batch_items : Val → Vals
 batch_items message = many_of (field_at 1 message)
 
--- the parts of a batch item: operation, unique batch item identifier, result status, reason and message, payload
+-- the parts of a batch item: operation, unique batch item identifier, result status, reason and
+-- message, payload
 abbrev pub has_operation : Operation → Val → Bool
-has_operation operation item = is_number (pos (operation_line operation).number) (one_of (field_at 0 item))
+has_operation operation item =
+    is_number (pos (operation_line operation).number) (one_of (field_at 0 item))
 
 abbrev pub has_status : ResultStatus → Val → Bool
-has_status status item = is_number (pos (result_status_line status).number) (one_of (field_at 2 item))
+has_status status item =
+    is_number (pos (result_status_line status).number) (one_of (field_at 2 item))
 
 -- the operation of a batch item as texts print it
 abbrev pub operation_shown : Option Val → List ℕ
-operation_shown (Some (Number (pos n))) = codes "Some(" ++ (entry_styled operations n Bare ++ codes ")")
+operation_shown (Some (Number (pos n))) =
+    codes "Some(" ++ (entry_styled operations n Bare ++ codes ")")
 operation_shown val = codes "None"
 
 abbrev pub count_text : ℕ → List ℕ
 count_text n = codes "Expected one batch item in response but received " ++ decimal n
 
 abbrev pub failed_text : Operation → List ℕ → List ℕ
-failed_text operation message = codes "Operation " ++ ((operation_line operation).name ++ (codes " failed: " ++ message))
+failed_text operation message =
+    codes "Operation " ++ ((operation_line operation).name ++ (codes " failed: " ++ message))
 
 abbrev pub mismatch_text : Operation → List ℕ → List ℕ
 mismatch_text operation shown =
-    codes "Response operation " ++ (shown ++ (codes " does not match request operation " ++ (operation_line operation).name))
+    codes "Response operation " ++ (shown ++ (codes
+    " does not match request operation " ++ (operation_line operation).name))
 
 abbrev pub payload_answer : Option Val → Result Val Error
-payload_answer None = Err (InternalError (codes "Unable to process response payload due to wrong deserialized type!"))
+payload_answer None =
+    Err (InternalError (codes "Unable to process response payload due to wrong deserialized type!"))
 payload_answer (Some payload) = Ok payload
 
 -- a failed item answers that it was not found, or what the server says
 abbrev pub failure : Operation → Option Val → Option Val → Result Val Error
 failure operation reason message =
-    if is_number (pos (result_reason_line reasons.ItemNotFound).number) reason then Err (ItemNotFound (failed_text operation (text_in message)))
+    if is_number (pos (result_reason_line reasons.ItemNotFound).number) reason
+    then Err (ItemNotFound (failed_text operation (text_in message)))
     else Err (ServerError (failed_text operation (text_in message)))
 
 -- what a batch item answers
 unfoldable pub check_item : Operation → Val → Result Val Error
 check_item operation item =
-    if has_status OperationFailed item then failure operation (one_of (field_at 3 item)) (one_of (field_at 4 item))
-    else if has_status OperationPending item then Err (InternalError (codes "Result status 'operation pending' is not supported"))
-    else if has_status OperationUndone item then Err (InternalError (codes "Result status 'operation undone' is not supported"))
-    else if not (has_operation operation item) then Err (InternalError (mismatch_text operation (operation_shown (one_of (field_at 0 item)))))
+    if has_status OperationFailed item
+    then failure operation (one_of (field_at 3 item)) (one_of (field_at 4 item))
+    else if has_status OperationPending item
+    then Err (InternalError (codes "Result status 'operation pending' is not supported"))
+    else if has_status OperationUndone item
+    then Err (InternalError (codes "Result status 'operation undone' is not supported"))
+    else if not (has_operation operation item)
+    then Err (InternalError
+    (mismatch_text operation (operation_shown (one_of (field_at 0 item)))))
     else payload_answer (one_of (field_at 5 item))
 
 -- what the batch items answer, where it is said whether the header counts one
@@ -102,4 +117,5 @@ check_items operation _ items = Err (ServerError (count_text (count_of items)))
 
 -- what a response message answers
 abbrev pub check_response : Operation → Val → Result Val Error
-check_response operation message = check_items operation (is_number (pos 1) (batch_count message)) (batch_items message)
+check_response operation message =
+    check_items operation (is_number (pos 1) (batch_count message)) (batch_items message)

@@ -33,7 +33,8 @@ pub record BuilderState (T : Type 0) : Type 0 where
 
 -- A credential is sent exactly where username and password are both set.
 abbrev pub credential_for : Option (List ℕ) → Option (List ℕ) → Option CredentialType
-credential_for (Some username) (Some password) = Some (UsernameAndPassword (record { username = username; password = Some password }))
+credential_for (Some username) (Some password) =
+    Some (UsernameAndPassword (record { username = username; password = Some password }))
 credential_for _ _ = None
 
 abbrev pub is_connection_error : Error → Bool

@@ -16,12 +16,15 @@ diagnostic_of buffered (Some bytes) = diagnostic_for buffered bytes
 
 -- The text is the diagnostic of the request, or none after memory ran out.
 abbrev pub IsRequestText : Bool → Option (List ℕ) → Answer → Option (List ℕ) → Type 0
-IsRequestText buffered request (Err OutOfMemory) text = (text ≡ None) ⊎ (text ≡ diagnostic_of buffered request)
+IsRequestText buffered request (Err OutOfMemory) text =
+    (text ≡ None) ⊎ (text ≡ diagnostic_of buffered request)
 IsRequestText buffered request answer text = text ≡ diagnostic_of buffered request
 
--- The text is the diagnostic of the bytes that were taken, or none where the request was not sent or memory ran out.
+-- The text is the diagnostic of the bytes that were taken, or none where the request was not sent
+-- or memory ran out.
 abbrev pub IsResponseText : Bool → List ℕ → Answer → Option (List ℕ) → Type 0
-IsResponseText buffered taken (Err OutOfMemory) text = (text ≡ None) ⊎ (text ≡ diagnostic_for buffered taken)
+IsResponseText buffered taken (Err OutOfMemory) text =
+    (text ≡ None) ⊎ (text ≡ diagnostic_for buffered taken)
 IsResponseText buffered taken (Err (SerializeError reason)) text = text ≡ None
 IsResponseText buffered taken (Err (RequestWriteError reason)) text = text ≡ None
 IsResponseText buffered taken answer text = text ≡ diagnostic_for buffered taken

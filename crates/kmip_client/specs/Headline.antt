@@ -12,8 +12,10 @@ use Rattle.kmip_client.specs.Message.{message_at, Whole}
 use Rattle.kmip_client.specs.Check.{check_response}
 use Rattle.kmip_client.specs.Outcome.{Answer, response_tag, left_for}
 
--- The bytes left begin with a valid response to a request of this operation, which is the message m and reads as this payload.
-pub record IsValidResponse (operation : Operation) (limit : Option ℕ) (rest m : List ℕ) (payload : Val) : Type 0 where
+-- The bytes left begin with a valid response to a request of this operation, which is the message m
+-- and reads as this payload.
+pub record IsValidResponse (operation : Operation) (limit : Option ℕ) (rest m : List ℕ)
+    (payload : Val) : Type 0 where
   pub tree : Tree
   pub value : Val
   pub front : message_at rest limit ≡ Whole m
@@ -27,16 +29,22 @@ pub record IsSound (before after : LinkState) : Type 0 where
   pub below : before.faults < 2 ^ 64 - 1
 
 -- What a call did for a request of these canonical bytes.
-pub record IsAnswered (request : List ℕ) (operation : Operation) (limit : Option ℕ) (before after : LinkState) (answer : Answer) : Type 0 where
+pub record IsAnswered (request : List ℕ) (operation : Operation) (limit : Option ℕ)
+    (before after : LinkState) (answer : Answer) : Type 0 where
   -- it sent exactly the request
   pub sent : after.sent ≡ before.sent ++ request
-  -- it answers a payload only where a valid response stood next, of which it took every byte and no other
+  -- it answers a payload only where a valid response stood next, of which it took every byte and no
+  -- other
   pub only : (payload : Val) → answer ≡ Ok payload →
-      (m : List ℕ) × IsValidResponse operation limit (left_for before after) m payload × (after.pos ≡ before.pos + length m)
+      (m : List ℕ) × IsValidResponse operation limit (left_for before after) m payload ×
+      (after.pos ≡ before.pos + length m)
   -- and it does so wherever one stood next
-  pub whenever : (m : List ℕ) (payload : Val) → IsValidResponse operation limit (left_for before after) m payload → answer ≡ Ok payload
+  pub whenever : (m : List ℕ) (payload : Val) →
+      IsValidResponse operation limit (left_for before after) m payload → answer ≡ Ok payload
 
 -- For a valid request, no fault and no lack of memory, that is what it did.
-abbrev pub Headline : Option (List ℕ) → Operation → Option ℕ → LinkState → LinkState → Answer → Type 0
-Headline request operation limit before after answer = (bytes : List ℕ) → request ≡ Some bytes → IsSound before after → answer ≢ Err OutOfMemory →
+abbrev pub Headline : Option (List ℕ) → Operation → Option ℕ → LinkState → LinkState → Answer →
+    Type 0
+Headline request operation limit before after answer = (bytes : List ℕ) → request ≡ Some bytes →
+    IsSound before after → answer ≢ Err OutOfMemory →
     IsAnswered bytes operation limit before after answer

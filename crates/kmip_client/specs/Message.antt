@@ -1,4 +1,5 @@
--- What stands at the front of the bytes that are left: a message is a head and the contents that it says (KMIP 1.0, 9.1.1).
+-- What stands at the front of the bytes that are left: a message is a head and the contents that it
+-- says (KMIP 1.0, 9.1.1).
 use Rattle.std.specs.Prelude.{◌≡◌, ℕ, ◌+◌, ◌≤◌, List, length, take, Option, if◌then◌else◌, nat_lt, Result, Ok, Err}
 use Rattle.kmip_wire.specs.Heads.{head_says}
 use Rattle.kmip_wire.specs.declared.error.HeadError.{HeadError}
@@ -21,7 +22,8 @@ message_by (Ok n) rest = if nat_lt (length rest) (n + 8) then Ended else Whole (
 
 -- the message at the front of the bytes, under a limit on its length
 unfoldable pub message_at : List ℕ → Option ℕ → Message
-message_at rest limit = if nat_lt (length rest) 8 then Ended else message_by (head_says (take 8 rest) limit) rest
+message_at rest limit =
+    if nat_lt (length rest) 8 then Ended else message_by (head_says (take 8 rest) limit) rest
 
 -- how many bytes are taken for it
 abbrev pub taken_for : List ℕ → Message → ℕ
@@ -30,7 +32,8 @@ taken_for rest (Refused error) = 8
 taken_for rest (Whole m) = length m
 
 -- the reading that stopped so far took the front of the bytes left, and came to this message
-pub record Comes (before after : LinkState) (limit : Option ℕ) (taken : List ℕ) (here : Message) : Type 0 where
+pub record Comes (before after : LinkState) (limit : Option ℕ) (taken : List ℕ)
+    (here : Message) : Type 0 where
   pub front : message_at (left before) limit ≡ here
   pub takes : Takes before after (taken_for (left before) here)
   pub bytes : taken ≡ take (taken_for (left before) here) (left before)
@@ -41,12 +44,16 @@ pub record StopsWithin (before after : LinkState) (limit : Option ℕ) (n : ℕ)
   pub takes : Takes before after n
 
 -- what was read of a message, by the answer of the reading
-abbrev pub ReadsMessage : LinkState → LinkState → Option ℕ → List ℕ → Result (Unit {0}) MessageStop → Type 0
+abbrev pub ReadsMessage : LinkState → LinkState → Option ℕ → List ℕ →
+    Result (Unit {0}) MessageStop → Type 0
 ReadsMessage before after limit taken (Ok _) = Comes before after limit taken (Whole taken)
 ReadsMessage before after limit taken (Err MessageStop.Ended) = Comes before after limit taken Ended
-ReadsMessage before after limit taken (Err (MessageStop.Refused error)) = Comes before after limit taken (Refused error)
-ReadsMessage before after limit taken (Err MessageStop.Fault) = (n : ℕ) × StopsWithin before after limit n × (taken ≡ take n (left before))
-ReadsMessage before after limit taken (Err MessageStop.OutOfMemory) = (n : ℕ) × StopsWithin before after limit n
+ReadsMessage before after limit taken (Err (MessageStop.Refused error)) =
+    Comes before after limit taken (Refused error)
+ReadsMessage before after limit taken (Err MessageStop.Fault) =
+    (n : ℕ) × StopsWithin before after limit n × (taken ≡ take n (left before))
+ReadsMessage before after limit taken (Err MessageStop.OutOfMemory) =
+    (n : ℕ) × StopsWithin before after limit n
 
 -- what the bytes that were read are, over any link
 abbrev pub IsRead : Option ℕ → List ℕ → Result (Unit {0}) MessageStop → Type 0

@@ -46,7 +46,8 @@ value_answer operation (Some message) = check_response operation message
 
 abbrev pub tree_answer : Operation → Option Tree → Answer
 tree_answer operation None = Err (DeserializeError (codes "malformed TTLV"))
-tree_answer operation (Some tree) = value_answer operation (root_read response_message response_tag tree)
+tree_answer operation (Some tree) =
+    value_answer operation (root_read response_message response_tag tree)
 
 -- what a whole message answers a request of this operation
 abbrev pub read_answer : Operation → List ℕ → Answer
@@ -54,7 +55,8 @@ read_answer operation m = tree_answer operation (item_of 64 m)
 
 abbrev pub refused_text : HeadError → List ℕ
 refused_text NotStructure = codes "not a structure"
-refused_text (TooLong size limit) = codes "response size " ++ (decimal size ++ (codes " exceeds limit " ++ decimal limit))
+refused_text (TooLong size limit) =
+    codes "response size " ++ (decimal size ++ (codes " exceeds limit " ++ decimal limit))
 
 -- what stands at the front of the bytes left answers a request of this operation
 abbrev pub answer_of : Operation → Message → Answer
@@ -70,12 +72,23 @@ pub record Outcome : Type 0 where
   pub answer : Answer
 
 abbrev pub outcome_of : Option (List ℕ) → Operation → Option ℕ → List ℕ → Outcome
-outcome_of None operation limit rest = record { sent = []; taken = 0; answer = Err (SerializeError (codes "request has no wire form")) }
-outcome_of (Some request) operation limit rest = record { sent = request; taken = taken_for rest (message_at rest limit); answer = answer_of operation (message_at rest limit) }
+outcome_of None operation limit rest =
+    record {
+      sent = [];
+      taken = 0;
+      answer = Err (SerializeError (codes "request has no wire form"));
+    }
+outcome_of (Some request) operation limit rest =
+    record {
+      sent = request;
+      taken = taken_for rest (message_at rest limit);
+      answer = answer_of operation (message_at rest limit);
+    }
 
 -- what an exchange comes to on these bytes left, where neither the link nor memory fails
 abbrev pub outcome : RequestPayload → Option CredentialType → Option ℕ → List ℕ → Outcome
-outcome payload credential limit rest = outcome_of (request_bytes payload credential) (operation_of payload) limit rest
+outcome payload credential limit rest =
+    outcome_of (request_bytes payload credential) (operation_of payload) limit rest
 
 -- the bytes left to read, as they stood after the writing
 abbrev pub left_for : LinkState → LinkState → List ℕ
@@ -92,22 +105,29 @@ pub record Moves (before after : LinkState) (sent : List ℕ) (taken : ℕ) : Ty
 -- how a call ended that should come to this outcome
 pub data Exchanged (o : Outcome) (before after : LinkState) (answer : Answer) : Type 0 where
   -- as it should
-  completed : answer ≡ o.answer → Moves before after o.sent o.taken → Exchanged o before after answer
+  completed : answer ≡ o.answer → Moves before after o.sent o.taken →
+      Exchanged o before after answer
   -- the link failed before it took the whole request
-  write_failed : answer ≡ Err (RequestWriteError (codes "link failed")) → Rose before.faults after.faults →
-      (n : ℕ) → n < length o.sent → Moves before after (take n o.sent) 0 → Exchanged o before after answer
+  write_failed : answer ≡ Err (RequestWriteError (codes "link failed")) →
+      Rose before.faults after.faults →
+      (n : ℕ) → n < length o.sent → Moves before after (take n o.sent) 0 →
+      Exchanged o before after answer
   -- it failed while the response was read
-  read_failed : answer ≡ Err (ResponseReadError (codes "link failed")) → Rose before.faults after.faults →
+  read_failed : answer ≡ Err (ResponseReadError (codes "link failed")) →
+      Rose before.faults after.faults →
       (n : ℕ) → n ≤ o.taken → Moves before after o.sent n → Exchanged o before after answer
   -- memory ran out before the whole request was sent
   sending_cut : answer ≡ Err OutOfMemory →
-      (n : ℕ) → n ≤ length o.sent → Moves before after (take n o.sent) 0 → Exchanged o before after answer
+      (n : ℕ) → n ≤ length o.sent → Moves before after (take n o.sent) 0 →
+      Exchanged o before after answer
   -- memory ran out afterwards
   reading_cut : answer ≡ Err OutOfMemory →
       (n : ℕ) → n ≤ o.taken → Moves before after o.sent n → Exchanged o before after answer
 
--- The link failed while the response was read: once it had taken the whole request it stood as `between`, and from there on its count rose.
-pub record FailsReading {T : Type 0} (state : T → LinkState) (request : Option (List ℕ)) (before after : T) : Type 0 where
+-- The link failed while the response was read: once it had taken the whole request it stood as
+-- `between`, and from there on its count rose.
+pub record FailsReading {T : Type 0} (state : T → LinkState) (request : Option (List ℕ))
+    (before after : T) : Type 0 where
   pub message : List ℕ
   pub request_is : request ≡ Some message
   pub between : T
@@ -127,16 +147,23 @@ Gives expected answer = answer ≡ expected
 abbrev pub reading_answer : Operation → List ℕ → Result (Unit {0}) MessageStop → Answer
 reading_answer operation taken (Ok _) = read_answer operation taken
 reading_answer operation taken (Err MessageStop.Ended) = answer_of operation Message.Ended
-reading_answer operation taken (Err (MessageStop.Refused error)) = answer_of operation (Message.Refused error)
-reading_answer operation taken (Err MessageStop.Fault) = Err (ResponseReadError (codes "link failed"))
+reading_answer operation taken (Err (MessageStop.Refused error)) =
+    answer_of operation (Message.Refused error)
+reading_answer operation taken (Err MessageStop.Fault) =
+    Err (ResponseReadError (codes "link failed"))
 reading_answer operation taken (Err MessageStop.OutOfMemory) = Err OutOfMemory
 
 -- Why a call answered so, over any link, which may tell nothing.
-pub data Caused (request : Option (List ℕ)) (operation : Operation) (limit : Option ℕ) (before after : ℕ) (answer : Answer) : Type 0 where
+pub data Caused (request : Option (List ℕ)) (operation : Operation) (limit : Option ℕ)
+    (before after : ℕ) (answer : Answer) : Type 0 where
   -- the request has no canonical bytes
-  not_valid : request ≡ None → answer ≡ Err (SerializeError (codes "request has no wire form")) → Caused request operation limit before after answer
-  write_failed : IsSome request → answer ≡ Err (RequestWriteError (codes "link failed")) → Rose before after → Caused request operation limit before after answer
-  read_failed : IsSome request → answer ≡ Err (ResponseReadError (codes "link failed")) → Rose before after → Caused request operation limit before after answer
+  not_valid : request ≡ None → answer ≡ Err (SerializeError (codes "request has no wire form")) →
+      Caused request operation limit before after answer
+  write_failed : IsSome request → answer ≡ Err (RequestWriteError (codes "link failed")) →
+      Rose before after → Caused request operation limit before after answer
+  read_failed : IsSome request → answer ≡ Err (ResponseReadError (codes "link failed")) →
+      Rose before after → Caused request operation limit before after answer
   -- the link gave bytes that have this answer
-  given : IsSome request → (rest : List ℕ) → answer ≡ answer_of operation (message_at rest limit) → Caused request operation limit before after answer
+  given : IsSome request → (rest : List ℕ) → answer ≡ answer_of operation (message_at rest limit) →
+      Caused request operation limit before after answer
   no_memory : answer ≡ Err OutOfMemory → Caused request operation limit before after answer

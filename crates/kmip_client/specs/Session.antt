@@ -1,15 +1,18 @@
 -- Several requests over one client.
-use Rattle.std.specs.Prelude.{◌≡◌, ℕ, ◌+◌, ◌<◌, ◌≤◌, List, [], ◌∷◌, ◌++◌, length, take, drop, map, Bool, true, false, Option, None, if◌then◌else◌, Ok, Err, codes}
+use Rattle.std.specs.Prelude.{◌≡◌, ℕ, ◌+◌, ◌<◌, ◌≤◌, List, [], ◌∷◌, ◌++◌, length, take, drop, map}
+use Rattle.std.specs.Prelude.{Bool, true, false, Option, None, if◌then◌else◌, Ok, Err, IsTrue}
+use Rattle.std.specs.Prelude.{codes}
 use Rattle.kmip_shape.specs.Val.{Val}
 use Rattle.kmip_types.specs.declared.auth.CredentialType.{CredentialType}
 use Rattle.kmip_request.specs.Message.{request_bytes}
 use Rattle.kmip_request.specs.declared.payload.RequestPayload.{RequestPayload}
-use Rattle.kmip_link.specs.State.{LinkState, Rose}
+use Rattle.kmip_link.specs.State.{LinkState, Rose, left}
 use Rattle.kmip_client.specs.declared.error.Error.{Error}
-use Rattle.kmip_client.specs.declared.error.Error.TheVariants.{SerializeError, RequestWriteError, ResponseReadError}
+use Rattle.kmip_client.specs.declared.error.Error.TheVariants.{SerializeError}
+use Rattle.kmip_client.specs.declared.error.Error.TheVariants.{RequestWriteError, ResponseReadError}
 use Rattle.kmip_client.specs.declared.session.Exchange.{Exchange}
 use Rattle.kmip_client.specs.Outcome.{Answer, seen_by, Outcome, outcome, Moves}
-use Rattle.kmip_client.specs.Client.{ClientState, loses_connection, lacks_memory}
+use Rattle.kmip_client.specs.Client.{ClientState, loses_connection, lacks_memory, count_after}
 use Rattle.kmip_client.specs.Calls.{IsCall}
 use Rattle.kmip_client.specs.Diagnostics.{diagnostic_for, diagnostic_of}
 
@@ -23,7 +26,11 @@ pub record Turn : Type 0 where
   pub outcome : Outcome
 
 abbrev pub turn_of : RequestPayload → Option CredentialType → Option ℕ → List ℕ → Turn
-turn_of payload credential limit rest = record { request = request_bytes payload credential; rest = rest; outcome = outcome payload credential limit rest }
+turn_of payload credential limit rest = record {
+  request = request_bytes payload credential;
+  rest = rest;
+  outcome = outcome payload credential limit rest;
+}
 
 -- a turn, and the later ones where its answer keeps the connection
 abbrev pub then_on : Turn → List Turn → List Turn
@@ -33,7 +40,8 @@ then_on turn later = if loses_connection turn.outcome.answer then turn ∷ [] el
 unfoldable pub session : List RequestPayload → Option CredentialType → Option ℕ → List ℕ → List Turn
 session [] credential limit rest = []
 session (payload ∷ payloads) credential limit rest =
-    then_on (turn_of payload credential limit rest) (session payloads credential limit (drop (outcome payload credential limit rest).taken rest))
+    then_on (turn_of payload credential limit rest)
+    (session payloads credential limit (drop (outcome payload credential limit rest).taken rest))
 
 -- an exchange, as contracts see it
 pub record Told : Type 0 where
@@ -43,7 +51,11 @@ pub record Told : Type 0 where
 
 -- an exchange of the code, by the value of its payload
 abbrev pub exchange_told : {P : Type 0} → (P → Val) → Exchange P → Told
-exchange_told val exchange = record { answer = seen_by val exchange.answer; request_text = exchange.req_diag; response_text = exchange.res_diag }
+exchange_told val exchange = record {
+  answer = seen_by val exchange.answer;
+  request_text = exchange.req_diag;
+  response_text = exchange.res_diag;
+}
 
 -- the diagnostic of the bytes that were taken, and none where the request was not sent
 abbrev pub response_text_of : Bool → List ℕ → Answer → Option (List ℕ)
@@ -53,10 +65,15 @@ response_text_of buffered taken answer = diagnostic_for buffered taken
 
 -- what is told of a request of these bytes that was answered so, after these bytes were taken
 abbrev pub told_of : Bool → Option (List ℕ) → Answer → List ℕ → Told
-told_of buffered request answer taken = record { answer = answer; request_text = diagnostic_of buffered request; response_text = response_text_of buffered taken answer }
+told_of buffered request answer taken = record {
+  answer = answer;
+  request_text = diagnostic_of buffered request;
+  response_text = response_text_of buffered taken answer;
+}
 
 abbrev pub turn_told : Bool → Turn → Told
-turn_told buffered turn = told_of buffered turn.request turn.outcome.answer (take turn.outcome.taken turn.rest)
+turn_told buffered turn =
+    told_of buffered turn.request turn.outcome.answer (take turn.outcome.taken turn.rest)
 
 abbrev pub all_sent : List Turn → List ℕ
 all_sent [] = []
@@ -68,39 +85,57 @@ all_taken (turn ∷ turns) = turn.outcome.taken + all_taken turns
 
 -- what a failing link left done of an outcome: the answer, the bytes sent, and how many were taken
 pub data BrokenOff (o : Outcome) : Answer → List ℕ → ℕ → Type 0 where
-  writing : (n : ℕ) → n < length o.sent → BrokenOff o (Err (RequestWriteError (codes "link failed"))) (take n o.sent) 0
-  reading : (n : ℕ) → n ≤ o.taken → BrokenOff o (Err (ResponseReadError (codes "link failed"))) o.sent n
+  writing : (n : ℕ) → n < length o.sent →
+      BrokenOff o (Err (RequestWriteError (codes "link failed"))) (take n o.sent) 0
+  reading : (n : ℕ) → n ≤ o.taken →
+      BrokenOff o (Err (ResponseReadError (codes "link failed"))) o.sent n
 
 -- How a session of these turns went, and what it told.
-pub data Ran (buffered : Bool) (turns : List Turn) (before after : LinkState) (exchanges : List Told) : Type 0 where
-  whole : exchanges ≡ map (turn_told buffered) turns → Moves before after (all_sent turns) (all_taken turns) → Ran buffered turns before after exchanges
+pub data Ran (buffered : Bool) (turns : List Turn) (before after : LinkState)
+    (exchanges : List Told) : Type 0 where
+  whole : exchanges ≡ map (turn_told buffered) turns →
+      Moves before after (all_sent turns) (all_taken turns) →
+      Ran buffered turns before after exchanges
   -- the link failed after some of them
-  broken : (done : List Turn) (turn : Turn) (more : List Turn) (last : Answer) (sent : List ℕ) (taken : ℕ) →
-      turns ≡ done ++ turn ∷ more → exchanges ≡ map (turn_told buffered) done ++ told_of buffered turn.request last (take taken turn.rest) ∷ [] →
+  broken : (done : List Turn) (turn : Turn) (more : List Turn) (last : Answer) (sent : List ℕ)
+      (taken : ℕ) → turns ≡ done ++ turn ∷ more →
+      exchanges ≡ map (turn_told buffered) done ++
+      told_of buffered turn.request last (take taken turn.rest) ∷ [] →
       BrokenOff turn.outcome last sent taken → Rose before.faults after.faults →
-      Moves before after (all_sent done ++ sent) (all_taken done + taken) → Ran buffered turns before after exchanges
+      Moves before after (all_sent done ++ sent) (all_taken done + taken) →
+      Ran buffered turns before after exchanges
 
 -- after this answer the next request's call is made
 abbrev pub GoesOn : Answer → Type 0
 GoesOn answer = (loses_connection answer ≡ false) × (lacks_memory answer ≡ false)
 
--- Over any link: there is one exchange for each request, up to the first that lost the connection, and none that lacked memory.
+-- Over any link: there is one exchange for each request, up to the first that lost the connection,
+-- and none that lacked memory.
 pub data Stops : List RequestPayload → List Told → Type 0 where
   at_end : Stops [] []
-  at_loss : (payload : RequestPayload) (payloads : List RequestPayload) (exchange : Told) → loses_connection exchange.answer ≡ true → Stops (payload ∷ payloads) (exchange ∷ [])
-  later : (payload : RequestPayload) (payloads : List RequestPayload) (exchange : Told) (exchanges : List Told) → GoesOn exchange.answer →
-      Stops payloads exchanges → Stops (payload ∷ payloads) (exchange ∷ exchanges)
+  at_loss : (payload : RequestPayload) (payloads : List RequestPayload) (exchange : Told) →
+      loses_connection exchange.answer ≡ true → Stops (payload ∷ payloads) (exchange ∷ [])
+  later : (payload : RequestPayload) (payloads : List RequestPayload) (exchange : Told)
+      (exchanges : List Told) → GoesOn exchange.answer → Stops payloads exchanges →
+      Stops (payload ∷ payloads) (exchange ∷ exchanges)
 
 -- what a call told that left the client so
 abbrev pub told_by : {T : Type 0} → Answer → ClientState T → Told
-told_by answer client = record { answer = answer; request_text = client.request_text; response_text = client.response_text }
+told_by answer client = record {
+  answer = answer;
+  request_text = client.request_text;
+  response_text = client.response_text;
+}
 
--- Over any link: each exchange is what a call of `do_request` told, for the requests in order, each call made on the client that the one before left.
-abbrev pub Calls : {T : Type 0} → (T → LinkState) → List RequestPayload → ClientState T → List Told → ClientState T → Type 0
+-- Over any link: each exchange is what a call of `do_request` told, for the requests in order, each
+-- call made on the client that the one before left.
+abbrev pub Calls : {T : Type 0} → (T → LinkState) → List RequestPayload → ClientState T →
+    List Told → ClientState T → Type 0
 Calls state payloads before [] after = after ≡ before
 Calls state [] before (exchange ∷ exchanges) after = ⊥
 Calls {T} state (payload ∷ payloads) before (exchange ∷ exchanges) after =
-    (between : ClientState T) × IsCall state payload before between exchange.answer × (exchange ≡ told_by exchange.answer between) × Calls state payloads between exchanges after
+    (between : ClientState T) × IsCall state payload before between exchange.answer ×
+    (exchange ≡ told_by exchange.answer between) × Calls state payloads between exchanges after
 
 -- each but the last answer let the session go on
 abbrev pub GoOn : List Told → Type 0
@@ -108,8 +143,10 @@ GoOn [] = Unit {0}
 GoOn (exchange ∷ []) = Unit {0}
 GoOn (exchange ∷ next ∷ exchanges) = GoesOn exchange.answer × GoOn (next ∷ exchanges)
 
--- Calls were made for the first of the requests, up to one whose answer is lost, since memory ran out.
-pub record CutOff {T : Type 0} (state : T → LinkState) (payloads : List RequestPayload) (before after : ClientState T) : Type 0 where
+-- Calls were made for the first of the requests, up to one whose answer is lost, since memory ran
+-- out.
+pub record CutOff {T : Type 0} (state : T → LinkState) (payloads : List RequestPayload)
+    (before after : ClientState T) : Type 0 where
   pub exchanges : List Told
   pub made : Calls state payloads before exchanges after
   pub on : GoOn exchanges
@@ -124,17 +161,40 @@ held_texts client = (client.request_text, client.response_text)
 -- those of the last exchange, and these where there is none
 abbrev pub last_texts : Texts → List Told → Texts
 last_texts texts [] = texts
-last_texts texts (exchange ∷ exchanges) = last_texts (exchange.request_text, exchange.response_text) exchanges
+last_texts texts (exchange ∷ exchanges) =
+    last_texts (exchange.request_text, exchange.response_text) exchanges
 
 -- Over any link: each exchange has the diagnostic of its request.
-abbrev pub AreRequestTexts : Bool → Option CredentialType → List RequestPayload → List Told → Type 0
+abbrev pub AreRequestTexts : Bool → Option CredentialType → List RequestPayload → List Told →
+    Type 0
 AreRequestTexts buffered credential payloads [] = Unit {0}
 AreRequestTexts buffered credential [] (exchange ∷ exchanges) = ⊥
 AreRequestTexts buffered credential (payload ∷ payloads) (exchange ∷ exchanges) =
-    (exchange.request_text ≡ diagnostic_of buffered (request_bytes payload credential)) × AreRequestTexts buffered credential payloads exchanges
+    (exchange.request_text ≡ diagnostic_of buffered (request_bytes payload credential)) ×
+    AreRequestTexts buffered credential payloads exchanges
 
 -- whether the last answer is a connection error
 abbrev pub ends_lost : List Told → Bool
 ends_lost [] = false
 ends_lost (exchange ∷ []) = loses_connection exchange.answer
 ends_lost (exchange ∷ next ∷ exchanges) = ends_lost (next ∷ exchanges)
+
+-- What `exchange_all` promises of a session for these requests, which found the client as `before`,
+-- left it as `after` and returned these exchanges. `state` is what the link means.
+pub record IsSession {T : Type 0} (state : T → LinkState) (payloads : List RequestPayload)
+    (before after : ClientState T) (exchanges : List Told) : Type 0 where
+  -- what was sent, taken and told, over a link that tells its bytes and got none meanwhile
+  pub ran : IsTrue (state before.link).tells → (state after.link).ever ≡ (state before.link).ever →
+      Ran before.buffered
+      (session payloads before.credential before.limit (left (state before.link)))
+      (state before.link) (state after.link) exchanges
+  -- there is one exchange for each request, up to the first that lost the connection
+  pub stops : Stops payloads exchanges
+  -- each exchange is what a call of `do_request` told, made on the client that the call before left
+  pub calls : Calls state payloads before exchanges after
+  -- the client holds the diagnostics of the last exchange, and with none those that it held
+  pub texts : held_texts after ≡ last_texts (held_texts before) exchanges
+  -- each exchange has the diagnostic of its request
+  pub requests : AreRequestTexts before.buffered before.credential payloads exchanges
+  -- one more connection error was counted, modulo 256, exactly if the last answer is one
+  pub count : after.errors ≡ count_after before.errors (ends_lost exchanges)

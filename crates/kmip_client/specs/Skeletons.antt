@@ -26,8 +26,10 @@ AllParse (turn ∷ turns) = Parse turn × AllParse turns
 -- the skeletons of the requests and of the responses, in order
 abbrev pub skeletons_of : (turns : List Turn) → AllParse turns → List (Skeleton × Skeleton)
 skeletons_of [] all = []
-skeletons_of (turn ∷ turns) all = (skeleton all.0.request, skeleton all.0.response) ∷ skeletons_of turns all.1
+skeletons_of (turn ∷ turns) all =
+    (skeleton all.0.request, skeleton all.0.response) ∷ skeletons_of turns all.1
 
 -- the diagnostics of the requests and of the responses, in order, where the buffer is on
 abbrev pub texts_of : List Turn → List (Option (List ℕ) × Option (List ℕ))
-texts_of turns = map (λ turn. ((turn_told true turn).request_text, (turn_told true turn).response_text)) turns
+texts_of turns = map (λ turn.
+    ((turn_told true turn).request_text, (turn_told true turn).response_text)) turns

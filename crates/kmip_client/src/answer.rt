@@ -1,6 +1,7 @@
 //! What a reading off the link answers.
 ghost use Rattle.std.specs.Prelude.{◌≡◌, ◌++◌, IfOk, IfErr, Some, Err};
-ghost use Rattle.kmip_client.specs.Outcome.{Gives, answer_with_payload, reading_answer, read_answer, refused_text};
+ghost use Rattle.kmip_client.specs.Outcome.{Gives, answer_with_payload, reading_answer};
+ghost use Rattle.kmip_client.specs.Outcome.{read_answer, refused_text};
 ghost use Rattle.kmip_client.specs.declared.error.Error.TheVariants.{DeserializeError, OutOfMemory};
 
 use crate::check::check_message;

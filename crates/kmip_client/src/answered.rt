@@ -3,7 +3,10 @@ ghost use Rattle.std.specs.Prelude.{◌≡◌, ◌⊎◌, IfOk};
 ghost use Rattle.kmip_shape.specs.Val.{Val, Case};
 ghost use Rattle.kmip_enums.specs.Operations.{operation_line};
 ghost use Rattle.kmip_enums.specs.declared.operation.Operation.{Operation as TheOperation};
-ghost use Rattle.kmip_response.specs.Values.{response_payload_val, query_payload_val, create_key_pair_payload_val, rng_retrieve_payload_val, sign_payload_val, unique_identifier_payload_val, attribute_edit_payload_val, get_payload_val};
+ghost use Rattle.kmip_response.specs.Values.{response_payload_val, query_payload_val};
+ghost use Rattle.kmip_response.specs.Values.{create_key_pair_payload_val, rng_retrieve_payload_val};
+ghost use Rattle.kmip_response.specs.Values.{sign_payload_val, unique_identifier_payload_val};
+ghost use Rattle.kmip_response.specs.Values.{attribute_edit_payload_val, get_payload_val};
 ghost use Rattle.kmip_client.specs.Client.{IsOfOperation};
 ghost use Rattle.kmip_client.specs.Outcome.{Gives, answer_with_payload, seen_by, reading_answer};
 

@@ -49,7 +49,8 @@ impl<T> ClientBuilder<T> {
         }
     }
 
-    /// Sets the user name and the password, in place of those before. A user name without a password is not sent.
+    /// Sets the user name and the password, in place of those before. A user name without a
+    /// password is not sent.
     pub fn with_credentials(self, username: Text, password: Option<Text>) -> Self
         ensures { result ≡ record self { username = Some username; password = password } }
     {

@@ -6,11 +6,15 @@ ghost use Rattle.kmip_shape.specs.Writes.{optional};
 ghost use Rattle.kmip_shape.specs.Enumerations.{enumeration_val};
 ghost use Rattle.kmip_enums.specs.Operations.{operation_line};
 ghost use Rattle.kmip_enums.specs.ResultReasons.{result_reason_line};
-ghost use Rattle.kmip_response.specs.Values.{batch_item_val, response_message_val, response_payload_val};
+ghost use Rattle.kmip_response.specs.Values.{batch_item_val, response_message_val};
+ghost use Rattle.kmip_response.specs.Values.{response_payload_val};
 ghost use Rattle.kmip_enums.specs.declared.result_reason.ResultReason.{ResultReason};
-ghost use Rattle.kmip_client.specs.Check.{check_response, check_item, is_number, text_in, one_of, operation_shown, count_text, failed_text, failure, mismatch_text, payload_answer};
+ghost use Rattle.kmip_client.specs.Check.{check_response, check_item, is_number, text_in, one_of};
+ghost use Rattle.kmip_client.specs.Check.{operation_shown, count_text, failed_text, failure};
+ghost use Rattle.kmip_client.specs.Check.{mismatch_text, payload_answer};
 ghost use Rattle.kmip_client.specs.Outcome.{Gives, answer_with_payload};
-ghost use Rattle.kmip_client.specs.declared.error.Error.TheVariants.{ServerError, InternalError, OutOfMemory};
+ghost use Rattle.kmip_client.specs.declared.error.Error.TheVariants.{ServerError, InternalError};
+ghost use Rattle.kmip_client.specs.declared.error.Error.TheVariants.{OutOfMemory};
 
 use crate::error::Error;
 use kmip_enums::{Operation, ResultReason, ResultStatus};

@@ -1,15 +1,13 @@
 //! A client over a link.
-ghost use Rattle.std.specs.Prelude.{◌≡◌, ◌+◌, ◌<◌, None, Some, IfOk, IsTrue, [], option_map, take, ◌-◌, false};
-ghost use Rattle.kmip_link.specs.State.{Keeps};
-ghost use Rattle.kmip_request.specs.Message.{request_bytes, operation_of, credential_of};
+ghost use Rattle.std.specs.Prelude.{◌≡◌, None, IfOk, option_map};
+ghost use Rattle.kmip_request.specs.Message.{operation_of, credential_of};
 ghost use Rattle.kmip_request.specs.Held.{AreTexts};
 ghost use Rattle.kmip_shape.specs.Val.{Val};
 ghost use Rattle.kmip_response.specs.Values.{response_payload_val};
-ghost use Rattle.kmip_client.specs.Client.{ClientState, loses_connection, lacks_memory, count_after, IsOfOperation};
-ghost use Rattle.kmip_client.specs.Outcome.{Exchanged, Caused, FailsReading, reading_failed, outcome, left_for, answer_with_payload, seen_by};
-ghost use Rattle.kmip_client.specs.Headline.{Headline};
+ghost use Rattle.kmip_client.specs.Client.{ClientState, loses_connection, lacks_memory};
+ghost use Rattle.kmip_client.specs.Client.{count_after, IsOfOperation};
+ghost use Rattle.kmip_client.specs.Outcome.{answer_with_payload, seen_by};
 ghost use Rattle.kmip_client.specs.Calls.{IsCall};
-ghost use Rattle.kmip_client.specs.Diagnostics.{IsRequestText, IsResponseText};
 
 use crate::answered::Answered;
 use crate::call::{Diagnostics, Settings, call};
@@ -80,14 +78,16 @@ impl<T> Client<T> {
         }
     }
 
-    /// How many calls ended in a connection error since the client was built, modulo 256. It takes no memory.
+    /// How many calls ended in a connection error since the client was built, modulo 256. It takes
+    /// no memory.
     pub fn connection_error_count(&self) -> u8
         ensures { result ≡ self.now.errors }
     {
         self.errors
     }
 
-    /// The diagnostic of the last call's request, where the buffer is on and the request was written. It takes no memory.
+    /// The diagnostic of the last call's request, where the buffer is on and the request was
+    /// written. It takes no memory.
     pub fn last_req_diag_str(&self) -> Option<&str>
         ensures { option_map (λ s. s.now) result ≡ self.now.request_text }
     {
@@ -97,7 +97,8 @@ impl<T> Client<T> {
         }
     }
 
-    /// The diagnostic of the bytes that the last call took, where the buffer is on and the whole request was sent. It takes no memory.
+    /// The diagnostic of the bytes that the last call took, where the buffer is on and the whole
+    /// request was sent. It takes no memory.
     pub fn last_res_diag_str(&self) -> Option<&str>
         ensures { option_map (λ s. s.now) result ≡ self.now.response_text }
     {
@@ -118,15 +119,15 @@ impl<T> Client<T> {
         }
     }
 
-    /// A copy of the last call's request diagnostic.
-    pub(crate) fn copy_req_diag(&self, alloc: Global) -> Result<Option<Text>, OutOfMemory>
+    /// A copy of what `last_req_diag_str` returns.
+    pub fn copy_req_diag(&self, alloc: Global) -> Result<Option<Text>, OutOfMemory>
         ensures { IfOk result (λ text. text ≡ self.now.request_text) }
     {
         clone_optional(&self.diagnostics.request, alloc)
     }
 
-    /// A copy of the last call's response diagnostic.
-    pub(crate) fn copy_res_diag(&self, alloc: Global) -> Result<Option<Text>, OutOfMemory>
+    /// A copy of what `last_res_diag_str` returns.
+    pub fn copy_res_diag(&self, alloc: Global) -> Result<Option<Text>, OutOfMemory>
         ensures { IfOk result (λ text. text ≡ self.now.response_text) }
     {
         clone_optional(&self.diagnostics.response, alloc)
@@ -147,60 +148,48 @@ impl<T: Link> Client<T> {
 
     /// Sends a request, and returns what its response says.
     ///
-    /// It sends the one canonical message of the request, with the credential where the client has one, reads the
-    /// 8 bytes of a head and then exactly the contents that the head says. Link faults and lack of memory aside,
-    /// it returns a payload exactly where the bytes left begin with a valid response to the request, of which it
-    /// then took every byte and no other. Both diagnostics are those of this call. Its errors are:
+    /// It sends the one canonical message of the request, with the credential where the client has
+    /// one, reads the 8 bytes of a head and then exactly the contents that the head says. Link
+    /// faults and lack of memory aside, it returns a payload exactly where the bytes left begin
+    /// with a valid response to the request, of which it then took every byte and no other. Both
+    /// diagnostics are those of this call. Its errors are:
     ///
     /// - `SerializeError`: the request has no wire form. Nothing was sent or taken.
-    /// - `RequestWriteError`: the link failed. A part of the request was sent, and nothing was taken.
-    /// - `ResponseReadError`: the link failed, or ended within a message. The request was sent, as after each error
-    ///   below.
-    /// - `DeserializeError`: the head is not that of a structure or announces more than the limit, and its 8 bytes
-    ///   were taken; or the message is not well formed, and was taken whole, as after the next three.
-    /// - `ServerError`, `ItemNotFound`: the server refused the request, or there is not one batch item.
+    /// - `RequestWriteError`: the link failed. A part of the request was sent, and nothing was
+    ///   taken.
+    /// - `ResponseReadError`: the link failed, or ended within a message. The request was sent, as
+    ///   after each error below.
+    /// - `DeserializeError`: the head is not that of a structure or announces more than the limit,
+    ///   and its 8 bytes were taken; or the message is not well formed, and was taken whole, as
+    ///   after the next three.
+    /// - `ServerError`, `ItemNotFound`: the server refused the request, or there is not one batch
+    ///   item.
     /// - `InternalError`: the message is no success of the request's operation.
-    /// - `OutOfMemory`: a first part of the request was sent, of which none or all may be, and nothing was taken; or all
-    ///   of it was sent, and a first part was taken of what would have been taken with memory, of which none or all may
-    ///   be. Each diagnostic is then that of this call or none.
+    /// - `OutOfMemory`: a first part of the request was sent, of which none or all may be, and
+    ///   nothing was taken; or all of it was sent, and a first part was taken of what would have
+    ///   been taken with memory, of which none or all may be. Each diagnostic is then that of this
+    ///   call or none.
+    ///
+    /// The clause `call` promises it part by part, each a field of `IsCall` (specs/Calls.antt):
+    ///
+    /// - `exchange`: the outcome, which is what was answered, sent and taken.
+    /// - `caused`: the cause of each answer, over any link.
+    /// - `reading`: where the link failed while reading, it failed after it took the whole request.
+    /// - `headline`: the promise of a payload, link faults and lack of memory aside.
+    /// - `keeps`: what a link keeps through each call.
+    /// - `credential`, `limit`, `buffered`: the client's settings stay.
+    /// - `count`: the count of connection errors.
+    /// - `request_text`, `response_text`, `quiet`: the diagnostics.
+    ///
+    /// The clause `variant` promises that a payload is of the request's operation.
     pub fn do_request(
         &mut self,
         alloc: Global,
         payload: RequestPayload,
     ) -> Result<ResponsePayload, Error>
-        ensures exchange { IsTrue (T.state self.old.link).tells →
-            Exchanged (outcome payload self.old.credential self.old.limit
-            (left_for (T.state self.old.link) (T.state self.new.link)))
-            (T.state self.old.link) (T.state self.new.link) (answer_with_payload result) }
-        ensures caused { Caused (request_bytes payload self.old.credential) (operation_of payload)
-            self.old.limit
-            (T.state self.old.link).faults (T.state self.new.link).faults
-            (answer_with_payload result) }
-        ensures reading { IsTrue (T.state self.old.link).tells → answer_with_payload result ≡
-            reading_failed →
-            FailsReading T.state (request_bytes payload self.old.credential) self.old.link
-            self.new.link }
-        ensures headline { IsTrue (T.state self.old.link).tells →
-            Headline (request_bytes payload self.old.credential) (operation_of payload)
-            self.old.limit (T.state self.old.link) (T.state self.new.link)
-            (answer_with_payload result) }
+        ensures call { IsCall T.state payload self.old self.new (answer_with_payload result) }
         ensures variant { IfOk result
             (λ answer. IsOfOperation (operation_of payload) (response_payload_val answer)) }
-        ensures keeps { Keeps (T.state self.old.link) (T.state self.new.link) }
-        ensures settings { (self.new.credential ≡ self.old.credential) ×
-            (self.new.limit ≡ self.old.limit) ×
-            (self.new.buffered ≡ self.old.buffered) }
-        ensures count { self.new.errors ≡ count_after self.old.errors
-            (loses_connection (answer_with_payload result)) }
-        ensures request_text { IsRequestText self.old.buffered
-            (request_bytes payload self.old.credential) (answer_with_payload result)
-            self.new.request_text }
-        ensures response_text { IsTrue (T.state self.old.link).tells →
-            IsResponseText self.old.buffered
-            (take ((T.state self.new.link).pos - (T.state self.old.link).pos)
-            (left_for (T.state self.old.link) (T.state self.new.link))) (answer_with_payload result)
-            self.new.response_text }
-        ensures quiet { self.old.buffered ≡ false → self.new.response_text ≡ None }
     {
         self.request(alloc, &payload)
     }

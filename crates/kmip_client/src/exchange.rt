@@ -1,12 +1,17 @@
 //! One request and its response over a link.
-ghost use Rattle.std.specs.Prelude.{◌≡◌, ◌+◌, ◌-◌, take, false, ◌<◌, ◌≤◌, ◌↔◌, ◌⊎◌, [], None, Some, Err, Ok, List, ℕ, IfOk, IfErr, OnOk, OnErr, IsErrOf, IsTrue, codes};
+ghost use Rattle.std.specs.Prelude.{◌≡◌, ◌+◌, ◌-◌, take, false, ◌<◌, ◌≤◌, ◌↔◌, ◌⊎◌, [], None, Some};
+ghost use Rattle.std.specs.Prelude.{Err, Ok, List, ℕ, IfOk, IfErr, OnOk, OnErr, IsErrOf, IsTrue};
+ghost use Rattle.std.specs.Prelude.{codes};
 ghost use Rattle.std.specs.Option.{option_map};
 ghost use Rattle.kmip_link.specs.State.{Keeps, Rose, Writes, left};
 ghost use Rattle.kmip_request.specs.Message.{request_bytes, credential_of, operation_of};
 ghost use Rattle.kmip_client.specs.Transfer.{WritesPart};
-ghost use Rattle.kmip_client.specs.Outcome.{Exchanged, Caused, FailsReading, reading_failed, outcome_of, left_for, seen_by};
+ghost use Rattle.kmip_client.specs.Outcome.{Exchanged, Caused, FailsReading, reading_failed};
+ghost use Rattle.kmip_client.specs.Outcome.{outcome_of, left_for, seen_by};
 ghost use Rattle.kmip_client.specs.Client.{lacks_memory};
-ghost use Rattle.kmip_client.specs.declared.error.Error.TheVariants.{SerializeError, RequestWriteError, OutOfMemory};
+ghost use Rattle.kmip_client.specs.declared.error.Error.TheVariants.{SerializeError};
+ghost use Rattle.kmip_client.specs.declared.error.Error.TheVariants.{RequestWriteError};
+ghost use Rattle.kmip_client.specs.declared.error.Error.TheVariants.{OutOfMemory};
 
 use crate::answered::{Answered, answer_to};
 use crate::error::Error;
@@ -56,7 +61,8 @@ pub fn send<L: Link>(alloc: Global, link: &mut L, request: &[u8]) -> Result<(), 
     }
 }
 
-/// Sends a request and returns what its response says. `taken`, which is empty, gets the bytes that were read.
+/// Sends a request and returns what its response says. `taken`, which is empty, gets the bytes that
+/// were read.
 pub fn exchange<L: Link, P: Answered>(
     alloc: Global,
     link: &mut L,

@@ -1,7 +1,9 @@
-//! The helpers: each makes one request, calls `do_request`, passes its errors on and projects its payload.
+//! The helpers: each makes one request, calls `do_request`, passes its errors on and projects its
+//! payload.
 ghost use Rattle.std.specs.Prelude.{◌≡◌, IfOk};
 ghost use Rattle.kmip_response.specs.declared.payload.ResponsePayload.TheVariants as payloads;
-ghost use Rattle.kmip_client.specs.Calls.{IsCall, Helped, Asked, part_of, nothing_of, identifiers_of};
+ghost use Rattle.kmip_client.specs.Calls.{IsCall, Helped, Asked, part_of, nothing_of};
+ghost use Rattle.kmip_client.specs.Calls.{identifiers_of};
 ghost use Rattle.kmip_response.specs.Values.{response_payload_val};
 ghost use Rattle.kmip_client.specs.Outcome.{seen_by};
 ghost use Rattle.kmip_helpers.specs.Requests as requests;
@@ -34,8 +36,9 @@ impl<T: Link> Client<T> {
         self.ask(alloc, query_request(alloc))
     }
 
-    /// Asks for an RSA pair of that many bits, the private key to sign with and the public key to verify with, and
-    /// returns the identifiers of the private key and the public key: KMIP 1.0, 4.2.
+    /// Asks for an RSA pair of that many bits, the private key to sign with and the public key to
+    /// verify with, and returns the identifiers of the private key and the public key: KMIP 1.0,
+    /// 4.2.
     pub fn create_rsa_key_pair(
         &mut self,
         alloc: Global,
@@ -62,7 +65,8 @@ impl<T: Link> Client<T> {
         self.request(alloc, &RequestPayload::RNGRetrieve(DataLength(num_bytes)))
     }
 
-    /// Asks for a signature of these bytes, by RSA with PKCS #1 v1.5 padding of their SHA-256 digest: KMIP 1.2, 4.31.
+    /// Asks for a signature of these bytes, by RSA with PKCS #1 v1.5 padding of their SHA-256
+    /// digest: KMIP 1.2, 4.31.
     pub fn sign(
         &mut self,
         alloc: Global,

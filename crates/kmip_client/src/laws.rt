@@ -9,8 +9,8 @@ ghost use Rattle.kmip_client.specs.Skeletons.{AllParse, skeletons_of, texts_of};
 
 use kmip_diag::diagnostics_tell_skeletons;
 
-/// Where each request is valid and the bytes left begin with a whole message for each, the answer to each request is
-/// that of its own message, contents that do not parse included.
+/// Where each request is valid and the bytes left begin with a whole message for each, the answer
+/// to each request is that of its own message, contents that do not parse included.
 pub fn messages_are_answered_in_order()
     ensures { (payloads : List RequestPayload) (credential : Option CredentialType)
         (limit : Option ℕ) (messages : List (List ℕ)) (rest : List ℕ) →
@@ -19,9 +19,10 @@ pub fn messages_are_answered_in_order()
         answers_to payloads messages }
 {}
 
-/// Two sessions whose requests and messages all parse, with numbers in their ranges, have equal diagnostics at every call exactly where the skeletons of their
-/// requests and of their responses are equal at every call. So a diagnostic shows tags, types, nesting and the numbers
-/// of enumerations, all of them, and nothing else.
+/// Two sessions whose requests and messages all parse, with numbers in their ranges, have equal
+/// diagnostics at every call exactly where the skeletons of their requests and of their responses
+/// are equal at every call. So a diagnostic shows tags, types, nesting and the numbers of
+/// enumerations, all of them, and nothing else.
 pub fn diagnostics_of_sessions()
     ensures { (payloads others : List RequestPayload) (credential other : Option CredentialType)
         (limit most : Option ℕ) (rest bytes : List ℕ) →

@@ -5,14 +5,16 @@
 //! use kmip_link::StreamLink;
 //!
 //! let mut client = ClientBuilder::new(StreamLink::new(reader, writer)).build();
-//! let (private_key, public_key) = client.create_rsa_key_pair(alloc, 2048, private_name, public_name)?;
+//! let (private_key, public_key) =
+//!     client.create_rsa_key_pair(alloc, 2048, private_name, public_name)?;
 //! client.activate_key(alloc, private_key.as_str())?;
 //! let signed = client.sign(alloc, private_key.as_str(), b"message")?;
 //! ```
 //!
-//! Nine helpers make the calls of a signing service; [`Client::do_request`] makes any of the seventeen operations: it
-//! writes one request message, reads one response and returns its payload or a named [`Error`]. Its contract says what
-//! was sent and read after each outcome, and the cause of each error. [`exchange_all`] makes several calls in order.
+//! Nine helpers make the calls of a signing service; [`Client::do_request`] makes any of the
+//! seventeen operations: it writes one request message, reads one response and returns its payload
+//! or a named [`Error`]. Its contract says what was sent and read after each outcome, and the cause
+//! of each error. [`exchange_all`] makes several calls in order.
 #![tactic(auto)]
 
 mod answer;

@@ -1,5 +1,6 @@
 //! One message off a link.
-ghost use Rattle.std.specs.Prelude.{◌≡◌, ◌+◌, ◌*◌, ◌<◌, ◌≤◌, ◌++◌, ◌^◌, ℕ, [], length, take, drop, IfOk, OnErr, OnOk, IsErrOf, IsTrue, vec_len};
+ghost use Rattle.std.specs.Prelude.{◌≡◌, ◌+◌, ◌*◌, ◌<◌, ◌≤◌, ◌++◌, ◌^◌, ℕ, [], length, take, drop};
+ghost use Rattle.std.specs.Prelude.{IfOk, OnErr, OnOk, IsErrOf, IsTrue, vec_len};
 ghost use Rattle.kmip_wire.specs.Heads.{head_says};
 ghost use Rattle.kmip_link.specs.State.{Keeps, Rose, left};
 ghost use Rattle.kmip_client.specs.Message.{ReadsMessage, IsRead};
@@ -51,7 +52,8 @@ fn contents_len(bytes: &[u8], config: &Config) -> Result<u32, MessageStop>
     }
 }
 
-/// Reads one message to the end of `taken`, which is empty: the head, then exactly the contents that it says.
+/// Reads one message to the end of `taken`, which is empty: the head, then exactly the contents
+/// that it says.
 pub fn read_message<L: Link>(
     link: &mut L,
     config: &Config,

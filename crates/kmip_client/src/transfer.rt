@@ -1,5 +1,6 @@
 //! Loops over the calls of a link: all of a request, and so many bytes of a response.
-ghost use Rattle.std.specs.Prelude.{◌≡◌, ◌+◌, ◌-◌, ◌<◌, ◌≤◌, ◌++◌, [], ℕ, length, take, drop, min, IfOk, IfErr, OnErr, OnOk, IsErrOf, IsTrue, vec_len};
+ghost use Rattle.std.specs.Prelude.{◌≡◌, ◌+◌, ◌-◌, ◌<◌, ◌≤◌, ◌++◌, [], ℕ, length, take, drop, min};
+ghost use Rattle.std.specs.Prelude.{IfOk, IfErr, OnErr, OnOk, IsErrOf, IsTrue, vec_len};
 ghost use Rattle.kmip_link.specs.State.{Keeps, Writes, Rose, left};
 ghost use Rattle.kmip_client.specs.Transfer.{WritesPart, Takes, TakesPart};
 
@@ -98,7 +99,8 @@ fn read_piece<L: Link>(link: &mut L, room: usize, taken: &mut Vec<u8>) -> Result
     }
 }
 
-/// Reads `count` bytes to the end of `taken`, in pieces of at most 65,536. Room is taken only piece by piece.
+/// Reads `count` bytes to the end of `taken`, in pieces of at most 65,536. Room is taken only piece
+/// by piece.
 pub fn read_more<L: Link>(link: &mut L, count: usize, taken: &mut Vec<u8>) -> Result<(), ReadStop>
     ensures keeps { Keeps (L.state link.old) (L.state link.new) }
     ensures kept { take (length taken.old.items) taken.new.items ≡ taken.old.items }

@@ -31,8 +31,8 @@ block_cipher_mode_line X9_102_AKW2 = entry 0x11 (codes "X9_102_AKW2")
 -- in the order of their numbers
 abbrev pub block_cipher_mode_variants : List BlockCipherMode
 block_cipher_mode_variants =
-    CBC ∷ ECB ∷ PCBC ∷ CFB ∷ OFB ∷ CTR ∷ CMAC ∷ CCM ∷ GCM ∷ CBC_MAC ∷ XTS ∷ AESKeyWrapPadding ∷ NISTKeyWrap ∷
-    X9_102_AESKW ∷ X9_102_TDKW ∷ X9_102_AKW1 ∷ X9_102_AKW2 ∷ []
+    CBC ∷ ECB ∷ PCBC ∷ CFB ∷ OFB ∷ CTR ∷ CMAC ∷ CCM ∷ GCM ∷ CBC_MAC ∷ XTS ∷ AESKeyWrapPadding ∷
+    NISTKeyWrap ∷ X9_102_AESKW ∷ X9_102_TDKW ∷ X9_102_AKW1 ∷ X9_102_AKW2 ∷ []
 
 abbrev pub block_cipher_modes : List Entry
 block_cipher_modes = map block_cipher_mode_line block_cipher_mode_variants
@@ -44,4 +44,5 @@ pub block_cipher_mode_found : AreFound block_cipher_mode_line block_cipher_mode_
 block_cipher_mode_found x = search rules
 
 pub block_cipher_mode_same : IsFaithful block_cipher_mode_val
-block_cipher_mode_same = same_variant block_cipher_mode_line block_cipher_mode_variants block_cipher_mode_found
+block_cipher_mode_same =
+    same_variant block_cipher_mode_line block_cipher_mode_variants block_cipher_mode_found

@@ -25,8 +25,11 @@ cryptographic_algorithms = map cryptographic_algorithm_line cryptographic_algori
 abbrev pub cryptographic_algorithm_val : CryptographicAlgorithm → Val
 cryptographic_algorithm_val = enumeration_val cryptographic_algorithm_line
 
-pub cryptographic_algorithm_found : AreFound cryptographic_algorithm_line cryptographic_algorithm_variants
+pub cryptographic_algorithm_found : AreFound cryptographic_algorithm_line
+    cryptographic_algorithm_variants
 cryptographic_algorithm_found x = search rules
 
 pub cryptographic_algorithm_same : IsFaithful cryptographic_algorithm_val
-cryptographic_algorithm_same = same_variant cryptographic_algorithm_line cryptographic_algorithm_variants cryptographic_algorithm_found
+cryptographic_algorithm_same =
+    same_variant cryptographic_algorithm_line cryptographic_algorithm_variants
+    cryptographic_algorithm_found

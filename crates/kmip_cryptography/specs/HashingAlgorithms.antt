@@ -24,7 +24,8 @@ hashing_algorithm_line Whirlpool = entry 0xb (codes "Whirlpool")
 
 -- in the order of their numbers
 abbrev pub hashing_algorithm_variants : List HashingAlgorithm
-hashing_algorithm_variants = MD2 ∷ MD4 ∷ MD5 ∷ SHA1 ∷ SHA224 ∷ SHA256 ∷ SHA384 ∷ SHA512 ∷ RIPEMD160 ∷ Tiger ∷ Whirlpool ∷ []
+hashing_algorithm_variants =
+    MD2 ∷ MD4 ∷ MD5 ∷ SHA1 ∷ SHA224 ∷ SHA256 ∷ SHA384 ∷ SHA512 ∷ RIPEMD160 ∷ Tiger ∷ Whirlpool ∷ []
 
 abbrev pub hashing_algorithms : List Entry
 hashing_algorithms = map hashing_algorithm_line hashing_algorithm_variants
@@ -36,4 +37,5 @@ pub hashing_algorithm_found : AreFound hashing_algorithm_line hashing_algorithm_
 hashing_algorithm_found x = search rules
 
 pub hashing_algorithm_same : IsFaithful hashing_algorithm_val
-hashing_algorithm_same = same_variant hashing_algorithm_line hashing_algorithm_variants hashing_algorithm_found
+hashing_algorithm_same =
+    same_variant hashing_algorithm_line hashing_algorithm_variants hashing_algorithm_found

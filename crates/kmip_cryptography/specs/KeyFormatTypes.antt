@@ -1,4 +1,4 @@
--- The forms of key material: KMIP 1.2, 9.1.3.2.
+-- The formats of key material: KMIP 1.2, 9.1.3.2.
 use Rattle.std.specs.Prelude.{List, [], ◌∷◌, map, codes}
 use Rattle.std.proofs.Common.{rules}
 use Rattle.kmip_shape.specs.Val.{Val}
@@ -33,9 +33,10 @@ key_format_type_line TransparentECMQVPublicKey = entry 0x13 (codes "TransparentE
 -- in the order of their numbers
 abbrev pub key_format_type_variants : List KeyFormatType
 key_format_type_variants =
-    Raw ∷ Opaque ∷ PKCS1 ∷ PKCS8 ∷ X509 ∷ ECPrivateKey ∷ TransparentSymmetricKey ∷ TransparentDSAPrivateKey ∷
-    TransparentDSAPublicKey ∷ TransparentRSAPrivateKey ∷ TransparentRSAPublicKey ∷ TransparentDHPrivateKey ∷
-    TransparentDHPublicKey ∷ TransparentECDSAPrivateKey ∷ TransparentECDSAPublicKey ∷ TransparentECHDPrivateKey ∷
+    Raw ∷ Opaque ∷ PKCS1 ∷ PKCS8 ∷ X509 ∷ ECPrivateKey ∷ TransparentSymmetricKey ∷
+    TransparentDSAPrivateKey ∷ TransparentDSAPublicKey ∷ TransparentRSAPrivateKey ∷
+    TransparentRSAPublicKey ∷ TransparentDHPrivateKey ∷ TransparentDHPublicKey ∷
+    TransparentECDSAPrivateKey ∷ TransparentECDSAPublicKey ∷ TransparentECHDPrivateKey ∷
     TransparentECDHPublicKey ∷ TransparentECMQVPrivateKey ∷ TransparentECMQVPublicKey ∷ []
 
 abbrev pub key_format_types : List Entry
@@ -48,4 +49,5 @@ pub key_format_type_found : AreFound key_format_type_line key_format_type_varian
 key_format_type_found x = search rules
 
 pub key_format_type_same : IsFaithful key_format_type_val
-key_format_type_same = same_variant key_format_type_line key_format_type_variants key_format_type_found
+key_format_type_same =
+    same_variant key_format_type_line key_format_type_variants key_format_type_found

@@ -35,8 +35,8 @@ key_role_type_line PVKOTH = entry 0x15 (codes "PVKOTH")
 -- in the order of their numbers
 abbrev pub key_role_type_variants : List KeyRoleType
 key_role_type_variants =
-    BDK ∷ CVK ∷ DEK ∷ MKAC ∷ MKSMC ∷ MKSMI ∷ MKDAC ∷ MKDN ∷ MKCP ∷ MKOTH ∷ KEK ∷ MAC16609 ∷ MAC97971 ∷ MAC97972 ∷
-    MAC97973 ∷ MAC97974 ∷ MAC97975 ∷ ZPK ∷ PVKIBM ∷ PVKPVV ∷ PVKOTH ∷ []
+    BDK ∷ CVK ∷ DEK ∷ MKAC ∷ MKSMC ∷ MKSMI ∷ MKDAC ∷ MKDN ∷ MKCP ∷ MKOTH ∷ KEK ∷ MAC16609 ∷
+    MAC97971 ∷ MAC97972 ∷ MAC97973 ∷ MAC97974 ∷ MAC97975 ∷ ZPK ∷ PVKIBM ∷ PVKPVV ∷ PVKOTH ∷ []
 
 abbrev pub key_role_types : List Entry
 key_role_types = map key_role_type_line key_role_type_variants

@@ -23,7 +23,8 @@ padding_method_line PSS = entry 0xa (codes "PSS")
 
 -- in the order of their numbers
 abbrev pub padding_method_variants : List PaddingMethod
-padding_method_variants = NoPadding ∷ OAEP ∷ PKCS5 ∷ SSL3 ∷ Zeros ∷ ANSI_X9_23 ∷ ISO_10126 ∷ PKCS1_v1_5 ∷ X9_31 ∷ PSS ∷ []
+padding_method_variants =
+    NoPadding ∷ OAEP ∷ PKCS5 ∷ SSL3 ∷ Zeros ∷ ANSI_X9_23 ∷ ISO_10126 ∷ PKCS1_v1_5 ∷ X9_31 ∷ PSS ∷ []
 
 abbrev pub padding_methods : List Entry
 padding_methods = map padding_method_line padding_method_variants

@@ -30,4 +30,5 @@ pub wrapping_method_found : AreFound wrapping_method_line wrapping_method_varian
 wrapping_method_found x = search rules
 
 pub wrapping_method_same : IsFaithful wrapping_method_val
-wrapping_method_same = same_variant wrapping_method_line wrapping_method_variants wrapping_method_found
+wrapping_method_same =
+    same_variant wrapping_method_line wrapping_method_variants wrapping_method_found

@@ -1,7 +1,9 @@
 //! The modes of block ciphers.
 
 ghost use Rattle.std.specs.Prelude.{◌≡◌, Some, refl};
-ghost use Rattle.kmip_cryptography.specs.BlockCipherModes.{block_cipher_mode_line, block_cipher_mode_variants, block_cipher_mode_found};
+ghost use Rattle.kmip_cryptography.specs.BlockCipherModes.{block_cipher_mode_line};
+ghost use Rattle.kmip_cryptography.specs.BlockCipherModes.{block_cipher_mode_variants};
+ghost use Rattle.kmip_cryptography.specs.BlockCipherModes.{block_cipher_mode_found};
 
 use kmip_shape::Enumeration;
 use std::fmt::{self, Display, Formatter, Write};

@@ -1,7 +1,9 @@
 //! The cryptographic algorithms.
 
 ghost use Rattle.std.specs.Prelude.{◌≡◌, Some, refl};
-ghost use Rattle.kmip_cryptography.specs.CryptographicAlgorithms.{cryptographic_algorithm_line, cryptographic_algorithm_variants, cryptographic_algorithm_found};
+ghost use Rattle.kmip_cryptography.specs.CryptographicAlgorithms.{cryptographic_algorithm_line};
+ghost use Rattle.kmip_cryptography.specs.CryptographicAlgorithms.{cryptographic_algorithm_variants};
+ghost use Rattle.kmip_cryptography.specs.CryptographicAlgorithms.{cryptographic_algorithm_found};
 
 use kmip_shape::Enumeration;
 use std::fmt::{self, Display, Formatter, Write};

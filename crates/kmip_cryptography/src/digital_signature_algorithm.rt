@@ -1,7 +1,9 @@
 //! The algorithms of digital signatures.
 
 ghost use Rattle.std.specs.Prelude.{◌≡◌, Some, refl};
-ghost use Rattle.kmip_cryptography.specs.DigitalSignatureAlgorithms.{digital_signature_algorithm_line, digital_signature_algorithm_variants, digital_signature_algorithm_found};
+ghost use Rattle.kmip_cryptography.specs.DigitalSignatureAlgorithms.{digital_signature_algorithm_line};
+ghost use Rattle.kmip_cryptography.specs.DigitalSignatureAlgorithms.{digital_signature_algorithm_variants};
+ghost use Rattle.kmip_cryptography.specs.DigitalSignatureAlgorithms.{digital_signature_algorithm_found};
 
 use kmip_shape::Enumeration;
 use std::fmt::{self, Display, Formatter, Write};

@@ -1,12 +1,14 @@
 //! The hashing algorithms.
 
 ghost use Rattle.std.specs.Prelude.{◌≡◌, Some, refl};
-ghost use Rattle.kmip_cryptography.specs.HashingAlgorithms.{hashing_algorithm_line, hashing_algorithm_variants, hashing_algorithm_found};
+ghost use Rattle.kmip_cryptography.specs.HashingAlgorithms.{hashing_algorithm_line};
+ghost use Rattle.kmip_cryptography.specs.HashingAlgorithms.{hashing_algorithm_variants};
+ghost use Rattle.kmip_cryptography.specs.HashingAlgorithms.{hashing_algorithm_found};
 
 use kmip_shape::Enumeration;
 use std::fmt::{self, Display, Formatter, Write};
 
-/// The algorithm of a hash: KMIP 1.0, 9.1.3.2.15.
+/// The algorithm that makes a digest: KMIP 1.0, 9.1.3.2.15.
 #[derive(Clone, Copy, PartialEq, Eq, Drop)]
 pub enum HashingAlgorithm {
     MD2 = 1,

@@ -1,7 +1,9 @@
 //! The ways in which a key is compressed.
 
 ghost use Rattle.std.specs.Prelude.{◌≡◌, Some, refl};
-ghost use Rattle.kmip_cryptography.specs.KeyCompressionTypes.{key_compression_type_line, key_compression_type_variants, key_compression_type_found};
+ghost use Rattle.kmip_cryptography.specs.KeyCompressionTypes.{key_compression_type_line};
+ghost use Rattle.kmip_cryptography.specs.KeyCompressionTypes.{key_compression_type_variants};
+ghost use Rattle.kmip_cryptography.specs.KeyCompressionTypes.{key_compression_type_found};
 
 use kmip_shape::Enumeration;
 use std::fmt::{self, Display, Formatter, Write};
@@ -9,9 +11,13 @@ use std::fmt::{self, Display, Formatter, Write};
 /// How the public key of an elliptic curve is compressed: KMIP 1.0, 9.1.3.2.2.
 #[derive(Clone, Copy, PartialEq, Eq, Drop)]
 pub enum KeyCompressionType {
+    /// Not compressed.
     ECPUblicKeyTypeUncompressed = 1,
+    /// Compressed by X9.62, over a prime field.
     ECPUblicKeyTypeX962CompressedPrime = 2,
+    /// Compressed by X9.62, over a field of characteristic 2.
     ECPUblicKeyTypeX962CompressedChar2 = 3,
+    /// The hybrid form of X9.62.
     ECPUblicKeyTypeX962Hybrid = 4,
 }
 

@@ -1,34 +1,55 @@
-//! The forms of key material.
+//! The formats of key material.
 
 ghost use Rattle.std.specs.Prelude.{◌≡◌, Some, refl};
-ghost use Rattle.kmip_cryptography.specs.KeyFormatTypes.{key_format_type_line, key_format_type_variants, key_format_type_found};
+ghost use Rattle.kmip_cryptography.specs.KeyFormatTypes.{key_format_type_line};
+ghost use Rattle.kmip_cryptography.specs.KeyFormatTypes.{key_format_type_variants};
+ghost use Rattle.kmip_cryptography.specs.KeyFormatTypes.{key_format_type_found};
 
 use kmip_shape::Enumeration;
 use kmip_shape::read::Outer;
 use kmip_shape::row_readers::Chooses;
 use std::fmt::{self, Display, Formatter, Write};
 
-/// The form of the key material in a key block: KMIP 1.0, 9.1.3.2.3.
+/// The format of the key material in a key block: KMIP 1.0, 9.1.3.2.3.
 #[derive(Clone, Copy, PartialEq, Eq, Drop)]
 pub enum KeyFormatType {
+    /// The bytes of the key material alone.
     Raw = 1,
+    /// Bytes in an encoding that the server does not know.
     Opaque = 2,
+    /// A PKCS #1 object in DER.
     PKCS1 = 3,
+    /// A PKCS #8 object in DER.
     PKCS8 = 4,
+    /// An X.509 object in DER.
     X509 = 5,
+    /// An elliptic curve private key in ASN.1.
     ECPrivateKey = 6,
+    /// KMIP 1.0, 2.1.7.1.
     TransparentSymmetricKey = 7,
+    /// KMIP 1.0, 2.1.7.2.
     TransparentDSAPrivateKey = 8,
+    /// KMIP 1.0, 2.1.7.3.
     TransparentDSAPublicKey = 9,
+    /// KMIP 1.0, 2.1.7.4.
     TransparentRSAPrivateKey = 10,
+    /// KMIP 1.0, 2.1.7.5.
     TransparentRSAPublicKey = 11,
+    /// KMIP 1.0, 2.1.7.6.
     TransparentDHPrivateKey = 12,
+    /// KMIP 1.0, 2.1.7.7.
     TransparentDHPublicKey = 13,
+    /// KMIP 1.0, 2.1.7.8.
     TransparentECDSAPrivateKey = 14,
+    /// KMIP 1.0, 2.1.7.9.
     TransparentECDSAPublicKey = 15,
+    /// ECDH: KMIP 1.0, 2.1.7.10.
     TransparentECHDPrivateKey = 16,
+    /// KMIP 1.0, 2.1.7.11.
     TransparentECDHPublicKey = 17,
+    /// KMIP 1.0, 2.1.7.12.
     TransparentECMQVPrivateKey = 18,
+    /// KMIP 1.0, 2.1.7.13.
     TransparentECMQVPublicKey = 19,
 }
 

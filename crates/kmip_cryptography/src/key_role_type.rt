@@ -1,34 +1,56 @@
 //! The roles of keys.
 
 ghost use Rattle.std.specs.Prelude.{◌≡◌, Some, refl};
-ghost use Rattle.kmip_cryptography.specs.KeyRoleTypes.{key_role_type_line, key_role_type_variants, key_role_type_found};
+ghost use Rattle.kmip_cryptography.specs.KeyRoleTypes.{key_role_type_line, key_role_type_variants};
+ghost use Rattle.kmip_cryptography.specs.KeyRoleTypes.{key_role_type_found};
 
 use kmip_shape::Enumeration;
 use std::fmt::{self, Display, Formatter, Write};
 
-/// What a key is used for in payment systems: KMIP 1.0, 9.1.3.2.16.
+/// The role of a key, mostly in payment systems: KMIP 1.0, 9.1.3.2.16.
 #[derive(Clone, Copy, PartialEq, Eq, Drop)]
 pub enum KeyRoleType {
+    /// Base derivation key.
     BDK = 1,
+    /// Card verification key.
     CVK = 2,
+    /// Data encryption key.
     DEK = 3,
+    /// EMV master key: application cryptograms.
     MKAC = 4,
+    /// EMV master key: secure messaging for confidentiality.
     MKSMC = 5,
+    /// EMV master key: secure messaging for integrity.
     MKSMI = 6,
+    /// EMV master key: data authentication code.
     MKDAC = 7,
+    /// EMV master key: dynamic numbers.
     MKDN = 8,
+    /// EMV master key: card personalization.
     MKCP = 9,
+    /// EMV master key: other.
     MKOTH = 10,
+    /// Key encryption or wrapping key.
     KEK = 11,
+    /// MAC key of ISO 16609, algorithm 1.
     MAC16609 = 12,
+    /// MAC key of ISO 9797-1, algorithm 1.
     MAC97971 = 13,
+    /// MAC key of ISO 9797-1, algorithm 2.
     MAC97972 = 14,
+    /// MAC key of ISO 9797-1, algorithm 3.
     MAC97973 = 15,
+    /// MAC key of ISO 9797-1, algorithm 4.
     MAC97974 = 16,
+    /// MAC key of ISO 9797-1, algorithm 5.
     MAC97975 = 17,
+    /// PIN block encryption key.
     ZPK = 18,
+    /// PIN verification key, IBM 3624 algorithm.
     PVKIBM = 19,
+    /// PIN verification key, VISA PVV algorithm.
     PVKPVV = 20,
+    /// PIN verification key, other algorithm.
     PVKOTH = 21,
 }
 

@@ -1,4 +1,5 @@
-//! The enumerations of KMIP that speak of algorithms and keys, and the uses of a key.
+//! The enumerations of KMIP for algorithms and for the format of keys, and Cryptographic Usage
+//! Mask.
 #![tactic(auto)]
 
 mod block_cipher_mode;

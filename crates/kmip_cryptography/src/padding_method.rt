@@ -1,7 +1,9 @@
 //! The ways to pad a message.
 
 ghost use Rattle.std.specs.Prelude.{◌≡◌, Some, refl};
-ghost use Rattle.kmip_cryptography.specs.PaddingMethods.{padding_method_line, padding_method_variants, padding_method_found};
+ghost use Rattle.kmip_cryptography.specs.PaddingMethods.{padding_method_line};
+ghost use Rattle.kmip_cryptography.specs.PaddingMethods.{padding_method_variants};
+ghost use Rattle.kmip_cryptography.specs.PaddingMethods.{padding_method_found};
 
 use kmip_shape::Enumeration;
 use std::fmt::{self, Display, Formatter, Write};

@@ -5,7 +5,7 @@ ghost use Rattle.kmip_cryptography.specs.UsageMask.{usages, usage_bits};
 
 use bitflags::{Flag, Flags, bitflag_items};
 
-/// What a key may be used for: a set of uses, one bit each (KMIP 1.0, 3.14).
+/// What a key may be used for: a set of uses, one bit each (KMIP 1.0, 3.14 and 9.1.3.3.1).
 #[derive(Clone, Copy, PartialEq, Eq, Drop)]
 pub struct CryptographicUsageMask(u32);
 

@@ -1,7 +1,9 @@
 //! The ways to wrap a key.
 
 ghost use Rattle.std.specs.Prelude.{◌≡◌, Some, refl};
-ghost use Rattle.kmip_cryptography.specs.WrappingMethods.{wrapping_method_line, wrapping_method_variants, wrapping_method_found};
+ghost use Rattle.kmip_cryptography.specs.WrappingMethods.{wrapping_method_line};
+ghost use Rattle.kmip_cryptography.specs.WrappingMethods.{wrapping_method_variants};
+ghost use Rattle.kmip_cryptography.specs.WrappingMethods.{wrapping_method_found};
 
 use kmip_shape::Enumeration;
 use std::fmt::{self, Display, Formatter, Write};
@@ -9,10 +11,15 @@ use std::fmt::{self, Display, Formatter, Write};
 /// How a key is wrapped: KMIP 1.0, 9.1.3.2.4.
 #[derive(Clone, Copy, PartialEq, Eq, Drop)]
 pub enum WrappingMethod {
+    /// Encrypted.
     Encrypt = 1,
+    /// MACed or signed, and not encrypted.
     MACSign = 2,
+    /// Encrypted, and then MACed or signed.
     EncryptThenMACSign = 3,
+    /// MACed or signed, and then encrypted.
     MACSignThenEncrypt = 4,
+    /// By the key block of TR-31.
     TR31 = 5,
 }
 

@@ -7,7 +7,8 @@ use Rattle.kmip_wire.specs.Reading.{front_at}
 use Rattle.kmip_diag.specs.Skeleton.{skeleton}
 use Rattle.kmip_diag.specs.Printed.{printed, printed_tag}
 
--- what a diagnostic shows: items, and then the end, a rest that is shown by `!` alone, or a torn structure
+-- what a diagnostic shows: items, and then the end, a rest that is shown by `!` alone, or a torn
+-- structure
 pub data Shown : Type 0 where
   ended : Shown
   stopped : Shown
@@ -18,12 +19,15 @@ pub data Shown : Type 0 where
 abbrev pub OpensAt : ℕ → List ℕ → Type 0
 OpensAt level b = (level ≤ 64) × (8 ≤ length b) × (head_code b ≡ 1)
 
--- the items at the front that parse at the level, as many as there are; of a torn structure what is there of its contents
+-- the items at the front that parse at the level, as many as there are; of a torn structure what is
+-- there of its contents
 abbrev pub Shows : Shown → ℕ → List ℕ → Type 0
 Shows ended level b = b ≡ []
 Shows stopped level b = (0 < length b) × NoFront level b × (OpensAt level b → ⊥)
-Shows (item t s) level b = (n : ℕ) × (n ≤ length b) × Parses t level (take n b) × Shows s level (drop n b)
-Shows (torn tag s) level b = NoFront level b × OpensAt level b × (tag ≡ head_tag b) × Shows s (level + 1) (value_of b)
+Shows (item t s) level b =
+    (n : ℕ) × (n ≤ length b) × Parses t level (take n b) × Shows s level (drop n b)
+Shows (torn tag s) level b =
+    NoFront level b × OpensAt level b × (tag ≡ head_tag b) × Shows s (level + 1) (value_of b)
 
 -- one `!` ends the text where anything was left
 abbrev pub shown_text : Option ℕ → Bool → Shown → List ℕ
@@ -40,7 +44,9 @@ IsDiagnostic prefix b text = (s : Shown) × Shows s 1 b × (text ≡ shown_text 
 
 -- the tag of the structure whose whole head begins `b`
 abbrev pub opening_tag : ℕ → List ℕ → Option ℕ
-opening_tag level b = if nat_le level 64 && (nat_le 8 (length b) && (head_code b == 1)) then Some (head_tag b) else None
+opening_tag level b =
+    if nat_le level 64 && (nat_le 8 (length b) && (head_code b == 1)) then Some (head_tag b)
+    else None
 
 abbrev pub shown_by : Option Tree → Option ℕ → Shown → Shown → Shown
 shown_by (Some t) opens rest inner = item t rest
@@ -52,7 +58,9 @@ abbrev pub shown_at : ℕ → ℕ → List ℕ → Shown
 shown_at zero level b = ended
 shown_at (suc fuel) level [] = ended
 shown_at (suc fuel) level (x ∷ xs) =
-    shown_by (front_at level (x ∷ xs)) (opening_tag level (x ∷ xs)) (shown_at fuel level (drop (size_at (x ∷ xs)) (x ∷ xs))) (shown_at fuel (level + 1) (value_of (x ∷ xs)))
+    shown_by (front_at level (x ∷ xs)) (opening_tag level (x ∷ xs))
+    (shown_at fuel level (drop (size_at (x ∷ xs)) (x ∷ xs)))
+    (shown_at fuel (level + 1) (value_of (x ∷ xs)))
 
 unfoldable pub shown_within : ℕ → List ℕ → Shown
 shown_within level b = shown_at (suc (length b)) level b

@@ -26,7 +26,8 @@ AreGood ts level = AreSkeletons ts × AreWithin ts level
 
 -- `text` is printed from skeletons, whose lines are `out`
 abbrev pub IsExpansion : Option ℕ → List ℕ → List ℕ → Type 0
-IsExpansion prefix text out = (ts : Skeletons) × AreGood ts 1 × (printed_all prefix ts ≡ text) × (out ≡ all_lines 0 ts)
+IsExpansion prefix text out =
+    (ts : Skeletons) × AreGood ts 1 × (printed_all prefix ts ≡ text) × (out ≡ all_lines 0 ts)
 
 -- `text` is printed from no skeletons
 abbrev pub IsNoDiagnostic : Option ℕ → List ℕ → Type 0
@@ -41,7 +42,8 @@ is_mark _ = true
 abbrev mutual
   pub is_good : Skeleton → ℕ → Bool
   is_good (scalar tag mark) level = nat_le level 64 && (nat_lt tag (2 ^ 24) && is_mark mark)
-  is_good (structure tag ts) level = nat_le level 64 && (nat_lt tag (2 ^ 24) && are_good ts (level + 1))
+  is_good (structure tag ts) level =
+      nat_le level 64 && (nat_lt tag (2 ^ 24) && are_good ts (level + 1))
 
   pub are_good : Skeletons → ℕ → Bool
   are_good none level = true
@@ -49,7 +51,8 @@ abbrev mutual
 
 -- the lines of what was read, where the text is printed from it
 abbrev pub checked_lines : Option ℕ → List ℕ → Skeletons → Option (List ℕ)
-checked_lines prefix text ts = if are_good ts 1 && bytes_eq (printed_all prefix ts) text then Some (all_lines 0 ts) else None
+checked_lines prefix text ts =
+    if are_good ts 1 && bytes_eq (printed_all prefix ts) text then Some (all_lines 0 ts) else None
 
 unfoldable pub expansion : Option ℕ → List ℕ → Option (List ℕ)
 expansion prefix text = checked_lines prefix text (read_all (suc (length text)) prefix text).0

@@ -54,10 +54,12 @@ abbrev pub tag_part : ℕ → List ℕ
 tag_part tag = codes "Tag: " ++ (name_text (name_of tag) ++ number_part tag)
 
 abbrev pub type_part : wire.Kind → List ℕ
-type_part kind = codes "Type: " ++ (kind_name kind ++ (codes " (0x" ++ (two (code_of kind) ++ codes "), ")))
+type_part kind = codes
+    "Type: " ++ (kind_name kind ++ (codes " (0x" ++ (two (code_of kind) ++ codes "), ")))
 
 abbrev pub line : ℕ → ℕ → wire.Kind → List ℕ → List ℕ
-line depth tag kind value = indent depth ++ (tag_part tag ++ (type_part kind ++ (codes "Data: " ++ (value ++ (10 ∷ [])))))
+line depth tag kind value =
+    indent depth ++ (tag_part tag ++ (type_part kind ++ (codes "Data: " ++ (value ++ (10 ∷ [])))))
 
 -- one line for each item, and a structure's line before those of its children
 abbrev mutual

@@ -36,7 +36,8 @@ printed_mark Interval = 110 ∷ []
 abbrev mutual
   pub printed : Option ℕ → Skeleton → List ℕ
   printed prefix (scalar tag mark) = printed_tag prefix tag ++ printed_mark mark
-  printed prefix (structure tag ts) = printed_tag prefix tag ++ (91 ∷ (printed_all prefix ts ++ 93 ∷ []))
+  printed prefix (structure tag ts) =
+      printed_tag prefix tag ++ (91 ∷ (printed_all prefix ts ++ 93 ∷ []))
 
   pub printed_all : Option ℕ → Skeletons → List ℕ
   printed_all prefix none = []

@@ -1,4 +1,5 @@
--- Reading a printed text from its front. What is read is compared with the text afterwards, so that no rule of printing is told twice.
+-- Reading a printed text from its front. What is read is compared with the text afterwards, so that
+-- no rule of printing is told twice.
 use Rattle.std.specs.Prelude.{ℕ, zero, suc, ◌+◌, ◌*◌, ◌-◌, ◌%◌, ◌^◌, List, [], ◌∷◌, length, Option, Some, None, option_map, nat_lt, ◌==◌, if◌then◌else◌}
 use Rattle.kmip_diag.specs.declared.token.Mark.{Mark}
 use Rattle.kmip_diag.specs.declared.token.Mark.TheVariants.{Integer, LongInteger, BigInteger, Enumeration, Boolean, TextString, ByteString, DateTime, Interval}
@@ -8,7 +9,9 @@ use Rattle.kmip_diag.specs.Skeleton.{Skeleton, Skeletons, scalar, structure, non
 
 -- what an upper-case hex digit is worth
 abbrev pub hex_value : ℕ → Option ℕ
-hex_value c = if nat_lt c 48 then None else (if nat_lt c 58 then Some (c - 48) else (if nat_lt c 65 then None else (if nat_lt c 71 then Some (c - 55) else None)))
+hex_value c = if nat_lt c 48 then None
+    else (if nat_lt c 58 then Some (c - 48)
+    else (if nat_lt c 65 then None else (if nat_lt c 71 then Some (c - 55) else None)))
 
 abbrev pub read_on : Option ℕ → ℕ → List ℕ → (ℕ → ℕ × List ℕ) → ℕ × List ℕ
 read_on None n text next = (n, text)
@@ -34,18 +37,28 @@ number_token tag (n, c ∷ cs) = Some (Scalar tag (Enumeration n), cs)
 
 abbrev pub mark_at : ℕ → Option Mark
 mark_at c =
-    if c == 105 then Some Integer else (if c == 108 then Some LongInteger else (if c == 98 then Some BigInteger else (if c == 111 then Some Boolean else (if c == 116 then Some TextString else (if c == 120 then Some ByteString else (if c == 100 then Some DateTime else (if c == 110 then Some Interval else None)))))))
+    if c == 105 then Some Integer
+    else (if c == 108 then Some LongInteger
+    else (if c == 98 then Some BigInteger
+    else (if c == 111 then Some Boolean
+    else (if c == 116 then Some TextString
+    else (if c == 120 then Some ByteString
+    else (if c == 100 then Some DateTime else (if c == 110 then Some Interval else None)))))))
 
 -- the piece of the tag and the letter after it
 abbrev pub by_letter : ℕ → ℕ → List ℕ → Option (Token × List ℕ)
-by_letter tag c cs = if c == 91 then Some (Open tag, cs) else (if c == 101 then number_token tag (numeral 0 cs) else option_map (λ mark. (Scalar tag mark, cs)) (mark_at c))
+by_letter tag c cs = if c == 91 then Some (Open tag, cs)
+    else (if c == 101 then number_token tag (numeral 0 cs)
+    else option_map (λ mark. (Scalar tag mark, cs)) (mark_at c))
 
 abbrev pub tag_token : ℕ → ℕ → List ℕ → Option (Token × List ℕ)
 tag_token tag c cs = if nat_lt tag (2 ^ 24) then by_letter tag c cs else None
 
 abbrev pub after_digits : Option ℕ → List ℕ → ℕ × List ℕ → Option (Token × List ℕ)
 after_digits prefix text (n, []) = None
-after_digits prefix text (n, c ∷ cs) = if c == 93 then Some (Close, cs) else tag_token (tag_of prefix (length text - length (c ∷ cs)) n) c cs
+after_digits prefix text (n, c ∷ cs) =
+    if c == 93 then Some (Close, cs)
+    else tag_token (tag_of prefix (length text - length (c ∷ cs)) n) c cs
 
 -- the piece at the front of a printed text, and the rest
 abbrev pub read_token : Option ℕ → List ℕ → Option (Token × List ℕ)
@@ -57,13 +70,15 @@ first t (ts, rest) = (more t ts, rest)
 abbrev pub around : ℕ → Skeletons × List ℕ → (List ℕ → Skeletons × List ℕ) → Skeletons × List ℕ
 around tag (inner, rest) next = first (structure tag inner) (next rest)
 
-abbrev pub by_token : Option (Token × List ℕ) → List ℕ → (List ℕ → Skeletons × List ℕ) → Skeletons × List ℕ
+abbrev pub by_token : Option (Token × List ℕ) → List ℕ → (List ℕ → Skeletons × List ℕ) →
+    Skeletons × List ℕ
 by_token None text next = (none, text)
 by_token (Some (Scalar tag mark, rest)) text next = first (scalar tag mark) (next rest)
 by_token (Some (Open tag, rest)) text next = around tag (next rest) next
 by_token (Some (Close, rest)) text next = (none, rest)
 
--- the skeletons at the front of a printed text, and what stands after them and the `]` that ends them; with fuel above the text's length
+-- the skeletons at the front of a printed text, and what stands after them and the `]` that ends
+-- them; with fuel above the text's length
 abbrev pub read_all : ℕ → Option ℕ → List ℕ → Skeletons × List ℕ
 read_all zero prefix text = (none, text)
 read_all (suc fuel) prefix text = by_token (read_token prefix text) text (read_all fuel prefix)

@@ -11,7 +11,8 @@ use std::alloc::Global;
 /// Why a text was not expanded.
 #[derive(Clone, Copy, PartialEq, Eq, Debug)]
 pub enum DiagError {
-    /// The text is not printed, under the printer's prefix, from a list of skeletons of level at most 64; so is each text with `!`.
+    /// The text is not printed, under the printer's prefix, from a list of skeletons of level at
+    /// most 64; so is each text with `!`.
     NotADiagnostic,
     /// Memory ran out.
     OutOfMemory,
@@ -29,9 +30,10 @@ fn next_depth(depth: u32, token: &Token) -> Option<u32>
 }
 
 impl PrettyPrinter {
-    /// One line for each item of a printed text, each with a line feed at its end: two spaces for each level below
-    /// the root, `Tag: NAME (0xTTTTTT), Type: TYPE (0xCC), Data: `, and then nothing for a Structure, the number in
-    /// hex for an Enumeration and `<redacted>` for the rest. A tag without a name has the name `Unknown`.
+    /// One line for each item of a printed text, each with a line feed at its end: two spaces for
+    /// each level below the root, `Tag: NAME (0xTTTTTT), Type: TYPE (0xCC), Data: `, and then
+    /// nothing for a Structure, the number in hex for an Enumeration and `<redacted>` for the rest.
+    /// A tag without a name has the name `Unknown`.
     pub fn expand(&self, alloc: Global, text: &str) -> Result<Text, DiagError>
         ensures { MatchResult result (λ lines. expansion self.now text.now ≡
             Some lines) (λ e. e ≡ DiagError.NotADiagnostic → expansion self.now text.now ≡ None) }

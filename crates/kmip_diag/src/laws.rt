@@ -47,13 +47,15 @@ pub fn diagnostics_tell_skeletons()
     parsed_ranges();
 }
 
-/// The diagnostic of an item whose numbers are in their ranges is expanded into the lines of its skeleton.
+/// The diagnostic of an item whose numbers are in their ranges is expanded into the lines of its
+/// skeleton.
 pub fn diagnostics_expand()
     ensures { (prefix : Option ℕ) (t : Tree) (b : List ℕ) → HasRanges t → Parses t 1 b →
         expansion prefix (diagnostic prefix b) ≡ Some (lines_of 0 (skeleton t)) }
 {}
 
-/// What is computed is the lines of the skeletons that the text is printed from, and nothing exactly where there are none.
+/// What is computed is the lines of the skeletons that the text is printed from, and nothing
+/// exactly where there are none.
 pub fn expansion_is_of_skeletons()
     ensures lines { (prefix : Option ℕ) (text lines : List ℕ) →
         (expansion prefix text ≡ Some lines) ↔ IsExpansion prefix text lines }

@@ -1,4 +1,5 @@
-//! Diagnostics of messages that may be logged: tags, types, nesting and the numbers of enumerations, and no other value.
+//! Diagnostics of messages that may be logged: tags, types, nesting and the numbers of
+//! enumerations, and no other value.
 //!
 //! ```rust
 //! use kmip_diag::PrettyPrinter;
@@ -17,8 +18,6 @@ mod lines;
 mod print;
 mod printer;
 mod read;
-#[cfg(test)]
-mod tests;
 mod token;
 mod torn;
 

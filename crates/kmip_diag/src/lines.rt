@@ -1,7 +1,8 @@
 // The line of an item.
 ghost use Rattle.std.specs.Prelude.{◌≡◌, ◌++◌, codes, IfOk};
 ghost use Rattle.kmip_tags.specs.Names.{name_of};
-ghost use Rattle.kmip_diag.specs.Lines.{indent, name_text, kind_name, mark_kind, data_text, number_part, tag_part, type_part};
+ghost use Rattle.kmip_diag.specs.Lines.{indent, name_text, kind_name, mark_kind, data_text};
+ghost use Rattle.kmip_diag.specs.Lines.{number_part, tag_part, type_part};
 ghost use Rattle.kmip_diag.specs.Expansion.{token_line};
 
 use crate::print::{push_six, push_two};

@@ -3,7 +3,8 @@ ghost use Rattle.std.specs.Prelude.{◌≡◌, ℕ, Option, Some, None};
 
 use std::marker::Model;
 
-/// Prints and expands diagnostics. Its prefix, if it has one, is the upper 16 bits of the tags that it writes with two hex digits; any other tag has six.
+/// Prints and expands diagnostics. Its prefix, if it has one, is the upper 16 bits of the tags that
+/// it writes with two hex digits; any other tag has six.
 #[derive(Clone, Copy)]
 pub struct PrettyPrinter {
     pub(crate) prefix: Option<u16>,

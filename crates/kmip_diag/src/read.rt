@@ -1,6 +1,7 @@
 // Reading the pieces of a printed text. What is read is compared with the text afterwards.
 ghost use Rattle.std.specs.Prelude.{◌≡◌, ◌≤◌, ◌<◌, IfSome, length, option_map};
-ghost use Rattle.kmip_diag.specs.Reading.{hex_value, numeral, tag_of, mark_at, number_token, by_letter, read_token};
+ghost use Rattle.kmip_diag.specs.Reading.{hex_value, numeral, tag_of, mark_at, number_token};
+ghost use Rattle.kmip_diag.specs.Reading.{by_letter, read_token};
 ghost use Rattle.kmip_diag.specs.Tokens.{IsToken};
 
 use crate::printer::PrettyPrinter;

@@ -11,7 +11,8 @@ use crate::token::Token;
 use kmip_wire::{ItemRef, OutOfMemory, Tag, Text, split_front};
 use std::alloc::Global;
 
-// The item at the front that stands at the level, and the bytes after it. From level 65 on there is none.
+// The item at the front that stands at the level, and the bytes after it. From level 65 on there is
+// none.
 fn front(bytes: &[u8], level: u32) -> Option<(ItemRef<'_>, &[u8])>
     requires { 1 ≤ level }
     ensures tree { option_map (λ p. item_tree p.0) result ≡ front_at level bytes.now }
@@ -46,7 +47,8 @@ fn contents(bytes: &[u8]) -> &[u8]
     }
 }
 
-// The opening of the structure whose whole head begins the bytes, and what is there of its contents.
+// The opening of the structure whose whole head begins the bytes, and what is there of its
+// contents.
 fn opening(bytes: &[u8], level: u32) -> Option<(Token, &[u8])>
     ensures token { option_map (λ p. p.0) result ≡ option_map Open (opening_tag level bytes.now) }
     ensures contents { IfSome result (λ p. p.1.now ≡ value_of bytes.now) }
@@ -60,10 +62,11 @@ fn opening(bytes: &[u8], level: u32) -> Option<(Token, &[u8])>
 impl PrettyPrinter {
     /// The diagnostic of any bytes.
     ///
-    /// The well-formed items at the front are printed one after another: the tag; then `[`, the children and `]` for
-    /// a Structure, and else a letter for the type, after `e` the number in hex and `:`. Where a rest is left that
-    /// begins with the whole head of a Structure of level at most 64, its tag and `[` follow, and then the same of
-    /// its contents that are there. One `!` ends the text where anything was left. Fails where memory runs out alone.
+    /// The well-formed items at the front are printed one after another: the tag; then `[`, the
+    /// children and `]` for a Structure, and else a letter for the type, after `e` the number in
+    /// hex and `:`. Where a rest is left that begins with the whole head of a Structure of level at
+    /// most 64, its tag and `[` follow, and then the same of its contents that are there. One `!`
+    /// ends the text where anything was left. Fails where memory runs out alone.
     pub fn to_diag_string(&self, alloc: Global, bytes: &[u8]) -> Result<Text, OutOfMemory>
         ensures { IfOk result (λ text. text ≡ diagnostic self.now bytes.now) }
     {

@@ -27,4 +27,5 @@ pub certificate_type_found : AreFound certificate_type_line certificate_type_var
 certificate_type_found x = search rules
 
 pub certificate_type_same : IsFaithful certificate_type_val
-certificate_type_same = same_variant certificate_type_line certificate_type_variants certificate_type_found
+certificate_type_same =
+    same_variant certificate_type_line certificate_type_variants certificate_type_found

@@ -26,4 +26,5 @@ pub credential_type_found : AreFound credential_type_line credential_type_varian
 credential_type_found x = search rules
 
 pub credential_type_same : IsFaithful credential_type_val
-credential_type_same = same_variant credential_type_line credential_type_variants credential_type_found
+credential_type_same =
+    same_variant credential_type_line credential_type_variants credential_type_found

@@ -23,7 +23,8 @@ object_type_line PGPKey = entry 0x9 (codes "PGPKey")
 -- in the order of their numbers
 abbrev pub object_type_variants : List ObjectType
 object_type_variants =
-    Certificate ∷ SymmetricKey ∷ PublicKey ∷ PrivateKey ∷ SplitKey ∷ Template ∷ SecretData ∷ OpaqueObject ∷ PGPKey
+    Certificate ∷ SymmetricKey ∷ PublicKey ∷ PrivateKey ∷ SplitKey ∷ Template ∷ SecretData ∷
+    OpaqueObject ∷ PGPKey
     ∷ []
 
 abbrev pub object_types : List Entry

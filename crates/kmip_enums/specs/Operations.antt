@@ -55,10 +55,11 @@ operation_line JoinSplitKey = entry 0x29 (codes "JoinSplitKey")
 -- in the order of their numbers
 abbrev pub operation_variants : List Operation
 operation_variants =
-    Create ∷ CreateKeyPair ∷ Register ∷ Rekey ∷ DeriveKey ∷ Certify ∷ Recertify ∷ Locate ∷ Check ∷ Get ∷
-    GetAttributes ∷ GetAttributeList ∷ AddAttribute ∷ ModifyAttribute ∷ DeleteAttribute ∷ ObtainLease ∷
-    GetUsageAllocation ∷ Activate ∷ Revoke ∷ Destroy ∷ Archive ∷ Recover ∷ Validate ∷ Query ∷ Cancel ∷ Poll ∷
-    Notify ∷ Put ∷ RekeyKeyPair ∷ DiscoverVersions ∷ Encrypt ∷ Decrypt ∷ Sign ∷ SignatureVerify ∷ MAC ∷ MACVerify
+    Create ∷ CreateKeyPair ∷ Register ∷ Rekey ∷ DeriveKey ∷ Certify ∷ Recertify ∷ Locate ∷ Check ∷
+    Get ∷ GetAttributes ∷ GetAttributeList ∷ AddAttribute ∷ ModifyAttribute ∷ DeleteAttribute ∷
+    ObtainLease ∷ GetUsageAllocation ∷ Activate ∷ Revoke ∷ Destroy ∷ Archive ∷ Recover ∷ Validate ∷
+    Query ∷ Cancel ∷ Poll ∷ Notify ∷ Put ∷ RekeyKeyPair ∷ DiscoverVersions ∷ Encrypt ∷ Decrypt ∷
+    Sign ∷ SignatureVerify ∷ MAC ∷ MACVerify
     ∷ RNGRetrieve ∷ RNGSeed ∷ Hash ∷ CreateSplitKey ∷ JoinSplitKey ∷ []
 
 abbrev pub operations : List Entry

@@ -1,4 +1,4 @@
--- The functions of a query: KMIP 1.2, 9.1.3.2.
+-- The functions of a Query: KMIP 1.2, 9.1.3.2.
 use Rattle.std.specs.Prelude.{List, [], ◌∷◌, map, codes}
 use Rattle.std.proofs.Common.{rules}
 use Rattle.kmip_shape.specs.Val.{Val}

@@ -24,17 +24,20 @@ result_reason_line IllegalOperation = entry 0xb (codes "IllegalOperation")
 result_reason_line PermissionDenied = entry 0xc (codes "PermissionDenied")
 result_reason_line ObjectArchived = entry 0xd (codes "ObjectArchived")
 result_reason_line IndexOutOfBounds = entry 0xe (codes "IndexOutOfBounds")
-result_reason_line ApplicationNamespaceNotSupported = entry 0xf (codes "ApplicationNamespaceNotSupported")
+result_reason_line ApplicationNamespaceNotSupported =
+    entry 0xf (codes "ApplicationNamespaceNotSupported")
 result_reason_line KeyFormatTypeNotSupported = entry 0x10 (codes "KeyFormatTypeNotSupported")
-result_reason_line KeyCompressionTypeNotSupported = entry 0x11 (codes "KeyCompressionTypeNotSupported")
+result_reason_line KeyCompressionTypeNotSupported =
+    entry 0x11 (codes "KeyCompressionTypeNotSupported")
 result_reason_line GeneralFailure = entry 0x100 (codes "GeneralFailure")
 
 -- in the order of their numbers
 abbrev pub result_reason_variants : List ResultReason
 result_reason_variants =
-    ItemNotFound ∷ ResponseTooLarge ∷ AuthenticationNotSuccessful ∷ InvalidMessage ∷ OperationNotSupported ∷
-    MissingData ∷ InvalidField ∷ FeatureNotSupported ∷ OperationCanceledByRequester ∷ CryptographicFailure ∷
-    IllegalOperation ∷ PermissionDenied ∷ ObjectArchived ∷ IndexOutOfBounds ∷ ApplicationNamespaceNotSupported ∷
+    ItemNotFound ∷ ResponseTooLarge ∷ AuthenticationNotSuccessful ∷ InvalidMessage ∷
+    OperationNotSupported ∷ MissingData ∷ InvalidField ∷ FeatureNotSupported ∷
+    OperationCanceledByRequester ∷ CryptographicFailure ∷ IllegalOperation ∷ PermissionDenied ∷
+    ObjectArchived ∷ IndexOutOfBounds ∷ ApplicationNamespaceNotSupported ∷
     KeyFormatTypeNotSupported ∷ KeyCompressionTypeNotSupported ∷ GeneralFailure ∷ []
 
 abbrev pub result_reasons : List Entry

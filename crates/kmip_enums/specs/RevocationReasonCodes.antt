@@ -21,8 +21,8 @@ revocation_reason_code_line PrivilegeWithdrawn = entry 0x7 (codes "PrivilegeWith
 -- in the order of their numbers
 abbrev pub revocation_reason_code_variants : List RevocationReasonCode
 revocation_reason_code_variants =
-    Unspecified ∷ KeyCompromise ∷ CACompromise ∷ AffiliationChanged ∷ Superseded ∷ CessationOfOperation ∷
-    PrivilegeWithdrawn ∷ []
+    Unspecified ∷ KeyCompromise ∷ CACompromise ∷ AffiliationChanged ∷ Superseded ∷
+    CessationOfOperation ∷ PrivilegeWithdrawn ∷ []
 
 abbrev pub revocation_reason_codes : List Entry
 revocation_reason_codes = map revocation_reason_code_line revocation_reason_code_variants
@@ -30,8 +30,11 @@ revocation_reason_codes = map revocation_reason_code_line revocation_reason_code
 abbrev pub revocation_reason_code_val : RevocationReasonCode → Val
 revocation_reason_code_val = enumeration_val revocation_reason_code_line
 
-pub revocation_reason_code_found : AreFound revocation_reason_code_line revocation_reason_code_variants
+pub revocation_reason_code_found : AreFound revocation_reason_code_line
+    revocation_reason_code_variants
 revocation_reason_code_found x = search rules
 
 pub revocation_reason_code_same : IsFaithful revocation_reason_code_val
-revocation_reason_code_same = same_variant revocation_reason_code_line revocation_reason_code_variants revocation_reason_code_found
+revocation_reason_code_same =
+    same_variant revocation_reason_code_line revocation_reason_code_variants
+    revocation_reason_code_found

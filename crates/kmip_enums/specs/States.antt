@@ -19,7 +19,8 @@ state_line DestroyedCompromised = entry 0x6 (codes "DestroyedCompromised")
 
 -- in the order of their numbers
 abbrev pub state_variants : List State
-state_variants = PreActive ∷ Active ∷ Deactivated ∷ Compromised ∷ Destroyed ∷ DestroyedCompromised ∷ []
+state_variants = PreActive ∷ Active ∷ Deactivated ∷ Compromised ∷ Destroyed ∷ DestroyedCompromised ∷
+    []
 
 abbrev pub states : List Entry
 states = map state_line state_variants

@@ -1,7 +1,9 @@
 //! The kinds of certificates.
 
 ghost use Rattle.std.specs.Prelude.{◌≡◌, Some, refl};
-ghost use Rattle.kmip_enums.specs.CertificateTypes.{certificate_type_line, certificate_type_variants, certificate_type_found};
+ghost use Rattle.kmip_enums.specs.CertificateTypes.{certificate_type_line};
+ghost use Rattle.kmip_enums.specs.CertificateTypes.{certificate_type_variants};
+ghost use Rattle.kmip_enums.specs.CertificateTypes.{certificate_type_found};
 
 use kmip_shape::Enumeration;
 use std::fmt::{self, Display, Formatter, Write};

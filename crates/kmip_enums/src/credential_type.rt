@@ -1,7 +1,8 @@
 //! The kinds of credentials.
 
 ghost use Rattle.std.specs.Prelude.{◌≡◌, Some, refl};
-ghost use Rattle.kmip_enums.specs.CredentialTypes.{credential_type_line, credential_type_variants, credential_type_found};
+ghost use Rattle.kmip_enums.specs.CredentialTypes.{credential_type_line, credential_type_variants};
+ghost use Rattle.kmip_enums.specs.CredentialTypes.{credential_type_found};
 
 use kmip_shape::Enumeration;
 use kmip_shape::read::Outer;

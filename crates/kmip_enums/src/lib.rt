@@ -1,4 +1,5 @@
-//! The enumerations of KMIP that stand in requests, responses and attributes, and speak of no algorithm.
+//! The enumerations of KMIP in requests, responses and attributes. Those of algorithms and keys are
+//! in kmip_cryptography.
 #![tactic(auto)]
 
 mod certificate_type;

@@ -9,19 +9,19 @@ use std::fmt::{self, Display, Formatter, Write};
 /// How one object is linked to another: KMIP 1.0, 9.1.3.2.19.
 #[derive(Clone, Copy, PartialEq, Eq, Drop)]
 pub enum LinkType {
-    /// To the certificate of a public key.
+    /// From a public key to its certificate, or from a certificate to its parent in a chain.
     CertificateLink = 0x101,
-    /// To the public key of a private key or a certificate.
+    /// From a private key or a certificate to its public key.
     PublicKeyLink = 0x102,
-    /// To the private key of a public key.
+    /// From a public key to its private key.
     PrivateKeyLink = 0x103,
-    /// To the object that a key was derived from.
+    /// From a derived key to an object that it was derived from.
     DerivationBaseObjectLink = 0x104,
-    /// To a key that was derived from the object.
+    /// From an object to a key that was derived from it.
     DerivedKeyLink = 0x105,
-    /// To the object in its place after a re-key or re-certify.
+    /// From an object to the one that replaced it by Re-key or Re-certify.
     ReplacementObjectLink = 0x106,
-    /// To the object whose place it took.
+    /// From an object to the one that it replaced by Re-key or Re-certify.
     ReplacedObjectLink = 0x107,
 }
 

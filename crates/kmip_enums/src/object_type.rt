@@ -1,7 +1,8 @@
 //! The kinds of managed objects.
 
 ghost use Rattle.std.specs.Prelude.{◌≡◌, Some, refl};
-ghost use Rattle.kmip_enums.specs.ObjectTypes.{object_type_line, object_type_variants, object_type_found};
+ghost use Rattle.kmip_enums.specs.ObjectTypes.{object_type_line, object_type_variants};
+ghost use Rattle.kmip_enums.specs.ObjectTypes.{object_type_found};
 
 use kmip_shape::Enumeration;
 use kmip_shape::read::Outer;
@@ -11,21 +12,21 @@ use std::fmt::{self, Display, Formatter, Write};
 /// What kind of managed object it is: KMIP 1.0, 9.1.3.2.11.
 #[derive(Clone, Copy, PartialEq, Eq, Drop)]
 pub enum ObjectType {
-    /// A certificate: 2.2.1.
+    /// A certificate: KMIP 1.0, 2.2.1.
     Certificate = 1,
-    /// A symmetric key: 2.2.2.
+    /// A symmetric key: KMIP 1.0, 2.2.2.
     SymmetricKey = 2,
-    /// A public key: 2.2.3.
+    /// A public key: KMIP 1.0, 2.2.3.
     PublicKey = 3,
-    /// A private key: 2.2.4.
+    /// A private key: KMIP 1.0, 2.2.4.
     PrivateKey = 4,
-    /// A share of a split key: 2.2.5.
+    /// A share of a split key: KMIP 1.0, 2.2.5.
     SplitKey = 5,
-    /// A template: 2.2.6.
+    /// A template: KMIP 1.0, 2.2.6.
     Template = 6,
-    /// A password or seed: 2.2.7.
+    /// Secret data that is no key, as a password or a seed: KMIP 1.0, 2.2.7.
     SecretData = 7,
-    /// Bytes that the server may not understand: 2.2.8.
+    /// Bytes that the server may not be able to interpret: KMIP 1.0, 2.2.8.
     OpaqueObject = 8,
     /// A PGP key: KMIP 1.2, 2.2.9.
     PGPKey = 9,

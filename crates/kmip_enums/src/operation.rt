@@ -8,7 +8,8 @@ use kmip_shape::read::Outer;
 use kmip_shape::row_readers::Chooses;
 use std::fmt::{self, Display, Formatter, Write};
 
-/// What a request asks for: KMIP 1.0, 9.1.3.2.26, with those that KMIP 1.1 and 1.2 add.
+/// The operation that a request asks for: KMIP 1.0, 9.1.3.2.26, with those that KMIP 1.1 and 1.2
+/// add. Each variant has the section of its operation.
 #[derive(Clone, Copy, PartialEq, Eq, Drop)]
 pub enum Operation {
     /// KMIP 1.0, 4.1.

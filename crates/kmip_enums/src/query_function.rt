@@ -1,19 +1,20 @@
-//! The functions of a query.
+//! The functions of a Query.
 
 ghost use Rattle.std.specs.Prelude.{◌≡◌, Some, refl};
-ghost use Rattle.kmip_enums.specs.QueryFunctions.{query_function_line, query_function_variants, query_function_found};
+ghost use Rattle.kmip_enums.specs.QueryFunctions.{query_function_line, query_function_variants};
+ghost use Rattle.kmip_enums.specs.QueryFunctions.{query_function_found};
 
 use kmip_shape::Enumeration;
 use std::fmt::{self, Display, Formatter, Write};
 
-/// What a query asks for: KMIP 1.0, 9.1.3.2.23.
+/// What a Query asks for: KMIP 1.0, 9.1.3.2.23 and 4.24.
 #[derive(Clone, Copy, PartialEq, Eq, Drop)]
 pub enum QueryFunction {
     /// The operations that the server supports.
     QueryOperations = 1,
     /// The types of managed objects that the server supports.
     QueryObjects = 2,
-    /// What the vendor says of the server.
+    /// The vendor's identification and information about the server.
     QueryServerInformation = 3,
 }
 

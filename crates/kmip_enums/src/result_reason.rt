@@ -1,7 +1,8 @@
 //! The reasons for a failure.
 
 ghost use Rattle.std.specs.Prelude.{◌≡◌, Some, refl};
-ghost use Rattle.kmip_enums.specs.ResultReasons.{result_reason_line, result_reason_variants, result_reason_found};
+ghost use Rattle.kmip_enums.specs.ResultReasons.{result_reason_line, result_reason_variants};
+ghost use Rattle.kmip_enums.specs.ResultReasons.{result_reason_found};
 
 use kmip_shape::Enumeration;
 use std::fmt::{self, Display, Formatter, Write};
@@ -11,21 +12,21 @@ use std::fmt::{self, Display, Formatter, Write};
 pub enum ResultReason {
     /// No object has that identifier or those attributes.
     ItemNotFound = 0x1,
-    /// The response is longer than the request allows.
+    /// The response is longer than the Maximum Response Size of the request.
     ResponseTooLarge = 0x2,
     /// The credential was not accepted.
     AuthenticationNotSuccessful = 0x3,
-    /// The server could not read the request.
+    /// The server did not understand the request.
     InvalidMessage = 0x4,
-    /// The server has no such operation.
+    /// The server does not support the operation.
     OperationNotSupported = 0x5,
     /// A field that is required is absent.
     MissingData = 0x6,
     /// A field has a value that is not allowed.
     InvalidField = 0x7,
-    /// The server lacks an optional feature that was asked for.
+    /// The server does not support an optional feature that was asked for.
     FeatureNotSupported = 0x8,
-    /// A cancel ended the operation.
+    /// A Cancel operation ended this one.
     OperationCanceledByRequester = 0x9,
     /// The cryptographic operation failed.
     CryptographicFailure = 0xA,
@@ -39,9 +40,9 @@ pub enum ResultReason {
     IndexOutOfBounds = 0xE,
     /// The server does not know the application namespace.
     ApplicationNamespaceNotSupported = 0xF,
-    /// The server cannot give the key in this format.
+    /// The server cannot return the key in this format.
     KeyFormatTypeNotSupported = 0x10,
-    /// The server cannot give the key in this compression.
+    /// The server cannot return the key in this compression.
     KeyCompressionTypeNotSupported = 0x11,
     /// Any other failure.
     GeneralFailure = 0x100,

@@ -1,7 +1,8 @@
 //! The ways in which an operation ends.
 
 ghost use Rattle.std.specs.Prelude.{◌≡◌, Some, refl};
-ghost use Rattle.kmip_enums.specs.ResultStatuses.{result_status_line, result_status_variants, result_status_found};
+ghost use Rattle.kmip_enums.specs.ResultStatuses.{result_status_line, result_status_variants};
+ghost use Rattle.kmip_enums.specs.ResultStatuses.{result_status_found};
 
 use kmip_shape::Enumeration;
 use std::fmt::{self, Display, Formatter, Write};
@@ -9,13 +10,13 @@ use std::fmt::{self, Display, Formatter, Write};
 /// How an operation ended: KMIP 1.0, 9.1.3.2.27.
 #[derive(Clone, Copy, PartialEq, Eq, Drop)]
 pub enum ResultStatus {
-    /// The operation was done.
+    /// The operation succeeded.
     Success = 0,
-    /// It was not done; the result reason says why.
+    /// The operation failed; the result reason says why.
     OperationFailed = 1,
-    /// It is being done; a poll asks for its result.
+    /// The operation is not finished; Poll asks for its result.
     OperationPending = 2,
-    /// It was done and taken back, since another of the batch failed.
+    /// The operation was done and then undone, since another one of the batch failed.
     OperationUndone = 3,
 }
 

@@ -1,7 +1,9 @@
 //! The reasons for a revocation.
 
 ghost use Rattle.std.specs.Prelude.{◌≡◌, Some, refl};
-ghost use Rattle.kmip_enums.specs.RevocationReasonCodes.{revocation_reason_code_line, revocation_reason_code_variants, revocation_reason_code_found};
+ghost use Rattle.kmip_enums.specs.RevocationReasonCodes.{revocation_reason_code_line};
+ghost use Rattle.kmip_enums.specs.RevocationReasonCodes.{revocation_reason_code_variants};
+ghost use Rattle.kmip_enums.specs.RevocationReasonCodes.{revocation_reason_code_found};
 
 use kmip_shape::Enumeration;
 use std::fmt::{self, Display, Formatter, Write};
@@ -11,13 +13,13 @@ use std::fmt::{self, Display, Formatter, Write};
 pub enum RevocationReasonCode {
     /// No reason is given.
     Unspecified = 1,
-    /// The key may be known to others.
+    /// The key is known, or thought to be known, to others.
     KeyCompromise = 2,
-    /// The authority's key may be known to others.
+    /// The key of a certification authority is known, or thought to be known, to others.
     CACompromise = 3,
     /// The subject's name or affiliation changed.
     AffiliationChanged = 4,
-    /// Another object takes its place.
+    /// Another object replaced it.
     Superseded = 5,
     /// The object is no longer needed.
     CessationOfOperation = 6,

@@ -6,16 +6,16 @@ ghost use Rattle.kmip_enums.specs.States.{state_line, state_variants, state_foun
 use kmip_shape::Enumeration;
 use std::fmt::{self, Display, Formatter, Write};
 
-/// Where an object is in its life: KMIP 1.0, 3.17.
+/// The state of an object in its life cycle: KMIP 1.0, 3.17 and 9.1.3.2.17.
 #[derive(Clone, Copy, PartialEq, Eq, Drop)]
 pub enum State {
-    /// Made, and not yet to be used.
+    /// It exists, and is not yet to be used.
     PreActive = 1,
-    /// In use.
+    /// It may be used to protect data, and to process protected data.
     Active = 2,
-    /// No longer to be used for protecting data.
+    /// It is no longer to be used to protect data.
     Deactivated = 3,
-    /// Known to others, or thought to be.
+    /// It is known to others, or thought to be.
     Compromised = 4,
     /// Its key material is gone.
     Destroyed = 5,

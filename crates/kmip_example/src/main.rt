@@ -1,7 +1,8 @@
 //! Makes an RSA key pair on a key server, activates the private key and signs with it.
 //!
-//! Standard input and output are the connection, as `socat` or `openssl s_client` lend it; what came of it is told on
-//! standard error. The status is 0 where there is a signature, and else 1.
+//! Standard input and output are the connection, which `socat` or `openssl s_client` carries to the
+//! server. The result or the error is a line on standard error. The status is 1 after an error, and
+//! else 0, also where the server does not sign.
 #![tactic(auto)]
 
 use kmip_client::{Client, ClientBuilder, Error};
@@ -19,7 +20,7 @@ struct Signed {
     signature: Blob,
 }
 
-/// Signs the message with a key that is made for it. There is none where the server does not sign.
+/// Signs the message with a key that is made for it; `None` where the server does not sign.
 fn sign_with_new_key<T: Link>(
     alloc: Global,
     client: &mut Client<T>,
@@ -62,7 +63,7 @@ fn advice(error: &Error) -> &'static str {
     }
 }
 
-/// Makes the calls over a link, and writes what came of them as one line.
+/// Makes the calls over a link, and returns what came of them as one line.
 fn run<T: Link + Drop>(alloc: Global, link: T) -> Result<String, Error> {
     let config = Config::new().with_max_bytes(65_536);
     let mut client = ClientBuilder::new(link).with_reader_config(config).build();

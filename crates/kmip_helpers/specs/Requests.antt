@@ -12,18 +12,21 @@ use Rattle.kmip_request.specs.Constructors.{attribute_of}
 use Rattle.kmip_request.specs.TheAttribute.{Attribute}
 use Rattle.kmip_request.specs.declared.payload.RequestPayload.{RequestPayload}
 
--- what the server can do, with which objects, and who it is (KMIP 1.0, 4.24)
+-- the operations and types of objects that the server supports, and who it is (KMIP 1.0, 4.24)
 abbrev pub query_request : RequestPayload
-query_request = RequestPayload.Query (QueryFunction.QueryOperations ∷ QueryFunction.QueryObjects ∷ QueryFunction.QueryServerInformation ∷ [])
+query_request = RequestPayload.Query
+    (QueryFunction.QueryOperations ∷ QueryFunction.QueryObjects ∷
+    QueryFunction.QueryServerInformation ∷ [])
 
--- the attributes of both keys of an RSA pair
+-- the attributes of both keys of an RSA pair, whose length is in bits
 abbrev pub pair_attributes : ℤ → List Attribute
 pair_attributes key_length =
-    attribute_of (codes "Cryptographic Algorithm") (values.CryptographicAlgorithm CryptographicAlgorithm.RSA)
+    attribute_of (codes "Cryptographic Algorithm")
+    (values.CryptographicAlgorithm CryptographicAlgorithm.RSA)
     ∷ attribute_of (codes "Cryptographic Length") (values.Integer key_length)
     ∷ []
 
--- the attributes of one key: a name, and the bit of its use
+-- the attributes of one key: its name, and its Cryptographic Usage Mask
 abbrev pub key_attributes : List ℕ → ℕ → List Attribute
 key_attributes name usage =
     attribute_of (codes "Name") (values.Name (record { 0 = name }) UninterpretedTextString)
@@ -37,7 +40,7 @@ key_pair_request key_length private_name public_name = RequestPayload.CreateKeyP
     (Some (record { 0 = None; 1 = Some (key_attributes private_name 0x1) }))
     (Some (record { 0 = None; 1 = Some (key_attributes public_name 0x2) }))
 
--- random bytes (KMIP 1.2, 4.35)
+-- a number of random bytes (KMIP 1.2, 4.35)
 abbrev pub rng_request : ℤ → RequestPayload
 rng_request num_bytes = RequestPayload.RNGRetrieve (record { 0 = num_bytes })
 
@@ -61,21 +64,23 @@ signing_parameters = record {
 
 -- a signature of these bytes (KMIP 1.2, 4.31)
 abbrev pub sign_request : List ℕ → List ℕ → RequestPayload
-sign_request id bytes = RequestPayload.Sign (Some (record { 0 = id })) (Some signing_parameters) (record { 0 = bytes })
+sign_request id bytes =
+    RequestPayload.Sign (Some (record { 0 = id })) (Some signing_parameters) (record { 0 = bytes })
 
--- KMIP 1.0, 4.18
+-- a key made active (KMIP 1.0, 4.18)
 abbrev pub activate_request : List ℕ → RequestPayload
 activate_request id = RequestPayload.Activate (Some (record { 0 = id }))
 
--- a key that is no longer needed, with no message and no date (KMIP 1.0, 4.19)
+-- a key that is no longer needed revoked, with no message and no date (KMIP 1.0, 4.19)
 abbrev pub revoke_request : List ℕ → RequestPayload
-revoke_request id = RequestPayload.Revoke (Some (record { 0 = id })) (record { 0 = RevocationReasonCode.CessationOfOperation; 1 = None }) None
+revoke_request id = RequestPayload.Revoke (Some (record { 0 = id }))
+    (record { 0 = RevocationReasonCode.CessationOfOperation; 1 = None }) None
 
--- KMIP 1.0, 4.20
+-- an object destroyed (KMIP 1.0, 4.20)
 abbrev pub destroy_request : List ℕ → RequestPayload
 destroy_request id = RequestPayload.Destroy (Some (record { 0 = id }))
 
--- another name in the place of the first (KMIP 1.0, 4.14)
+-- the first name of an object changed, since the index is absent (KMIP 1.0, 4.14)
 abbrev pub rename_request : List ℕ → List ℕ → RequestPayload
 rename_request id name = RequestPayload.ModifyAttribute (Some (record { 0 = id }))
     (attribute_of (codes "Name") (values.Name (record { 0 = name }) UninterpretedTextString))

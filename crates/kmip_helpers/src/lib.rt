@@ -1,4 +1,5 @@
-//! The requests that the nine helpers of a client make, and that a server knows as theirs.
+//! The requests that a client's helpers make, and that a server knows as theirs. That for random
+//! bytes, which takes no memory, is only defined here (`rng_request`).
 #![tactic(auto)]
 
 mod requests;

@@ -1,7 +1,10 @@
-//! The requests that the helpers make, each with memory of its own.
+//! The requests that the helpers make, each with memory of its own. The only error is
+//! `OutOfMemory`.
 ghost use Rattle.std.specs.Prelude.{◌≡◌, ◌∷◌, [], ℕ, List, None, Some, IfOk};
 ghost use Rattle.std.specs.Int.{cast_signed, w32};
-ghost use Rattle.kmip_enums.specs.declared.query_function.QueryFunction.TheVariants.{QueryOperations, QueryObjects, QueryServerInformation};
+ghost use Rattle.kmip_enums.specs.declared.query_function.QueryFunction.TheVariants.{QueryOperations};
+ghost use Rattle.kmip_enums.specs.declared.query_function.QueryFunction.TheVariants.{QueryObjects};
+ghost use Rattle.kmip_enums.specs.declared.query_function.QueryFunction.TheVariants.{QueryServerInformation};
 ghost use Rattle.kmip_types.specs.UsageMask.{usage_bits};
 ghost use Rattle.kmip_helpers.specs.Requests as requests;
 
@@ -17,7 +20,8 @@ use kmip_types::{
 use kmip_wire::{Blob, List, OutOfMemory, Text};
 use std::alloc::Global;
 
-/// Asks what the server can do, with which objects, and who it is.
+/// Asks which operations and which types of objects the server supports, and for information about
+/// it: KMIP 1.0, 4.24.
 pub fn query_request(alloc: Global) -> Result<RequestPayload, OutOfMemory>
     ensures { IfOk result (λ made. made ≡ requests.query_request) }
 {
@@ -65,7 +69,7 @@ fn verifying_attributes(alloc: Global, name: Text) -> Result<List<Attribute>, Ou
     two(alloc, name, usage)
 }
 
-/// Asks for an RSA pair.
+/// Asks for an RSA key pair, whose length is in bits: KMIP 1.0, 4.2.
 pub fn key_pair_request(
     alloc: Global,
     key_length: i32,
@@ -102,7 +106,7 @@ fn identifier(alloc: Global, id: &str) -> Result<UniqueIdentifier, OutOfMemory>
     Ok(UniqueIdentifier(Text::of(alloc, id)?))
 }
 
-/// Asks for a signature of these bytes.
+/// Asks for a signature of these bytes: KMIP 1.2, 4.31.
 pub fn sign_request(
     alloc: Global,
     private_key_id: &str,
@@ -115,14 +119,14 @@ pub fn sign_request(
     Ok(RequestPayload::Sign(Some(id), Some(signing_parameters()), data))
 }
 
-/// Asks to make a key ready for use.
+/// Asks to make a key active: KMIP 1.0, 4.18.
 pub fn activate_request(alloc: Global, id: &str) -> Result<RequestPayload, OutOfMemory>
     ensures { IfOk result (λ made. made ≡ requests.activate_request id.now) }
 {
     Ok(RequestPayload::Activate(Some(identifier(alloc, id)?)))
 }
 
-/// Asks to take a key out of use, since it is no longer needed.
+/// Asks to revoke a key that is no longer needed: KMIP 1.0, 4.19.
 pub fn revoke_request(alloc: Global, id: &str) -> Result<RequestPayload, OutOfMemory>
     ensures { IfOk result (λ made. made ≡ requests.revoke_request id.now) }
 {
@@ -130,14 +134,14 @@ pub fn revoke_request(alloc: Global, id: &str) -> Result<RequestPayload, OutOfMe
     Ok(RequestPayload::Revoke(Some(identifier(alloc, id)?), reason, None))
 }
 
-/// Asks to destroy an object.
+/// Asks to destroy an object: KMIP 1.0, 4.20.
 pub fn destroy_request(alloc: Global, id: &str) -> Result<RequestPayload, OutOfMemory>
     ensures { IfOk result (λ made. made ≡ requests.destroy_request id.now) }
 {
     Ok(RequestPayload::Destroy(Some(identifier(alloc, id)?)))
 }
 
-/// Asks to give an object another name.
+/// Asks to change the first name of an object: KMIP 1.0, 4.14.
 pub fn rename_request(
     alloc: Global,
     id: &str,
@@ -150,7 +154,7 @@ pub fn rename_request(
     Ok(RequestPayload::ModifyAttribute(Some(id), name))
 }
 
-/// Asks for an object.
+/// Asks for an object: KMIP 1.0, 4.10.
 pub fn get_request(alloc: Global, id: &str) -> Result<RequestPayload, OutOfMemory>
     ensures { IfOk result (λ made. made ≡ requests.get_request id.now) }
 {

@@ -17,7 +17,7 @@ use Rattle.kmip_served.specs.Requests.{request_of, call_operation}
 use Rattle.kmip_served.specs.Served.{served, asks}
 use Rattle.kmip_server.specs.Calls.{call_told, settings_of, before_all, expected_of, finish_of}
 use Rattle.kmip_server.specs.Came.{standing}
-use Rattle.kmip_server.specs.Joined.{Settings, Between, Expected, Told', Unsent, CallTold, Next, turn_with, turn_call_told, answered_with, sent_with, next, expected_calls, finish, has_unsent, Meet}
+use Rattle.kmip_server.specs.Joined.{Settings, Between, Expected, AsTold, Unsent, CallTold, Next, turn_with, turn_call_told, answered_with, sent_with, next, expected_calls, finish, has_unsent, Meet}
 use Rattle.kmip_server.specs.Link.{ServerLinkState, IsOpen, IsKnown}
 use Rattle.kmip_server.specs.Machine.{first_for}
 use Rattle.kmip_server.specs.declared.answers.CallAnswer.{CallAnswer}
@@ -44,7 +44,7 @@ after_asked : (settings : Settings) (call : Call) (now : Between) (request : Opt
 after_asked settings call now None = sym (append_none now.asked)
 after_asked settings call now (Some request) = asked_with settings call now _ request _
 
-told_same : (a b : CallTold) → Told' a ≡ Told' b → b ≡ a
+told_same : (a b : CallTold) → AsTold a ≡ AsTold b → b ≡ a
 told_same a b e = cc
 
 -- a response was made
@@ -54,7 +54,7 @@ record Formed (settings : Settings) (call : Call) (now after : Between) (request
   rest : (answered_with settings call now after request response).after.rest
       ≡ drop (outcome_of (Some request) (call_operation call) settings.limit (after.rest ++ or_empty response)).taken (after.rest ++ or_empty response)
 
-formed : (settings : Settings) (call : Call) (now after : Between) (request : List ℕ) (response : Option (List ℕ)) (x : CallTold) → (answered_with settings call now after request response).expected ≡ Told' x →
+formed : (settings : Settings) (call : Call) (now after : Between) (request : List ℕ) (response : Option (List ℕ)) (x : CallTold) → (answered_with settings call now after request response).expected ≡ AsTold x →
     Formed settings call now after request response x
 formed settings call now after request None x is = absurd (cc)
 formed settings call now after request (Some response) x is = record { told = told_same _ _ is; objects = refl; rest = refl }
@@ -70,7 +70,7 @@ record Comes (settings : Settings) (call : Call) (now : Between) (request : Opti
 abbrev IsNext : Between → Option (List ℕ) → Type 0
 IsNext now request = now.given ≡ plain_answers (length now.asked) (extra_of now request)
 
-comes : (settings : Settings) (call : Call) (now : Between) (request : Option (List ℕ)) (x : CallTold) → settings.time ≡ pos 0 → IsNext now request → (sent_with settings call now request).expected ≡ Told' x →
+comes : (settings : Settings) (call : Call) (now : Between) (request : Option (List ℕ)) (x : CallTold) → settings.time ≡ pos 0 → IsNext now request → (sent_with settings call now request).expected ≡ AsTold x →
     Comes settings call now request (after_sending (world_at now) request) x
 comes settings call now None x time made is = record { told = told_same _ _ is; objects = refl; rest = refl; answers = refl }
 comes settings call now (Some request) x time made is =
@@ -119,12 +119,12 @@ finish_one settings now call = cond_same (next settings now call).stops (next se
 pub record Only (e : Expected) (xs : List CallAnswer) : Type 0 where
   pub x : CallAnswer
   pub is : xs ≡ x ∷ []
-  pub told : e ≡ Told' (call_told x)
+  pub told : e ≡ AsTold (call_told x)
 
 only : (settings : Settings) (e : Expected) (xs : List CallAnswer) → Meet settings (e ∷ []) (map call_told xs) → (has_unsent (e ∷ []) ≡ true → ⊥) → Only e xs
-only settings (Told' told) [] meet sound = absurd meet
-only settings (Told' told) (x ∷ []) meet sound = record { x = x; is = refl; told = ap Told' (sym meet.0) }
-only settings (Told' told) (x ∷ y ∷ xs) meet sound = absurd meet.1
+only settings (AsTold told) [] meet sound = absurd meet
+only settings (AsTold told) (x ∷ []) meet sound = record { x = x; is = refl; told = ap AsTold (sym meet.0) }
+only settings (AsTold told) (x ∷ y ∷ xs) meet sound = absurd meet.1
 only settings (Unsent request) xs meet sound = absurd (sound refl)
 
 -- ---- the program's step
@@ -166,7 +166,7 @@ pub record Known (settings : Settings) (call : Call) (before after : ServerLinkS
   pub plain_after : IsPlain after
   pub stood : (extra : List Asked) → after.server.maker.asked ≡ now.asked ++ extra → Stands before now extra
   pub ends : standing plain_state after ≡ (next settings now call).after
-  pub told : (next settings now call).expected ≡ Told' (call_told x)
+  pub told : (next settings now call).expected ≡ AsTold (call_told x)
   pub pair : makes_pair call ≡ true → IfOk x.answer (λ a. is_pair a ≡ true)
 
 made_known : (settings : Settings) (call : Call) (before after : ServerLinkState PlainMemory) (now : Between) (x : CallAnswer) → Known settings call before after now x → MadeSo (line_settings settings) call before after x
@@ -240,7 +240,7 @@ came_so old new call xs rest x joined said last pair =
       plain_after = said.plain_after;
       stood = λ extra asked. stands old.link new.link.server.maker.given new.link.server.maker.asked extra joined.is_open said.known said.plain said.plain_after asked;
       ends = said.ends ∙ finish_one s now call;
-      told = it.told ∙ ap (λ (a : CallAnswer). Told' (call_told a)) same;
+      told = it.told ∙ ap (λ (a : CallAnswer). AsTold (call_told a)) same;
       pair = pair;
     })
 

@@ -1,4 +1,4 @@
--- The call of a line that gives no response.
+-- The call of a line without a response.
 use Rattle.std.specs.Prelude.{ℕ, List, Option, Some, None}
 use Rattle.std.specs.Option.{option_and_then}
 use Rattle.kmip_store.specs.declared.call.Call.{Call as HelperCall}
@@ -16,10 +16,11 @@ if_helper (CreateAes key_length name) = None
 if_helper Discover = None
 if_helper call = Some call
 
--- a helper's call, as a line says it
+-- a helper's call, as the call of a line
 abbrev pub line_call : HelperCall → Call
 line_call helpers.Query = Query
-line_call (helpers.CreateRsaKeyPair key_length private_name public_name) = CreateRsa key_length private_name public_name
+line_call (helpers.CreateRsaKeyPair key_length private_name public_name) =
+    CreateRsa key_length private_name public_name
 line_call (helpers.RngRetrieve num_bytes) = Rng num_bytes
 line_call (helpers.Sign id bytes) = Sign id bytes
 line_call (helpers.ActivateKey id) = Activate id

@@ -27,7 +27,7 @@ pub record IsJoined (link : ServerLinkState PlainMemory) : Type 0 where
   pub is_open : IsOpen plain_state link
   pub time : link.server.time ≡ pos 0
 
--- what the maker gave are its answers by their numbers
+-- the answers of the maker are those by their numbers
 abbrev pub IsPlain : ServerLinkState PlainMemory → Type 0
 IsPlain link = link.server.maker.given ≡ plain_answers 0 link.server.maker.asked
 
@@ -36,12 +36,14 @@ abbrev pub answered_shown : Answered → List ℕ
 answered_shown answered.Unit = done_styled Bare
 answered_shown (answered.Pair first second) = pair_styled first second Bare
 answered_shown (answered.Query payload) = shown_as query_payload (query_payload_val payload) Bare
-answered_shown (answered.Random payload) = shown_as rng_retrieve_payload (rng_retrieve_payload_val payload) Bare
+answered_shown (answered.Random payload) =
+    shown_as rng_retrieve_payload (rng_retrieve_payload_val payload) Bare
 answered_shown (answered.Signed payload) = shown_as sign_payload (sign_payload_val payload) Bare
-answered_shown (answered.Renamed payload) = shown_as attribute_edit_payload (attribute_edit_payload_val payload) Bare
+answered_shown (answered.Renamed payload) =
+    shown_as attribute_edit_payload (attribute_edit_payload_val payload) Bare
 answered_shown (answered.Got payload) = shown_as get_payload (get_payload_val payload) Bare
 
--- the one call that is answered by two identifiers
+-- whether it is the one call that returns two identifiers
 abbrev pub makes_pair : Call → Bool
 makes_pair (CreateRsaKeyPair key_length private_name public_name) = true
 makes_pair call = false
@@ -50,51 +52,60 @@ abbrev pub is_pair : Answered → Bool
 is_pair (answered.Pair first second) = true
 is_pair x = false
 
--- What is known of a call once it was made, whose answer is the one in the list: the link is sound, its maker's answers are those
--- by their numbers, and the call came as the definitions of kmip_server say.
-pub record IsMade (before after : ClientState (ServerLinkState PlainMemory)) (call : Call) (answers : List CallAnswer) : Type 0 where
+-- What is known of a call that was made, whose answer is the one in the list: the link is not
+-- faulted, its maker's answers are those by their numbers, and the call came as the definitions of
+-- kmip_server say.
+pub record IsMade (before after : ClientState (ServerLinkState PlainMemory)) (call : Call)
+    (answers : List CallAnswer) : Type 0 where
   pub known : IsKnown plain_state before.link
   pub plain : IsPlain before.link
   pub plain_after : IsPlain after.link
   pub sound : after.link.faults ≡ 0
   pub settings : settings_of after ≡ settings_of before
-  pub meet : Meet (settings_of before) (expected_of plain_state before after.link (call ∷ [])) (map call_told answers)
+  pub meet : Meet (settings_of before) (expected_of plain_state before after.link (call ∷ []))
+      (map call_told answers)
   pub ends : standing plain_state after.link ≡ finish_of plain_state before after.link (call ∷ [])
-  pub faulted : has_unsent (expected_of plain_state before after.link (call ∷ [])) ≡ true → 0 < after.link.faults
-  pub opened : has_unsent (expected_of plain_state before after.link (call ∷ [])) ≡ false → IsOpen plain_state after.link
+  pub faulted : has_unsent (expected_of plain_state before after.link (call ∷ [])) ≡ true →
+      0 < after.link.faults
+  pub opened : has_unsent (expected_of plain_state before after.link (call ∷ [])) ≡ false →
+      IsOpen plain_state after.link
 
--- a call was told as this step says
+-- the report of a call is that of this step
 pub record Tells (s : Step) (buffered : Bool) (told : CallAnswer) : Type 0 where
   pub sent : told.sent ≡ s.sent
   pub texts : told_lines buffered told.req_diag told.res_diag ≡ s.told
   pub shown : answer_line answered_shown Bare told.answer ≡ s.shown
   pub failed : is_error told.answer ≡ s.failed
 
--- it stands first in the answers, and where a pair is to be made it is an error or a pair
+-- the first of the answers, which is an error or a pair where a pair was asked for
 pub record IsSuited (pair : Bool) (answers : List CallAnswer) (x : CallAnswer) : Type 0 where
   pub later : List CallAnswer
   pub is : answers ≡ x ∷ later
   pub suits : pair ≡ true → IfOk x.answer (λ a. is_pair a ≡ true)
 
--- how a call ended whose payload was added
+-- how a call ended whose payload was to be added as a line
 abbrev pub ended_so : Result (Unit {0}) OutOfMemory → Result Ending OutOfMemory
 ended_so (Ok _) = Ok ended
 ended_so (Err error) = Err error
 
--- a call was made on a client and told so
-pub record IsMadeSo (before after : ClientState (ServerLinkState PlainMemory)) (call : Call) (told : CallAnswer) : Type 0 where
+-- a call was made on a client, with this report
+pub record IsMadeSo (before after : ClientState (ServerLinkState PlainMemory)) (call : Call)
+    (told : CallAnswer) : Type 0 where
   pub settings : line_settings after ≡ line_settings before
   pub joined : IsJoined after.link
-  pub world : world_of after.link ≡ (joined_step (line_settings before) (line_call call) (world_of before.link)).after
-  pub tells : Tells (joined_step (line_settings before) (line_call call) (world_of before.link)).step before.buffered told
+  pub world : world_of after.link ≡ (joined_step (line_settings before) (line_call call)
+      (world_of before.link)).after
+  pub tells : Tells (joined_step (line_settings before) (line_call call)
+      (world_of before.link)).step before.buffered told
 
--- what a call did: to the client and its server, and to the text
+-- what a call did to the client and its server, and to the text
 pub record Runs (it : Joined) (after : World) (failed : Bool) (old new : List ℕ) : Type 0 where
   pub text : new ≡ old ++ call_text it.step
   pub failed_is : failed ≡ it.step.failed
   pub world : after ≡ it.after
 
--- it was written as each step says that it tells of
-pub record IsShown (buffered : Bool) (told : CallAnswer) (failed : Bool) (old new : List ℕ) : Type 0 where
+-- the text was added of each step that has this report
+pub record IsShown (buffered : Bool) (told : CallAnswer) (failed : Bool) (old new : List ℕ) : Type
+    0 where
   pub text : (s : Step) → Tells s buffered told → new ≡ old ++ call_text s
   pub failed_is : failed ≡ is_error told.answer

@@ -1,4 +1,5 @@
--- A client that is joined to a server in memory: what stands between two calls, and what a call comes to.
+-- A client that is joined to a server in memory: its state between two calls, and what a call comes
+-- to.
 use Rattle.std.specs.Prelude.{ℕ, ◌+◌, pos, List, [], ◌++◌, length, drop, Option, Some, None}
 use Rattle.std.specs.Option.{option_map}
 use Rattle.kmip_link.specs.State.{left}
@@ -14,7 +15,7 @@ use Rattle.kmip_words.specs.Exchange.{Settings, Step, step, request_asked, or_em
 use Rattle.kmip_words.specs.declared.call.Call.{Call}
 
 pub record World : Type 0 where
-  -- those of the server
+  -- the objects of the server
   pub objects : List Object
   -- how many answers the plain maker gave
   pub answers : ℕ
@@ -24,12 +25,13 @@ pub record World : Type 0 where
 abbrev pub nothing_yet : World
 nothing_yet = record { objects = []; answers = 0; rest = [] }
 
--- the answer of the plain maker, where the server asks for one; its number is one more than that of the one before
+-- the answer of the plain maker, where the server asks for one; its number is one more than that of
+-- the answer before
 abbrev pub next_made : World → Option Asked → Option Made
 next_made world question = option_map (plain_answer (world.answers + 1)) question
 
--- The server is sent a request of these bytes: it does what it asks for, and its response comes after the bytes left. Its
--- time stamp is 0.
+-- The server is sent these bytes: it does what they ask for, and its response, with the time stamp
+-- 0, is added after the bytes left.
 abbrev pub after_request : World → List ℕ → World
 after_request world request =
     let question = asks world.objects request in
@@ -45,7 +47,7 @@ abbrev pub after_sending : World → Option (List ℕ) → World
 after_sending world None = world
 after_sending world (Some request) = after_request world request
 
--- a call's step, and what stands after it
+-- a call's step, and the state after it
 pub record Joined : Type 0 where
   pub step : Step
   pub after : World
@@ -55,11 +57,12 @@ step_on settings call world =
     let s = step settings call world.rest in
     record { step = s; after = record world { rest = drop s.taken world.rest } }
 
--- what a call comes to: its step on the bytes left, after which the response to its request was added
+-- what a call comes to: its step over the bytes left and the response to its request
 unfoldable pub joined_step : Settings → Call → World → Joined
-joined_step settings call world = step_on settings call (after_sending world (request_asked call settings.credential).message)
+joined_step settings call world =
+    step_on settings call (after_sending world (request_asked call settings.credential).message)
 
--- what stands where the link stands so
+-- the state of a client that is joined by this link
 abbrev pub world_of : ServerLinkState PlainMemory → World
 world_of link = record {
   objects = link.server.objects;

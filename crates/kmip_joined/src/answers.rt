@@ -11,7 +11,7 @@ use kmip_wire::{OutOfMemory, Text};
 use kmip_words::{Ending, push_pair, push_payload, show_done, show_error};
 use std::alloc::Global;
 
-/// How a call ended whose payload was added.
+/// How a call ended whose payload was to be added as a line.
 fn ending_after(added: Result<(), OutOfMemory>) -> Result<Ending, OutOfMemory>
     ensures { result ≡ ended_so added }
 {
@@ -21,13 +21,14 @@ fn ending_after(added: Result<(), OutOfMemory>) -> Result<Ending, OutOfMemory>
     }
 }
 
-/// Adds the line of what a helper returned, and says how the call ended.
+/// Adds the line of what a helper returned, and returns how the call ended.
 pub fn show_answer(
     alloc: Global,
     answer: &Result<Answered, Error>,
     line: &mut Text,
 ) -> Result<Ending, OutOfMemory>
-    ensures { IfOk result (λ ending. Shows answered_shown Bare answer.now ending line.old line.new) }
+    ensures { IfOk result
+        (λ ending. Shows answered_shown Bare answer.now ending line.old line.new) }
 {
     match answer {
         Ok(Answered::Unit) => show_done(alloc, Style::Bare, Ok(()), line),

@@ -1,4 +1,4 @@
-//! A call over the server, and what is written of it.
+//! A call over the server, and the lines of its report.
 ghost use Rattle.std.specs.Prelude.{◌≡◌, IfOk, OnOk, option_map};
 ghost use Rattle.kmip_words.specs.Exchange.{settings_of};
 ghost use Rattle.kmip_joined.specs.Lines.{line_call};
@@ -14,7 +14,7 @@ use kmip_wire::{OutOfMemory, Text};
 use kmip_words::{show_diagnostics, show_sent};
 use std::alloc::Global;
 
-/// A text that may be absent, lent.
+/// A text that may be absent, borrowed.
 fn lent(text: &Option<Text>) -> Option<&str>
     ensures { option_map (λ t. t.now) result ≡ text.now }
 {
@@ -24,7 +24,8 @@ fn lent(text: &Option<Text>) -> Option<&str>
     }
 }
 
-/// Adds what a call sent, its diagnostics where they are kept, and what it answers. Says whether this is an error.
+/// Adds what a call sent, its diagnostics where they are kept, and its answer, and returns whether
+/// this is an error.
 fn show_told(
     alloc: Global,
     diag: bool,
@@ -39,12 +40,14 @@ fn show_told(
     Ok(ending.is_failure())
 }
 
-/// Makes a call of the client, and adds what it sent, its diagnostics where the client keeps them, and what it answers.
-/// Says whether the answer is an error. `diag` says whether the client keeps diagnostics.
+/// Makes a call of the client, adds what it sent, its diagnostics where the client keeps them, and
+/// its answer, and returns whether this is an error. `diag` is whether the client keeps
+/// diagnostics.
 ///
-/// Memory is said to have run out also where the server's response has no wire form, and where a pair is answered by
-/// something else. Neither comes: a response is not much longer than the line that it answers, and each helper returns
-/// what is its own. But the contracts of the calls below do not say so.
+/// `OutOfMemory` comes also where the server's response has no wire form, and where the call for a
+/// pair returns something else. Neither happens: a response is not much longer than the line of its
+/// call, and each helper returns what is its own. But the contracts of the calls below do not say
+/// so.
 pub fn exchange(
     alloc: Global,
     client: &mut Client<ServerLink<PlainMaker>>,

@@ -1,8 +1,9 @@
 //! Calls by words of a client that is joined to a server in memory.
 //!
-//! The client's link is a [`ServerLink`] round a server whose keys, random bytes and signatures a [`PlainMaker`] makes
-//! from their numbers, with the time stamp 0. [`helper_call`] reads the call of a line, and [`exchange`] makes it and
-//! writes what it came to, as it is written of a call over recorded responses.
+//! The client's link is a [`ServerLink`] over a server with the time stamp 0, whose keys, random
+//! bytes and signatures a [`PlainMaker`] makes from their numbers. [`helper_call`] reads the call
+//! of a line, and [`exchange`] makes it and writes what it came to, in the form of a call over
+//! recorded responses.
 #![tactic(auto)]
 
 mod answers;

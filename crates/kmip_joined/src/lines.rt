@@ -7,7 +7,7 @@ use kmip_wire::OutOfMemory;
 use kmip_words::{Call as LineCall, call_alone};
 use std::alloc::Global;
 
-/// The call that a helper of the client makes, and none where no helper makes it.
+/// The call as that of a helper; `None` where no helper makes it.
 fn helper_of(call: LineCall) -> Option<Call>
     ensures { option_map line_call result ≡ if_helper call }
 {
@@ -33,8 +33,8 @@ fn helper_of(call: LineCall) -> Option<Call>
     }
 }
 
-/// The call of a line: that of a line with a recorded response, without the response and without `raw`. None where the
-/// line is not of this grammar.
+/// The call of a line. The grammar is that of a line with a recorded response, but without the
+/// response, and without `raw`. `None` where the line is not of it.
 #[tactic(auto, unfolding(crate::specs::Lines::helper_call))]
 pub fn helper_call(alloc: Global, line: &[u8]) -> Result<Option<Call>, OutOfMemory>
     ensures { IfOk result (λ call. option_map line_call call ≡ helper_call line.now) }

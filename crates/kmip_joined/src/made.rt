@@ -11,7 +11,7 @@ use kmip_store::PlainMaker;
 use kmip_wire::{List, OutOfMemory};
 use std::alloc::Global;
 
-/// A link round a server with no objects and a plain maker. It takes no memory.
+/// A link over a server with no objects, a plain maker and the time stamp 0. It takes no memory.
 pub fn joined_link(alloc: Global) -> ServerLink<PlainMaker>
     ensures joined { IsJoined result }
     ensures world { world_of result ≡ nothing_yet }
@@ -19,7 +19,8 @@ pub fn joined_link(alloc: Global) -> ServerLink<PlainMaker>
     ServerLink::new(alloc, PlainMaker::new(alloc), 0)
 }
 
-/// Whether the link met a message whose response has no wire form; and what holds of it and of its maker.
+/// Whether a message came whose response has no wire form. Its clauses also say what holds of the
+/// link and its maker.
 fn look(client: &mut Client<ServerLink<PlainMaker>>) -> bool
     ensures known { IsKnown plain_state client.old.link }
     ensures plain { IsPlain client.old.link }
@@ -32,14 +33,14 @@ fn look(client: &mut Client<ServerLink<PlainMaker>>) -> bool
     link.faulted()
 }
 
-/// Whether a call is answered by two identifiers.
+/// Whether a call returns two identifiers.
 pub fn makes_pair(call: &Call) -> bool
     ensures { result ≡ makes_pair call.now }
 {
     matches!(call, Call::CreateRsaKeyPair(..))
 }
 
-/// Whether an answer is an error, or what such a call is answered by.
+/// True only where an answer is an error, or is a pair if a pair was asked for.
 fn suits(pair: bool, answer: &Result<Answered, Error>) -> bool
     ensures { result ≡ true → pair ≡ true → IfOk answer.now (λ x. is_pair x ≡ true) }
 {

@@ -1,4 +1,5 @@
--- The texts of JSON by the grammar of RFC 8259, byte for byte and with no white space. Bytes from 128 on,
+-- The texts of JSON by the grammar of RFC 8259, byte for byte and with no white space. Bytes from
+-- 128 on,
 -- of which longer characters are made, are taken as they are.
 use Rattle.std.specs.Prelude.{ℕ, ℤ, ◌≤◌, ◌≡◌, ◌⊎◌, List, [], ◌∷◌, ◌++◌, codes}
 use Rattle.std.specs.Fmt.{signed_decimal}
@@ -11,10 +12,12 @@ IsHexDigit n = ((48 ≤ n) × (n ≤ 57)) ⊎ ((65 ≤ n) × (n ≤ 70))
 -- character as it is
 pub data AreCharacters : List ℕ → Type 0 where
   NoCharacter : AreCharacters []
-  AsItIs : (n : ℕ) (s : List ℕ) → 32 ≤ n → (n ≡ 34 → ⊥) → (n ≡ 92 → ⊥) → AreCharacters s → AreCharacters (n ∷ s)
+  AsItIs : (n : ℕ) (s : List ℕ) → 32 ≤ n → (n ≡ 34 → ⊥) → (n ≡ 92 → ⊥) → AreCharacters s →
+      AreCharacters (n ∷ s)
   Quote : (s : List ℕ) → AreCharacters s → AreCharacters (92 ∷ 34 ∷ s)
   Backslash : (s : List ℕ) → AreCharacters s → AreCharacters (92 ∷ 92 ∷ s)
-  Coded : (a b c d : ℕ) (s : List ℕ) → IsHexDigit a → IsHexDigit b → IsHexDigit c → IsHexDigit d → AreCharacters s
+  Coded : (a b c d : ℕ) (s : List ℕ) → IsHexDigit a → IsHexDigit b → IsHexDigit c → IsHexDigit d →
+      AreCharacters s
       → AreCharacters (92 ∷ 117 ∷ a ∷ b ∷ c ∷ d ∷ s)
 
 mutual
@@ -30,7 +33,8 @@ mutual
 
   -- a name, a colon and a value, and others after commas
   pub data AreMembers : List ℕ → Type 0 where
-    AMember : (name value : List ℕ) → AreCharacters name → IsJson value → AreMembers (34 ∷ (name ++ 34 ∷ 58 ∷ value))
+    AMember : (name value : List ℕ) → AreCharacters name → IsJson value →
+        AreMembers (34 ∷ (name ++ 34 ∷ 58 ∷ value))
     AndMembers : (s t : List ℕ) → AreMembers s → AreMembers t → AreMembers (s ++ 44 ∷ t)
 
   -- a value, and others after commas

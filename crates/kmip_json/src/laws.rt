@@ -19,18 +19,3 @@ pub fn shown_as_json<T: Item>(value: &T)
 {
     value.known();
 }
-
-#[cfg(test)]
-mod tests {
-    use super::{json_is_json, shown_as_json};
-    use kmip_wire::Text;
-    use std::test::Fail;
-
-    #[test]
-    fn of_a_text(rt: HostRuntime) -> Result<(), Fail> {
-        let text = Text::of(rt.alloc(), "a\"b")?;
-        shown_as_json(&text);
-        json_is_json();
-        Ok(())
-    }
-}

@@ -1,4 +1,4 @@
--- Keys whose parts are told.
+-- Transparent keys: each part of a key is an item of its own.
 use Rattle.std.specs.Prelude.{codes, ℕ, List, Option}
 use Rattle.kmip_tags.specs.Tags.{CRT_COEFFICIENT, G, J, KEY, MODULUS, P, PRIME_EXPONENT_P, PRIME_EXPONENT_Q, PRIVATE_EXPONENT, PUBLIC_EXPONENT, Q, X, Y}
 use Rattle.kmip_wire.specs.declared.kind.Kind.TheVariants.{BigInteger, ByteString}
@@ -147,29 +147,78 @@ transparent_symmetric_key_same x y h =
     ap whole_transparent_symmetric_key (and_row (one_row bytes) no_row
     (x.key, tt) (y.key, tt) (same_record h))
 
-abbrev whole_transparent_dsa_private_key : List ℕ × (List ℕ × (List ℕ × (List ℕ × Unit {0}))) → TransparentDSAPrivateKey
-whole_transparent_dsa_private_key t = record { p = t.0; q = (t.1).0; g = ((t.1).1).0; x = (((t.1).1).1).0 }
+abbrev whole_transparent_dsa_private_key : List ℕ × (List ℕ × (List ℕ × (List ℕ × Unit {0}))) →
+    TransparentDSAPrivateKey
+whole_transparent_dsa_private_key t =
+    record { p = t.0; q = (t.1).0; g = ((t.1).1).0; x = (((t.1).1).1).0 }
 
 pub transparent_dsa_private_key_same : IsFaithful transparent_dsa_private_key_val
 transparent_dsa_private_key_same x y h =
-    ap whole_transparent_dsa_private_key (and_row (one_row bytes) (and_row (one_row bytes) (and_row (one_row bytes) (and_row (one_row bytes) no_row)))
+    ap whole_transparent_dsa_private_key
+    (and_row (one_row bytes)
+    (and_row (one_row bytes) (and_row (one_row bytes) (and_row (one_row bytes) no_row)))
     (x.p, (x.q, (x.g, (x.x, tt)))) (y.p, (y.q, (y.g, (y.x, tt)))) (same_record h))
 
-abbrev whole_transparent_dsa_public_key : List ℕ × (List ℕ × (List ℕ × (List ℕ × Unit {0}))) → TransparentDSAPublicKey
-whole_transparent_dsa_public_key t = record { p = t.0; q = (t.1).0; g = ((t.1).1).0; y = (((t.1).1).1).0 }
+abbrev whole_transparent_dsa_public_key : List ℕ × (List ℕ × (List ℕ × (List ℕ × Unit {0}))) →
+    TransparentDSAPublicKey
+whole_transparent_dsa_public_key t =
+    record { p = t.0; q = (t.1).0; g = ((t.1).1).0; y = (((t.1).1).1).0 }
 
 pub transparent_dsa_public_key_same : IsFaithful transparent_dsa_public_key_val
 transparent_dsa_public_key_same x y h =
-    ap whole_transparent_dsa_public_key (and_row (one_row bytes) (and_row (one_row bytes) (and_row (one_row bytes) (and_row (one_row bytes) no_row)))
+    ap whole_transparent_dsa_public_key
+    (and_row (one_row bytes)
+    (and_row (one_row bytes) (and_row (one_row bytes) (and_row (one_row bytes) no_row)))
     (x.p, (x.q, (x.g, (x.y, tt)))) (y.p, (y.q, (y.g, (y.y, tt)))) (same_record h))
 
-abbrev whole_transparent_rsa_private_key : List ℕ × (Option (List ℕ) × (Option (List ℕ) × (Option (List ℕ) × (Option (List ℕ) × (Option (List ℕ) × (Option (List ℕ) × (Option (List ℕ) × Unit {0}))))))) → TransparentRSAPrivateKey
-whole_transparent_rsa_private_key t = record { modulus = t.0; private_exponent = (t.1).0; public_exponent = ((t.1).1).0; p = (((t.1).1).1).0; q = ((((t.1).1).1).1).0; prime_exponent_p = (((((t.1).1).1).1).1).0; prime_exponent_q = ((((((t.1).1).1).1).1).1).0; crt_coefficient = (((((((t.1).1).1).1).1).1).1).0 }
+abbrev whole_transparent_rsa_private_key : List ℕ ×
+    (Option (List ℕ) × (Option (List ℕ) ×
+    (Option (List ℕ) × (Option (List ℕ) ×
+    (Option (List ℕ) × (Option (List ℕ) × (Option (List ℕ) × Unit {0}))))))) →
+    TransparentRSAPrivateKey
+whole_transparent_rsa_private_key t =
+    record {
+      modulus = t.0;
+      private_exponent = (t.1).0;
+      public_exponent = ((t.1).1).0;
+      p = (((t.1).1).1).0;
+      q = ((((t.1).1).1).1).0;
+      prime_exponent_p =
+          (((((t.1).1).1).1).1).0;
+      prime_exponent_q = ((((((t.1).1).1).1).1).1).0;
+      crt_coefficient =
+          (((((((t.1).1).1).1).1).1).1).0;
+    }
 
 pub transparent_rsa_private_key_same : IsFaithful transparent_rsa_private_key_val
 transparent_rsa_private_key_same x y h =
-    ap whole_transparent_rsa_private_key (and_row (one_row bytes) (and_row (optional_row bytes) (and_row (optional_row bytes) (and_row (optional_row bytes) (and_row (optional_row bytes) (and_row (optional_row bytes) (and_row (optional_row bytes) (and_row (optional_row bytes) no_row)))))))
-    (x.modulus, (x.private_exponent, (x.public_exponent, (x.p, (x.q, (x.prime_exponent_p, (x.prime_exponent_q, (x.crt_coefficient, tt)))))))) (y.modulus, (y.private_exponent, (y.public_exponent, (y.p, (y.q, (y.prime_exponent_p, (y.prime_exponent_q, (y.crt_coefficient, tt)))))))) (same_record h))
+    ap whole_transparent_rsa_private_key
+    (and_row (one_row bytes)
+    (and_row (optional_row bytes)
+    (and_row (optional_row bytes)
+    (and_row (optional_row bytes)
+    (and_row (optional_row bytes)
+    (and_row (optional_row bytes)
+    (and_row (optional_row bytes) (and_row (optional_row bytes) no_row))))))) (
+      x.modulus,
+      (
+        x.private_exponent,
+        (
+          x.public_exponent,
+          (x.p, (x.q, (x.prime_exponent_p, (x.prime_exponent_q, (x.crt_coefficient, tt))))),
+        ),
+      ),
+    ) (
+      y.modulus,
+      (
+        y.private_exponent,
+        (
+          y.public_exponent,
+          (y.p, (y.q, (y.prime_exponent_p, (y.prime_exponent_q, (y.crt_coefficient, tt))))),
+        ),
+      ),
+    )
+    (same_record h))
 
 abbrev whole_transparent_rsa_public_key : List ℕ × (List ℕ × Unit {0}) → TransparentRSAPublicKey
 whole_transparent_rsa_public_key t = record { modulus = t.0; public_exponent = (t.1).0 }
@@ -179,18 +228,28 @@ transparent_rsa_public_key_same x y h =
     ap whole_transparent_rsa_public_key (and_row (one_row bytes) (and_row (one_row bytes) no_row)
     (x.modulus, (x.public_exponent, tt)) (y.modulus, (y.public_exponent, tt)) (same_record h))
 
-abbrev whole_transparent_dh_private_key : List ℕ × (Option (List ℕ) × (List ℕ × (Option (List ℕ) × (List ℕ × Unit {0})))) → TransparentDHPrivateKey
-whole_transparent_dh_private_key t = record { p = t.0; q = (t.1).0; g = ((t.1).1).0; j = (((t.1).1).1).0; x = ((((t.1).1).1).1).0 }
+abbrev whole_transparent_dh_private_key : List ℕ ×
+    (Option (List ℕ) × (List ℕ × (Option (List ℕ) × (List ℕ × Unit {0})))) → TransparentDHPrivateKey
+whole_transparent_dh_private_key t =
+    record { p = t.0; q = (t.1).0; g = ((t.1).1).0; j = (((t.1).1).1).0; x = ((((t.1).1).1).1).0 }
 
 pub transparent_dh_private_key_same : IsFaithful transparent_dh_private_key_val
 transparent_dh_private_key_same x y h =
-    ap whole_transparent_dh_private_key (and_row (one_row bytes) (and_row (optional_row bytes) (and_row (one_row bytes) (and_row (optional_row bytes) (and_row (one_row bytes) no_row))))
+    ap whole_transparent_dh_private_key
+    (and_row (one_row bytes)
+    (and_row (optional_row bytes)
+    (and_row (one_row bytes) (and_row (optional_row bytes) (and_row (one_row bytes) no_row))))
     (x.p, (x.q, (x.g, (x.j, (x.x, tt))))) (y.p, (y.q, (y.g, (y.j, (y.x, tt))))) (same_record h))
 
-abbrev whole_transparent_dh_public_key : List ℕ × (Option (List ℕ) × (List ℕ × (Option (List ℕ) × (List ℕ × Unit {0})))) → TransparentDHPublicKey
-whole_transparent_dh_public_key t = record { p = t.0; q = (t.1).0; g = ((t.1).1).0; j = (((t.1).1).1).0; y = ((((t.1).1).1).1).0 }
+abbrev whole_transparent_dh_public_key : List ℕ ×
+    (Option (List ℕ) × (List ℕ × (Option (List ℕ) × (List ℕ × Unit {0})))) → TransparentDHPublicKey
+whole_transparent_dh_public_key t =
+    record { p = t.0; q = (t.1).0; g = ((t.1).1).0; j = (((t.1).1).1).0; y = ((((t.1).1).1).1).0 }
 
 pub transparent_dh_public_key_same : IsFaithful transparent_dh_public_key_val
 transparent_dh_public_key_same x y h =
-    ap whole_transparent_dh_public_key (and_row (one_row bytes) (and_row (optional_row bytes) (and_row (one_row bytes) (and_row (optional_row bytes) (and_row (one_row bytes) no_row))))
+    ap whole_transparent_dh_public_key
+    (and_row (one_row bytes)
+    (and_row (optional_row bytes)
+    (and_row (one_row bytes) (and_row (optional_row bytes) (and_row (one_row bytes) no_row))))
     (x.p, (x.q, (x.g, (x.j, (x.y, tt))))) (y.p, (y.q, (y.g, (y.j, (y.y, tt))))) (same_record h))

@@ -1,4 +1,4 @@
-//! Key material, in the form that its key block names.
+//! Key material, in the format that its key block names.
 
 ghost use Rattle.std.specs.Prelude.{◌≡◌};
 ghost use Rattle.kmip_keys.specs.KeyMaterials.{key_material, key_material_val, key_material_same};
@@ -14,7 +14,7 @@ use kmip_shape::{
 use kmip_wire::{Blob, Buffer, ItemRef, OutOfMemory, Tag, TryClone};
 use std::alloc::Global;
 
-/// The key itself, in the form that its key block names: KMIP 1.0, 2.1.3 and 2.1.4.
+/// The key itself, in the format that its key block names: KMIP 1.0, 2.1.3 and 2.1.4.
 #[derive(PartialEq, Eq, Drop)]
 pub enum KeyMaterial {
     /// The bytes of the formats Raw, Opaque, PKCS1, PKCS8, X509 and ECPrivateKey.
@@ -33,9 +33,10 @@ pub enum KeyMaterial {
     TransparentDHPrivateKey(TransparentDHPrivateKey),
     /// Of key format type Transparent DH Public Key: KMIP 1.0, 2.1.7.7.
     TransparentDHPublicKey(TransparentDHPublicKey),
-    /// Contents of no form, which are never read and have no wire form.
+    /// For the key formats 14 to 19 (ECDSA, ECDH and ECMQV): never read, and without a wire form.
     Structure(Blob),
-    /// A wrapped key. It has no item of its own and stands only in the byte form of a response's key value.
+    /// A wrapped key: the bytes of a response's Key Value that is a Byte String (KMIP 1.0, 2.1.4).
+    /// It is no Key Material item, so it has no wire form as one.
     Wrapped(Blob),
 }
 

@@ -1,4 +1,4 @@
-//! Keys whose parts are told, and key material in the form that its key block names.
+//! Transparent keys, and key material in the format that its key block names.
 #![tactic(auto)]
 
 mod key_material;

@@ -1,10 +1,30 @@
-//! Keys whose parts are told, each in its own item.
+//! Transparent keys: each part of a key is an item of its own.
 //!
-//! Each `Blob` but that of a symmetric key is a Big Integer, the highest byte first. It is written where the number of
-//! its bytes is a multiple of 8, and has no wire form otherwise.
+//! Each `Blob` but that of a symmetric key is a Big Integer: two's complement, the highest byte
+//! first (KMIP 1.0, 9.1.1.4). Where its length is no multiple of 8 bytes it has no wire form.
 
 ghost use Rattle.std.specs.Prelude.{◌≡◌};
-ghost use Rattle.kmip_keys.specs.TransparentKeys.{transparent_symmetric_key, transparent_dsa_private_key, transparent_dsa_public_key, transparent_rsa_private_key, transparent_rsa_public_key, transparent_dh_private_key, transparent_dh_public_key, transparent_symmetric_key_val, transparent_dsa_private_key_val, transparent_dsa_public_key_val, transparent_rsa_private_key_val, transparent_rsa_public_key_val, transparent_dh_private_key_val, transparent_dh_public_key_val, transparent_symmetric_key_same, transparent_dsa_private_key_same, transparent_dsa_public_key_same, transparent_rsa_private_key_same, transparent_rsa_public_key_same, transparent_dh_private_key_same, transparent_dh_public_key_same};
+ghost use Rattle.kmip_keys.specs.TransparentKeys.{transparent_symmetric_key};
+ghost use Rattle.kmip_keys.specs.TransparentKeys.{transparent_dsa_private_key};
+ghost use Rattle.kmip_keys.specs.TransparentKeys.{transparent_dsa_public_key};
+ghost use Rattle.kmip_keys.specs.TransparentKeys.{transparent_rsa_private_key};
+ghost use Rattle.kmip_keys.specs.TransparentKeys.{transparent_rsa_public_key};
+ghost use Rattle.kmip_keys.specs.TransparentKeys.{transparent_dh_private_key};
+ghost use Rattle.kmip_keys.specs.TransparentKeys.{transparent_dh_public_key};
+ghost use Rattle.kmip_keys.specs.TransparentKeys.{transparent_symmetric_key_val};
+ghost use Rattle.kmip_keys.specs.TransparentKeys.{transparent_dsa_private_key_val};
+ghost use Rattle.kmip_keys.specs.TransparentKeys.{transparent_dsa_public_key_val};
+ghost use Rattle.kmip_keys.specs.TransparentKeys.{transparent_rsa_private_key_val};
+ghost use Rattle.kmip_keys.specs.TransparentKeys.{transparent_rsa_public_key_val};
+ghost use Rattle.kmip_keys.specs.TransparentKeys.{transparent_dh_private_key_val};
+ghost use Rattle.kmip_keys.specs.TransparentKeys.{transparent_dh_public_key_val};
+ghost use Rattle.kmip_keys.specs.TransparentKeys.{transparent_symmetric_key_same};
+ghost use Rattle.kmip_keys.specs.TransparentKeys.{transparent_dsa_private_key_same};
+ghost use Rattle.kmip_keys.specs.TransparentKeys.{transparent_dsa_public_key_same};
+ghost use Rattle.kmip_keys.specs.TransparentKeys.{transparent_rsa_private_key_same};
+ghost use Rattle.kmip_keys.specs.TransparentKeys.{transparent_rsa_public_key_same};
+ghost use Rattle.kmip_keys.specs.TransparentKeys.{transparent_dh_private_key_same};
+ghost use Rattle.kmip_keys.specs.TransparentKeys.{transparent_dh_public_key_same};
 
 use kmip_shape::record::{End, Row};
 use kmip_shape::row_readers::One;
@@ -445,7 +465,7 @@ impl ShowItem for TransparentRSAPublicKey {
     }
 }
 
-/// A private key of Diffie and Hellman: KMIP 1.0, 2.1.7.6.
+/// A private key of Diffie-Hellman: KMIP 1.0, 2.1.7.6.
 #[derive(PartialEq, Eq, Drop)]
 pub struct TransparentDHPrivateKey {
     /// The prime modulus P.
@@ -526,7 +546,7 @@ impl ShowItem for TransparentDHPrivateKey {
     }
 }
 
-/// A public key of Diffie and Hellman: KMIP 1.0, 2.1.7.7.
+/// A public key of Diffie-Hellman: KMIP 1.0, 2.1.7.7.
 #[derive(PartialEq, Eq, Drop)]
 pub struct TransparentDHPublicKey {
     /// The prime modulus P.

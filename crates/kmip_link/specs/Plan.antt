@@ -2,7 +2,8 @@
 use Rattle.std.specs.Prelude.{◌≡◌, ℕ, ◌+◌, ◌-◌, ◌^◌, ◌%◌, min, max, List, [], ◌∷◌, length, true, slice_index}
 use Rattle.kmip_link.specs.State.{LinkState, SourceState, SinkState}
 
--- bytes that were fed and bytes that were taken, with the planned sizes and the place of the next call's size
+-- bytes that were fed and bytes that were taken, with the planned sizes and the place of the next
+-- call's size
 pub record MemoryState : Type 0 where
   pub ever : List ℕ
   pub pos : ℕ
@@ -18,7 +19,8 @@ place_of (size ∷ sizes) k = k % length (size ∷ sizes)
 -- the most that call number k moves, of a number that it could; a size of 0 counts as 1
 abbrev pub planned_size : List ℕ → ℕ → ℕ → ℕ
 planned_size [] k most = most
-planned_size (size ∷ sizes) k most = min (max 1 (slice_index (size ∷ sizes) (place_of (size ∷ sizes) k))) most
+planned_size (size ∷ sizes) k most =
+    min (max 1 (slice_index (size ∷ sizes) (place_of (size ∷ sizes) k))) most
 
 -- The next call is number k since the plan.
 abbrev pub IsCallNumber : MemoryState → ℕ → Type 0
@@ -35,7 +37,15 @@ pub record CountsCall (before after : MemoryState) : Type 0 where
 
 -- what a link in memory means; it never fails
 abbrev pub memory_state : MemoryState → LinkState
-memory_state link = record { tells = true; still = true; mark = []; ever = link.ever; pos = link.pos; sent = link.sent; faults = 0 }
+memory_state link = record {
+  tells = true;
+  still = true;
+  mark = [];
+  ever = link.ever;
+  pos = link.pos;
+  sent = link.sent;
+  faults = 0;
+}
 
 -- a link in memory that fails at the calls with these numbers
 pub record PlannedState : Type 0 where

@@ -7,9 +7,10 @@
 //! ```
 //!
 //! A contract can name the bytes and the faults of each. A [`Link`] carries a client's requests and
-//! responses, a [`Source`] is what a program reads, a [`Sink`] is what it writes. The forms in memory show
-//! their whole content to contracts, cut it into planned pieces and fail at planned calls. The forms over std's
-//! readers and writers ([`StreamLink`], [`StdSource`], [`StdSink`]) show nothing of it: they are the trusted edge.
+//! responses, a [`Source`] is what a program reads, a [`Sink`] is what it writes. The forms in
+//! memory show their whole content to contracts, cut it into planned pieces and fail at planned
+//! calls. The forms over std's readers and writers ([`StreamLink`], [`StdSource`], [`StdSink`])
+//! show nothing of it: they are the trusted edge.
 #![tactic(auto)]
 
 mod link;
@@ -17,8 +18,6 @@ mod memory_link;
 mod memory_streams;
 mod planned_link;
 mod stream;
-#[cfg(test)]
-mod tests;
 
 pub use link::{Link, LinkError, Sink, Source};
 pub use memory_link::MemoryLink;

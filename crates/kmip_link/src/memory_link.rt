@@ -1,7 +1,9 @@
 //! A link in memory, which cuts what it moves into planned pieces.
-ghost use Rattle.std.specs.Prelude.{◌≡◌, ◌⊎◌, ◌+◌, ◌-◌, ◌<◌, ◌≤◌, ◌++◌, [], ℕ, length, take, drop, min, IsOk, IfOk, IfErr, OnErr, OnOk, IsErrOf, IsTrue};
+ghost use Rattle.std.specs.Prelude.{◌≡◌, ◌⊎◌, ◌+◌, ◌-◌, ◌<◌, ◌≤◌, ◌++◌, [], ℕ, length, take, drop};
+ghost use Rattle.std.specs.Prelude.{min, IsOk, IfOk, IfErr, OnErr, OnOk, IsErrOf, IsTrue};
 ghost use Rattle.kmip_link.specs.State.{Keeps, IsIdle, Reads, Writes, Rose, left};
-ghost use Rattle.kmip_link.specs.Plan.{MemoryState, HasSize, CountsCall, IsCallNumber, planned_size, place_of, memory_state};
+ghost use Rattle.kmip_link.specs.Plan.{MemoryState, HasSize, CountsCall, IsCallNumber};
+ghost use Rattle.kmip_link.specs.Plan.{planned_size, place_of, memory_state};
 
 use crate::link::{Link, LinkError};
 use std::alloc::Global;
@@ -9,9 +11,9 @@ use std::marker::Model;
 
 /// Gives back the bytes that it was fed, and keeps those that it was sent.
 ///
-/// It never fails. Its reads and writes are numbered together from 0 since the last plan, and call k
-/// moves at most as many bytes as the planned size at k modulo the number of planned sizes, where a size
-/// of 0 counts as 1. Without a plan a call moves all that it can.
+/// It never fails. Its reads and writes are numbered together from 0 since the last plan, and call
+/// k moves at most as many bytes as the planned size at k modulo the number of planned sizes, where
+/// a size of 0 counts as 1. Without a plan a call moves all that it can.
 #[derive(Drop)]
 pub struct MemoryLink {
     alloc: Global,
@@ -52,7 +54,8 @@ impl MemoryLink {
         }
     }
 
-    /// Adds bytes to the end of those to read. Its only error is that memory ran out, which changes nothing.
+    /// Adds bytes to the end of those to read. Its only error is that memory ran out, which changes
+    /// nothing.
     pub fn feed(&mut self, bytes: &[u8]) -> Result<(), LinkError>
         ensures ok { OnOk result (self.new ≡
             record self.old { ever = self.old.ever ++ bytes.now }) }
@@ -79,8 +82,9 @@ impl MemoryLink {
         &self.ever[self.pos..]
     }
 
-    /// Plans the sizes of the calls from now on, over and over, in bytes; the next call is number 0.
-    /// An empty list ends the plan. Its only error is that memory ran out, which changes nothing.
+    /// Plans the sizes of the calls from now on, over and over, in bytes; the next call is number
+    /// 0. An empty list ends the plan. Its only error is that memory ran out, which changes
+    ///    nothing.
     pub fn plan_pieces(&mut self, sizes: &[usize]) -> Result<(), LinkError>
         ensures ok { OnOk result (self.new ≡ record self.old { sizes = sizes.now; place = 0 }) }
         ensures starts { OnOk result (IsCallNumber self.new 0) }
@@ -127,7 +131,8 @@ fn place_after(sizes: &[usize], place: usize) -> usize
 impl Link for MemoryLink {
     ghost state = { memory_state };
 
-    /// Moves the smallest of the planned size, the room and the bytes left. It takes no memory and cannot be refused.
+    /// Moves the smallest of the planned size, the room and the bytes left. It takes no memory and
+    /// cannot be refused.
     fn read(&mut self, into: &mut [u8]) -> Result<usize, LinkError>
         ensures keeps { Keeps (memory_state self.old) (memory_state self.new) }
         ensures bound { IfOk result (λ n. n ≤ length into.new) }
@@ -151,7 +156,8 @@ impl Link for MemoryLink {
         Ok(count)
     }
 
-    /// Takes the smaller of the planned size and the piece. Its only error is that memory ran out, which changes nothing.
+    /// Takes the smaller of the planned size and the piece. Its only error is that memory ran out,
+    /// which changes nothing.
     fn write(&mut self, bytes: &[u8]) -> Result<usize, LinkError>
         ensures keeps { Keeps (memory_state self.old) (memory_state self.new) }
         ensures bound { IfOk result (λ n. n ≤ length bytes.now) }

@@ -1,13 +1,18 @@
 //! A source and a sink in memory, which fail at planned calls.
-ghost use Rattle.std.specs.Prelude.{◌≡◌, ◌⊎◌, ◌↔◌, ◌+◌, ◌-◌, ◌<◌, ◌≤◌, ◌++◌, [], ℕ, length, take, drop, min, Ok, IfOk, IfErr, OnErr, OnOk, IsErrOf, IsTrue, Contains};
-ghost use Rattle.kmip_link.specs.State.{source_left, SourceKeeps, SourceIsIdle, SourceReads, SinkKeeps, Rose};
-ghost use Rattle.kmip_link.specs.Plan.{SourceMemory, SinkMemory, source_state, sink_state, next_count};
+ghost use Rattle.std.specs.Prelude.{◌≡◌, ◌⊎◌, ◌↔◌, ◌+◌, ◌-◌, ◌<◌, ◌≤◌, ◌++◌, [], ℕ, length, take};
+ghost use Rattle.std.specs.Prelude.{drop, min, Ok, IfOk, IfErr, OnErr, OnOk, IsErrOf, IsTrue};
+ghost use Rattle.std.specs.Prelude.{Contains};
+ghost use Rattle.kmip_link.specs.State.{source_left, SourceKeeps, SourceIsIdle, SourceReads};
+ghost use Rattle.kmip_link.specs.State.{SinkKeeps, Rose};
+ghost use Rattle.kmip_link.specs.Plan.{SourceMemory, SinkMemory, source_state, sink_state};
+ghost use Rattle.kmip_link.specs.Plan.{next_count};
 
 use crate::link::{LinkError, Sink, Source};
 use std::alloc::Global;
 use std::marker::Model;
 
-/// Bytes to read, as a source. The reads with the numbers in `failing`, counted from 0, fail and move nothing.
+/// Bytes to read, as a source. The reads with the numbers in `failing`, counted from 0, fail and
+/// move nothing.
 ///
 /// The number stops at the greatest `u64`.
 #[derive(Drop)]
@@ -57,7 +62,8 @@ impl MemorySource {
 impl Source for MemorySource {
     ghost state = { source_state };
 
-    /// Moves the smaller of the room and the bytes left, but at a planned failure. It takes no memory.
+    /// Moves the smaller of the room and the bytes left, but at a planned failure. It takes no
+    /// memory.
     fn read(&mut self, into: &mut [u8]) -> Result<usize, LinkError>
         ensures keeps { SourceKeeps (source_state self.old) (source_state self.new) }
         ensures bound { IfOk result (λ n. n ≤ length into.new) }
@@ -87,7 +93,8 @@ impl Source for MemorySource {
     }
 }
 
-/// Keeps what is written, as a sink. The writes with the numbers in `failing`, counted from 0, fail and take nothing.
+/// Keeps what is written, as a sink. The writes with the numbers in `failing`, counted from 0, fail
+/// and take nothing.
 ///
 /// The number stops at the greatest `u64`.
 #[derive(Drop)]

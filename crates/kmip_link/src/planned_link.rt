@@ -1,7 +1,10 @@
 //! A link in memory that fails at planned calls.
-ghost use Rattle.std.specs.Prelude.{◌≡◌, ◌⊎◌, ◌↔◌, ◌+◌, ◌-◌, ◌<◌, ◌≤◌, ◌++◌, [], ℕ, length, take, drop, min, Ok, IfOk, IfErr, OnErr, OnOk, IsErrOf, IsTrue, Contains};
+ghost use Rattle.std.specs.Prelude.{◌≡◌, ◌⊎◌, ◌↔◌, ◌+◌, ◌-◌, ◌<◌, ◌≤◌, ◌++◌, [], ℕ, length, take};
+ghost use Rattle.std.specs.Prelude.{drop, min, Ok, IfOk, IfErr, OnErr, OnOk, IsErrOf, IsTrue};
+ghost use Rattle.std.specs.Prelude.{Contains};
 ghost use Rattle.kmip_link.specs.State.{Keeps, IsIdle, Reads, Writes, Rose, left};
-ghost use Rattle.kmip_link.specs.Plan.{PlannedState, HasSize, CountsCall, planned_state, memory_state, next_count};
+ghost use Rattle.kmip_link.specs.Plan.{PlannedState, HasSize, CountsCall, planned_state};
+ghost use Rattle.kmip_link.specs.Plan.{memory_state, next_count};
 
 use crate::link::{Link, LinkError};
 use crate::memory_link::MemoryLink;

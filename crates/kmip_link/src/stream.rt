@@ -1,9 +1,13 @@
 //! The trusted edge: a link, a source and a sink over any reader and writer of std.
 //!
-//! They tell nothing of their content. Each has a count of faults, which rises at each error of the reader
-//! or writer, and at a write that takes nothing of a piece that is not empty, up to the greatest `u64`.
-ghost use Rattle.std.specs.Prelude.{◌≡◌, ◌<◌, ◌≤◌, false, [], length, take, IfOk, IfErr, OnOk, OnErr, IsErrOf, IsTrue};
-ghost use Rattle.kmip_link.specs.State.{Keeps, IsIdle, Reads, Writes, Rose, SourceKeeps, SourceIsIdle, SourceReads, SinkKeeps, silent_link, silent_source, silent_sink};
+//! They tell nothing of their content. Each has a count of faults, which rises at each error of the
+//! reader or writer, and at a write that takes nothing of a piece that is not empty, up to the
+//! greatest `u64`.
+ghost use Rattle.std.specs.Prelude.{◌≡◌, ◌<◌, ◌≤◌, false, [], length, take, IfOk, IfErr, OnOk};
+ghost use Rattle.std.specs.Prelude.{OnErr, IsErrOf, IsTrue};
+ghost use Rattle.kmip_link.specs.State.{Keeps, IsIdle, Reads, Writes, Rose, SourceKeeps};
+ghost use Rattle.kmip_link.specs.State.{SourceIsIdle, SourceReads, SinkKeeps, silent_link};
+ghost use Rattle.kmip_link.specs.State.{silent_source, silent_sink};
 ghost use Rattle.kmip_link.specs.Plan.{next_count};
 
 use crate::link::{Link, LinkError, Sink, Source};

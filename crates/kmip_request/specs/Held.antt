@@ -1,4 +1,5 @@
--- What the types of Rust keep of a payload and a credential: numbers in range, texts in UTF-8, bytes below 256.
+-- What the types of Rust guarantee of a payload and a credential: numbers in range, texts in UTF-8,
+-- bytes below 256.
 use Rattle.std.specs.Prelude.{Option, Some, None, IsUtf8, IfSome}
 use Rattle.kmip_shape.specs.Fits.{Fits}
 use Rattle.kmip_types.specs.declared.auth.CredentialType.{CredentialType}
@@ -7,10 +8,11 @@ use Rattle.kmip_request.specs.declared.payload.RequestPayload.{RequestPayload}
 use Rattle.kmip_request.specs.Tables.{request_payload}
 use Rattle.kmip_request.specs.Values.{request_payload_val}
 
--- the texts of a credential are UTF-8
+-- the username and the password of a credential are UTF-8
 abbrev pub AreTexts : Option CredentialType → Type 0
 AreTexts None = Unit {0}
-AreTexts (Some (UsernameAndPassword c)) = IsUtf8 c.username × IfSome c.password (λ password. IsUtf8 password)
+AreTexts (Some (UsernameAndPassword c)) =
+    IsUtf8 c.username × IfSome c.password (λ password. IsUtf8 password)
 
 abbrev pub IsHeld : RequestPayload → Option CredentialType → Type 0
 IsHeld payload credential = Fits request_payload (request_payload_val payload) × AreTexts credential

@@ -18,7 +18,7 @@ use Rattle.kmip_request.specs.declared.payload.RequestPayload.TheVariants.{Creat
 use Rattle.kmip_request.specs.Tables.{request_payload}
 use Rattle.kmip_request.specs.Values.{request_payload_val}
 
--- the operation of a payload's name
+-- the operation that a payload's variant is named after
 abbrev pub operation_of : RequestPayload → Operation
 operation_of (Create object_type template) = operations.Create
 operation_of (CreateKeyPair common private_key public_key) = operations.CreateKeyPair
@@ -38,7 +38,7 @@ operation_of (DiscoverVersions versions) = operations.DiscoverVersions
 operation_of (Sign id parameters contents) = operations.Sign
 operation_of (RNGRetrieve length) = operations.RNGRetrieve
 
--- the minor number of the version of KMIP 1 that a payload needs
+-- the minor number of the version of KMIP 1 that a request of the payload is written in
 abbrev pub minor_of : RequestPayload → ℕ
 minor_of (Query functions) = 2
 minor_of (DiscoverVersions versions) = 1
@@ -46,7 +46,7 @@ minor_of (Sign id parameters contents) = 2
 minor_of (RNGRetrieve length) = 2
 minor_of _ = 0
 
--- the version of KMIP that a payload needs
+-- the version of KMIP that a request of the payload is written in (KMIP 1.0, 6.1)
 abbrev pub version_of : RequestPayload → ProtocolVersion
 version_of payload = record { 0 = record { 0 = pos 1 }; 1 = record { 0 = pos (minor_of payload) } }
 
@@ -54,30 +54,37 @@ abbrev pub password_trees : Option (List ℕ) → List Tree
 password_trees None = []
 password_trees (Some password) = scalar PASSWORD (text_string password) ∷ []
 
--- the item of a credential, where there is one
+-- the Authentication item of a credential, where there is one (KMIP 1.0, 6.6)
 abbrev pub authentication_trees : Option CredentialType → List Tree
 authentication_trees None = []
 authentication_trees (Some (UsernameAndPassword c)) =
     structure AUTHENTICATION (trees_of (
     structure CREDENTIAL (trees_of (
     scalar CREDENTIAL_TYPE (enumeration 1)
-    ∷ structure CREDENTIAL_VALUE (trees_of (scalar USERNAME (text_string c.username) ∷ password_trees c.password))
+    ∷ structure CREDENTIAL_VALUE
+    (trees_of (scalar USERNAME (text_string c.username) ∷ password_trees c.password))
     ∷ []))
     ∷ []))
     ∷ []
 
--- the credential that an item was built of
+-- the credential that an Authentication holds
 abbrev pub credential_of : Authentication → CredentialType
-credential_of a = elim ((a.0).1) [ values.UsernameAndPassword username password ↦ UsernameAndPassword (record { username = username.0; password = option_map (λ p. p.0) password }) ]
+credential_of a = elim ((a.0).1) [
+  | values.UsernameAndPassword username password ↦
+      UsernameAndPassword
+      (record { username = username.0; password = option_map (λ p. p.0) password })
+]
 
--- the head of a request: its version, the credential where there is one, and that it has one batch item
+-- the header of a request: its version, the credential where there is one, and batch count 1
 abbrev pub header_tree : ℕ → List Tree → Tree
 header_tree minor authentication =
     structure REQUEST_HEADER (trees_of (
-    structure PROTOCOL_VERSION (trees_of (scalar PROTOCOL_VERSION_MAJOR (integer (pos 1)) ∷ scalar PROTOCOL_VERSION_MINOR (integer (pos minor)) ∷ []))
+    structure PROTOCOL_VERSION
+    (trees_of (scalar PROTOCOL_VERSION_MAJOR (integer (pos 1)) ∷
+    scalar PROTOCOL_VERSION_MINOR (integer (pos minor)) ∷ []))
     ∷ (authentication ++ scalar BATCH_COUNT (integer (pos 1)) ∷ [])))
 
--- the message round the item of a payload
+-- the message of a header, the number of an operation and the item of a payload
 abbrev pub message_tree : Tree → ℕ → Tree → Tree
 message_tree header operation payload =
     structure REQUEST_MESSAGE (trees_of (
@@ -88,13 +95,14 @@ message_tree header operation payload =
 -- the request message round a payload and a credential, where the payload has a tree
 abbrev pub request_tree : RequestPayload → Option CredentialType → Option Tree
 request_tree payload credential =
-    option_map (message_tree (header_tree (minor_of payload) (authentication_trees credential)) (operation_line (operation_of payload)).number)
+    option_map (message_tree (header_tree (minor_of payload) (authentication_trees credential))
+    (operation_line (operation_of payload)).number)
     (tree_of request_payload REQUEST_PAYLOAD (request_payload_val payload))
 
 -- the one canonical message of a request, where it has one
 abbrev pub request_bytes : RequestPayload → Option CredentialType → Option (List ℕ)
 request_bytes payload credential = option_and_then bytes (request_tree payload credential)
 
--- The request has canonical bytes.
+-- the request is valid: it has canonical bytes
 abbrev pub IsValidRequest : RequestPayload → Option CredentialType → Type 0
 IsValidRequest payload credential = IsSome (request_bytes payload credential)

@@ -16,8 +16,10 @@ use Rattle.kmip_request_objects.specs.Tables.{attribute, template_attribute, key
 -- Protocol Version (KMIP 1.0, 6.1)
 abbrev pub protocol_version : Shape
 protocol_version = Rows
-    (AndRow (codes "protocol_version_major") (Under PROTOCOL_VERSION_MAJOR) Required Plain (Scalar Integer)
-    (AndRow (codes "protocol_version_minor") (Under PROTOCOL_VERSION_MINOR) Required Plain (Scalar Integer)
+    (AndRow (codes "protocol_version_major") (Under PROTOCOL_VERSION_MAJOR) Required Plain
+    (Scalar Integer)
+    (AndRow (codes "protocol_version_minor") (Under PROTOCOL_VERSION_MINOR) Required Plain
+    (Scalar Integer)
     NoRow))
 
 -- the credential value of a username and a password (KMIP 1.0, 2.1.2)
@@ -27,7 +29,7 @@ username_and_password = Rows
     (AndRow (codes "password") (Under PASSWORD) Optional Plain (Scalar TextString)
     NoRow))
 
--- a credential value is chosen by the number of its credential's type
+-- a credential value is chosen by the number of its credential's type (KMIP 1.0, 2.1.2)
 abbrev pub credential_values : Cases
 credential_values =
     AndCase 1 (codes "UsernameAndPassword") (ByNumbers (1 ∷ [])) None username_and_password
@@ -36,8 +38,10 @@ credential_values =
 -- Credential (KMIP 1.0, 2.1.2)
 abbrev pub credential : Shape
 credential = Rows
-    (AndRow (codes "credential_type") (Under CREDENTIAL_TYPE) Required Chooser (OneOf credential_types)
-    (AndRow (codes "credential_value") (Under CREDENTIAL_VALUE) Required Chosen (Choice OfNumber credential_values)
+    (AndRow (codes "credential_type") (Under CREDENTIAL_TYPE) Required Chooser
+    (OneOf credential_types)
+    (AndRow (codes "credential_value") (Under CREDENTIAL_VALUE) Required Chosen
+    (Choice OfNumber credential_values)
     NoRow))
 
 -- Authentication (KMIP 1.0, 6.6)
@@ -50,7 +54,8 @@ authentication = Rows
 abbrev pub request_header : Shape
 request_header = Rows
     (AndRow (codes "protocol_version") (Under PROTOCOL_VERSION) Required Plain protocol_version
-    (AndRow (codes "maximum_response_size") (Under MAXIMUM_RESPONSE_SIZE) Optional Plain (Scalar Integer)
+    (AndRow (codes "maximum_response_size") (Under MAXIMUM_RESPONSE_SIZE) Optional Plain
+    (Scalar Integer)
     (AndRow (codes "authentication") (Under AUTHENTICATION) Optional Plain authentication
     (AndRow (codes "batch_count") (Under BATCH_COUNT) Required Plain (Scalar Integer)
     NoRow))))
@@ -59,22 +64,27 @@ request_header = Rows
 abbrev pub create : Shape
 create = Rows
     (AndRow (codes "object_type") (Under OBJECT_TYPE) Required Plain (OneOf object_types)
-    (AndRow (codes "template_attribute") (Under TEMPLATE_ATTRIBUTE) Required Plain template_attribute
+    (AndRow (codes "template_attribute") (Under TEMPLATE_ATTRIBUTE) Required Plain
+    template_attribute
     NoRow))
 
 -- the payload of Create Key Pair (KMIP 1.0, 4.2)
 abbrev pub create_key_pair : Shape
 create_key_pair = Rows
-    (AndRow (codes "common_template_attribute") (Under COMMON_TEMPLATE_ATTRIBUTE) Optional Plain template_attribute
-    (AndRow (codes "private_key_template_attribute") (Under PRIVATE_KEY_TEMPLATE_ATTRIBUTE) Optional Plain template_attribute
-    (AndRow (codes "public_key_template_attribute") (Under PUBLIC_KEY_TEMPLATE_ATTRIBUTE) Optional Plain template_attribute
+    (AndRow (codes "common_template_attribute") (Under COMMON_TEMPLATE_ATTRIBUTE) Optional Plain
+    template_attribute
+    (AndRow (codes "private_key_template_attribute") (Under PRIVATE_KEY_TEMPLATE_ATTRIBUTE) Optional
+    Plain template_attribute
+    (AndRow (codes "public_key_template_attribute") (Under PUBLIC_KEY_TEMPLATE_ATTRIBUTE) Optional
+    Plain template_attribute
     NoRow)))
 
 -- the payload of Register (KMIP 1.0, 4.3)
 abbrev pub register : Shape
 register = Rows
     (AndRow (codes "object_type") (Under OBJECT_TYPE) Required Plain (OneOf object_types)
-    (AndRow (codes "template_attribute") (Under TEMPLATE_ATTRIBUTE) Required Plain template_attribute
+    (AndRow (codes "template_attribute") (Under TEMPLATE_ATTRIBUTE) Required Plain
+    template_attribute
     (AndRow (codes "managed_object") ByCase Optional Plain (Choice OfTag managed_objects)
     NoRow)))
 
@@ -88,9 +98,12 @@ locate = Rows
 abbrev pub get : Shape
 get = Rows
     (AndRow (codes "unique_identifier") (Under UNIQUE_IDENTIFIER) Optional Plain (Scalar TextString)
-    (AndRow (codes "key_format_type") (Under KEY_FORMAT_TYPE) Optional Plain (OneOf key_format_types)
-    (AndRow (codes "key_compression_type") (Under KEY_COMPRESSION_TYPE) Optional Plain (OneOf key_compression_types)
-    (AndRow (codes "key_wrapping_specification") (Under KEY_WRAPPING_SPECIFICATION) Optional Plain key_wrapping_specification
+    (AndRow (codes "key_format_type") (Under KEY_FORMAT_TYPE) Optional Plain
+    (OneOf key_format_types)
+    (AndRow (codes "key_compression_type") (Under KEY_COMPRESSION_TYPE) Optional Plain
+    (OneOf key_compression_types)
+    (AndRow (codes "key_wrapping_specification") (Under KEY_WRAPPING_SPECIFICATION) Optional Plain
+    key_wrapping_specification
     NoRow))))
 
 -- the payload of Get Attributes (KMIP 1.0, 4.11)
@@ -139,7 +152,8 @@ abbrev pub revoke : Shape
 revoke = Rows
     (AndRow (codes "unique_identifier") (Under UNIQUE_IDENTIFIER) Optional Plain (Scalar TextString)
     (AndRow (codes "revocation_reason") (Under REVOCATION_REASON) Required Plain revocation_reason
-    (AndRow (codes "compromise_occurrence_date") (Under COMPROMISE_OCCURRENCE_DATE) Optional Plain (Scalar DateTime)
+    (AndRow (codes "compromise_occurrence_date") (Under COMPROMISE_OCCURRENCE_DATE) Optional Plain
+    (Scalar DateTime)
     NoRow)))
 
 -- the payload of Destroy (KMIP 1.0, 4.20)
@@ -164,7 +178,8 @@ discover_versions = Rows
 abbrev pub sign : Shape
 sign = Rows
     (AndRow (codes "unique_identifier") (Under UNIQUE_IDENTIFIER) Optional Plain (Scalar TextString)
-    (AndRow (codes "cryptographic_parameters") (Under CRYPTOGRAPHIC_PARAMETERS) Optional Plain cryptographic_parameters
+    (AndRow (codes "cryptographic_parameters") (Under CRYPTOGRAPHIC_PARAMETERS) Optional Plain
+    cryptographic_parameters
     (AndRow (codes "data") (Under DATA) Required Plain (Scalar ByteString)
     NoRow)))
 
@@ -174,7 +189,7 @@ rng_retrieve = Rows
     (AndRow (codes "data_length") (Under DATA_LENGTH) Required Plain (Scalar Integer)
     NoRow)
 
--- a payload is chosen by the number of its batch item's operation
+-- a payload is chosen by the number of its batch item's operation (KMIP 1.0, 7.2)
 abbrev pub request_payloads : Cases
 request_payloads =
     AndCase 1 (codes "Create") (ByNumbers (1 ∷ [])) None create
@@ -203,7 +218,8 @@ request_payload = Choice OfNumber request_payloads
 abbrev pub batch_item_of : Shape → Shape
 batch_item_of payload = Rows
     (AndRow (codes "operation") (Under OPERATION) Required Chooser (OneOf operations)
-    (AndRow (codes "unique_batch_item_id") (Under UNIQUE_BATCH_ITEM_ID) Optional Plain (Scalar ByteString)
+    (AndRow (codes "unique_batch_item_id") (Under UNIQUE_BATCH_ITEM_ID) Optional Plain
+    (Scalar ByteString)
     (AndRow (codes "request_payload") (Under REQUEST_PAYLOAD) Required Chosen payload
     NoRow)))
 
@@ -220,15 +236,17 @@ request_message_of payload = Rows
 abbrev pub request_message : Shape
 request_message = request_message_of request_payload
 
--- the tables of a request's roots: its message, what stands in that, and each payload
+-- the tables of a request: its message, the structures in it, and each payload
 abbrev pub root_tables : List Shape
 root_tables =
     request_message ∷ batch_item ∷ request_header ∷ authentication ∷ credential ∷ request_payload
-    ∷ create ∷ create_key_pair ∷ register ∷ locate ∷ get ∷ get_attributes ∷ get_attribute_list ∷ add_attribute
-    ∷ modify_attribute ∷ delete_attribute ∷ activate ∷ revoke ∷ destroy ∷ query ∷ discover_versions ∷ sign
+    ∷ create ∷ create_key_pair ∷ register ∷ locate ∷ get ∷ get_attributes ∷ get_attribute_list ∷
+    add_attribute
+    ∷ modify_attribute ∷ delete_attribute ∷ activate ∷ revoke ∷ destroy ∷ query ∷
+    discover_versions ∷ sign
     ∷ rng_retrieve ∷ []
 
--- in each table no tag stands twice, at any depth, and choosers stand above what they choose
+-- in each table no tag appears twice, at any depth, and choosers are above what they choose
 abbrev pub all_stand : List Shape → Bool
 all_stand [] = true
 all_stand (table ∷ tables) = tags_once table && (choosers_stand table && all_stand tables)

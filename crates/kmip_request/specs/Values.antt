@@ -1,4 +1,5 @@
--- The typed values of a request, as contracts see them: each a record of its fields in the order of its table.
+-- The typed values of a request, as contracts see them: each a record of its fields in the order of
+-- its table.
 use Rattle.std.specs.Prelude.{pos, Option, None}
 use Rattle.kmip_shape.specs.Val.{Val, Number, Text, Record, Case, AndField, NoField, Absent, One, Many, NoVal, AndVal}
 use Rattle.kmip_shape.specs.Writes.{optional, optional_list, vals}
@@ -83,23 +84,57 @@ request_header_val x = Record
 
 -- a payload is the case of its operation's number
 abbrev pub request_payload_val : RequestPayload → Val
-request_payload_val (Create object_type template) = Case 1 (Record (AndField (One (object_type_val object_type)) (AndField (One (template_attribute_val template)) NoField)))
-request_payload_val (CreateKeyPair common private_key public_key) = Case 2 (Record (AndField (optional common_template_attribute_val common) (AndField (optional private_key_template_attribute_val private_key) (AndField (optional public_key_template_attribute_val public_key) NoField))))
-request_payload_val (Register object_type template object) = Case 3 (Record (AndField (One (object_type_val object_type)) (AndField (One (template_attribute_val template)) (AndField (optional managed_object_val object) NoField))))
-request_payload_val (Locate attributes) = Case 8 (Record (AndField (Many (vals attribute_val attributes)) NoField))
-request_payload_val (Get id format compression specification) = Case 10 (Record (AndField (optional unique_identifier_val id) (AndField (optional key_format_type_val format) (AndField (optional key_compression_type_val compression) (AndField (optional key_wrapping_specification_val specification) NoField)))))
-request_payload_val (GetAttributes id names) = Case 11 (Record (AndField (optional unique_identifier_val id) (AndField (optional_list attribute_name_val names) NoField)))
-request_payload_val (GetAttributeList id) = Case 12 (Record (AndField (optional unique_identifier_val id) NoField))
-request_payload_val (AddAttribute id attribute) = Case 13 (Record (AndField (optional unique_identifier_val id) (AndField (One (attribute_val attribute)) NoField)))
-request_payload_val (ModifyAttribute id attribute) = Case 14 (Record (AndField (optional unique_identifier_val id) (AndField (One (attribute_val attribute)) NoField)))
-request_payload_val (DeleteAttribute id name index) = Case 15 (Record (AndField (optional unique_identifier_val id) (AndField (One (attribute_name_val name)) (AndField (optional attribute_index_val index) NoField))))
-request_payload_val (Activate id) = Case 18 (Record (AndField (optional unique_identifier_val id) NoField))
-request_payload_val (Revoke id reason date) = Case 19 (Record (AndField (optional unique_identifier_val id) (AndField (One (revocation_reason_val reason)) (AndField (optional compromise_occurrence_date_val date) NoField))))
-request_payload_val (Destroy id) = Case 20 (Record (AndField (optional unique_identifier_val id) NoField))
-request_payload_val (Query functions) = Case 24 (Record (AndField (Many (vals query_function_val functions)) NoField))
-request_payload_val (DiscoverVersions versions) = Case 30 (Record (AndField (Many (vals protocol_version_val versions)) NoField))
-request_payload_val (Sign id parameters contents) = Case 33 (Record (AndField (optional unique_identifier_val id) (AndField (optional cryptographic_parameters_val parameters) (AndField (One (data_val contents)) NoField))))
-request_payload_val (RNGRetrieve length) = Case 37 (Record (AndField (One (data_length_val length)) NoField))
+request_payload_val (Create object_type template) =
+    Case 1 (Record (AndField (One (object_type_val object_type))
+    (AndField (One (template_attribute_val template)) NoField)))
+request_payload_val (CreateKeyPair common private_key public_key) =
+    Case 2 (Record (AndField (optional common_template_attribute_val common)
+    (AndField (optional private_key_template_attribute_val private_key)
+    (AndField (optional public_key_template_attribute_val public_key) NoField))))
+request_payload_val (Register object_type template object) =
+    Case 3 (Record (AndField (One (object_type_val object_type))
+    (AndField (One (template_attribute_val template))
+    (AndField (optional managed_object_val object) NoField))))
+request_payload_val (Locate attributes) =
+    Case 8 (Record (AndField (Many (vals attribute_val attributes)) NoField))
+request_payload_val (Get id format compression specification) =
+    Case 10 (Record (AndField (optional unique_identifier_val id)
+    (AndField (optional key_format_type_val format)
+    (AndField (optional key_compression_type_val compression)
+    (AndField (optional key_wrapping_specification_val specification) NoField)))))
+request_payload_val (GetAttributes id names) =
+    Case 11 (Record (AndField (optional unique_identifier_val id)
+    (AndField (optional_list attribute_name_val names) NoField)))
+request_payload_val (GetAttributeList id) =
+    Case 12 (Record (AndField (optional unique_identifier_val id) NoField))
+request_payload_val (AddAttribute id attribute) =
+    Case 13 (Record (AndField (optional unique_identifier_val id)
+    (AndField (One (attribute_val attribute)) NoField)))
+request_payload_val (ModifyAttribute id attribute) =
+    Case 14 (Record (AndField (optional unique_identifier_val id)
+    (AndField (One (attribute_val attribute)) NoField)))
+request_payload_val (DeleteAttribute id name index) =
+    Case 15 (Record (AndField (optional unique_identifier_val id)
+    (AndField (One (attribute_name_val name))
+    (AndField (optional attribute_index_val index) NoField))))
+request_payload_val (Activate id) =
+    Case 18 (Record (AndField (optional unique_identifier_val id) NoField))
+request_payload_val (Revoke id reason date) =
+    Case 19 (Record (AndField (optional unique_identifier_val id)
+    (AndField (One (revocation_reason_val reason))
+    (AndField (optional compromise_occurrence_date_val date) NoField))))
+request_payload_val (Destroy id) =
+    Case 20 (Record (AndField (optional unique_identifier_val id) NoField))
+request_payload_val (Query functions) =
+    Case 24 (Record (AndField (Many (vals query_function_val functions)) NoField))
+request_payload_val (DiscoverVersions versions) =
+    Case 30 (Record (AndField (Many (vals protocol_version_val versions)) NoField))
+request_payload_val (Sign id parameters contents) =
+    Case 33 (Record (AndField (optional unique_identifier_val id)
+    (AndField (optional cryptographic_parameters_val parameters)
+    (AndField (One (data_val contents)) NoField))))
+request_payload_val (RNGRetrieve length) =
+    Case 37 (Record (AndField (One (data_length_val length)) NoField))
 
 abbrev pub batch_item_val : BatchItem → Val
 batch_item_val x = Record
@@ -114,10 +149,16 @@ request_message_val x = Record
     (AndField (Many (vals batch_item_val x.1))
     NoField))
 
--- The message that is written for a payload: a head with its version and the credential, and one batch item with no
--- identifier.
+-- The message that is written for a payload: a header with its version and the credential, and one
+-- batch item with no identifier.
 abbrev pub lent_header_val : ProtocolVersion → Option Authentication → Val
-lent_header_val version authentication = request_header_val (record { 0 = version; 1 = None; 2 = authentication; 3 = record { 0 = pos 1 } })
+lent_header_val version authentication =
+    request_header_val (record {
+      0 = version;
+      1 = None;
+      2 = authentication;
+      3 = record { 0 = pos 1 };
+    })
 
 abbrev pub lent_item_val : Operation → Val → Val
 lent_item_val operation payload = Record

@@ -1,12 +1,14 @@
-//! Who makes a request.
+//! The authentication of a request: the credential of its client.
 
 ghost use Rattle.std.specs.Prelude.{◌≡◌};
 ghost use Rattle.kmip_wire.specs.declared.kind.Kind.TheVariants.{TextString};
 ghost use Rattle.kmip_shape.specs.Shape.{Scalar, Choice, OfNumber};
 ghost use Rattle.kmip_request.specs.Tables.{authentication, credential, credential_values};
 ghost use Rattle.kmip_request.specs.Message.{credential_of};
-ghost use Rattle.kmip_request.specs.Values.{username_val, password_val, authentication_val, credential_val, credential_value_val};
-ghost use Rattle.kmip_request.specs.Same.{username_same, password_same, authentication_same, credential_same, credential_value_same};
+ghost use Rattle.kmip_request.specs.Values.{username_val, password_val, authentication_val};
+ghost use Rattle.kmip_request.specs.Values.{credential_val, credential_value_val};
+ghost use Rattle.kmip_request.specs.Same.{username_same, password_same, authentication_same};
+ghost use Rattle.kmip_request.specs.Same.{credential_same, credential_value_same};
 
 use kmip_enums::CredentialType;
 use kmip_shape::record::{Choosing, End, Row};
@@ -20,7 +22,7 @@ use kmip_types::auth;
 use kmip_wire::{Buffer, ItemRef, OutOfMemory, Tag, Text, TryClone, clone_optional};
 use std::alloc::Global;
 
-/// The name of who makes a request: KMIP 1.0, 2.1.2.
+/// The username of a credential: KMIP 1.0, 2.1.2.
 #[derive(PartialEq, Eq, Drop)]
 pub struct Username(pub Text);
 
@@ -58,7 +60,7 @@ impl ReadItem for Username {
     }
 }
 
-/// The secret of who makes a request: KMIP 1.0, 2.1.2.
+/// The password of a credential: KMIP 1.0, 2.1.2.
 #[derive(PartialEq, Eq, Drop)]
 pub struct Password(pub Text);
 
@@ -96,7 +98,7 @@ impl ReadItem for Password {
     }
 }
 
-/// What a credential of each type holds: KMIP 1.0, 2.1.2.
+/// The contents of a credential, one variant for each type: KMIP 1.0, 2.1.2.
 #[derive(PartialEq, Eq, Drop)]
 pub enum CredentialValue {
     /// A username, and a password where there is one.
@@ -217,7 +219,7 @@ impl ReadItem for Credential {
 pub struct Authentication(pub Credential);
 
 impl Authentication {
-    /// The item of a credential. It takes no memory.
+    /// The Authentication that holds this credential. It takes no memory.
     pub fn build(credential: auth::CredentialType) -> Authentication
         ensures { credential_of result ≡ credential }
     {

@@ -1,4 +1,4 @@
-//! The head of a request.
+//! The header of a request.
 
 ghost use Rattle.std.specs.Prelude.{◌≡◌};
 ghost use Rattle.kmip_request.specs.Tables.{protocol_version, request_header};
@@ -20,7 +20,7 @@ use kmip_tags::tags::{
 use kmip_wire::{Buffer, ItemRef, OutOfMemory, Tag, TryClone, clone_optional};
 use std::alloc::Global;
 
-/// The version of KMIP that a request is made in: KMIP 1.0, 6.1.
+/// The version of KMIP of a request, major and minor: KMIP 1.0, 6.1.
 #[derive(Clone, Copy, PartialEq, Eq, Drop)]
 pub struct ProtocolVersion(pub ProtocolVersionMajor, pub ProtocolVersionMinor);
 
@@ -58,7 +58,7 @@ impl ReadItem for ProtocolVersion {
     }
 }
 
-/// The head of a request: KMIP 1.0, 7.2.
+/// The header of a request: KMIP 1.0, 7.2.
 #[derive(PartialEq, Eq, Drop)]
 pub struct RequestHeader(
     pub ProtocolVersion,

@@ -7,8 +7,9 @@ ghost use Rattle.kmip_request.specs.Message.{request_tree, request_bytes};
 ghost use Rattle.kmip_request.specs.Held.{IsHeld};
 ghost use Rattle.kmip_request.specs.Tables.{root_tables, all_stand};
 
-/// Two valid requests whose trees differ have different bytes, and neither message's bytes begin the other's.
-/// The premises hold of every payload and credential that Rust can hold.
+/// Two valid requests whose trees differ have different bytes, and neither's bytes are a proper
+/// prefix of the other's. The premises `IsHeld` hold of every payload and credential that Rust can
+/// hold.
 pub fn distinct_requests()
     ensures equal { (p q : RequestPayload) (c d : Option CredentialType) (b : List ℕ) → IsHeld p c →
         IsHeld q d →
@@ -19,8 +20,8 @@ pub fn distinct_requests()
         request_bytes p c ≡ Some b → request_bytes q d ≡ Some (b ++ rest) → rest ≡ [] }
 {}
 
-/// In the table of a request's message and of each payload no tag stands twice, at any depth, and at most one field
-/// chooses, above what it chooses. So what is read of a field never depends on the order of the items.
+/// In the table of a request's message and of each payload no tag appears twice, at any depth, and
+/// at most one field chooses, above what it chooses.
 pub fn tables_stand()
     ensures { all_stand root_tables ≡ true }
 {}

@@ -1,4 +1,4 @@
-//! Requests: what a client asks for, and how it is written as its one canonical message.
+//! Requests: what a client asks for, written as its one canonical message.
 //!
 //! ```rust
 //! use kmip_request::{RequestPayload, to_vec};

@@ -1,4 +1,4 @@
-//! The whole message.
+//! The message of a request, and its batch items.
 
 ghost use Rattle.std.specs.Prelude.{◌≡◌};
 ghost use Rattle.kmip_tags.specs.Tags as tags;
@@ -22,7 +22,7 @@ use kmip_types::UniqueBatchItemID;
 use kmip_wire::{Buffer, ItemRef, List, OutOfMemory, Tag, TryClone, clone_optional};
 use std::alloc::Global;
 
-/// One operation with its payload: KMIP 1.0, 7.2.
+/// A batch item of a request: one operation with its payload: KMIP 1.0, 7.2.
 #[derive(PartialEq, Eq, Drop)]
 pub struct BatchItem(
     pub Operation,
@@ -80,7 +80,7 @@ impl ReadItem for BatchItem {
     }
 }
 
-/// A request: KMIP 1.0, 7.1.
+/// The message of a request: its header and its batch items: KMIP 1.0, 7.1.
 #[derive(PartialEq, Eq, Drop)]
 pub struct RequestMessage(pub RequestHeader, pub List<BatchItem>);
 

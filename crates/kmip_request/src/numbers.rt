@@ -1,4 +1,4 @@
-//! The numbers in the head of a request.
+//! The numbers in the header of a request.
 
 ghost use Rattle.std.specs.Prelude.{◌≡◌};
 ghost use Rattle.kmip_wire.specs.declared.kind.Kind.TheVariants.{Integer};
@@ -10,7 +10,7 @@ use kmip_shape::{Item, Outer, ReadError, ReadItem, WriteItem};
 use kmip_wire::{Buffer, ItemRef, Tag};
 use std::alloc::Global;
 
-/// The first number of a version of KMIP: KMIP 1.0, 6.1.
+/// The major number of a version of KMIP: KMIP 1.0, 6.1.
 #[derive(Clone, Copy, PartialEq, Eq, Drop)]
 pub struct ProtocolVersionMajor(pub i32);
 
@@ -42,7 +42,7 @@ impl ReadItem for ProtocolVersionMajor {
     }
 }
 
-/// The second number of a version of KMIP: KMIP 1.0, 6.1.
+/// The minor number of a version of KMIP: KMIP 1.0, 6.1.
 #[derive(Clone, Copy, PartialEq, Eq, Drop)]
 pub struct ProtocolVersionMinor(pub i32);
 
@@ -74,7 +74,7 @@ impl ReadItem for ProtocolVersionMinor {
     }
 }
 
-/// The most bytes that a client takes as a response: KMIP 1.0, 6.3.
+/// The length in bytes of the longest response that a client takes: KMIP 1.0, 6.3.
 #[derive(Clone, Copy, PartialEq, Eq, Drop)]
 pub struct MaximumResponseSize(pub i32);
 

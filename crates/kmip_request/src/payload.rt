@@ -3,7 +3,8 @@
 ghost use Rattle.std.specs.Prelude.{◌≡◌};
 ghost use Rattle.kmip_request.specs.Message.{operation_of, version_of};
 ghost use Rattle.kmip_request.specs.Tables.{request_payload};
-ghost use Rattle.kmip_request_objects.specs.Tables.{attribute, name, public_key, private_key, template};
+ghost use Rattle.kmip_request_objects.specs.Tables.{attribute, name, public_key, private_key};
+ghost use Rattle.kmip_request_objects.specs.Tables.{template};
 ghost use Rattle.kmip_request.specs.Values.{request_payload_val};
 ghost use Rattle.kmip_request.specs.Same.{request_payload_same};
 
@@ -39,50 +40,51 @@ use kmip_types::{
 use kmip_wire::{Boxed, Buffer, ItemRef, List, OutOfMemory, Tag, TryClone, clone_optional};
 use std::alloc::Global;
 
-/// What a request asks for: one variant an operation, with the operation's fields in order.
+/// What a request asks for: a variant for each operation, with the operation's fields in order.
 ///
-/// Where the identifier of the object is absent, the server takes the object that it last made or located in the same
-/// session: KMIP 1.0, 4.
+/// Where the identifier of the object is absent, the server takes its ID Placeholder, which an
+/// earlier operation of the same batch sets (KMIP 1.0, 4). A request that is written here has one
+/// batch item, so there is none.
 #[derive(PartialEq, Eq, Drop)]
 pub enum RequestPayload {
-    /// Makes an object on the server: KMIP 1.0, 4.1.
+    /// Makes a new symmetric key on the server: KMIP 1.0, 4.1.
     Create(ObjectType, TemplateAttribute),
-    /// Makes a pair of a private and a public key: KMIP 1.0, 4.2.
+    /// Makes a new pair of a private and a public key: KMIP 1.0, 4.2.
     CreateKeyPair(
         Option<CommonTemplateAttribute>,
         Option<PrivateKeyTemplateAttribute>,
         Option<PublicKeyTemplateAttribute>,
     ),
-    /// Hands an object to the server, under its own tag: KMIP 1.0, 4.3.
+    /// Registers an object that the client has, under the tag of its type: KMIP 1.0, 4.3.
     Register(ObjectType, TemplateAttribute, Option<ManagedObject>),
     /// Asks which objects have all these attributes: KMIP 1.0, 4.8.
     Locate(List<Attribute>),
-    /// Asks for an object: KMIP 1.0, 4.10.
+    /// Asks for an object, in this format, compression and wrapping: KMIP 1.0, 4.10.
     Get(
         Option<UniqueIdentifier>,
         Option<KeyFormatType>,
         Option<KeyCompressionType>,
         Option<Boxed<KeyWrappingSpecification>>,
     ),
-    /// Asks for the attributes of these names, and for all where there is none: KMIP 1.0, 4.11.
+    /// Asks for the attributes of these names, and for all without names: KMIP 1.0, 4.11.
     GetAttributes(Option<UniqueIdentifier>, Option<List<AttributeName>>),
-    /// Asks for the names of the attributes: KMIP 1.0, 4.12.
+    /// Asks for the names of an object's attributes: KMIP 1.0, 4.12.
     GetAttributeList(Option<UniqueIdentifier>),
     /// Adds an attribute: KMIP 1.0, 4.13.
     AddAttribute(Option<UniqueIdentifier>, Attribute),
-    /// Changes the attribute of that name and index: KMIP 1.0, 4.14.
+    /// Changes the attribute of that name and index, 0 where absent: KMIP 1.0, 4.14.
     ModifyAttribute(Option<UniqueIdentifier>, Attribute),
-    /// Takes an attribute away: KMIP 1.0, 4.15.
+    /// Deletes the attribute of that name and index, 0 where absent: KMIP 1.0, 4.15.
     DeleteAttribute(Option<UniqueIdentifier>, AttributeName, Option<AttributeIndex>),
-    /// Makes an object ready for use: KMIP 1.0, 4.18.
+    /// Makes an object active: KMIP 1.0, 4.18.
     Activate(Option<UniqueIdentifier>),
-    /// Takes an object out of use, and says when a compromise came about: KMIP 1.0, 4.19.
+    /// Revokes an object, for a reason and with the date of a compromise: KMIP 1.0, 4.19.
     Revoke(Option<UniqueIdentifier>, RevocationReason, Option<CompromiseOccurrenceDate>),
     /// Destroys an object: KMIP 1.0, 4.20.
     Destroy(Option<UniqueIdentifier>),
-    /// Asks what the server can do: KMIP 1.0, 4.24.
+    /// Asks what the server supports, and for information about it: KMIP 1.0, 4.24.
     Query(List<QueryFunction>),
-    /// Asks which of these versions the server speaks: KMIP 1.1, 4.26.
+    /// Asks which of these versions the server supports, and for all without any: KMIP 1.1, 4.26.
     DiscoverVersions(List<ProtocolVersion>),
     /// Asks for a signature of the data: KMIP 1.2, 4.31.
     Sign(Option<UniqueIdentifier>, Option<CryptographicParameters>, Data),
@@ -91,7 +93,7 @@ pub enum RequestPayload {
 }
 
 impl RequestPayload {
-    /// The operation of the variant's name. It takes no memory.
+    /// The operation that the variant is named after. It takes no memory.
     pub fn operation(&self) -> Operation
         ensures { result ≡ operation_of self.now }
     {
@@ -116,8 +118,8 @@ impl RequestPayload {
         }
     }
 
-    /// The first version of KMIP that has the operation in its present form: 1.2 for Query, Sign and RNG Retrieve, 1.1
-    /// for Discover Versions, 1.0 for the others. It takes no memory.
+    /// The version of KMIP that a request of the payload is written in: 1.2 for Query, Sign and RNG
+    /// Retrieve, 1.1 for Discover Versions, 1.0 for the others. It takes no memory.
     pub fn protocol_version(&self) -> ProtocolVersion
         ensures { result ≡ version_of self.now }
     {

@@ -1,4 +1,4 @@
-//! A request written as its one canonical message.
+//! Writing a request as its one canonical message.
 
 ghost use Rattle.std.specs.Prelude.{◌≡◌, ◌≢◌, ◌≤◌, [], Some, None, IfSome};
 ghost use Rattle.std.specs.Prelude.{OnOk, OnErr, IfOk, IfErr, IsErrOf};
@@ -23,14 +23,14 @@ use kmip_types::auth;
 use kmip_wire::{Blob, Buffer, Tag, WireError};
 use std::alloc::Global;
 
-/// The length of the head of a message with one batch item, whose credential is lent.
+/// The length in bytes of the header of a message with one batch item. The credential is borrowed.
 fn header_len(version: &ProtocolVersion, authentication: &Option<Authentication>) -> Option<u64>
     ensures { result ≡ wire_len_of request_header (lent_header_val version.now authentication.now) }
 {
     record_len::<RequestHeaderRows>(fields![version, &None, authentication, &BatchCount(1)])
 }
 
-/// Appends that head.
+/// Appends that header.
 fn write_header(
     version: &ProtocolVersion,
     authentication: &Option<Authentication>,
@@ -50,7 +50,7 @@ fn write_header(
     );
 }
 
-/// The length of a batch item with no identifier, whose payload is lent.
+/// The length in bytes of a batch item with no identifier. The payload is borrowed.
 fn item_len<P: WriteItem>(operation: &Operation, payload: &P) -> Option<u64>
     ensures { result ≡ wire_len_of (batch_item_of P.shape)
         (lent_item_val operation.now (P.val payload.now)) }
@@ -76,7 +76,7 @@ fn write_item<P: WriteItem>(operation: &Operation, payload: &P, out: &mut Buffer
     );
 }
 
-/// The length of the message of these parts, and `None` exactly where it has no canonical bytes.
+/// The length in bytes of the message of these parts, and `None` exactly without canonical bytes.
 fn message_len<P: WriteItem>(
     version: &ProtocolVersion,
     authentication: &Option<Authentication>,
@@ -92,7 +92,7 @@ fn message_len<P: WriteItem>(
     ])
 }
 
-/// That length, and what it says of the message.
+/// The same length, in terms of the canonical bytes, the form and the size of the message.
 fn message_size<P: WriteItem>(
     version: &ProtocolVersion,
     authentication: &Option<Authentication>,
@@ -203,12 +203,13 @@ fn write_empty(
 
 /// Writes the canonical bytes of the request message round `payload` into `out`, in place of what
 /// `out` held: its version, the credential where there is one, no maximum response size, batch
-/// count 1 and no batch item identifier. The payload and the credential are lent, not copied, and
-/// the room of `out` is used again.
+/// count 1 and no batch item identifier. The payload and the credential are borrowed, not copied,
+/// and the capacity of `out` is reused.
 ///
-/// `NoForm` comes exactly where the request is not valid: where an item's length reaches 2^32, or a
+/// `NoForm` means that the request is not valid: an item's length reaches 2^32, or a
 /// value has no wire form. `Malformed` never comes. Memory is asked for once, before the first byte
-/// is written, and only where `out` has too little room. After an error `out` has no bytes.
+/// is written, and only where the capacity of `out` is too small. After an error `out` has no
+/// bytes.
 pub fn write_request_into(
     payload: &RequestPayload,
     authentication: &Option<Authentication>,
@@ -226,48 +227,26 @@ pub fn write_request_into(
     write_empty(payload, authentication, out)
 }
 
-/// The canonical bytes of the request message round a payload and a credential that are lent.
-fn write_lent(
+/// As [`to_vec`], of a payload and a credential that the caller keeps: both are borrowed.
+pub fn write_request(
     alloc: Global,
     payload: &RequestPayload,
     authentication: &Option<Authentication>,
 ) -> Result<Blob, WireError>
     ensures bytes { GivesBytes result
         (request_bytes payload.now (option_map credential_of authentication.now)) }
-    ensures ok { IfOk result (λ b.
-        request_bytes payload.now (option_map credential_of authentication.now) ≡ Some b) }
-    ensures no_form { IsErrOf result WireError.NoForm →
-        request_bytes payload.now (option_map credential_of authentication.now) ≡ None }
-    ensures never { IfErr result (λ e. e ≢ WireError.Malformed) }
 {
     let mut out = Buffer::new(alloc);
     write_empty(payload, authentication, &mut out)?;
     Ok(out.into_blob())
 }
 
-/// What `to_vec` gives, for a credential that the caller keeps: it is lent, not copied.
-pub fn write_request(
-    alloc: Global,
-    payload: RequestPayload,
-    authentication: &mut Option<Authentication>,
-) -> Result<Blob, WireError>
-    ensures bytes { GivesBytes result
-        (request_bytes payload (option_map credential_of authentication.old)) }
-    ensures ok { IfOk result (λ b.
-        request_bytes payload (option_map credential_of authentication.old) ≡ Some b) }
-    ensures no_form { IsErrOf result WireError.NoForm →
-        request_bytes payload (option_map credential_of authentication.old) ≡ None }
-    ensures never { IfErr result (λ e. e ≢ WireError.Malformed) }
-    ensures kept { authentication.new ≡ authentication.old }
-{
-    write_lent(alloc, &payload, &*authentication)
-}
-
 /// The canonical bytes of the request message round `payload`: its version, the credential where
 /// there is one, no maximum response size, batch count 1 and no batch item identifier.
 ///
-/// `NoForm` comes exactly where the request is not valid: where an item's length reaches 2^32, or a
-/// value has no wire form. `Malformed` never comes. Memory is taken once, before the first byte is written.
+/// `NoForm` means that the request is not valid: an item's length reaches 2^32, or a
+/// value has no wire form. `Malformed` never comes. Memory is taken once, before the first byte is
+/// written.
 pub fn to_vec(
     alloc: Global,
     payload: RequestPayload,
@@ -275,6 +254,6 @@ pub fn to_vec(
 ) -> Result<Blob, WireError>
     ensures { GivesBytes result (request_bytes payload credential) }
 {
-    let mut authentication = credential.map(Authentication::build);
-    write_request(alloc, payload, &mut authentication)
+    let authentication = credential.map(Authentication::build);
+    write_request(alloc, &payload, &authentication)
 }

@@ -1,5 +1,6 @@
--- The tables of what requests tell of objects: for each type its fields in order, with their tags, marks and types.
--- What stands in a field is opened only where it is looked at, so that a proof over one table has no other before it.
+-- The tables of the objects in requests: each type's fields in order, with tags, marks and types.
+-- A table that a field names is unfolded only where a proof looks into it, so a proof over one
+-- table does not see the others.
 use Rattle.std.specs.Prelude.{Some, codes}
 use Rattle.kmip_tags.specs.Tags.{ATTRIBUTE, ATTRIBUTE_INDEX, ATTRIBUTE_NAME, ATTRIBUTE_VALUE, CRYPTOGRAPHIC_ALGORITHM, CRYPTOGRAPHIC_LENGTH, CRYPTOGRAPHIC_PARAMETERS, ENCRYPTION_KEY_INFORMATION, IV_COUNTER_NONCE, KEY_BLOCK, KEY_COMPRESSION_TYPE, KEY_FORMAT_TYPE, KEY_MATERIAL, KEY_VALUE, KEY_WRAPPING_DATA, MAC_SIGNATURE, MAC_SIGNATURE_KEY_INFORMATION, NAME, NAME_TYPE, NAME_VALUE, PRIVATE_KEY, PUBLIC_KEY, REVOCATION_MESSAGE, REVOCATION_REASON_CODE, SYMMETRIC_KEY, TEMPLATE, UNIQUE_IDENTIFIER, WRAPPING_METHOD}
 use Rattle.kmip_wire.specs.declared.kind.Kind.TheVariants.{Integer, TextString, ByteString}
@@ -29,7 +30,8 @@ attribute = Rows
     (AndRow (codes "attribute_value") (Under ATTRIBUTE_VALUE) Required Chosen attribute_value
     NoRow)))
 
--- Template-Attribute, Common Template-Attribute, Private Key Template-Attribute and Public Key Template-Attribute (KMIP 1.0, 2.1.8)
+-- Template-Attribute, Common Template-Attribute, Private Key Template-Attribute and
+-- Public Key Template-Attribute (KMIP 1.0, 2.1.8)
 unfoldable pub template_attribute : Shape
 template_attribute = Rows
     (AndRow (codes "names") (Under NAME) OptionalList Plain name
@@ -40,33 +42,42 @@ template_attribute = Rows
 unfoldable pub encryption_key_information : Shape
 encryption_key_information = Rows
     (AndRow (codes "unique_identifier") (Under UNIQUE_IDENTIFIER) Required Plain (Scalar TextString)
-    (AndRow (codes "cryptographic_parameters") (Under CRYPTOGRAPHIC_PARAMETERS) Optional Plain cryptographic_parameters
+    (AndRow (codes "cryptographic_parameters") (Under CRYPTOGRAPHIC_PARAMETERS) Optional Plain
+    cryptographic_parameters
     NoRow))
 
 -- MAC/Signature Key Information (KMIP 1.0, 2.1.5)
 unfoldable pub mac_or_signature_key_information : Shape
 mac_or_signature_key_information = Rows
     (AndRow (codes "unique_identifier") (Under UNIQUE_IDENTIFIER) Required Plain (Scalar TextString)
-    (AndRow (codes "cryptographic_parameters") (Under CRYPTOGRAPHIC_PARAMETERS) Optional Plain cryptographic_parameters
+    (AndRow (codes "cryptographic_parameters") (Under CRYPTOGRAPHIC_PARAMETERS) Optional Plain
+    cryptographic_parameters
     NoRow))
 
 -- Key Wrapping Data (KMIP 1.0, 2.1.5)
 unfoldable pub key_wrapping_data : Shape
 key_wrapping_data = Rows
-    (AndRow (codes "wrapping_method") (Under WRAPPING_METHOD) Required Plain (OneOf wrapping_methods)
-    (AndRow (codes "encryption_key_information") (Under ENCRYPTION_KEY_INFORMATION) Optional Plain encryption_key_information
-    (AndRow (codes "mac_or_signature_key_information") (Under MAC_SIGNATURE_KEY_INFORMATION) Optional Plain mac_or_signature_key_information
+    (AndRow (codes "wrapping_method") (Under WRAPPING_METHOD) Required Plain
+    (OneOf wrapping_methods)
+    (AndRow (codes "encryption_key_information") (Under ENCRYPTION_KEY_INFORMATION) Optional Plain
+    encryption_key_information
+    (AndRow (codes "mac_or_signature_key_information") (Under MAC_SIGNATURE_KEY_INFORMATION)
+    Optional Plain mac_or_signature_key_information
     (AndRow (codes "mac_or_signature") (Under MAC_SIGNATURE) Optional Plain (Scalar ByteString)
-    (AndRow (codes "iv_or_counter_or_nonce") (Under IV_COUNTER_NONCE) Optional Plain (Scalar ByteString)
+    (AndRow (codes "iv_or_counter_or_nonce") (Under IV_COUNTER_NONCE) Optional Plain
+    (Scalar ByteString)
     (AndRow (codes "attributes") (Under ATTRIBUTE) OptionalList Plain attribute
     NoRow))))))
 
 -- Key Wrapping Specification (KMIP 1.0, 2.1.6)
 unfoldable pub key_wrapping_specification : Shape
 key_wrapping_specification = Rows
-    (AndRow (codes "wrapping_method") (Under WRAPPING_METHOD) Required Plain (OneOf wrapping_methods)
-    (AndRow (codes "encryption_key_information") (Under ENCRYPTION_KEY_INFORMATION) Optional Plain encryption_key_information
-    (AndRow (codes "mac_or_signature_key_information") (Under MAC_SIGNATURE_KEY_INFORMATION) Optional Plain mac_or_signature_key_information
+    (AndRow (codes "wrapping_method") (Under WRAPPING_METHOD) Required Plain
+    (OneOf wrapping_methods)
+    (AndRow (codes "encryption_key_information") (Under ENCRYPTION_KEY_INFORMATION) Optional Plain
+    encryption_key_information
+    (AndRow (codes "mac_or_signature_key_information") (Under MAC_SIGNATURE_KEY_INFORMATION)
+    Optional Plain mac_or_signature_key_information
     (AndRow (codes "attributes") (Under ATTRIBUTE) OptionalList Plain attribute
     NoRow))))
 
@@ -80,11 +91,15 @@ key_value = Rows
 -- Key Block (KMIP 1.0, 2.1.3)
 unfoldable pub key_block : Shape
 key_block = Rows
-    (AndRow (codes "key_format_type") (Under KEY_FORMAT_TYPE) Required Chooser (OneOf key_format_types)
-    (AndRow (codes "key_compression_type") (Under KEY_COMPRESSION_TYPE) Optional Plain (OneOf key_compression_types)
+    (AndRow (codes "key_format_type") (Under KEY_FORMAT_TYPE) Required Chooser
+    (OneOf key_format_types)
+    (AndRow (codes "key_compression_type") (Under KEY_COMPRESSION_TYPE) Optional Plain
+    (OneOf key_compression_types)
     (AndRow (codes "key_value") (Under KEY_VALUE) Optional Chosen key_value
-    (AndRow (codes "cryptographic_algorithm") (Under CRYPTOGRAPHIC_ALGORITHM) Optional Plain (OneOf cryptographic_algorithms)
-    (AndRow (codes "cryptographic_length") (Under CRYPTOGRAPHIC_LENGTH) Optional Plain (Scalar Integer)
+    (AndRow (codes "cryptographic_algorithm") (Under CRYPTOGRAPHIC_ALGORITHM) Optional Plain
+    (OneOf cryptographic_algorithms)
+    (AndRow (codes "cryptographic_length") (Under CRYPTOGRAPHIC_LENGTH) Optional Plain
+    (Scalar Integer)
     (AndRow (codes "key_wrapping_data") (Under KEY_WRAPPING_DATA) Optional Plain key_wrapping_data
     NoRow))))))
 
@@ -112,7 +127,7 @@ template = Rows
     (AndRow (codes "attributes") (Under ATTRIBUTE) AnyNumber Plain attribute
     NoRow)
 
--- the object that is registered is chosen by its own tag (KMIP 1.0, 2.2)
+-- the object that is registered, chosen by its own tag (KMIP 1.0, 2.2)
 abbrev pub managed_objects : Cases
 managed_objects =
     AndCase 1 (codes "SymmetricKey") (ByTag SYMMETRIC_KEY) (Some SYMMETRIC_KEY) symmetric_key
@@ -124,6 +139,8 @@ managed_objects =
 -- Revocation Reason (KMIP 1.0, 3.26)
 unfoldable pub revocation_reason : Shape
 revocation_reason = Rows
-    (AndRow (codes "revocation_reason_code") (Under REVOCATION_REASON_CODE) Required Plain (OneOf revocation_reason_codes)
-    (AndRow (codes "revocation_message") (Under REVOCATION_MESSAGE) Optional Plain (Scalar TextString)
+    (AndRow (codes "revocation_reason_code") (Under REVOCATION_REASON_CODE) Required Plain
+    (OneOf revocation_reason_codes)
+    (AndRow (codes "revocation_message") (Under REVOCATION_MESSAGE) Optional Plain
+    (Scalar TextString)
     NoRow))

@@ -1,4 +1,5 @@
--- The typed values of what requests tell of objects, as contracts see them: each a record of its fields in the order of its table.
+-- The typed values of the objects in requests, as contracts see them: each a record of its fields
+-- in the order of its table.
 use Rattle.kmip_shape.specs.Val.{Val, Bytes, Record, Case, AndField, NoField, One, Many}
 use Rattle.kmip_shape.specs.Writes.{optional, optional_list, vals}
 use Rattle.kmip_types.specs.Texts.{name_value_val, unique_identifier_val, revocation_message_val}

@@ -16,7 +16,8 @@ use kmip_types::{AttributeIndex, AttributeName, AttributeValue};
 use kmip_wire::{Buffer, ItemRef, OutOfMemory, Tag, TryClone};
 use std::alloc::Global;
 
-/// An attribute of an object: its name, which of the attributes of that name it is, and its value: KMIP 1.0, 2.1.1.
+/// An attribute of an object: its name, its index among the attributes of that name, and its value
+/// (KMIP 1.0, 2.1.1).
 #[derive(PartialEq, Eq, Drop)]
 pub struct Attribute(
     pub AttributeName,

@@ -3,8 +3,10 @@
 ghost use Rattle.std.specs.Prelude.{◌≡◌};
 ghost use Rattle.kmip_wire.specs.declared.kind.Kind.TheVariants.{ByteString};
 ghost use Rattle.kmip_shape.specs.Shape.{Scalar};
-ghost use Rattle.kmip_request_objects.specs.Values.{mac_or_signature_val, iv_or_counter_or_nonce_val};
-ghost use Rattle.kmip_request_objects.specs.Same.{mac_or_signature_same, iv_or_counter_or_nonce_same};
+ghost use Rattle.kmip_request_objects.specs.Values.{mac_or_signature_val};
+ghost use Rattle.kmip_request_objects.specs.Values.{iv_or_counter_or_nonce_val};
+ghost use Rattle.kmip_request_objects.specs.Same.{mac_or_signature_same};
+ghost use Rattle.kmip_request_objects.specs.Same.{iv_or_counter_or_nonce_same};
 
 use kmip_shape::{Item, Outer, ReadError, ReadItem, WriteItem};
 use kmip_wire::{Blob, Buffer, ItemRef, OutOfMemory, Tag, TryClone};
@@ -15,7 +17,7 @@ use std::alloc::Global;
 pub struct MACOrSignature(pub Blob);
 
 impl MACOrSignature {
-    /// Of these bytes. It takes no memory.
+    /// Holds these bytes. It takes no memory.
     pub fn new(bytes: Blob) -> Self
         ensures { result.0 ≡ bytes }
     {
@@ -57,12 +59,12 @@ impl ReadItem for MACOrSignature {
     }
 }
 
-/// What a wrapping began from: KMIP 1.0, 2.1.5.
+/// The IV, counter or nonce of a wrapped key: KMIP 1.0, 2.1.5.
 #[derive(PartialEq, Eq, Drop)]
 pub struct IVOrCounterOrNonce(pub Blob);
 
 impl IVOrCounterOrNonce {
-    /// Of these bytes. It takes no memory.
+    /// Holds these bytes. It takes no memory.
     pub fn new(bytes: Blob) -> Self
         ensures { result.0 ≡ bytes }
     {

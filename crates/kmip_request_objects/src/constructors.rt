@@ -1,6 +1,7 @@
-//! The attributes that clients make, each under the name of its constructor.
+//! Constructors of attributes, each named after its attribute, except `URI`, which makes a Name.
 //!
-//! Each takes memory for the attribute's name alone, and makes an attribute with no index.
+//! Each takes memory for the attribute's name alone and makes an attribute with no index. Its only
+//! error is `OutOfMemory`.
 
 ghost use Rattle.std.specs.Prelude.{◌≡◌, IfOk, codes};
 ghost use Rattle.std.specs.Int.{cast_signed, w32};
@@ -99,7 +100,7 @@ impl Attribute {
         )
     }
 
-    /// How a key is used: KMIP 1.0, 3.6.
+    /// The parameters of a key's cryptographic operations: KMIP 1.0, 3.6.
     pub fn CryptographicParameters(
         alloc: Global,
         cryptographic_parameters: CryptographicParameters,
@@ -115,7 +116,7 @@ impl Attribute {
         )
     }
 
-    /// The name of the policy that says who may do what: KMIP 1.0, 3.13.
+    /// The name of the policy that says who may do which operation: KMIP 1.0, 3.13.
     pub fn OperationPolicyName(alloc: Global, value: Text) -> Result<Attribute, OutOfMemory>
         ensures { IfOk result (λ made. made ≡
             attribute_of (codes "Operation Policy Name") (values.TextString value)) }
@@ -127,7 +128,7 @@ impl Attribute {
         )
     }
 
-    /// What a key may be used for, the 32 bits of the set as two's complement: KMIP 1.0, 3.14.
+    /// What a key may be used for, as an Integer of the 32 bits of the set: KMIP 1.0, 3.14.
     pub fn CryptographicUsageMask(
         alloc: Global,
         value: CryptographicUsageMask,
@@ -143,8 +144,8 @@ impl Attribute {
         )
     }
 
-    /// When an object becomes ready for use, the eight bytes of the signed seconds since 1970 as an unsigned number:
-    /// KMIP 1.0, 3.19.
+    /// When an object becomes active: KMIP 1.0, 3.19. In seconds since 1970-01-01 UTC, a negative
+    /// number as its 64 bits in two's complement.
     pub fn ActivationDate(alloc: Global, value: u64) -> Result<Attribute, OutOfMemory>
         ensures { IfOk result (λ made. made ≡
             attribute_of (codes "Activation Date") (values.DateTime value)) }
@@ -160,7 +161,7 @@ impl Attribute {
         attribute(alloc, "Object Group", AttributeValue::TextString(value))
     }
 
-    /// The identifier of another object, and what it is to this one: KMIP 1.0, 3.29.
+    /// A link to another object: its kind and that object's identifier: KMIP 1.0, 3.29.
     pub fn Link(
         alloc: Global,
         link_type: LinkType,

@@ -1,4 +1,4 @@
-//! Keys with their format, algorithm and length.
+//! Key blocks: keys with their format, algorithm and length.
 
 ghost use Rattle.std.specs.Prelude.{◌≡◌};
 ghost use Rattle.kmip_request_objects.specs.Tables.{key_value, key_block};
@@ -23,7 +23,7 @@ use kmip_types::{
 use kmip_wire::{Buffer, ItemRef, List, OutOfMemory, Tag, TryClone, clone_optional};
 use std::alloc::Global;
 
-/// Key material and attributes of the key: KMIP 1.0, 2.1.4.
+/// Key material, and attributes of the key: KMIP 1.0, 2.1.4.
 #[derive(PartialEq, Eq, Drop)]
 pub struct KeyValue(pub KeyMaterial, pub Option<List<Attribute>>);
 
@@ -67,7 +67,8 @@ impl ReadItem for KeyValue {
     }
 }
 
-/// A key with its format, algorithm and length: KMIP 1.0, 2.1.3. The format is that of the key material.
+/// A key with its format, algorithm and length in bits: KMIP 1.0, 2.1.3. The format is that of the
+/// key material.
 #[derive(PartialEq, Eq, Drop)]
 pub struct KeyBlock(
     pub KeyFormatType,

@@ -1,9 +1,17 @@
 //! How keys are wrapped.
 
 ghost use Rattle.std.specs.Prelude.{◌≡◌};
-ghost use Rattle.kmip_request_objects.specs.Tables.{attribute, encryption_key_information, mac_or_signature_key_information, key_wrapping_data, key_wrapping_specification};
-ghost use Rattle.kmip_request_objects.specs.Values.{encryption_key_information_val, mac_or_signature_key_information_val, key_wrapping_data_val, key_wrapping_specification_val};
-ghost use Rattle.kmip_request_objects.specs.Same.{encryption_key_information_same, mac_or_signature_key_information_same, key_wrapping_data_same, key_wrapping_specification_same};
+ghost use Rattle.kmip_request_objects.specs.Tables.{attribute, encryption_key_information};
+ghost use Rattle.kmip_request_objects.specs.Tables.{mac_or_signature_key_information};
+ghost use Rattle.kmip_request_objects.specs.Tables.{key_wrapping_data, key_wrapping_specification};
+ghost use Rattle.kmip_request_objects.specs.Values.{encryption_key_information_val};
+ghost use Rattle.kmip_request_objects.specs.Values.{mac_or_signature_key_information_val};
+ghost use Rattle.kmip_request_objects.specs.Values.{key_wrapping_data_val};
+ghost use Rattle.kmip_request_objects.specs.Values.{key_wrapping_specification_val};
+ghost use Rattle.kmip_request_objects.specs.Same.{encryption_key_information_same};
+ghost use Rattle.kmip_request_objects.specs.Same.{mac_or_signature_key_information_same};
+ghost use Rattle.kmip_request_objects.specs.Same.{key_wrapping_data_same};
+ghost use Rattle.kmip_request_objects.specs.Same.{key_wrapping_specification_same};
 
 use crate::attribute::Attribute;
 use crate::byte_strings::{IVOrCounterOrNonce, MACOrSignature};
@@ -21,7 +29,7 @@ use kmip_types::{CryptographicParameters, UniqueIdentifier, WrappingMethod};
 use kmip_wire::{Buffer, ItemRef, List, OutOfMemory, Tag, TryClone, clone_optional};
 use std::alloc::Global;
 
-/// The key that wraps by encryption, and how: KMIP 1.0, 2.1.5.
+/// The key that encrypts a wrapped key, and its parameters: KMIP 1.0, 2.1.5.
 #[derive(PartialEq, Eq, Drop)]
 pub struct EncryptionKeyInformation(pub UniqueIdentifier, pub Option<CryptographicParameters>);
 
@@ -70,7 +78,7 @@ impl ReadItem for EncryptionKeyInformation {
     }
 }
 
-/// The key that wraps by a MAC or a signature, and how: KMIP 1.0, 2.1.5.
+/// The key that MACs or signs a wrapped key, and its parameters: KMIP 1.0, 2.1.5.
 #[derive(PartialEq, Eq, Drop)]
 pub struct MACOrSignatureKeyInformation(pub UniqueIdentifier, pub Option<CryptographicParameters>);
 
@@ -119,7 +127,7 @@ impl ReadItem for MACOrSignatureKeyInformation {
     }
 }
 
-/// How a key was wrapped: KMIP 1.0, 2.1.5. KMIP has no attributes here.
+/// How a key was wrapped: KMIP 1.0, 2.1.5. The attributes at its end are not in KMIP.
 #[derive(PartialEq, Eq, Drop)]
 pub struct KeyWrappingData(
     pub WrappingMethod,
@@ -202,7 +210,8 @@ impl ReadItem for KeyWrappingData {
     }
 }
 
-/// How a key is to be wrapped: KMIP 1.0, 2.1.6. KMIP has attribute names where this has attributes.
+/// How a key is to be wrapped: KMIP 1.0, 2.1.6, which has attribute names where this type has
+/// attributes.
 #[derive(PartialEq, Eq, Drop)]
 pub struct KeyWrappingSpecification(
     pub WrappingMethod,

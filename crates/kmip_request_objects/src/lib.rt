@@ -1,5 +1,5 @@
-//! The objects of requests: attributes and their constructors, templates, key blocks with their wrapping, managed
-//! objects, and why an object is revoked.
+//! The objects in requests: attributes and their constructors, templates, key blocks with their
+//! wrapping, managed objects, and the reason for a revocation.
 #![tactic(auto)]
 
 mod attribute;

@@ -3,9 +3,14 @@
 ghost use Rattle.std.specs.Prelude.{◌≡◌, ◌∷◌, [], refl};
 ghost use Rattle.kmip_tags.specs.Tags as numbers;
 ghost use Rattle.kmip_shape.specs.Shape.{Choice, OfTag};
-ghost use Rattle.kmip_request_objects.specs.Tables.{name, symmetric_key, public_key, private_key, template, managed_objects};
-ghost use Rattle.kmip_request_objects.specs.Values.{symmetric_key_val, public_key_val, private_key_val, template_val, managed_object_val};
-ghost use Rattle.kmip_request_objects.specs.Same.{symmetric_key_same, public_key_same, private_key_same, template_same, managed_object_same};
+ghost use Rattle.kmip_request_objects.specs.Tables.{name, symmetric_key, public_key, private_key};
+ghost use Rattle.kmip_request_objects.specs.Tables.{template, managed_objects};
+ghost use Rattle.kmip_request_objects.specs.Values.{symmetric_key_val, public_key_val};
+ghost use Rattle.kmip_request_objects.specs.Values.{private_key_val, template_val};
+ghost use Rattle.kmip_request_objects.specs.Values.{managed_object_val};
+ghost use Rattle.kmip_request_objects.specs.Same.{symmetric_key_same, public_key_same};
+ghost use Rattle.kmip_request_objects.specs.Same.{private_key_same, template_same};
+ghost use Rattle.kmip_request_objects.specs.Same.{managed_object_same};
 
 use crate::attribute::Attribute;
 use crate::key_block::KeyBlock;
@@ -142,7 +147,7 @@ impl ReadItem for PrivateKey {
     }
 }
 
-/// Attributes that other requests may name: KMIP 1.0, 2.2.6.
+/// A named set of attributes that other requests may cite: KMIP 1.0, 2.2.6.
 #[derive(PartialEq, Eq, Drop)]
 pub struct Template(pub List<Attribute>);
 
@@ -183,7 +188,7 @@ impl ReadItem for Template {
     }
 }
 
-/// An object that is handed to the server, under its own tag: KMIP 1.0, 2.2.
+/// An object that is registered, under the tag of its type: KMIP 1.0, 2.2.
 #[derive(PartialEq, Eq, Drop)]
 pub enum ManagedObject {
     /// A symmetric key: KMIP 1.0, 2.2.2.

@@ -19,7 +19,7 @@ use kmip_wire::{Buffer, ItemRef, OutOfMemory, Tag, TryClone};
 use std::alloc::Global;
 use std::fmt::{self, Display, Formatter, Write};
 
-/// The name of an object, and how the name is to be read: KMIP 1.0, 3.2.
+/// The name of an object, and the type of the name: KMIP 1.0, 3.2.
 #[derive(PartialEq, Eq, Drop)]
 pub struct Name(pub NameValue, pub NameType);
 

@@ -1,11 +1,17 @@
-//! Attributes for new objects.
+//! Attributes and names of templates for new objects.
 
 ghost use Rattle.std.specs.Prelude.{◌≡◌};
 ghost use Rattle.std.specs.Prelude.{◌∷◌, [], IfOk, None, Some};
 ghost use Rattle.kmip_request_objects.specs.Constructors.{uninterpreted_name};
 ghost use Rattle.kmip_request_objects.specs.Tables.{name, template_attribute};
-ghost use Rattle.kmip_request_objects.specs.Values.{template_attribute_val, common_template_attribute_val, private_key_template_attribute_val, public_key_template_attribute_val};
-ghost use Rattle.kmip_request_objects.specs.Same.{template_attribute_same, common_template_attribute_same, private_key_template_attribute_same, public_key_template_attribute_same};
+ghost use Rattle.kmip_request_objects.specs.Values.{template_attribute_val};
+ghost use Rattle.kmip_request_objects.specs.Values.{common_template_attribute_val};
+ghost use Rattle.kmip_request_objects.specs.Values.{private_key_template_attribute_val};
+ghost use Rattle.kmip_request_objects.specs.Values.{public_key_template_attribute_val};
+ghost use Rattle.kmip_request_objects.specs.Same.{template_attribute_same};
+ghost use Rattle.kmip_request_objects.specs.Same.{common_template_attribute_same};
+ghost use Rattle.kmip_request_objects.specs.Same.{private_key_template_attribute_same};
+ghost use Rattle.kmip_request_objects.specs.Same.{public_key_template_attribute_same};
 
 use crate::attribute::Attribute;
 use crate::name::Name;
@@ -30,19 +36,20 @@ fn one_name(alloc: Global, name: Text) -> Result<List<Name>, OutOfMemory>
     Ok(names)
 }
 
-/// Attributes for a new object, and names of templates that hold more: KMIP 1.0, 2.1.8.
+/// Attributes and names of templates for a new object: KMIP 1.0, 2.1.8.
 #[derive(PartialEq, Eq, Drop)]
 pub struct TemplateAttribute(pub Option<List<Name>>, pub Option<List<Attribute>>);
 
 impl TemplateAttribute {
-    /// The attributes alone. It takes no memory.
+    /// The attributes, with no names of templates. It takes no memory.
     pub fn unnamed(attributes: List<Attribute>) -> Self
         ensures { result ≡ record { 0 = None; 1 = Some attributes } }
     {
         TemplateAttribute(None, Some(attributes))
     }
 
-    /// The attributes with one name, an uninterpreted text.
+    /// The attributes, and one name of a template, an uninterpreted text. The only error is
+    /// `OutOfMemory`.
     pub fn named(
         alloc: Global,
         name: Text,
@@ -98,19 +105,20 @@ impl ReadItem for TemplateAttribute {
     }
 }
 
-/// Attributes for both keys of a new pair: KMIP 1.0, 2.1.8.
+/// Attributes and names of templates for both keys of a new pair: KMIP 1.0, 2.1.8.
 #[derive(PartialEq, Eq, Drop)]
 pub struct CommonTemplateAttribute(pub Option<List<Name>>, pub Option<List<Attribute>>);
 
 impl CommonTemplateAttribute {
-    /// The attributes alone. It takes no memory.
+    /// The attributes, with no names of templates. It takes no memory.
     pub fn unnamed(attributes: List<Attribute>) -> Self
         ensures { result ≡ record { 0 = None; 1 = Some attributes } }
     {
         CommonTemplateAttribute(None, Some(attributes))
     }
 
-    /// The attributes with one name, an uninterpreted text.
+    /// The attributes, and one name of a template, an uninterpreted text. The only error is
+    /// `OutOfMemory`.
     pub fn named(
         alloc: Global,
         name: Text,
@@ -171,19 +179,20 @@ impl ReadItem for CommonTemplateAttribute {
     }
 }
 
-/// Attributes for the private key of a new pair: KMIP 1.0, 2.1.8.
+/// Attributes and names of templates for the private key of a new pair: KMIP 1.0, 2.1.8.
 #[derive(PartialEq, Eq, Drop)]
 pub struct PrivateKeyTemplateAttribute(pub Option<List<Name>>, pub Option<List<Attribute>>);
 
 impl PrivateKeyTemplateAttribute {
-    /// The attributes alone. It takes no memory.
+    /// The attributes, with no names of templates. It takes no memory.
     pub fn unnamed(attributes: List<Attribute>) -> Self
         ensures { result ≡ record { 0 = None; 1 = Some attributes } }
     {
         PrivateKeyTemplateAttribute(None, Some(attributes))
     }
 
-    /// The attributes with one name, an uninterpreted text.
+    /// The attributes, and one name of a template, an uninterpreted text. The only error is
+    /// `OutOfMemory`.
     pub fn named(
         alloc: Global,
         name: Text,
@@ -244,19 +253,20 @@ impl ReadItem for PrivateKeyTemplateAttribute {
     }
 }
 
-/// Attributes for the public key of a new pair: KMIP 1.0, 2.1.8.
+/// Attributes and names of templates for the public key of a new pair: KMIP 1.0, 2.1.8.
 #[derive(PartialEq, Eq, Drop)]
 pub struct PublicKeyTemplateAttribute(pub Option<List<Name>>, pub Option<List<Attribute>>);
 
 impl PublicKeyTemplateAttribute {
-    /// The attributes alone. It takes no memory.
+    /// The attributes, with no names of templates. It takes no memory.
     pub fn unnamed(attributes: List<Attribute>) -> Self
         ensures { result ≡ record { 0 = None; 1 = Some attributes } }
     {
         PublicKeyTemplateAttribute(None, Some(attributes))
     }
 
-    /// The attributes with one name, an uninterpreted text.
+    /// The attributes, and one name of a template, an uninterpreted text. The only error is
+    /// `OutOfMemory`.
     pub fn named(
         alloc: Global,
         name: Text,

@@ -1,4 +1,5 @@
--- The messages that are written for a payload, and values that are written as what they are read from.
+-- The messages that are written for a payload, and values that are written as the bytes that they
+-- are read from.
 use Rattle.std.specs.Prelude.{ℕ, pos, List, [], ◌∷◌, Option, Some, None, ◌≡◌}
 use Rattle.kmip_wire.specs.Tree.{Tree}
 use Rattle.kmip_shape.specs.Val.{Val}
@@ -11,7 +12,7 @@ use Rattle.kmip_request.specs.declared.payload.RequestPayload.{RequestPayload}
 use Rattle.kmip_request.specs.declared.message.RequestMessage.{RequestMessage}
 use Rattle.kmip_request.specs.Message.{version_of, operation_of}
 
--- the message round a payload and the item of a credential
+-- the message round a payload and the Authentication of a credential
 abbrev pub message_of : RequestPayload → Option Authentication → RequestMessage
 message_of payload authentication = record {
   0 = record { 0 = version_of payload; 1 = None; 2 = authentication; 3 = record { 0 = pos 1 } };
@@ -20,13 +21,15 @@ message_of payload authentication = record {
 
 -- the message is one that is written for a payload
 abbrev pub IsPlain : RequestMessage → Type 0
-IsPlain message = (payload : RequestPayload) × (authentication : Option Authentication) × (message ≡ message_of payload authentication)
+IsPlain message = (payload : RequestPayload) × (authentication : Option Authentication) ×
+    (message ≡ message_of payload authentication)
 
 -- the value is read from the tree, and written as the bytes
 abbrev pub IsWrittenAs : Shape → ℕ → Tree → List ℕ → Val → Type 0
-IsWrittenAs shape tag tree bytes val = (root_read shape tag tree ≡ Some val) × (bytes_of shape tag val ≡ Some bytes)
+IsWrittenAs shape tag tree bytes val =
+    (root_read shape tag tree ≡ Some val) × (bytes_of shape tag val ≡ Some bytes)
 
--- and it fits its shape
+-- the same, and the value fits its shape
 abbrev pub IsCanonical : Shape → ℕ → Tree → List ℕ → Val → Type 0
 IsCanonical shape tag tree bytes val =
     Fits shape val × (root_read shape tag tree ≡ Some val) × (bytes_of shape tag val ≡ Some bytes)

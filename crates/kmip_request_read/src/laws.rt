@@ -10,38 +10,40 @@ ghost use Rattle.kmip_request.specs.declared.payload.RequestPayload.{RequestPayl
 ghost use Rattle.kmip_request.specs.Message.{request_bytes};
 ghost use Rattle.kmip_request.specs.Held.{IsHeld};
 ghost use Rattle.kmip_request_read.specs.Matched.{IsMatched, IsMatchedValue};
-ghost use Rattle.kmip_request_read.specs.Reading.{Request, request_for, message_bytes, message_with, request_read};
+ghost use Rattle.kmip_request_read.specs.Reading.{Request, request_for, message_bytes};
+ghost use Rattle.kmip_request_read.specs.Reading.{message_with, request_read};
 
-/// Two matched requests of the same bytes are equal, in payload and credential. The premises `IsHeld` hold of every
-/// payload and credential that Rust can hold.
+/// Two matched requests of the same bytes are equal, in payload and credential. The premises
+/// `IsHeld` hold of every payload and credential that Rust can hold.
 pub fn one_request()
     ensures { (p q : RequestPayload) (c d : Option CredentialType) (b : List ℕ) → IsHeld p c →
         IsHeld q d → IsMatched p → IsMatched q →
         request_bytes p c ≡ Some b → request_bytes q d ≡ Some b → (p ≡ q) × (c ≡ d) }
 {}
 
-/// The canonical message of a payload is that of its operation and its value.
+/// The canonical message of a payload is that of the payload's operation and value.
 pub fn same_message()
     ensures { (p : RequestPayload) (c : Option CredentialType) →
         request_bytes p c ≡ message_bytes (request_for p) c }
 {}
 
-/// The bytes of a matched request are read as it.
+/// `request_read` reads the bytes of a matched request as that request.
 pub fn request_is_read()
     ensures { (p : RequestPayload) (c : Option CredentialType) (b : List ℕ) → IsHeld p c →
         IsMatched p →
         request_bytes p c ≡ Some b → request_read b ≡ Some (request_for p) }
 {}
 
-/// Where bytes are read as a request, by values, this is matched, and they are its message, with the items of a
-/// credential, if there is one, in its header.
+/// A request that `request_read` reads from bytes is matched, and the bytes are its message, with
+/// some list of items in its header in the place of a credential's.
 pub fn read_request_is_matched()
     ensures { (b : List ℕ) (r : Request) → request_read b ≡ Some r →
         IsMatchedValue r.operation r.payload ×
         ((trees : List Tree) × (message_with r trees ≡ Some b)) }
 {}
 
-/// The bytes of a request parse, as a tree whose numbers, texts and bytes are in their ranges. The premise `IsHeld` holds of every payload and credential that Rust can hold.
+/// The bytes of a request parse, as a tree whose numbers, texts and bytes are in their ranges. The
+/// premise `IsHeld` holds of every payload and credential that Rust can hold.
 pub fn request_parses()
     ensures parses { (p : RequestPayload) (c : Option CredentialType) (b : List ℕ) → IsHeld p c →
         request_bytes p c ≡ Some b → (t : Tree) × Parses t 1 b }
@@ -50,8 +52,8 @@ pub fn request_parses()
         request_bytes p c ≡ Some b → Parses t 1 b → HasRanges t }
 {}
 
-/// The bytes of a request are one message: a head of 8 bytes, and after it as many bytes as its length field says
-/// (KMIP 1.0, 9.1.1.3).
+/// The bytes of a request are one message: 8 bytes of tag, type and length, and after them as many
+/// bytes as the length says (KMIP 1.0, 9.1.1.3).
 pub fn request_is_message()
     ensures { (p : RequestPayload) (c : Option CredentialType) (b : List ℕ) →
         request_bytes p c ≡ Some b → (8 ≤ length b) × (length b ≡ 8 + head_length b) }

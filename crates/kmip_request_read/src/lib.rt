@@ -1,8 +1,10 @@
-//! Requests read from bytes, strictly: only what a client would write is read, and it is read as what was written.
+//! Requests read strictly from bytes: only what a client would write is read, and it is read as
+//! what was written.
 //!
-//! The bytes are a request where they are those that `kmip_request::to_vec` writes for some payload and credential.
-//! Items in another order, an item twice, an item that no request has, another version and pads that are not zero make
-//! them not canonical, and nothing of them is read.
+//! Bytes are a request where `kmip_request::to_vec` writes them for a matched payload and a
+//! credential (`IsMatched`: each value is of the variant by which it would be read). Items in
+//! another order, an item once too often, an item that no request has, another version and padding
+//! that is not zero make them `NotCanonical`, and nothing of them is read.
 #![tactic(auto)]
 
 mod laws;

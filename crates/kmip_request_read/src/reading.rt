@@ -1,6 +1,7 @@
-//! A request read from its bytes.
+//! Reading a request from its bytes.
 
-ghost use Rattle.std.specs.Prelude.{◌≡◌, ◌≢◌, ◌↔◌, pos, false, ◌⊎◌, Option, Some, None, Err, IfOk, IfErr, IsTrue};
+ghost use Rattle.std.specs.Prelude.{◌≡◌, ◌≢◌, ◌↔◌, pos, false, ◌⊎◌, Option, Some, None, Err, IfOk};
+ghost use Rattle.std.specs.Prelude.{IfErr, IsTrue};
 ghost use Rattle.kmip_wire.specs.Tree.{Tree};
 ghost use Rattle.kmip_wire.specs.Items.{item_tree};
 ghost use Rattle.kmip_wire.specs.Parses.{Parses};
@@ -26,15 +27,15 @@ use std::alloc::Global;
 /// Why bytes are not read as a request.
 #[derive(Clone, Copy, Debug, PartialEq, Eq, Drop)]
 pub enum RequestReadError {
-    /// The whole bytes are not one well-formed item.
+    /// The bytes are not exactly one well-formed item.
     Malformed,
-    /// They are one, and not that of a request as a client writes it.
+    /// The bytes are one well-formed item, but not a request as a client writes it.
     NotCanonical,
-    /// Memory ran out; the bytes may be a request or not.
+    /// Out of memory. The bytes may be a request or not.
     OutOfMemory,
 }
 
-/// The value of an item, where it is written again as these bytes.
+/// The value that an item is read as, where that is written as `bytes` again.
 fn read_canonical<T: ReadRoot + WriteItem>(
     alloc: Global,
     item: ItemRef<'_>,
@@ -64,7 +65,7 @@ fn read_canonical<T: ReadRoot + WriteItem>(
     }
 }
 
-/// Whether a header is what a client writes, with this version.
+/// Whether a header is one that a client writes in this version.
 fn is_plain_header(header: &RequestHeader, version: ProtocolVersion) -> bool
     ensures { IsTrue result ↔ (header.now ≡
         record { 0 = version; 1 = None; 2 = header.now.2; 3 = record { 0 = pos 1 } }) }
@@ -73,7 +74,7 @@ fn is_plain_header(header: &RequestHeader, version: ProtocolVersion) -> bool
     *made_in == version && size.is_none() && count.0 == 1
 }
 
-/// Whether a batch item is what a client writes round its payload.
+/// Whether a batch item is the one that a client writes round its payload.
 fn is_plain_item(item: &BatchItem) -> bool
     ensures { IsTrue result ↔ (item.now ≡
         record { 0 = operation_of item.now.2; 1 = None; 2 = item.now.2 }) }
@@ -82,7 +83,7 @@ fn is_plain_item(item: &BatchItem) -> bool
     *operation == payload.operation() && identifier.is_none()
 }
 
-/// Whether a message is what a client writes round its payload and the item of its credential.
+/// Whether a message is the one that a client writes round its payload and Authentication.
 fn is_plain(message: &RequestMessage) -> bool
     ensures plain { IsTrue result → IsPlain message.now }
     ensures other { result ≡ false → IsPlain message.now → ⊥ }
@@ -94,7 +95,7 @@ fn is_plain(message: &RequestMessage) -> bool
     }
 }
 
-/// The payload of a message and the item of its credential.
+/// The payload of a message, and its Authentication where there is one.
 fn parts(message: RequestMessage) -> (RequestPayload, Option<Authentication>)
     requires { IsPlain message }
     ensures { message ≡ message_of result.0 result.1 }
@@ -106,7 +107,7 @@ fn parts(message: RequestMessage) -> (RequestPayload, Option<Authentication>)
     }
 }
 
-/// The credential that an item was built of.
+/// The credential that an Authentication holds.
 fn credential(authentication: Authentication) -> auth::CredentialType
     ensures { result ≡ credential_of authentication }
 {
@@ -121,9 +122,13 @@ fn credential(authentication: Authentication) -> auth::CredentialType
     }
 }
 
-/// The payload and the credential of a request, whose bytes are exactly those that `kmip_request::to_vec` writes for
-/// them. So what was written of a matched request is read back equal, with its credential. By values, it reads what
-/// `request_read` computes of the bytes: the operation and the value of the payload.
+/// The payload and the credential of a request, for which `kmip_request::to_vec` writes exactly
+/// these bytes. So a matched request that was written is read back equal, with its credential,
+/// unless memory runs out. What is read has the operation and the payload that `request_read`
+/// defines for the bytes.
+///
+/// `Malformed` comes exactly where the bytes are not one well-formed item. `NotCanonical` comes
+/// only where they are one, and no matched request is written as them.
 pub fn from_slice(
     alloc: Global,
     bytes: &[u8],

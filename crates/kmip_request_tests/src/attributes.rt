@@ -20,17 +20,18 @@ use std::alloc::Global;
 use std::process::Abort;
 use std::test::Fail;
 
-/// The attribute has no index and a copy that equals it, and is written as these bytes.
+/// The attribute has no index and a copy that equals it, and is written as these bytes, in hex.
 fn is_made(
     rt: &impl Abort,
     alloc: Global,
     attribute: Attribute,
-    expected: &[u8],
+    expected: &str,
 ) -> Result<(), Fail> {
     assert!(rt; attribute.1.is_none());
     assert!(rt; attribute.try_clone(alloc)? == attribute);
     let written = to_blob(alloc, &attribute, Tag::of(ATTRIBUTE))?;
-    assert!(rt; written.as_slice() == expected);
+    let expected = hex::decode(alloc, expected)?;
+    assert!(rt; written.as_slice() == expected.as_slice());
     Ok(())
 }
 
@@ -39,8 +40,10 @@ fn unique_identifier(rt: HostRuntime) -> Result<(), Fail> {
     let alloc = rt.alloc();
     let attribute = Attribute::UniqueIdentifier(alloc, Text::of(alloc, "k1")?)?;
     // 08{0A "Unique Identifier",0B "k1"}
-    let expected =
-        b"\x42\x00\x08\x01\x00\x00\x00\x30\x42\x00\x0A\x07\x00\x00\x00\x11\x55\x6E\x69\x71\x75\x65\x20\x49\x64\x65\x6E\x74\x69\x66\x69\x65\x72\x00\x00\x00\x00\x00\x00\x00\x42\x00\x0B\x07\x00\x00\x00\x02\x6B\x31\x00\x00\x00\x00\x00\x00";
+    let expected = concat!(
+        "420008010000003042000A0700000011556E69717565204964656E74696669657200000000000000",
+        "42000B07000000026B31000000000000",
+    );
     is_made(&rt, alloc, attribute, expected)
 }
 
@@ -49,8 +52,10 @@ fn name(rt: HostRuntime) -> Result<(), Fail> {
     let alloc = rt.alloc();
     let attribute = Attribute::Name(alloc, Text::of(alloc, "n")?)?;
     // 08{0A "Name",0B{55 "n",54 e1}}
-    let expected =
-        b"\x42\x00\x08\x01\x00\x00\x00\x38\x42\x00\x0A\x07\x00\x00\x00\x04\x4E\x61\x6D\x65\x00\x00\x00\x00\x42\x00\x0B\x01\x00\x00\x00\x20\x42\x00\x55\x07\x00\x00\x00\x01\x6E\x00\x00\x00\x00\x00\x00\x00\x42\x00\x54\x05\x00\x00\x00\x04\x00\x00\x00\x01\x00\x00\x00\x00";
+    let expected = concat!(
+        "420008010000003842000A07000000044E616D650000000042000B01000000204200550700000001",
+        "6E0000000000000042005405000000040000000100000000",
+    );
     is_made(&rt, alloc, attribute, expected)
 }
 
@@ -59,8 +64,10 @@ fn uri(rt: HostRuntime) -> Result<(), Fail> {
     let alloc = rt.alloc();
     let attribute = Attribute::URI(alloc, Text::of(alloc, "u:n")?)?;
     // 08{0A "Name",0B{55 "u:n",54 e2}}
-    let expected =
-        b"\x42\x00\x08\x01\x00\x00\x00\x38\x42\x00\x0A\x07\x00\x00\x00\x04\x4E\x61\x6D\x65\x00\x00\x00\x00\x42\x00\x0B\x01\x00\x00\x00\x20\x42\x00\x55\x07\x00\x00\x00\x03\x75\x3A\x6E\x00\x00\x00\x00\x00\x42\x00\x54\x05\x00\x00\x00\x04\x00\x00\x00\x02\x00\x00\x00\x00";
+    let expected = concat!(
+        "420008010000003842000A07000000044E616D650000000042000B01000000204200550700000003",
+        "753A6E000000000042005405000000040000000200000000",
+    );
     is_made(&rt, alloc, attribute, expected)
 }
 
@@ -69,8 +76,10 @@ fn object_type(rt: HostRuntime) -> Result<(), Fail> {
     let alloc = rt.alloc();
     let attribute = Attribute::ObjectType(alloc, ObjectType::PrivateKey)?;
     // 08{0A "Object Type",0B e4}
-    let expected =
-        b"\x42\x00\x08\x01\x00\x00\x00\x28\x42\x00\x0A\x07\x00\x00\x00\x0B\x4F\x62\x6A\x65\x63\x74\x20\x54\x79\x70\x65\x00\x00\x00\x00\x00\x42\x00\x0B\x05\x00\x00\x00\x04\x00\x00\x00\x04\x00\x00\x00\x00";
+    let expected = concat!(
+        "420008010000002842000A070000000B4F626A6563742054797065000000000042000B0500000004",
+        "0000000400000000",
+    );
     is_made(&rt, alloc, attribute, expected)
 }
 
@@ -79,8 +88,10 @@ fn cryptographic_algorithm(rt: HostRuntime) -> Result<(), Fail> {
     let alloc = rt.alloc();
     let attribute = Attribute::CryptographicAlgorithm(alloc, CryptographicAlgorithm::RSA)?;
     // 08{0A "Cryptographic Algorithm",0B e4}
-    let expected =
-        b"\x42\x00\x08\x01\x00\x00\x00\x30\x42\x00\x0A\x07\x00\x00\x00\x17\x43\x72\x79\x70\x74\x6F\x67\x72\x61\x70\x68\x69\x63\x20\x41\x6C\x67\x6F\x72\x69\x74\x68\x6D\x00\x42\x00\x0B\x05\x00\x00\x00\x04\x00\x00\x00\x04\x00\x00\x00\x00";
+    let expected = concat!(
+        "420008010000003042000A070000001743727970746F6772617068696320416C676F726974686D00",
+        "42000B05000000040000000400000000",
+    );
     is_made(&rt, alloc, attribute, expected)
 }
 
@@ -89,8 +100,10 @@ fn cryptographic_length(rt: HostRuntime) -> Result<(), Fail> {
     let alloc = rt.alloc();
     let attribute = Attribute::CryptographicLength(alloc, 2048)?;
     // 08{0A "Cryptographic Length",0B i2048}
-    let expected =
-        b"\x42\x00\x08\x01\x00\x00\x00\x30\x42\x00\x0A\x07\x00\x00\x00\x14\x43\x72\x79\x70\x74\x6F\x67\x72\x61\x70\x68\x69\x63\x20\x4C\x65\x6E\x67\x74\x68\x00\x00\x00\x00\x42\x00\x0B\x02\x00\x00\x00\x04\x00\x00\x08\x00\x00\x00\x00\x00";
+    let expected = concat!(
+        "420008010000003042000A070000001443727970746F67726170686963204C656E67746800000000",
+        "42000B02000000040000080000000000",
+    );
     is_made(&rt, alloc, attribute, expected)
 }
 
@@ -102,8 +115,10 @@ fn cryptographic_parameters(rt: HostRuntime) -> Result<(), Fail> {
         CryptographicParameters::default().with_padding_method(PaddingMethod::PSS),
     )?;
     // 08{0A "Cryptographic Parameters",0B{5F eA}}
-    let expected =
-        b"\x42\x00\x08\x01\x00\x00\x00\x38\x42\x00\x0A\x07\x00\x00\x00\x18\x43\x72\x79\x70\x74\x6F\x67\x72\x61\x70\x68\x69\x63\x20\x50\x61\x72\x61\x6D\x65\x74\x65\x72\x73\x42\x00\x0B\x01\x00\x00\x00\x10\x42\x00\x5F\x05\x00\x00\x00\x04\x00\x00\x00\x0A\x00\x00\x00\x00";
+    let expected = concat!(
+        "420008010000003842000A070000001843727970746F6772617068696320506172616D6574657273",
+        "42000B010000001042005F05000000040000000A00000000",
+    );
     is_made(&rt, alloc, attribute, expected)
 }
 
@@ -112,8 +127,10 @@ fn operation_policy_name(rt: HostRuntime) -> Result<(), Fail> {
     let alloc = rt.alloc();
     let attribute = Attribute::OperationPolicyName(alloc, Text::of(alloc, "p")?)?;
     // 08{0A "Operation Policy Name",0B "p"}
-    let expected =
-        b"\x42\x00\x08\x01\x00\x00\x00\x30\x42\x00\x0A\x07\x00\x00\x00\x15\x4F\x70\x65\x72\x61\x74\x69\x6F\x6E\x20\x50\x6F\x6C\x69\x63\x79\x20\x4E\x61\x6D\x65\x00\x00\x00\x42\x00\x0B\x07\x00\x00\x00\x01\x70\x00\x00\x00\x00\x00\x00\x00";
+    let expected = concat!(
+        "420008010000003042000A07000000154F7065726174696F6E20506F6C696379204E616D65000000",
+        "42000B07000000017000000000000000",
+    );
     is_made(&rt, alloc, attribute, expected)
 }
 
@@ -122,8 +139,10 @@ fn cryptographic_usage_mask(rt: HostRuntime) -> Result<(), Fail> {
     let alloc = rt.alloc();
     let attribute = Attribute::CryptographicUsageMask(alloc, CryptographicUsageMask::Sign)?;
     // 08{0A "Cryptographic Usage Mask",0B i1}
-    let expected =
-        b"\x42\x00\x08\x01\x00\x00\x00\x30\x42\x00\x0A\x07\x00\x00\x00\x18\x43\x72\x79\x70\x74\x6F\x67\x72\x61\x70\x68\x69\x63\x20\x55\x73\x61\x67\x65\x20\x4D\x61\x73\x6B\x42\x00\x0B\x02\x00\x00\x00\x04\x00\x00\x00\x01\x00\x00\x00\x00";
+    let expected = concat!(
+        "420008010000003042000A070000001843727970746F67726170686963205573616765204D61736B",
+        "42000B02000000040000000100000000",
+    );
     is_made(&rt, alloc, attribute, expected)
 }
 
@@ -132,8 +151,10 @@ fn activation_date(rt: HostRuntime) -> Result<(), Fail> {
     let alloc = rt.alloc();
     let attribute = Attribute::ActivationDate(alloc, 5)?;
     // 08{0A "Activation Date",0B d5}
-    let expected =
-        b"\x42\x00\x08\x01\x00\x00\x00\x28\x42\x00\x0A\x07\x00\x00\x00\x0F\x41\x63\x74\x69\x76\x61\x74\x69\x6F\x6E\x20\x44\x61\x74\x65\x00\x42\x00\x0B\x09\x00\x00\x00\x08\x00\x00\x00\x00\x00\x00\x00\x05";
+    let expected = concat!(
+        "420008010000002842000A070000000F41637469766174696F6E20446174650042000B0900000008",
+        "0000000000000005",
+    );
     is_made(&rt, alloc, attribute, expected)
 }
 
@@ -142,8 +163,10 @@ fn object_group(rt: HostRuntime) -> Result<(), Fail> {
     let alloc = rt.alloc();
     let attribute = Attribute::ObjectGroup(alloc, Text::of(alloc, "g")?)?;
     // 08{0A "Object Group",0B "g"}
-    let expected =
-        b"\x42\x00\x08\x01\x00\x00\x00\x28\x42\x00\x0A\x07\x00\x00\x00\x0C\x4F\x62\x6A\x65\x63\x74\x20\x47\x72\x6F\x75\x70\x00\x00\x00\x00\x42\x00\x0B\x07\x00\x00\x00\x01\x67\x00\x00\x00\x00\x00\x00\x00";
+    let expected = concat!(
+        "420008010000002842000A070000000C4F626A6563742047726F75700000000042000B0700000001",
+        "6700000000000000",
+    );
     is_made(&rt, alloc, attribute, expected)
 }
 
@@ -156,8 +179,10 @@ fn link(rt: HostRuntime) -> Result<(), Fail> {
         LinkedObjectIdentifier(Text::of(alloc, "k2")?),
     )?;
     // 08{0A "Link",0B{4B e102,4C "k2"}}
-    let expected =
-        b"\x42\x00\x08\x01\x00\x00\x00\x38\x42\x00\x0A\x07\x00\x00\x00\x04\x4C\x69\x6E\x6B\x00\x00\x00\x00\x42\x00\x0B\x01\x00\x00\x00\x20\x42\x00\x4B\x05\x00\x00\x00\x04\x00\x00\x01\x02\x00\x00\x00\x00\x42\x00\x4C\x07\x00\x00\x00\x02\x6B\x32\x00\x00\x00\x00\x00\x00";
+    let expected = concat!(
+        "420008010000003842000A07000000044C696E6B0000000042000B010000002042004B0500000004",
+        "000001020000000042004C07000000026B32000000000000",
+    );
     is_made(&rt, alloc, attribute, expected)
 }
 
@@ -170,8 +195,11 @@ fn application_specific_information(rt: HostRuntime) -> Result<(), Fail> {
         ApplicationData(Text::of(alloc, "www")?),
     )?;
     // 08{0A "Application Specific Information",0B{03 "ssl",02 "www"}}
-    let expected =
-        b"\x42\x00\x08\x01\x00\x00\x00\x50\x42\x00\x0A\x07\x00\x00\x00\x20\x41\x70\x70\x6C\x69\x63\x61\x74\x69\x6F\x6E\x20\x53\x70\x65\x63\x69\x66\x69\x63\x20\x49\x6E\x66\x6F\x72\x6D\x61\x74\x69\x6F\x6E\x42\x00\x0B\x01\x00\x00\x00\x20\x42\x00\x03\x07\x00\x00\x00\x03\x73\x73\x6C\x00\x00\x00\x00\x00\x42\x00\x02\x07\x00\x00\x00\x03\x77\x77\x77\x00\x00\x00\x00\x00";
+    let expected = concat!(
+        "420008010000005042000A07000000204170706C69636174696F6E20537065636966696320496E66",
+        "6F726D6174696F6E42000B0100000020420003070000000373736C00000000004200020700000003",
+        "7777770000000000",
+    );
     is_made(&rt, alloc, attribute, expected)
 }
 
@@ -180,8 +208,10 @@ fn contact_information(rt: HostRuntime) -> Result<(), Fail> {
     let alloc = rt.alloc();
     let attribute = Attribute::ContactInformation(alloc, Text::of(alloc, "Joe")?)?;
     // 08{0A "Contact Information",0B "Joe"}
-    let expected =
-        b"\x42\x00\x08\x01\x00\x00\x00\x30\x42\x00\x0A\x07\x00\x00\x00\x13\x43\x6F\x6E\x74\x61\x63\x74\x20\x49\x6E\x66\x6F\x72\x6D\x61\x74\x69\x6F\x6E\x00\x00\x00\x00\x00\x42\x00\x0B\x07\x00\x00\x00\x03\x4A\x6F\x65\x00\x00\x00\x00\x00";
+    let expected = concat!(
+        "420008010000003042000A0700000013436F6E7461637420496E666F726D6174696F6E0000000000",
+        "42000B07000000034A6F650000000000",
+    );
     is_made(&rt, alloc, attribute, expected)
 }
 
@@ -191,11 +221,12 @@ fn is_template<T: WriteItem>(
     alloc: Global,
     template: &T,
     tag: u32,
-    expected: &[u8],
+    expected: &str,
 ) -> Result<(), Fail> {
     let tag = Tag::new(tag).ok_or("no tag")?;
     let written = to_blob(alloc, template, tag)?;
-    assert!(rt; written.as_slice() == expected);
+    let expected = hex::decode(alloc, expected)?;
+    assert!(rt; written.as_slice() == expected.as_slice());
     Ok(())
 }
 
@@ -204,8 +235,10 @@ fn named_template_attribute(rt: HostRuntime) -> Result<(), Fail> {
     let alloc = rt.alloc();
     let template = TemplateAttribute::named(alloc, Text::of(alloc, "t")?, List::new(alloc))?;
     // 91{53{55 "t",54 e1}}
-    let expected =
-        b"\x42\x00\x91\x01\x00\x00\x00\x28\x42\x00\x53\x01\x00\x00\x00\x20\x42\x00\x55\x07\x00\x00\x00\x01\x74\x00\x00\x00\x00\x00\x00\x00\x42\x00\x54\x05\x00\x00\x00\x04\x00\x00\x00\x01\x00\x00\x00\x00";
+    let expected = concat!(
+        "42009101000000284200530100000020420055070000000174000000000000004200540500000004",
+        "0000000100000000",
+    );
     is_template(&rt, alloc, &template, TEMPLATE_ATTRIBUTE, expected)
 }
 
@@ -214,8 +247,10 @@ fn named_common_template_attribute(rt: HostRuntime) -> Result<(), Fail> {
     let alloc = rt.alloc();
     let template = CommonTemplateAttribute::named(alloc, Text::of(alloc, "t")?, List::new(alloc))?;
     // 1F{53{55 "t",54 e1}}
-    let expected =
-        b"\x42\x00\x1F\x01\x00\x00\x00\x28\x42\x00\x53\x01\x00\x00\x00\x20\x42\x00\x55\x07\x00\x00\x00\x01\x74\x00\x00\x00\x00\x00\x00\x00\x42\x00\x54\x05\x00\x00\x00\x04\x00\x00\x00\x01\x00\x00\x00\x00";
+    let expected = concat!(
+        "42001F01000000284200530100000020420055070000000174000000000000004200540500000004",
+        "0000000100000000",
+    );
     is_template(&rt, alloc, &template, COMMON_TEMPLATE_ATTRIBUTE, expected)
 }
 
@@ -228,8 +263,10 @@ fn named_private_key_template_attribute(rt: HostRuntime) -> Result<(), Fail> {
         List::new(alloc),
     )?;
     // 65{53{55 "t",54 e1}}
-    let expected =
-        b"\x42\x00\x65\x01\x00\x00\x00\x28\x42\x00\x53\x01\x00\x00\x00\x20\x42\x00\x55\x07\x00\x00\x00\x01\x74\x00\x00\x00\x00\x00\x00\x00\x42\x00\x54\x05\x00\x00\x00\x04\x00\x00\x00\x01\x00\x00\x00\x00";
+    let expected = concat!(
+        "42006501000000284200530100000020420055070000000174000000000000004200540500000004",
+        "0000000100000000",
+    );
     is_template(
         &rt,
         alloc,
@@ -248,8 +285,10 @@ fn named_public_key_template_attribute(rt: HostRuntime) -> Result<(), Fail> {
         List::new(alloc),
     )?;
     // 6E{53{55 "t",54 e1}}
-    let expected =
-        b"\x42\x00\x6E\x01\x00\x00\x00\x28\x42\x00\x53\x01\x00\x00\x00\x20\x42\x00\x55\x07\x00\x00\x00\x01\x74\x00\x00\x00\x00\x00\x00\x00\x42\x00\x54\x05\x00\x00\x00\x04\x00\x00\x00\x01\x00\x00\x00\x00";
+    let expected = concat!(
+        "42006E01000000284200530100000020420055070000000174000000000000004200540500000004",
+        "0000000100000000",
+    );
     is_template(
         &rt,
         alloc,

@@ -27,8 +27,10 @@ response_header = Rows
 -- Message Extension (KMIP 1.0, 6.16); its vendor extension is skipped
 abbrev pub message_extension : Shape
 message_extension = Rows
-    (AndRow (codes "vendor_identification") (Under VENDOR_IDENTIFICATION) Required Plain (Scalar TextString)
-    (AndRow (codes "criticality_indicator") (Under CRITICALITY_INDICATOR) Required Plain (Scalar Boolean)
+    (AndRow (codes "vendor_identification") (Under VENDOR_IDENTIFICATION) Required Plain
+    (Scalar TextString)
+    (AndRow (codes "criticality_indicator") (Under CRITICALITY_INDICATOR) Required Plain
+    (Scalar Boolean)
     NoRow))
 
 -- the payload of Create (KMIP 1.0, 4.1)
@@ -42,21 +44,25 @@ create_payload = Rows
 -- the payload of Create Key Pair (KMIP 1.0, 4.2)
 abbrev pub create_key_pair_payload : Shape
 create_key_pair_payload = Rows
-    (AndRow (codes "private_key_unique_identifier") (Under PRIVATE_KEY_UNIQUE_IDENTIFIER) Required Plain (Scalar TextString)
-    (AndRow (codes "public_key_unique_identifier") (Under PUBLIC_KEY_UNIQUE_IDENTIFIER) Required Plain (Scalar TextString)
+    (AndRow (codes "private_key_unique_identifier") (Under PRIVATE_KEY_UNIQUE_IDENTIFIER) Required
+    Plain (Scalar TextString)
+    (AndRow (codes "public_key_unique_identifier") (Under PUBLIC_KEY_UNIQUE_IDENTIFIER) Required
+    Plain (Scalar TextString)
     NoRow))
 
 -- the payload of Register (KMIP 1.0, 4.3)
 abbrev pub register_payload : Shape
 register_payload = Rows
     (AndRow (codes "unique_identifier") (Under UNIQUE_IDENTIFIER) Required Plain (Scalar TextString)
-    (AndRow (codes "template_attributes") (Under TEMPLATE_ATTRIBUTE) OptionalList Plain template_attribute
+    (AndRow (codes "template_attributes") (Under TEMPLATE_ATTRIBUTE) OptionalList Plain
+    template_attribute
     NoRow))
 
 -- the payload of Locate (KMIP 1.0, 4.8)
 abbrev pub locate_payload : Shape
 locate_payload = Rows
-    (AndRow (codes "unique_identifiers") (Under UNIQUE_IDENTIFIER) AnyNumber Plain (Scalar TextString)
+    (AndRow (codes "unique_identifiers") (Under UNIQUE_IDENTIFIER) AnyNumber Plain
+    (Scalar TextString)
     NoRow)
 
 -- the payload of Get (KMIP 1.0, 4.10)
@@ -99,13 +105,15 @@ abbrev pub query_payload : Shape
 query_payload = Rows
     (AndRow (codes "operations") (Under OPERATION) OptionalList Plain (OneOf operations)
     (AndRow (codes "object_types") (Under OBJECT_TYPE) OptionalList Plain (OneOf object_types)
-    (AndRow (codes "vendor_identification") (Under VENDOR_IDENTIFICATION) Optional Plain (Scalar TextString)
+    (AndRow (codes "vendor_identification") (Under VENDOR_IDENTIFICATION) Optional Plain
+    (Scalar TextString)
     NoRow)))
 
 -- the payload of Discover Versions (KMIP 1.1, 4.26)
 abbrev pub discover_versions_payload : Shape
 discover_versions_payload = Rows
-    (AndRow (codes "supported_versions") (Under PROTOCOL_VERSION) OptionalList Plain protocol_version
+    (AndRow (codes "supported_versions") (Under PROTOCOL_VERSION) OptionalList Plain
+    protocol_version
     NoRow)
 
 -- the payload of Sign (KMIP 1.2, 4.31)
@@ -121,7 +129,7 @@ rng_retrieve_payload = Rows
     (AndRow (codes "random_bytes") (Under DATA) Required Plain (Scalar ByteString)
     NoRow)
 
--- a payload is chosen by the number of its batch item's operation
+-- the operation of a batch item chooses its payload, by its number
 abbrev pub response_payloads : Cases
 response_payloads =
     AndCase 1 (codes "Create") (ByNumbers (1 ∷ [])) None create_payload
@@ -150,7 +158,8 @@ response_payload = Choice OfNumber response_payloads
 abbrev pub batch_item : Shape
 batch_item = Rows
     (AndRow (codes "operation") (Under OPERATION) Optional Chooser (OneOf operations)
-    (AndRow (codes "unique_batch_item_id") (Under UNIQUE_BATCH_ITEM_ID) Optional Plain (Scalar ByteString)
+    (AndRow (codes "unique_batch_item_id") (Under UNIQUE_BATCH_ITEM_ID) Optional Plain
+    (Scalar ByteString)
     (AndRow (codes "result_status") (Under RESULT_STATUS) Required Plain (OneOf result_statuses)
     (AndRow (codes "result_reason") (Under RESULT_REASON) Optional Plain (OneOf result_reasons)
     (AndRow (codes "result_message") (Under RESULT_MESSAGE) Optional Plain (Scalar TextString)

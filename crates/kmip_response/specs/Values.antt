@@ -1,4 +1,5 @@
--- The typed values of a response, as contracts see them: each a record of its fields in the order of its table.
+-- The typed values of a response, as contracts see them: each a record of its fields in the order
+-- of its table.
 use Rattle.kmip_shape.specs.Val.{Val, Number, Text, Bytes, Truth, Record, Case, AndField, NoField, One, Many}
 use Rattle.kmip_shape.specs.Writes.{optional, optional_list, vals}
 use Rattle.kmip_shape.specs.Dates.{date_val}
@@ -127,7 +128,7 @@ rng_retrieve_payload_val x = Record
     (AndField (One (Bytes x.random_bytes))
     NoField)
 
--- a payload is the case of its operation's number
+-- a payload is the case with the number of its operation
 abbrev pub response_payload_val : ResponsePayload → Val
 response_payload_val (Create x) = Case 1 (create_payload_val x)
 response_payload_val (CreateKeyPair x) = Case 2 (create_key_pair_payload_val x)

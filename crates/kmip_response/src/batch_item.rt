@@ -1,4 +1,4 @@
-//! One operation's result.
+//! The batch item of a response: the result of one operation.
 
 ghost use Rattle.std.specs.Prelude.{◌≡◌};
 ghost use Rattle.kmip_tags.specs.Tags as tags;
@@ -20,10 +20,10 @@ use kmip_types::UniqueBatchItemID;
 use kmip_wire::{ItemRef, OutOfMemory, Tag, Text, TryClone, clone_optional};
 use std::alloc::Global;
 
-/// What one operation came to: KMIP 1.0, 7.2.
+/// The result of one operation: KMIP 1.0, 7.2.
 #[derive(PartialEq, Eq, Drop)]
 pub struct BatchItem {
-    /// The operation that it is the result of; absent where the server could not read it: KMIP 1.0, 6.2.
+    /// The operation whose result it is; absent where the server could not read it: KMIP 1.0, 6.2.
     pub operation: Option<Operation>,
     /// The identifier of the request's batch item, where that had one: KMIP 1.0, 6.4.
     pub unique_batch_item_id: Option<UniqueBatchItemID>,
@@ -31,9 +31,11 @@ pub struct BatchItem {
     pub result_status: ResultStatus,
     /// Why it failed: KMIP 1.0, 6.10.
     pub result_reason: Option<ResultReason>,
-    /// The server's own words: KMIP 1.0, 6.11.
+    /// The server's text about the result: KMIP 1.0, 6.11.
     pub result_message: Option<Text>,
-    /// Chosen by `operation`; a payload without one, or under another, is not read.
+    /// What the operation returned: KMIP 1.0, 4 and 7.2. `operation` selects its variant. A payload
+    /// with no `operation` beside it, or without the fields of that operation, makes the whole
+    /// message `Unread`.
     pub payload: Option<ResponsePayload>,
     /// A vendor's extension: KMIP 1.0, 6.16.
     pub message_extension: Option<MessageExtension>,
@@ -44,7 +46,7 @@ impl TryClone for BatchItem {
         let unique_batch_item_id = clone_optional(&self.unique_batch_item_id, alloc)?;
         let result_message = clone_optional(&self.result_message, alloc)?;
         let message_extension = clone_optional(&self.message_extension, alloc)?;
-        // last, so that no other copy can be refused while this one is there to be dropped
+        // last, so that no copy can fail once there is a copied payload to drop
         let payload = clone_optional(&self.payload, alloc)?;
         Ok(BatchItem {
             operation: self.operation,

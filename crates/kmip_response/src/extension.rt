@@ -20,11 +20,11 @@ pub struct VendorExtension;
 /// An extension of a message: KMIP 1.0, 6.16.
 #[derive(PartialEq, Eq, Drop)]
 pub struct MessageExtension {
-    /// Whose extension it is.
+    /// A text that identifies the vendor.
     pub vendor_identification: Text,
-    /// Whether a receiver that does not know the extension must refuse the message.
+    /// Whether a receiver that does not know the extension is to refuse the message.
     pub criticality_indicator: bool,
-    /// The vendor's own items.
+    /// The vendor's own items, which are skipped.
     pub vendor_extension: VendorExtension,
 }
 

@@ -1,4 +1,4 @@
-//! The head of a response.
+//! The header of a response.
 
 ghost use Rattle.std.specs.Prelude.{◌≡◌};
 ghost use Rattle.kmip_tags.specs.Tags as tags;
@@ -19,7 +19,7 @@ use kmip_tags::tags::{
 use kmip_wire::{ItemRef, Tag};
 use std::alloc::Global;
 
-/// The version of KMIP that a server speaks: KMIP 1.0, 6.1.
+/// A version of KMIP: KMIP 1.0, 6.1.
 #[derive(Clone, Copy, PartialEq, Eq, Drop)]
 pub struct ProtocolVersion {
     /// The number before the point.
@@ -70,14 +70,14 @@ impl ReadRoot for ProtocolVersion {
     }
 }
 
-/// The head of a response: KMIP 1.0, 7.2.
+/// The header of a response: KMIP 1.0, 7.2.
 #[derive(Clone, Copy, PartialEq, Eq, Drop)]
 pub struct ResponseHeader {
     /// The version that the response is written in: KMIP 1.0, 6.1.
     pub protocol_version: ProtocolVersion,
-    /// When the response was made, in seconds since 1970.
+    /// When the response was made, in seconds since 1970-01-01 00:00 UTC: KMIP 1.0, 6.5.
     pub timestamp: i64,
-    /// How many batch items the server says that there are.
+    /// How many batch items the header says there are: KMIP 1.0, 6.14. Reading does not count them.
     pub batch_count: i32,
 }
 

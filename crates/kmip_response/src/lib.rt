@@ -9,9 +9,10 @@
 //! }
 //! ```
 //!
-//! Every type reads its children in one walk, makes no tree, and takes memory only for what the value holds.
-//! Known fields stand in any order, unknown tags are skipped; a second item of a single field, a missing
-//! required field, a known tag of another type and a number outside its table are `Unread`.
+//! Each type reads its children in one pass, makes no tree, and takes memory only for what the
+//! value holds. Fields may stand in any order, and items under unknown tags are skipped. `Unread`
+//! comes where a field that may stand once stands twice, a required one is missing, an item is of
+//! another type than its field, or an enumeration has a number outside its table.
 #![tactic(auto)]
 
 mod batch_item;

@@ -1,4 +1,4 @@
-//! The whole message.
+//! A whole response.
 
 ghost use Rattle.std.specs.Prelude.{◌≡◌};
 ghost use Rattle.kmip_tags.specs.Tags as tags;
@@ -20,7 +20,7 @@ use std::alloc::Global;
 pub struct ResponseMessage {
     /// Version, time stamp and number of batch items: KMIP 1.0, 7.2.
     pub header: ResponseHeader,
-    /// At least one.
+    /// The batch items, at least one: KMIP 1.0, 6.15.
     pub batch_items: List<BatchItem>,
 }
 

@@ -20,7 +20,7 @@ use kmip_shape::{Item, Outer, ReadError, ReadItem, ShowItem, TextWriter, show_ca
 use kmip_wire::{Boxed, ItemRef, OutOfMemory, TryClone};
 use std::alloc::Global;
 
-/// What an operation answers, chosen by the operation of its batch item.
+/// What an operation returned. The operation of its batch item selects the variant.
 #[derive(PartialEq, Eq, Drop)]
 pub enum ResponsePayload {
     /// What Create returns: KMIP 1.0, 4.1.

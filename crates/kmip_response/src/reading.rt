@@ -13,11 +13,11 @@ use std::alloc::Global;
 /// Why bytes were not read as a response.
 #[derive(Clone, Copy, Debug, PartialEq, Eq, Drop)]
 pub enum ResponseError {
-    /// No front of the bytes is a well-formed structure.
+    /// The bytes begin with no well-formed Structure.
     Malformed,
-    /// The structure at the front has another tag or another shape.
+    /// The Structure at the front has another tag, or its fields are not those of the table.
     Unread,
-    /// Memory ran out; the bytes may be a response or not.
+    /// Out of memory: whether the bytes are a response is not known.
     OutOfMemory,
 }
 

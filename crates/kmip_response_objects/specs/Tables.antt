@@ -1,4 +1,5 @@
--- The tables of what responses tell of objects: for each type its fields in order, with their tags, marks and types.
+-- The tables of the objects of responses: for each type its fields in order, with their tags,
+-- marks and types.
 use Rattle.std.specs.Prelude.{[], ◌∷◌, Some, codes}
 use Rattle.kmip_tags.specs.Tags.{ATTRIBUTE, ATTRIBUTE_INDEX, ATTRIBUTE_NAME, ATTRIBUTE_VALUE, CERTIFICATE, CERTIFICATE_TYPE, CERTIFICATE_VALUE, CRYPTOGRAPHIC_ALGORITHM, CRYPTOGRAPHIC_LENGTH, CRYPTOGRAPHIC_PARAMETERS, ENCRYPTION_KEY_INFORMATION, IV_COUNTER_NONCE, KEY_BLOCK, KEY_COMPRESSION_TYPE, KEY_FORMAT_TYPE, KEY_MATERIAL, KEY_VALUE, KEY_WRAPPING_DATA, MAC_SIGNATURE, MAC_SIGNATURE_KEY_INFORMATION, NAME, NAME_TYPE, NAME_VALUE, PRIVATE_KEY, PUBLIC_KEY, SYMMETRIC_KEY, UNIQUE_IDENTIFIER, WRAPPING_METHOD}
 use Rattle.kmip_wire.specs.declared.kind.Kind.TheVariants.{Integer, TextString, ByteString}
@@ -39,24 +40,30 @@ template_attribute = Rows
 abbrev pub encryption_key_information : Shape
 encryption_key_information = Rows
     (AndRow (codes "unique_identifier") (Under UNIQUE_IDENTIFIER) Required Plain (Scalar TextString)
-    (AndRow (codes "cryptographic_parameters") (Under CRYPTOGRAPHIC_PARAMETERS) Optional Plain cryptographic_parameters
+    (AndRow (codes "cryptographic_parameters") (Under CRYPTOGRAPHIC_PARAMETERS) Optional Plain
+    cryptographic_parameters
     NoRow))
 
 -- MAC/Signature Key Information (KMIP 1.0, 2.1.5)
 abbrev pub mac_or_signature_key_information : Shape
 mac_or_signature_key_information = Rows
     (AndRow (codes "unique_identifier") (Under UNIQUE_IDENTIFIER) Required Plain (Scalar TextString)
-    (AndRow (codes "cryptographic_parameters") (Under CRYPTOGRAPHIC_PARAMETERS) Optional Plain cryptographic_parameters
+    (AndRow (codes "cryptographic_parameters") (Under CRYPTOGRAPHIC_PARAMETERS) Optional Plain
+    cryptographic_parameters
     NoRow))
 
 -- Key Wrapping Data (KMIP 1.0, 2.1.5)
 abbrev pub key_wrapping_data : Shape
 key_wrapping_data = Rows
-    (AndRow (codes "wrapping_method") (Under WRAPPING_METHOD) Required Plain (OneOf wrapping_methods)
-    (AndRow (codes "encryption_key_information") (Under ENCRYPTION_KEY_INFORMATION) Optional Plain encryption_key_information
-    (AndRow (codes "mac_or_signature_key_information") (Under MAC_SIGNATURE_KEY_INFORMATION) Optional Plain mac_or_signature_key_information
+    (AndRow (codes "wrapping_method") (Under WRAPPING_METHOD) Required Plain
+    (OneOf wrapping_methods)
+    (AndRow (codes "encryption_key_information") (Under ENCRYPTION_KEY_INFORMATION) Optional Plain
+    encryption_key_information
+    (AndRow (codes "mac_or_signature_key_information") (Under MAC_SIGNATURE_KEY_INFORMATION)
+    Optional Plain mac_or_signature_key_information
     (AndRow (codes "mac_or_signature") (Under MAC_SIGNATURE) Optional Plain (Scalar ByteString)
-    (AndRow (codes "iv_or_counter_or_nonce") (Under IV_COUNTER_NONCE) Optional Plain (Scalar ByteString)
+    (AndRow (codes "iv_or_counter_or_nonce") (Under IV_COUNTER_NONCE) Optional Plain
+    (Scalar ByteString)
     NoRow)))))
 
 -- Key Value (KMIP 1.0, 2.1.4); as one Byte String it is a wrapped key
@@ -69,18 +76,23 @@ key_value = RowsOrBytes wrapped_case
 -- Key Block (KMIP 1.0, 2.1.3)
 abbrev pub key_block : Shape
 key_block = Rows
-    (AndRow (codes "key_format_type") (Under KEY_FORMAT_TYPE) Required Chooser (OneOf key_format_types)
-    (AndRow (codes "key_compression_type") (Under KEY_COMPRESSION_TYPE) Optional Plain (OneOf key_compression_types)
+    (AndRow (codes "key_format_type") (Under KEY_FORMAT_TYPE) Required Chooser
+    (OneOf key_format_types)
+    (AndRow (codes "key_compression_type") (Under KEY_COMPRESSION_TYPE) Optional Plain
+    (OneOf key_compression_types)
     (AndRow (codes "key_value") (Under KEY_VALUE) Required Chosen key_value
-    (AndRow (codes "cryptographic_algorithm") (Under CRYPTOGRAPHIC_ALGORITHM) Optional Plain (OneOf cryptographic_algorithms)
-    (AndRow (codes "cryptographic_length") (Under CRYPTOGRAPHIC_LENGTH) Optional Plain (Scalar Integer)
+    (AndRow (codes "cryptographic_algorithm") (Under CRYPTOGRAPHIC_ALGORITHM) Optional Plain
+    (OneOf cryptographic_algorithms)
+    (AndRow (codes "cryptographic_length") (Under CRYPTOGRAPHIC_LENGTH) Optional Plain
+    (Scalar Integer)
     (AndRow (codes "key_wrapping_data") (Under KEY_WRAPPING_DATA) Optional Plain key_wrapping_data
     NoRow))))))
 
 -- Certificate (KMIP 1.0, 2.2.1)
 abbrev pub certificate : Shape
 certificate = Rows
-    (AndRow (codes "certificate_type") (Under CERTIFICATE_TYPE) Required Plain (OneOf certificate_types)
+    (AndRow (codes "certificate_type") (Under CERTIFICATE_TYPE) Required Plain
+    (OneOf certificate_types)
     (AndRow (codes "certificate_value") (Under CERTIFICATE_VALUE) Required Plain (Scalar ByteString)
     NoRow))
 
@@ -102,7 +114,8 @@ private_key = Rows
     (AndRow (codes "key_block") (Under KEY_BLOCK) Required Plain key_block
     NoRow)
 
--- the object of a payload is chosen by the number of its object type, and stands under its own tag (KMIP 1.0, 2.2)
+-- The payload's object type chooses by its number which object it holds; each stands under its
+-- own tag (KMIP 1.0, 2.2).
 abbrev pub managed_objects : Cases
 managed_objects =
     AndCase 1 (codes "Certificate") (ByNumbers (1 ∷ [])) (Some CERTIFICATE) certificate

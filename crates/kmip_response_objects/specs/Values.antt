@@ -105,7 +105,7 @@ private_key_val x = Record
     (AndField (One (key_block_val x.key_block))
     NoField)
 
--- an object is the case of its object type's number
+-- an object is the case with the number of its object type
 abbrev pub managed_object_val : ManagedObject → Val
 managed_object_val (objects.Certificate x) = Case 1 (certificate_val x)
 managed_object_val (objects.SymmetricKey x) = Case 2 (symmetric_key_val x)

@@ -22,9 +22,10 @@ use std::alloc::Global;
 pub struct Attribute {
     /// Its name, by which the type of its value is chosen.
     pub name: AttributeName,
-    /// Which of the attributes of this name it is, from 0.
+    /// Which of the attributes of this name it is, counted from 0: KMIP 1.0, 2.1.1.
     pub index: Option<AttributeIndex>,
-    /// Chosen by `name`, and under a name of no variant by the type of the item.
+    /// Its value, of the variant that `name` selects; under any other name, of the variant of its
+    /// item's type.
     pub value: AttributeValue,
 }
 

@@ -25,9 +25,10 @@ use std::alloc::Global;
 /// Key material, and attributes of the key: KMIP 1.0, 2.1.4.
 #[derive(PartialEq, Eq, Drop)]
 pub struct KeyValue {
-    /// `Wrapped` where the key value is one Byte String, else of the key block's format.
+    /// `Wrapped` where the key value is one Byte String, and else in the key block's format:
+    /// KMIP 1.0, 2.1.7.
     pub key_material: KeyMaterial,
-    /// Attributes that are wrapped together with the key material.
+    /// Attributes of the key that stand, and are wrapped, with the key material.
     pub attributes: Option<List<Attribute>>,
 }
 
@@ -85,13 +86,13 @@ impl ShowItem for KeyValue {
 pub struct KeyBlock {
     /// The format of the key material: KMIP 1.0, 9.1.3.2.3.
     pub key_format_type: KeyFormatType,
-    /// How an elliptic curve's point is compressed: KMIP 1.0, 9.1.3.2.2.
+    /// How the point of an elliptic curve public key is compressed: KMIP 1.0, 9.1.3.2.2.
     pub key_compression_type: Option<KeyCompressionType>,
-    /// In the form of `key_format_type`.
+    /// The key material, in the format `key_format_type`, or wrapped: KMIP 1.0, 2.1.4.
     pub key_value: KeyValue,
     /// The algorithm that the key is for: KMIP 1.0, 3.4.
     pub cryptographic_algorithm: Option<CryptographicAlgorithm>,
-    /// The length of the key in bits.
+    /// The length of the key in bits: KMIP 1.0, 3.5.
     pub cryptographic_length: Option<i32>,
     /// How the key value is wrapped, if it is: KMIP 1.0, 2.1.5.
     pub key_wrapping_data: Option<KeyWrappingData>,

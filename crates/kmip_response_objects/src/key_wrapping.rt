@@ -2,9 +2,15 @@
 
 ghost use Rattle.std.specs.Prelude.{◌≡◌};
 ghost use Rattle.kmip_tags.specs.Tags as tags;
-ghost use Rattle.kmip_response_objects.specs.Tables.{encryption_key_information, mac_or_signature_key_information, key_wrapping_data};
-ghost use Rattle.kmip_response_objects.specs.Values.{encryption_key_information_val, mac_or_signature_key_information_val, key_wrapping_data_val};
-ghost use Rattle.kmip_response_objects.specs.Same.{encryption_key_information_same, mac_or_signature_key_information_same, key_wrapping_data_same};
+ghost use Rattle.kmip_response_objects.specs.Tables.{encryption_key_information};
+ghost use Rattle.kmip_response_objects.specs.Tables.{mac_or_signature_key_information};
+ghost use Rattle.kmip_response_objects.specs.Tables.{key_wrapping_data};
+ghost use Rattle.kmip_response_objects.specs.Values.{encryption_key_information_val};
+ghost use Rattle.kmip_response_objects.specs.Values.{mac_or_signature_key_information_val};
+ghost use Rattle.kmip_response_objects.specs.Values.{key_wrapping_data_val};
+ghost use Rattle.kmip_response_objects.specs.Same.{encryption_key_information_same};
+ghost use Rattle.kmip_response_objects.specs.Same.{mac_or_signature_key_information_same};
+ghost use Rattle.kmip_response_objects.specs.Same.{key_wrapping_data_same};
 
 use kmip_shape::record::{End, Row};
 use kmip_shape::row_readers::{One, Opt};
@@ -20,12 +26,12 @@ use kmip_types::{CryptographicParameters, UniqueIdentifier, WrappingMethod};
 use kmip_wire::{Blob, ItemRef, OutOfMemory, Tag, TryClone, clone_optional};
 use std::alloc::Global;
 
-/// The key that wraps by encryption, and how: KMIP 1.0, 2.1.5.
+/// The key that encrypts a wrapped key, and how: KMIP 1.0, 2.1.5.
 #[derive(PartialEq, Eq, Drop)]
 pub struct EncryptionKeyInformation {
-    /// The identifier of the key that encrypts.
+    /// The identifier of the key that encrypts: KMIP 1.0, 3.1.
     pub unique_identifier: UniqueIdentifier,
-    /// How it encrypts.
+    /// How it encrypts: KMIP 1.0, 3.6.
     pub cryptographic_parameters: Option<CryptographicParameters>,
 }
 
@@ -88,12 +94,12 @@ impl ShowItem for EncryptionKeyInformation {
     }
 }
 
-/// The key that wraps by a MAC or a signature, and how: KMIP 1.0, 2.1.5.
+/// The key that makes the MAC or the signature of a wrapped key, and how: KMIP 1.0, 2.1.5.
 #[derive(PartialEq, Eq, Drop)]
 pub struct MACOrSignatureKeyInformation {
-    /// The identifier of the key that signs.
+    /// The identifier of the key that makes the MAC or the signature: KMIP 1.0, 3.1.
     pub unique_identifier: UniqueIdentifier,
-    /// How it signs.
+    /// How it makes it: KMIP 1.0, 3.6.
     pub cryptographic_parameters: Option<CryptographicParameters>,
 }
 
@@ -159,15 +165,15 @@ impl ShowItem for MACOrSignatureKeyInformation {
 /// How a key was wrapped: KMIP 1.0, 2.1.5.
 #[derive(PartialEq, Eq, Drop)]
 pub struct KeyWrappingData {
-    /// Whether the key is encrypted, signed or both: KMIP 1.0, 9.1.3.2.4.
+    /// Whether the key is encrypted, MACed or signed, or both: KMIP 1.0, 9.1.3.2.4.
     pub wrapping_method: WrappingMethod,
     /// The key that encrypts, where the method encrypts.
     pub encryption_key_information: Option<EncryptionKeyInformation>,
-    /// The key that signs, where the method signs.
+    /// The key that makes the MAC or the signature, where the method has one.
     pub mac_or_signature_key_information: Option<MACOrSignatureKeyInformation>,
     /// The MAC or signature of the key value.
     pub mac_or_signature: Option<Blob>,
-    /// The IV, counter or nonce, where the cipher mode has one.
+    /// The IV, counter or nonce, where the wrapping method takes one.
     pub iv_or_counter_or_nonce: Option<Blob>,
 }
 

@@ -1,6 +1,6 @@
 //! The objects of responses: attributes, key blocks with their wrapping, and managed objects.
 //!
-//! Each type reads its children in one walk and takes memory only for what the value holds.
+//! Each type reads its children in one pass and takes memory only for what the value holds.
 #![tactic(auto)]
 
 mod attribute;

@@ -3,9 +3,14 @@
 ghost use Rattle.std.specs.Prelude.{◌≡◌};
 ghost use Rattle.kmip_tags.specs.Tags as tags;
 ghost use Rattle.kmip_shape.specs.Shape.{Choice, OfNumber};
-ghost use Rattle.kmip_response_objects.specs.Tables.{key_block, certificate, symmetric_key, public_key, private_key, managed_objects};
-ghost use Rattle.kmip_response_objects.specs.Values.{certificate_val, symmetric_key_val, public_key_val, private_key_val, managed_object_val};
-ghost use Rattle.kmip_response_objects.specs.Same.{certificate_same, symmetric_key_same, public_key_same, private_key_same, managed_object_same};
+ghost use Rattle.kmip_response_objects.specs.Tables.{key_block, certificate, symmetric_key};
+ghost use Rattle.kmip_response_objects.specs.Tables.{public_key, private_key, managed_objects};
+ghost use Rattle.kmip_response_objects.specs.Values.{certificate_val, symmetric_key_val};
+ghost use Rattle.kmip_response_objects.specs.Values.{public_key_val, private_key_val};
+ghost use Rattle.kmip_response_objects.specs.Values.{managed_object_val};
+ghost use Rattle.kmip_response_objects.specs.Same.{certificate_same, symmetric_key_same};
+ghost use Rattle.kmip_response_objects.specs.Same.{public_key_same, private_key_same};
+ghost use Rattle.kmip_response_objects.specs.Same.{managed_object_same};
 
 use crate::key_block::KeyBlock;
 use kmip_enums::CertificateType;
@@ -237,7 +242,7 @@ impl ShowItem for PrivateKey {
     }
 }
 
-/// An object of the type that stands beside it: KMIP 1.0, 2.2.
+/// A managed object, which stands beside its object type: KMIP 1.0, 2.2.
 #[derive(PartialEq, Eq, Drop)]
 pub enum ManagedObject {
     /// A certificate: KMIP 1.0, 2.2.1.

@@ -6,11 +6,13 @@ ghost use Rattle.std.specs.Option.{option_map, option_and_then};
 ghost use Rattle.std.proofs.Common.{ap};
 ghost use Rattle.kmip_wire.specs.Items.{item_tree};
 ghost use Rattle.kmip_shape.specs.Val.{One as one, Case as case_of};
-ghost use Rattle.kmip_shape.specs.Shape.{AndRow, ByCase, Required, Chosen, Choice, OfNumber, among, has_tag};
+ghost use Rattle.kmip_shape.specs.Shape.{AndRow, ByCase, Required, Chosen, Choice, OfNumber, among};
+ghost use Rattle.kmip_shape.specs.Shape.{has_tag};
 ghost use Rattle.kmip_shape.specs.Reads.{read_rows, read_in, with_field};
 ghost use Rattle.kmip_shape.specs.Resume.{resume_only, case_field};
 ghost use Rattle.kmip_shape.proofs.ByCase.{case_field_law};
-ghost use Rattle.kmip_response_objects.specs.Tables.{name, certificate, symmetric_key, public_key, private_key, managed_objects};
+ghost use Rattle.kmip_response_objects.specs.Tables.{name, certificate, symmetric_key, public_key};
+ghost use Rattle.kmip_response_objects.specs.Tables.{private_key, managed_objects};
 ghost use Rattle.kmip_response_objects.specs.Values.{managed_object_val};
 
 use crate::managed_object::{Certificate, ManagedObject, PrivateKey, PublicKey, SymmetricKey};
@@ -22,8 +24,8 @@ use kmip_tags::tags::{CERTIFICATE, PRIVATE_KEY, PUBLIC_KEY, SYMMETRIC_KEY};
 use kmip_wire::ItemRef;
 use std::alloc::Global;
 
-/// The items under the tags of managed objects. The chosen object type says under which one the object stands; the
-/// others are not looked at.
+/// The items under the tags of managed objects. The object type says under which of them the object
+/// stands; the others are not looked at.
 #[derive(Drop)]
 pub struct ManagedObjects<'a> {
     certificate: Case<'a, Certificate, 1, CERTIFICATE>,

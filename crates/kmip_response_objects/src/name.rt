@@ -23,7 +23,7 @@ use std::alloc::Global;
 pub struct Name {
     /// The name itself.
     pub name: NameValue,
-    /// How the name is to be read.
+    /// How the name is to be read: KMIP 1.0, 9.1.3.2.10.
     pub name_type: NameType,
 }
 

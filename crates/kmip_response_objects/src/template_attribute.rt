@@ -1,4 +1,4 @@
-//! Attributes of new objects.
+//! Template-Attributes, which hold attributes of new objects.
 
 ghost use Rattle.std.specs.Prelude.{◌≡◌};
 ghost use Rattle.kmip_tags.specs.Tags as tags;
@@ -18,12 +18,12 @@ use kmip_tags::tags::{ATTRIBUTE, NAME, TEMPLATE_ATTRIBUTE};
 use kmip_wire::{ItemRef, List, OutOfMemory, Tag, TryClone, clone_optional};
 use std::alloc::Global;
 
-/// Attributes of a new object, and names of templates that hold more: KMIP 1.0, 2.1.8.
+/// A Template-Attribute: attributes, and names of templates that hold more: KMIP 1.0, 2.1.8.
 #[derive(PartialEq, Eq, Drop)]
 pub struct TemplateAttribute {
-    /// The names of templates that stand for their attributes.
+    /// The names of templates, whose attributes belong to it too: KMIP 1.0, 3.2.
     pub name: Option<List<Name>>,
-    /// Further attributes.
+    /// The attributes that it gives itself: KMIP 1.0, 2.1.1.
     pub attributes: Option<List<Attribute>>,
 }
 

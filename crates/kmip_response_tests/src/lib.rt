@@ -1,6 +1,8 @@
-//! Tests of kmip_response and kmip_response_objects: responses in hex, and what they show as. They stand above those crates, so
-//! that each crate is proved once.
+//! Tests of kmip_response, kmip_response_objects and kmip_response_write: responses in hex, what they show as, and the bytes that
+//! they are written as. They stand above those crates, so that each crate is proved once.
 #![tactic(auto)]
 
 #[cfg(test)]
 mod payloads;
+#[cfg(test)]
+mod written;

@@ -18,12 +18,12 @@ payload_tables =
     ∷ unique_identifier_payload ∷ query_payload ∷ discover_versions_payload ∷ sign_payload
     ∷ rng_retrieve_payload ∷ []
 
--- what they tell of objects
+-- the objects in them
 abbrev pub object_tables : List Shape
 object_tables =
     name ∷ attribute ∷ template_attribute ∷ key_block ∷ certificate ∷ symmetric_key ∷ public_key
     ∷ private_key ∷ []
 
--- No record has a tag twice, and a chooser stands above what it chooses.
+-- No record has a tag twice, and a field that chooses stands before the field that it chooses.
 abbrev pub stands : Shape → Bool
 stands shape = tags_once shape && choosers_stand shape

@@ -11,9 +11,9 @@ ghost use Rattle.kmip_shape.specs.Writes.{optional, optional_list};
 use kmip_shape::{Item, plus_len};
 use kmip_wire::{Boxed, Buffer, List, Tag};
 
-/// A type of responses that is written.
+/// A type of responses that can be written.
 pub trait WriteResponse: Item {
-    /// The length of its canonical bytes, and `None` exactly where there are none.
+    /// The number of its canonical bytes, and `None` exactly where it has none.
     fn wire_len(&self, tag: Tag) -> Option<u64>
         ensures { result ≡ wire_len_of Self.shape (Self.val self.now) };
 
@@ -35,7 +35,7 @@ impl<T: WriteResponse> WriteResponse for Boxed<T> {
     }
 }
 
-/// The length of the items of a list.
+/// The length in bytes of the items of a list.
 #[tactic(auto, using(kmip_shape::proofs::Lens::plus_assoc, kmip_shape::proofs::Lens::list_len_zero, kmip_shape::proofs::Lens::plus_end))]
 fn items_len<T: WriteResponse>(items: &[T], tag: Tag) -> Option<u64>
     ensures { result ≡ len_of_list (vals T.val items.now) T.shape }
@@ -64,8 +64,8 @@ fn write_items<T: WriteResponse>(items: &[T], tag: Tag, out: &mut Buffer)
     }
 }
 
-/// The length of the items of a list, and `None` exactly where one has no canonical bytes or they
-/// reach 2^32 bytes.
+/// The length in bytes of the items of a list, and `None` exactly where one has no canonical bytes
+/// or together they reach 2^32 bytes.
 pub fn list_len<T: WriteResponse>(items: &List<T>, tag: Tag) -> Option<u64>
     ensures { result ≡ len_of_list (vals T.val items.now) T.shape }
 {
@@ -82,7 +82,7 @@ pub fn write_list<T: WriteResponse>(items: &List<T>, tag: Tag, out: &mut Buffer)
     write_items(items.as_slice(), tag, out);
 }
 
-/// The length of an item that may be absent.
+/// The length in bytes of an item that may be absent: 0 where it is.
 pub fn optional_len<T: WriteResponse>(item: &Option<T>, tag: Tag) -> Option<u64>
     ensures { result ≡ field_len (optional T.val item.now) T.shape }
 {
@@ -92,7 +92,7 @@ pub fn optional_len<T: WriteResponse>(item: &Option<T>, tag: Tag) -> Option<u64>
     }
 }
 
-/// Appends an item that may be absent.
+/// Appends an item that may be absent: nothing where it is.
 pub fn write_optional<T: WriteResponse>(item: &Option<T>, tag: Tag, out: &mut Buffer)
     requires form { field_form (optional T.val item.now) T.shape }
     requires room { field_size (optional T.val item.now) T.shape ≤ out.old.spare }
@@ -105,7 +105,7 @@ pub fn write_optional<T: WriteResponse>(item: &Option<T>, tag: Tag, out: &mut Bu
     }
 }
 
-/// The length of the items of a list that may be absent.
+/// The length in bytes of the items of a list that may be absent: 0 where it is.
 pub fn optional_list_len<T: WriteResponse>(items: &Option<List<T>>, tag: Tag) -> Option<u64>
     ensures { result ≡ field_len (optional_list T.val items.now) T.shape }
 {
@@ -115,7 +115,7 @@ pub fn optional_list_len<T: WriteResponse>(items: &Option<List<T>>, tag: Tag) ->
     }
 }
 
-/// Appends the items of a list that may be absent.
+/// Appends the items of a list that may be absent: nothing where it is.
 pub fn write_optional_list<T: WriteResponse>(items: &Option<List<T>>, tag: Tag, out: &mut Buffer)
     requires form { field_form (optional_list T.val items.now) T.shape }
     requires room { field_size (optional_list T.val items.now) T.shape ≤ out.old.spare }

@@ -37,15 +37,15 @@ pub fn one_response()
         IsSettled m → IsSettled n → response_bytes m ≡ Some b → response_bytes n ≡ Some b → m ≡ n }
 {}
 
-/// The bytes of a response are one message: a head of eight bytes, and as many more as the head
-/// tells (KMIP 1.0, 9.1.1).
+/// The bytes of a response are one message: a head of eight bytes, and as many more as its length
+/// says (KMIP 1.0, 9.1.1).
 pub fn response_is_one_message()
     ensures { (m : ResponseMessage) (b : List ℕ) → IsHeld m → response_bytes m ≡ Some b →
         (8 ≤ length b) × (length b ≡ 8 + head_length b) }
 {}
 
-/// The tables of the structures that may stand alone: no record has a tag twice, and a chooser
-/// stands above what it chooses.
+/// In the tables of the structures that may stand alone, no record has a tag twice, and a field
+/// that chooses stands before the field that it chooses.
 pub fn tables_stand()
     ensures messages { list_all stands message_tables ≡ true }
     ensures payloads { list_all stands payload_tables ≡ true }

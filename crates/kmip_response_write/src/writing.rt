@@ -15,7 +15,7 @@ use kmip_tags::tags::RESPONSE_MESSAGE;
 use kmip_wire::{Blob, Buffer, Tag, WireError};
 use std::alloc::Global;
 
-/// The length of the canonical bytes of an item, where there are any.
+/// How many canonical bytes an item has, where it has any.
 #[tactic(auto, using(kmip_shape::proofs::Lengths::wire_len_law))]
 fn item_len<T: WriteResponse>(item: &T, tag: Tag) -> Option<u64>
     ensures { result ≡ option_map length (bytes_of T.shape tag (T.val item.now)) }
@@ -62,7 +62,7 @@ fn message_bytes(alloc: Global, message: &ResponseMessage) -> Result<Blob, WireE
 /// attributes. `Malformed` never comes. An optional list that is present and empty writes nothing,
 /// as an absent one does.
 ///
-/// Memory is taken once, before the first byte is written.
+/// Memory is taken once, before the first byte is written; `OutOfMemory` comes where it is refused.
 ///
 /// What is written of a settled message is read as that message.
 pub fn to_vec(alloc: Global, message: &ResponseMessage) -> Result<Blob, WireError>

@@ -10,7 +10,7 @@ use Rattle.kmip_run.specs.declared.auditing.Captured.TheVariants.{Streams, Bad}
 unfoldable pub stream_of : List ℕ → Option (List ℕ)
 stream_of line = if is_utf8 line then bytes_of line else None
 
--- those of the first line, and the lines after it
+-- the bytes of the first line, and the lines after it
 abbrev pub next_stream : List (List ℕ) → Option (List ℕ × List (List ℕ))
 next_stream [] = None
 next_stream (line ∷ lines) = option_map (λ stream. (stream, lines)) (stream_of line)
@@ -28,7 +28,8 @@ abbrev pub from_first : Option (List ℕ × List (List ℕ)) → Captured
 from_first None = Bad 1
 from_first (Some next) = after_sent next.0 (next_stream next.1)
 
--- the streams of exactly two lines, each one word in hex, or the number of the first line that is not so, is missing or is the third
+-- the streams of exactly two lines, each one word in hex; or the number of the first line that is
+-- none, is missing, or is the third
 abbrev pub captured_in : List (List ℕ) → Captured
 captured_in lines = from_first (next_stream lines)
 

@@ -7,22 +7,27 @@ use Rattle.kmip_run.specs.declared.command.Command.{Command}
 use Rattle.kmip_run.specs.declared.command.Command.TheVariants.{Replay, Explain, Make, Audit, Joined}
 use Rattle.kmip_run.specs.declared.command.Options.{Options}
 
--- whether the last word is `diag`, where no other is left
+-- whether the words left are `diag`; none where they are anything else
 abbrev pub diag_of : List (List ℕ) → Option Bool
 diag_of [] = Some false
 diag_of (word ∷ []) = if bytes_eq word (codes "diag") then Some true else None
 diag_of words = None
 
 abbrev pub options_limited : Option (List ℕ) → Option (List ℕ) → Option ℕ → Bool → Option Options
-options_limited user password (Some limit) diag = Some (record { user = user; password = password; limit = Some limit; diag = diag })
+options_limited user password (Some limit) diag =
+    Some (record { user = user; password = password; limit = Some limit; diag = diag })
 options_limited user password None diag = None
 
-abbrev pub options_with : Option (List ℕ) → Option (List ℕ) → Option (List ℕ) → Option Bool → Option Options
-options_with user password None (Some diag) = Some (record { user = user; password = password; limit = None; diag = diag })
-options_with user password (Some limit) (Some diag) = options_limited user password (number_of limit) diag
+abbrev pub options_with : Option (List ℕ) → Option (List ℕ) → Option (List ℕ) → Option Bool →
+    Option Options
+options_with user password None (Some diag) =
+    Some (record { user = user; password = password; limit = None; diag = diag })
+options_with user password (Some limit) (Some diag) =
+    options_limited user password (number_of limit) diag
 options_with user password limit None = None
 
--- `[user=U] [password=P] [limit=N] [diag]`, each at most once and in this order, and a password only after a user
+-- `[user=U] [password=P] [limit=N] [diag]`, each at most once and in this order, and a password
+-- only after a user
 unfoldable pub options_of : List (List ℕ) → Option Options
 options_of words =
     let user : Given = option_given (codes "user=") words in

@@ -8,7 +8,8 @@ use Rattle.kmip_audit.specs.Skeletons.{outcomes_in}
 use Rattle.kmip_audit.specs.declared.reports.End.TheVariants.{Whole}
 use Rattle.kmip_audit.specs.declared.reports.Report.{Report}
 
--- Both sides are whole, and there is an entry for each request, told as answered exactly where its turn answered a payload.
+-- Both streams end whole, and there is an entry for each request, reported as answered exactly
+-- where the answer of its turn is a payload.
 pub record ReportsTurns (payloads : List RequestPayload) (turns : List Turn)
     (report : Report) : Type 0 where
   pub sent_end : report.sent_end ≡ Whole

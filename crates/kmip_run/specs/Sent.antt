@@ -1,4 +1,4 @@
--- What a session sends, as texts.
+-- What a session sends, message by message.
 use Rattle.std.specs.Prelude.{◌≡◌, ℕ, List, [], ◌∷◌, Option, Some, None, Result, Ok, Err, ◌⊎◌}
 use Rattle.kmip_types.specs.declared.auth.CredentialType.{CredentialType}
 use Rattle.kmip_request.specs.Held.{IsHeld}
@@ -16,12 +16,12 @@ abbrev pub messages_of : List Turn → List (List ℕ)
 messages_of [] = []
 messages_of (turn ∷ turns) = with_message turn.request (messages_of turns)
 
--- What the types of Rust keep of payloads and a credential.
+-- The payloads and the credential are such as Rust can hold.
 abbrev pub AreHeld : List RequestPayload → Option CredentialType → Type 0
 AreHeld [] credential = Unit {0}
 AreHeld (payload ∷ payloads) credential = IsHeld payload credential × AreHeld payloads credential
 
--- The text is what this request was sent as, which is one of these whose calls were made.
+-- The text is the message of this request, which is one of these whose calls were made.
 abbrev pub IsSent : RequestPayload → List ℕ → List Turn → List RequestPayload → Type 0
 IsSent payload text [] payloads = ⊥
 IsSent payload text (turn ∷ turns) [] = ⊥

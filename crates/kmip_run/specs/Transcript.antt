@@ -21,7 +21,8 @@ use Rattle.kmip_run.specs.declared.auditing.Captured.TheVariants.{Streams, Bad}
 use Rattle.kmip_run.specs.declared.command.Command.{Command}
 use Rattle.kmip_run.specs.declared.command.Command.TheVariants.{Replay, Explain, Make, Audit}
 
--- what is written, the status, and the bytes that are fed to the link, sent, and taken
+-- what is written, the status, the bytes that are fed to the link and that are sent over it, and
+-- how many are taken from it
 pub record Transcript : Type 0 where
   pub text : List ℕ
   pub status : ℕ
@@ -52,7 +53,7 @@ then_later fed s later = record {
   taken = s.taken + later.taken;
 }
 
--- the calls of the lines from this one on: their numbers, the status so far, and the bytes left
+-- the calls of these lines, given the number of the first, the status so far, and the bytes left
 unfoldable pub replay_from : Settings → List (List ℕ) → ℕ → ℕ → List ℕ → Transcript
 replay_from settings [] number status rest = only_text [] status
 replay_from settings (line ∷ lines) number status rest = elim (call_of line) [
@@ -72,7 +73,7 @@ line_expansion line = if is_utf8 line then expansion (Some 0x4200) line else Non
 abbrev pub then_text : List ℕ → Transcript → Transcript
 then_text text later = only_text (text ++ later.text) later.status
 
--- the expansions of the lines from this one on, by their numbers
+-- the expansions of these lines, given the number of the first
 unfoldable pub explanations_from : List (List ℕ) → ℕ → Transcript
 explanations_from [] number = only_text [] 0
 explanations_from (line ∷ lines) number = elim (line_expansion line) [
@@ -80,15 +81,16 @@ explanations_from (line ∷ lines) number = elim (line_expansion line) [
   | Some text ↦ then_text text (explanations_from lines (number + 1))
 ]
 
--- the calls of the lines from this one on, over a server in memory: their numbers, the status so far, and what stands
--- between the calls
+-- the calls of these lines over a server in memory, given the number of the first, the status so
+-- far, and the state of client and server
 unfoldable pub joined : Settings → List (List ℕ) → ℕ → ℕ → World → Transcript
 joined settings [] number status world = only_text [] status
 joined settings (line ∷ lines) number status world = elim (helper_call line) [
   | None ↦ bad_line number
   | Some call ↦
       let it : Joined = joined_step settings call world in
-      then_text (call_text it.step) (joined settings lines (number + 1) (status_after status it.step.failed) it.after)
+      then_text (call_text it.step)
+      (joined settings lines (number + 1) (status_after status it.step.failed) it.after)
 ]
 
 -- the report on two captured streams
@@ -99,7 +101,7 @@ report_transcript (Bad number) = bad_line number
 abbrev pub audit_transcript : List (List ℕ) → Transcript
 audit_transcript lines = report_transcript (captured_in lines)
 
--- the lines that count exchanges, and what is fed, sent and taken in these
+-- the lines with the counts of exchanges, and what is fed, sent and taken in these
 abbrev pub counted_transcript : ℕ → Counts → Transcript
 counted_transcript count c =
     record {
@@ -110,7 +112,7 @@ counted_transcript count c =
       taken = c.taken;
     }
 
--- so many exchanges, the first of the number after 1
+-- `count` exchanges, the first made from the number after 1
 abbrev pub made_transcript : ℕ → Transcript
 made_transcript count = counted_transcript count (counts_after made_settings count 1 [])
 
@@ -120,9 +122,10 @@ lines_transcript (Replay options) lines = replay_from (settings_for options) lin
 lines_transcript Explain lines = explanations_from lines 1
 lines_transcript (Make count) lines = made_transcript count
 lines_transcript Audit lines = audit_transcript lines
-lines_transcript (Command.Joined options) lines = joined (settings_for options) lines 1 0 nothing_yet
+lines_transcript (Command.Joined options) lines =
+    joined (settings_for options) lines 1 0 nothing_yet
 
--- The command reads a script.
+-- whether the command reads a script
 abbrev pub reads_script : Option Command → Bool
 reads_script (Some (Replay options)) = true
 reads_script (Some Explain) = true
@@ -131,7 +134,7 @@ reads_script (Some Audit) = true
 reads_script (Some (Command.Joined options)) = true
 reads_script None = false
 
--- the bytes of the longest script
+-- the most bytes that a script may have
 unfoldable pub most_script : ℕ
 most_script = 16777216
 
@@ -148,11 +151,12 @@ command_transcript (Some command) script = script_transcript command script
 unfoldable pub transcript : List (List ℕ) → List ℕ → Transcript
 transcript words script = command_transcript (command_of words) script
 
--- how many bytes a command that reads a script reads of those left: one more than the longest script at most
+-- how many of the bytes left a command reads: all, but at most one more than a script may have; and
+-- none where it reads no script
 abbrev pub read_by : Option Command → ℕ → ℕ
 read_by command left = if reads_script command then min (most_script + 1) left else 0
 
--- The command makes calls over the link that is handed in.
+-- whether the command makes calls over the link that is handed in
 abbrev pub makes_calls : Option Command → Bool
 makes_calls (Some (Replay options)) = true
 makes_calls (Some Explain) = false
@@ -161,7 +165,7 @@ makes_calls (Some Audit) = false
 makes_calls (Some (Command.Joined options)) = false
 makes_calls None = false
 
--- The line is of the grammar of a command. Of the lines of `audit` it is said of all together.
+-- The line is of the grammar of a command; for `audit` see `AreLinesOf`.
 abbrev pub IsLineOf : Option Command → List ℕ → Type 0
 IsLineOf (Some (Replay options)) line = IsSome (call_of line)
 IsLineOf (Some Explain) line = IsSome (line_expansion line)
@@ -170,12 +174,14 @@ IsLineOf (Some Audit) line = Unit {0}
 IsLineOf (Some (Command.Joined options)) line = IsSome (helper_call line)
 IsLineOf None line = ⊥
 
--- The lines together are of the grammar of a command: those of `audit` are two, each one word in hex.
+-- The lines together are of the grammar of a command: those of `audit` are two, each one word in
+-- hex.
 abbrev pub AreLinesOf : Option Command → List (List ℕ) → Type 0
 AreLinesOf (Some Audit) lines = AreStreams (captured_in lines)
 AreLinesOf command lines = Unit {0}
 
--- The words are of the grammar, and, where they read a script, each line of it is, and it is not too long.
+-- The words are of the grammar; and where their command reads a script, the script is not too long,
+-- and each line of it is of the grammar.
 pub record IsOfGrammar (words : List (List ℕ)) (script : List ℕ) : Type 0 where
   pub words_are : IsSome (command_of words)
   pub lines_are : IsTrue (reads_script (command_of words)) →
@@ -183,7 +189,7 @@ pub record IsOfGrammar (words : List (List ℕ)) (script : List ℕ) : Type 0 wh
   pub together : AreLinesOf (command_of words) (lines_of script)
   pub fits : IsTrue (reads_script (command_of words)) → length script ≤ most_script
 
--- what a call did: to the link, and to the text
+-- what a call did to the link, and to the text
 pub record RunsCall (s : Step) (fed : List ℕ) (before after : MemoryState) (failed : Bool)
     (old new : List ℕ) : Type 0 where
   pub text : new ≡ old ++ call_text s
@@ -193,7 +199,7 @@ pub record RunsCall (s : Step) (fed : List ℕ) (before after : MemoryState) (fa
   pub pos : after.pos ≡ before.pos + s.taken
   pub left : drop after.pos after.ever ≡ drop s.taken (drop before.pos before.ever ++ fed)
 
--- what the lines did: to the link, and to the text
+-- what the lines did to the link, and to the text
 pub record Replays (t : Transcript) (before after : MemoryState) (status : ℕ)
     (old new : List ℕ) : Type 0 where
   pub text : new ≡ old ++ t.text

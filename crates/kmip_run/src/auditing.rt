@@ -16,11 +16,12 @@ use std::str;
 pub enum Captured {
     /// The bytes that were sent, and those that were received.
     Streams(Blob, Blob),
-    /// A line that is not of the grammar, is missing or is too many, by its number: the first of these.
+    /// The number of the first line, from 1, that is not of the grammar, is missing, or is the
+    /// third.
     Bad(usize),
 }
 
-/// The bytes of a line, and none where it is not one word in hex.
+/// The bytes of a line; `None` where it is not one word in hex.
 fn stream_of(alloc: Global, line: &[u8]) -> Result<Option<Blob>, OutOfMemory>
     ensures { IfOk result (λ stream. stream ≡ stream_of line.now) }
 {
@@ -30,7 +31,8 @@ fn stream_of(alloc: Global, line: &[u8]) -> Result<Option<Blob>, OutOfMemory>
     }
 }
 
-/// The bytes of the first line, and the lines after it; none where there is no line, or it is not one word in hex.
+/// The bytes of the first line, and the lines after it; `None` where there is no line, or it is not
+/// one word in hex.
 fn next_stream(alloc: Global, script: &[u8]) -> Result<Option<(Blob, &[u8])>, OutOfMemory>
     ensures { IfOk result
         (λ next. option_map (λ n. (n.0, lines_of n.1.now)) next ≡
@@ -67,7 +69,8 @@ fn captured_in(alloc: Global, script: &[u8]) -> Result<Captured, OutOfMemory>
     }
 }
 
-/// Adds the report on the two streams of a script, or the first line that is not of the grammar, and returns the status.
+/// Adds the report on the two streams of a script, or which line is not of the grammar, and returns
+/// the status.
 pub fn audit_script(alloc: Global, script: &[u8], output: &mut Text) -> Result<u8, OutOfMemory>
     ensures bound { IfOk result (λ status. status < 3) }
     ensures status { IfOk result (λ status. status ≡

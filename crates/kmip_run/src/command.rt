@@ -1,6 +1,7 @@
 //! What the words of the command line ask for.
-ghost use Rattle.std.specs.Prelude.{◌≡◌, ◌∷◌, [], map, option_map, IfOk, Some};
-ghost use Rattle.kmip_run.specs.Commands.{diag_of, options_of, replay_of, explain_of, make_of, audit_of, joined_of, command_of};
+ghost use Rattle.std.specs.Prelude.{◌≡◌, option_map, IfOk, Some};
+ghost use Rattle.kmip_run.specs.Commands.{diag_of, options_of, replay_of, explain_of, make_of};
+ghost use Rattle.kmip_run.specs.Commands.{audit_of, joined_of, command_of};
 
 use kmip_wire::{OutOfMemory, Text};
 use kmip_words::{copy_text, given_after, number_of, option_given};
@@ -12,11 +13,11 @@ const MOST_EXCHANGES: u32 = 100_000;
 /// What the words after `replay` or `joined` set.
 #[derive(Drop)]
 pub struct Options {
-    /// `user=U`: the name that the requests give.
+    /// `user=U`: the user name of the credential.
     pub user: Option<Text>,
-    /// `password=P`, which stands only after `user=U`.
+    /// `password=P`: the password of the credential. It stands only after `user=U`.
     pub password: Option<Text>,
-    /// `limit=N`: the most bytes that a response may have.
+    /// `limit=N`: the most bytes that a response may have, its head counted.
     pub limit: Option<u32>,
     /// `diag`: the diagnostics of each call are shown.
     pub diag: bool,
@@ -25,19 +26,21 @@ pub struct Options {
 /// What the program is to do.
 #[derive(Drop)]
 pub enum Command {
-    /// `replay [user=U] [password=P] [limit=N] [diag]`: makes the calls of the script, over recorded responses.
+    /// `replay [user=U] [password=P] [limit=N] [diag]`: makes the calls of the script, over
+    /// recorded responses.
     Replay(Options),
     /// `explain`: expands the diagnostics of the script.
     Explain,
-    /// `make N`: makes so many exchanges from a number, and counts. It reads no script.
+    /// `make N`: makes N exchanges, at most 100,000, and counts. It reads no script.
     Make(u32),
     /// `audit`: reports on two captured streams, each one line of the script.
     Audit,
-    /// `joined`, with the options of `replay`: makes the calls of the script, over a server in memory.
+    /// `joined`, with the options of `replay`: makes the calls of the script, over a server in
+    /// memory.
     Joined(Options),
 }
 
-/// Whether the last word is `diag`, where no other is left.
+/// Whether the words left are `diag`; `None` where they are anything else.
 fn diag_of(words: &[Text]) -> Option<bool>
     ensures { result ≡ diag_of words.now }
 {
@@ -51,7 +54,7 @@ fn diag_of(words: &[Text]) -> Option<bool>
     }
 }
 
-/// Options of these values.
+/// Options with these values.
 fn options_with(
     alloc: Global,
     user: Option<&str>,
@@ -76,7 +79,7 @@ fn options_with(
     }))
 }
 
-/// The options of calls, or none where the words are not of the grammar.
+/// The options of calls; `None` where the words are not of the grammar.
 fn options_of(alloc: Global, words: &[Text]) -> Result<Option<Options>, OutOfMemory>
     ensures { IfOk result (λ options. options ≡ options_of words.now) }
 {
@@ -95,7 +98,7 @@ fn options_of(alloc: Global, words: &[Text]) -> Result<Option<Options>, OutOfMem
     }
 }
 
-/// `replay` with its options, or none where its words are not of the grammar.
+/// `replay` with its options; `None` where its words are not of the grammar.
 fn replay_of(alloc: Global, words: &[Text]) -> Result<Option<Command>, OutOfMemory>
     ensures { IfOk result (λ command. command ≡ replay_of words.now) }
 {
@@ -105,7 +108,7 @@ fn replay_of(alloc: Global, words: &[Text]) -> Result<Option<Command>, OutOfMemo
     }
 }
 
-/// `joined` with its options, or none where its words are not of the grammar.
+/// `joined` with its options; `None` where its words are not of the grammar.
 fn joined_of(alloc: Global, words: &[Text]) -> Result<Option<Command>, OutOfMemory>
     ensures { IfOk result (λ command. command ≡ joined_of words.now) }
 {
@@ -115,7 +118,7 @@ fn joined_of(alloc: Global, words: &[Text]) -> Result<Option<Command>, OutOfMemo
     }
 }
 
-/// `explain`, or none where more words follow.
+/// `explain`; `None` where more words follow.
 fn explain_of(words: &[Text]) -> Option<Command>
     ensures { result ≡ explain_of words.now }
 {
@@ -125,7 +128,7 @@ fn explain_of(words: &[Text]) -> Option<Command>
     }
 }
 
-/// `make` with the number of exchanges, or none where its words are not of the grammar.
+/// `make` with the number of exchanges; `None` where its words are not of the grammar.
 fn make_of(words: &[Text]) -> Option<Command>
     ensures { result ≡ make_of words.now }
 {
@@ -138,7 +141,7 @@ fn make_of(words: &[Text]) -> Option<Command>
     }
 }
 
-/// `audit`, or none where more words follow.
+/// `audit`; `None` where more words follow.
 fn audit_of(words: &[Text]) -> Option<Command>
     ensures { result ≡ audit_of words.now }
 {
@@ -148,7 +151,7 @@ fn audit_of(words: &[Text]) -> Option<Command>
     }
 }
 
-/// The command of the words after the program's name, or none where they are not of the grammar.
+/// The command of the words after the program's name; `None` where they are not of the grammar.
 pub fn command_of(alloc: Global, words: &[Text]) -> Result<Option<Command>, OutOfMemory>
     ensures { IfOk result (λ command. command ≡ command_of words.now) }
 {

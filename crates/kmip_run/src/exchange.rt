@@ -1,4 +1,4 @@
-//! A call over its recorded response, and what is written of it.
+//! A call over its recorded response, and the lines of its report.
 ghost use Rattle.std.specs.Prelude.{◌≡◌, ◌++◌, ◌≤◌, drop, length, codes, IfOk, OnOk};
 ghost use Rattle.hex.specs.Hex.{encode_upper};
 ghost use Rattle.kmip_words.specs.Exchange.{settings_of, step};
@@ -26,7 +26,7 @@ pub fn feed(client: &mut Client<MemoryLink>, response: &[u8]) -> Result<(), OutO
     }
 }
 
-/// How many bytes the client sent so far.
+/// How many bytes the client has sent.
 pub fn sent_len(client: &mut Client<MemoryLink>) -> usize
     ensures same { client.new ≡ client.old }
     ensures len { result ≡ length client.old.link.sent }
@@ -34,7 +34,7 @@ pub fn sent_len(client: &mut Client<MemoryLink>) -> usize
     client.inner().sent().len()
 }
 
-/// Adds what the client sent from this place on.
+/// Adds what the client sent after the first `from` bytes.
 #[tactic(auto, using(crate::proofs::Lines::rest_is))]
 fn show_sent_from(
     alloc: Global,
@@ -51,8 +51,9 @@ fn show_sent_from(
     show_sent(alloc, &client.inner().sent()[from..], output)
 }
 
-/// Feeds the recorded response of a call, makes it on the client, and adds what it sent, its diagnostics where the
-/// client keeps them, and what it answers. Says whether the answer is an error.
+/// Feeds the recorded response of a call, makes the call on the client, adds what it sent, its
+/// diagnostics where the client keeps them, and its answer, and returns whether this is an error.
+/// `diag` is whether the client keeps diagnostics.
 pub fn exchange(
     alloc: Global,
     client: &mut Client<MemoryLink>,

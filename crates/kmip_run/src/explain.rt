@@ -9,7 +9,7 @@ use kmip_wire::{OutOfMemory, Text};
 use std::alloc::Global;
 use std::str;
 
-/// The expansion of a line, or none where the line is no diagnostic.
+/// The expansion of a line; `None` where the line is no diagnostic.
 fn line_expansion(
     alloc: Global,
     printer: &PrettyPrinter,

@@ -18,8 +18,8 @@ use kmip_store::PlainMaker;
 use kmip_wire::{OutOfMemory, Text};
 use std::alloc::Global;
 
-/// Makes the calls of the lines on a client that is joined to a server, up to a line that is not of the grammar, and
-/// answers the status. `diag` says whether the client keeps diagnostics.
+/// Makes the calls of the lines on a client that is joined to a server, up to a line that is not of
+/// the grammar, and returns the status. `diag` is whether the client keeps diagnostics.
 fn joined_lines(
     alloc: Global,
     client: &mut Client<ServerLink<PlainMaker>>,
@@ -54,7 +54,8 @@ fn joined_lines(
     Ok(status)
 }
 
-/// Makes the calls of a script on a client that is joined to a server with no objects, and answers the status.
+/// Makes the calls of a script on a client that is joined to a server with no objects, and returns
+/// the status.
 pub fn run_joined(
     alloc: Global,
     options: Options,

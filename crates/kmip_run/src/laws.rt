@@ -1,4 +1,5 @@
-//! Laws over what the program stands on, each the contract of a function that does nothing, or only reads.
+//! Laws over what the program stands on, each the contract of a function that does nothing or only
+//! reads.
 
 ghost use Rattle.std.specs.Prelude.{◌≡◌, ◌↔◌, ℕ, List, Option, map, take, length, IfOk};
 ghost use Rattle.kmip_wire.specs.Bytes.{AreBytes};
@@ -25,8 +26,9 @@ use kmip_types::auth::CredentialType;
 use kmip_wire::{OutOfMemory, one_tree, parsed_ranges, tree_computed};
 use std::alloc::Global;
 
-/// Without a fault, what a session sends splits in exactly one way into texts that parse. They are, in order, the
-/// canonical messages of the valid requests whose calls were made, which are the first of the session's requests.
+/// Without a fault, what a session sends splits in exactly one way into messages that parse. They
+/// are, in order, the canonical messages of the valid requests whose calls were made, and the
+/// requests whose calls were made are the first of the session's requests.
 ///
 /// The premise `AreHeld` holds of all payloads and credentials that Rust can hold.
 pub fn sent_bytes_of_sessions()
@@ -51,8 +53,8 @@ pub fn sent_bytes_of_sessions()
     one_tree();
 }
 
-/// The request reader gives back each of a session's messages whose request is matched, as this request and with the
-/// session's credential.
+/// From each message of a session whose request is matched, the request reader reads this request
+/// and the session's credential, unless memory runs out.
 pub fn sent_requests_are_read(
     alloc: Global,
     text: &[u8],
@@ -78,7 +80,7 @@ fn known_credential(credential: &Option<CredentialType>)
     }
 }
 
-/// What the types of Rust keep of payloads and a credential.
+/// Payloads and a credential are such as Rust can hold.
 fn know_held(payloads: &[RequestPayload], credential: &Option<CredentialType>)
     ensures { AreHeld payloads.now credential.now }
 {
@@ -91,9 +93,10 @@ fn bytes_known(bytes: &[u8])
     ensures { AreBytes bytes.now }
 {}
 
-/// Two sessions whose requests are valid and whose messages parse have equal diagnostics at every call exactly where
-/// the skeletons of their requests and of their responses are equal at every call. So a diagnostic shows tags, types,
-/// nesting and the numbers of enumerations, all of them, and nothing else.
+/// Two sessions whose requests are valid and whose messages parse have equal diagnostics at every
+/// call exactly where the skeletons of their requests and of their responses are equal at every
+/// call. So a diagnostic shows all tags, types, nesting and numbers of enumerations, and nothing
+/// else.
 pub fn diagnostics_of_whole_sessions(
     payloads: &[RequestPayload],
     credential: &Option<CredentialType>,
@@ -120,9 +123,9 @@ pub fn diagnostics_of_whole_sessions(
     diagnostics_of_sessions();
 }
 
-/// What a session without a fault sent and took, each request valid and matched and each message within the limit, is
-/// reported as it was answered: both sides are whole, and the outcome of each exchange is that it was answered exactly
-/// where the answer is a payload.
+/// Where each request of a session without a fault is valid and matched, and each message within
+/// the limit, the report on what it sent and took agrees with its answers: both streams end whole,
+/// and an exchange is reported as answered exactly where the answer is a payload.
 pub fn traffic_of_sessions_is_reported(
     alloc: Global,
     sent: &[u8],

@@ -1,10 +1,10 @@
-//! The program `kmip_run`: it replays calls of a KMIP client over recorded responses, explains diagnostics, reports on
-//! captured traffic, and makes exchanges from a number.
+//! The program `kmip_run`: it makes calls of a KMIP client over recorded responses or over a server
+//! in memory, explains diagnostics, reports on captured traffic, and makes exchanges from a number.
 //!
-//! Its words say what to do, and its standard input is the script, of one call or one diagnostic a line, or of two lines
-//! of captured bytes; `make` reads none. It writes what each call sent and returned, or what each diagnostic shows, or
-//! what each captured exchange came to, or how many exchanges were made and what they come to, and ends with a status
-//! from 0 to 6, as `program::run` says.
+//! Its words say what to do. Its standard input is the script: one call or one diagnostic a line,
+//! or two lines of captured bytes; `make` reads none. It writes what each call sent and returned,
+//! what each diagnostic shows, what each captured exchange came to, or how many exchanges were made
+//! and what they came to. It ends with a status from 0 to 6, as `program::run` says.
 #![tactic(auto)]
 
 mod auditing;
@@ -29,7 +29,7 @@ use kmip_wire::{List, OutOfMemory, Text};
 use std::env;
 use std::process::ExitCode;
 
-/// The words after the program's name. There is no list of them where memory runs out, and where one is not UTF-8.
+/// The words after the program's name. `OutOfMemory` comes also where one of them is not UTF-8.
 fn given_words(rt: &HostRuntime) -> Result<List<Text>, OutOfMemory> {
     let mut words = List::new(rt.alloc());
     let Ok(args) = env::args(rt) else {

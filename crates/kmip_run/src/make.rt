@@ -1,7 +1,8 @@
 //! Exchanges that are made from a number, and what they come to.
 ghost use Rattle.std.specs.Prelude.{◌≡◌, ◌+◌, ◌<◌, ◌++◌, ◌^◌, drop, length, IfOk, OnOk};
 ghost use Rattle.kmip_words.specs.Exchange.{settings_of, step};
-ghost use Rattle.kmip_run.specs.Making.{next_of, one_ok, one_error, counts_after, made_text, MakesCall, Makes};
+ghost use Rattle.kmip_run.specs.Making.{next_of, one_ok, one_error, counts_after, made_text};
+ghost use Rattle.kmip_run.specs.Making.{MakesCall, Makes};
 ghost use Rattle.kmip_run.specs.Transcript.{counted_transcript, Replays};
 
 use crate::exchange::{feed, sent_len};
@@ -13,8 +14,8 @@ use kmip_wire::{OutOfMemory, Text};
 use kmip_words::{Recorded, answer};
 use std::alloc::Global;
 
-/// How many answers were payloads and errors, and how many bytes were taken: a sum of lengths of lists in memory,
-/// which needs no bound on a response to fit.
+/// How many answers were payloads and how many errors, and how many bytes were taken: that sum of
+/// lengths of lists in memory fits into 128 bits, however long each response is.
 #[derive(Clone, Copy)]
 struct Tally {
     ok: u32,
@@ -22,7 +23,7 @@ struct Tally {
     taken: u128,
 }
 
-/// The number after this one.
+/// The number after this one, in the sequence from which exchanges are made.
 #[tactic(auto, using(crate::proofs::Makes::next_is))]
 fn next_of(x: u64) -> u64
     ensures { result ≡ next_of x }
@@ -39,8 +40,8 @@ fn left_len(client: &mut Client<MemoryLink>) -> usize
     client.inner().rest().len()
 }
 
-/// Feeds the response of a call, and makes it. Says whether the answer is an error, and how many bytes it took. `line`
-/// is room for the line of the answer, in place of what it holds.
+/// Feeds the response of a call, makes the call, and returns whether the answer is an error, and
+/// how many bytes it took. `line` is room for the line of the answer: what it holds is lost.
 fn make_call(
     alloc: Global,
     client: &mut Client<MemoryLink>,
@@ -60,7 +61,7 @@ fn make_call(
     Ok((ending.is_failure(), before - left_len(client)))
 }
 
-/// One exchange more.
+/// The tally with one exchange more.
 fn count_exchange(tally: Tally, failed: bool, taken: usize) -> Tally
     requires ok { tally.ok + 1 < 2 ^ 32 }
     requires errors { tally.errors + 1 < 2 ^ 32 }
@@ -85,7 +86,7 @@ fn count_exchange(tally: Tally, failed: bool, taken: usize) -> Tally
     }
 }
 
-/// Makes so many exchanges, of the numbers after 1.
+/// Makes `count` exchanges, from the numbers after 1, and counts.
 fn make_calls(
     alloc: Global,
     client: &mut Client<MemoryLink>,
@@ -133,7 +134,7 @@ fn show_tally(
     output.push_str(text.as_str())
 }
 
-/// Makes so many exchanges, adds what they come to as five lines, and returns the status.
+/// Makes `count` exchanges, adds what they came to as five lines, and returns the status.
 pub fn make(
     alloc: Global,
     client: &mut Client<MemoryLink>,

@@ -99,7 +99,7 @@ const MANY: &[Row] = &[
     },
 ];
 
-/// Whether the program answers each row as it says.
+/// The program writes for each row what the row says, and ends with its status.
 fn rows_hold(rt: &impl Abort, alloc: Global, rows: &[Row]) -> Result<(), Fail> {
     for row in rows {
         let words = list_of(alloc, row.words)?;
@@ -159,8 +159,8 @@ fn pieces_of_seven_give_the_same(rt: HostRuntime) -> Result<(), Fail> {
     one_is_made(&rt, rt.alloc(), &[7])
 }
 
-/// Runs the program on `make 4`, where the source fails at its first read and these writes fail: its status, and
-/// how many bytes it wrote.
+/// Runs the program on `make 4`, where the source fails at its first read and these writes fail:
+/// its status, and how many bytes it wrote.
 fn made_over_faults(alloc: Global, writes: &[u64]) -> Result<(u8, usize), Fail> {
     let words = list_of(alloc, &["make", "4"])?;
     let mut source = MemorySource::new(alloc, b"query -\n", &[0])?;

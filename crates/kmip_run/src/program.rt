@@ -1,12 +1,15 @@
 //! The program.
-ghost use Rattle.std.specs.Prelude.{◌≡◌, ◌≢◌, ◌+◌, ◌<◌, ◌≤◌, ◌++◌, ◌⊎◌, [], min, length, drop, codes, false, true, None, Some, IsTrue, IfOk};
+ghost use Rattle.std.specs.Prelude.{◌≡◌, ◌≢◌, ◌+◌, ◌<◌, ◌≤◌, ◌++◌, ◌⊎◌, [], length, drop, codes};
+ghost use Rattle.std.specs.Prelude.{false, true, None, Some, IsTrue, IfOk};
 ghost use Rattle.kmip_link.specs.State.{SourceKeeps, SinkKeeps, Rose, source_left};
 ghost use Rattle.kmip_run.specs.Script.{lines_of};
 ghost use Rattle.kmip_run.specs.Commands.{command_of};
 ghost use Rattle.kmip_run.specs.Setup.{settings_for};
 ghost use Rattle.kmip_words.specs.Streams.{WrotePart};
 ghost use Rattle.kmip_run.specs.Making.{counts_after, made_settings};
-ghost use Rattle.kmip_run.specs.Transcript.{most_script, reads_script, read_by, makes_calls, replay_from, counted_transcript, lines_transcript, script_transcript, transcript, IsOfGrammar, Replays};
+ghost use Rattle.kmip_run.specs.Transcript.{most_script, reads_script, read_by, makes_calls};
+ghost use Rattle.kmip_run.specs.Transcript.{replay_from, counted_transcript, lines_transcript};
+ghost use Rattle.kmip_run.specs.Transcript.{script_transcript, transcript, IsOfGrammar, Replays};
 
 use crate::auditing::audit_script;
 use crate::command::{Command, Options, command_of};
@@ -22,10 +25,11 @@ use kmip_words::{read_up_to, write_out};
 use std::alloc::Global;
 use std::mem;
 
-/// The longest script, in bytes.
+/// The most bytes that a script may have.
 const MAX_SCRIPT: usize = 16_777_216;
 
-/// Writes the whole text, and returns the status, or that of a failed write.
+/// Writes the whole text, and returns the status: 4 where the sink failed, and 5 where memory ran
+/// out.
 fn finish<K: Sink>(sink: &mut K, text: &str, status: u8) -> u8
     requires { status < 3 }
     ensures keeps { SinkKeeps (K.state sink.old) (K.state sink.new) }
@@ -72,7 +76,7 @@ fn replay_on(
     status
 }
 
-/// Makes so many exchanges on the link: moves it into a client, and back.
+/// Makes `count` exchanges on the link: moves it into a client, and back.
 fn make_on(
     alloc: Global,
     count: u32,
@@ -209,14 +213,19 @@ fn run_script<S: Source, K: Sink>(
 
 /// Runs the program on the words after its name, and returns its status.
 ///
-/// 0: each line was answered, or explained, or the exchanges were made. 1: some line answered an error. 2: the words,
-/// or a line, are not of the grammar. 3: the source failed, and nothing is written. 4: the sink failed, and a first
-/// part of the text is written. 5: memory ran out, and a first part of the text is written. 6: the script is longer
-/// than 16,777,216 bytes, and nothing is written.
+/// - 0: each call of the lines returned a payload, or each line was explained, or the report was
+///   written, or the exchanges were made.
+/// - 1: some call returned an error.
+/// - 2: the words, or a line, are not of the grammar.
+/// - 3: the source failed, and nothing was written.
+/// - 4: the sink failed, and a part of the text was written.
+/// - 5: memory ran out, and a part of the text, which may be none of it, was written.
+/// - 6: the script is longer than 16,777,216 bytes, and nothing was written.
 ///
-/// The link gets the responses and keeps what was sent. Where the words are not of the grammar or do not ask for
-/// calls, and after 3 and 6, it is as it was; after 4 and 5 under `replay` and `make` nothing is said of it. Words
-/// that are not of the grammar, and `make`, leave the source as it is.
+/// The link is fed the responses and keeps what was sent. Where the words are not of the grammar,
+/// or their command makes no calls over it, and after 3 and 6, it is as it was; after 4 and 5 under
+/// `replay` and `make` nothing is said of it. Words that are not of the grammar, and `make`, leave
+/// the source as it was.
 pub fn run<S: Source, K: Sink>(
     alloc: Global,
     words: &List<Text>,

@@ -20,8 +20,8 @@ pub fn status_after(status: u8, failed: bool) -> u8
     if failed { 1 } else { status }
 }
 
-/// Makes the calls of the lines, up to a line that is not of the grammar, and returns the status. `diag` says
-/// whether the client keeps diagnostics.
+/// Makes the calls of the lines, up to a line that is not of the grammar, and returns the status.
+/// `diag` is whether the client keeps diagnostics.
 pub fn replay(
     alloc: Global,
     client: &mut Client<MemoryLink>,

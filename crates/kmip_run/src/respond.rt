@@ -1,9 +1,11 @@
-//! The exchanges that `make` makes of a number: a call, and the response to it.
-ghost use Rattle.std.specs.Prelude.{◌≡◌, ◌∷◌, [], ◌<◌, ◌^◌, replicate, IfOk};
+//! The exchange that `make` makes from a number: a call, and the response to it.
+ghost use Rattle.std.specs.Prelude.{◌≡◌, ◌∷◌, [], ◌<◌, ◌^◌, IfOk};
 ghost use Rattle.kmip_wire.specs.Sees.{tree_of_node};
 ghost use Rattle.kmip_wire.specs.Bytes.{bytes};
 ghost use Rattle.kmip_words.specs.Exchange.{or_empty};
-ghost use Rattle.kmip_run.specs.Making.{version_tree, head_tree, response_tree, operation_tree, done_trees, gone_trees, random_made, activated_made, queried_made, destroyed_made, made_of};
+ghost use Rattle.kmip_run.specs.Making.{version_tree, head_tree, response_tree, operation_tree};
+ghost use Rattle.kmip_run.specs.Making.{done_trees, gone_trees, random_made, activated_made};
+ghost use Rattle.kmip_run.specs.Making.{queried_made, destroyed_made, made_of};
 
 use itoa::Buffer;
 use kmip_enums::{Operation, ResultReason, ResultStatus};
@@ -35,7 +37,7 @@ fn one(alloc: Global, item: Tree) -> Result<Trees, OutOfMemory>
     Ok(Trees::of_vec(vec![in alloc; item]?))
 }
 
-/// The version 1 of KMIP with this minor number.
+/// The version 1 of KMIP with this minor version (KMIP 1.0, 6.1).
 fn version(alloc: Global, minor: i32) -> Result<Tree, OutOfMemory>
     ensures { IfOk result (λ tree. tree ≡ version_tree minor) }
 {
@@ -46,7 +48,7 @@ fn version(alloc: Global, minor: i32) -> Result<Tree, OutOfMemory>
     Ok(item(PROTOCOL_VERSION, Node::Structure(Trees::of_vec(items))))
 }
 
-/// The header of a response: its version, the time stamp 1, and that it has one batch item.
+/// The header of a response: its version, the time stamp 1, and the batch count 1 (KMIP 1.0, 7.2).
 fn head(alloc: Global, minor: i32) -> Result<Tree, OutOfMemory>
     ensures { IfOk result (λ tree. tree ≡ head_tree minor) }
 {
@@ -59,7 +61,7 @@ fn head(alloc: Global, minor: i32) -> Result<Tree, OutOfMemory>
     Ok(item(RESPONSE_HEADER, Node::Structure(Trees::of_vec(items))))
 }
 
-/// The canonical bytes of a tree, which has such.
+/// The canonical bytes of a tree; none of them where it has no wire form.
 fn tree_bytes(alloc: Global, tree: &Tree) -> Result<Blob, OutOfMemory>
     ensures { IfOk result (λ written. written ≡ or_empty (bytes tree.now)) }
 {
@@ -82,7 +84,7 @@ fn response(alloc: Global, minor: i32, fields: Trees) -> Result<Blob, OutOfMemor
     )
 }
 
-/// The item of an operation.
+/// The item with an Operation (KMIP 1.0, 6.2).
 fn operation_item(operation: Operation) -> Tree
     ensures { result ≡ operation_tree operation }
 {
@@ -124,7 +126,7 @@ fn gone(alloc: Global, operation: Operation) -> Result<Trees, OutOfMemory>
     Ok(Trees::of_vec(fields))
 }
 
-/// `rng` of so many bytes, each of which is this one.
+/// The exchange of `rng` with `count` bytes, each of them `byte`.
 fn random(alloc: Global, count: u8, byte: u8) -> Result<Recorded, OutOfMemory>
     ensures { IfOk result (λ made. made ≡ random_made count byte) }
 {
@@ -141,7 +143,7 @@ fn random(alloc: Global, count: u8, byte: u8) -> Result<Recorded, OutOfMemory>
     Ok(Recorded { call, response })
 }
 
-/// `activate` of this key.
+/// The exchange of `activate` for this key.
 fn activate_exchange(alloc: Global, id: &str) -> Result<Recorded, OutOfMemory>
     ensures { IfOk result (λ made. made ≡ activated_made id.now) }
 {
@@ -160,7 +162,7 @@ fn activate_exchange(alloc: Global, id: &str) -> Result<Recorded, OutOfMemory>
     Ok(Recorded { call, response })
 }
 
-/// `query` of a server that knows Create and Query.
+/// The exchange of `query` with a server that has Create and Query.
 fn query_exchange(alloc: Global) -> Result<Recorded, OutOfMemory>
     ensures { IfOk result (λ made. made ≡ queried_made) }
 {
@@ -176,7 +178,7 @@ fn query_exchange(alloc: Global) -> Result<Recorded, OutOfMemory>
     })
 }
 
-/// `destroy` of this key, which is not found.
+/// The exchange of `destroy` for this key, which is not found.
 fn destroy_exchange(alloc: Global, id: &str) -> Result<Recorded, OutOfMemory>
     ensures { IfOk result (λ made. made ≡ destroyed_made id.now) }
 {
@@ -187,7 +189,8 @@ fn destroy_exchange(alloc: Global, id: &str) -> Result<Recorded, OutOfMemory>
     Ok(Recorded { call, response })
 }
 
-/// The exchange that is made of a number: two of its bits choose the call, and those above them its argument.
+/// The exchange that is made from a number: the bits 32 and 33 choose the call, and those above
+/// them its argument.
 #[tactic(auto, unfolding(crate::specs::Making::made_of))]
 pub fn exchange_of(alloc: Global, x: u64) -> Result<Recorded, OutOfMemory>
     ensures { IfOk result (λ made. made ≡ made_of x) }

@@ -6,7 +6,7 @@ ghost use Rattle.kmip_run.specs.Script.{lines_of};
 use kmip_wire::{OutOfMemory, Text};
 use std::alloc::Global;
 
-/// The first line of a script that is not empty, without its line feed, and what follows it.
+/// The first line of a script, without its line feed, and what follows it. The script is not empty.
 pub fn first_line(script: &[u8]) -> (&[u8], &[u8])
     requires { 0 < length script.now }
     ensures lines { lines_of script.now ≡ result.0.now ∷ lines_of result.1.now }
@@ -18,7 +18,7 @@ pub fn first_line(script: &[u8]) -> (&[u8], &[u8])
     }
 }
 
-/// Adds that the line with this number is not of the grammar.
+/// Adds the line that says which line, counted from 1, is not of the grammar.
 pub fn show_bad_line(alloc: Global, number: usize, output: &mut Text) -> Result<(), OutOfMemory>
     ensures { OnOk result
         (output.new ≡ output.old ++ (codes "! line " ++ (decimal number ++ codes "\n"))) }

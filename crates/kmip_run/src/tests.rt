@@ -639,7 +639,7 @@ pub(crate) fn list_of(alloc: Global, words: &[&str]) -> Result<List<Text>, Fail>
     Ok(list)
 }
 
-/// Whether the program answers each row as it says.
+/// The program writes for each row what the row says, and ends with its status.
 fn rows_hold(rt: &impl Abort, alloc: Global, rows: &[Row]) -> Result<(), Fail> {
     for row in rows {
         let words = list_of(alloc, row.words)?;
@@ -693,7 +693,7 @@ fn false_lengths_and_pads_are_met(rt: HostRuntime) -> Result<(), Fail> {
     rows_hold(&rt, rt.alloc(), hostile::HOSTILE)
 }
 
-/// That the program answers this response in hex as one that ended too early.
+/// The program reports this response, in hex, as one that ends too early.
 fn is_cut(rt: &impl Abort, alloc: Global, response: &[u8]) -> Result<(), Fail> {
     let mut script = Vec::new(alloc);
     script.extend_from_slice(b"rng 16 ")?;
@@ -709,7 +709,7 @@ fn is_cut(rt: &impl Abort, alloc: Global, response: &[u8]) -> Result<(), Fail> {
     Ok(())
 }
 
-/// The same of each part of it, from its first byte on.
+/// The same for each front of it.
 fn parts_are_cut(rt: &impl Abort, alloc: Global, response: &[u8]) -> Result<(), Fail> {
     let mut part = Vec::new(alloc);
     for digits in response.chunks(2) {

@@ -17,7 +17,7 @@ use std::alloc::Global;
 pub struct AttributeName(pub Text);
 
 impl AttributeName {
-    /// Whether it is this name.
+    /// Whether the name is `other`.
     pub fn is(&self, other: &str) -> bool
         ensures { Decides result (self.now.0 ≡ other.now) }
     {

@@ -4,14 +4,15 @@ ghost use Rattle.std.specs.Prelude.{◌≡◌};
 ghost use Rattle.std.specs.Bool.{Decides};
 ghost use Rattle.kmip_wire.specs.declared.kind.Kind.TheVariants.{ByteString};
 ghost use Rattle.kmip_shape.specs.Shape.{Scalar};
-ghost use Rattle.kmip_scalars.specs.ByteStrings.{data_val, data_same, unique_batch_item_id_val, unique_batch_item_id_same};
+ghost use Rattle.kmip_scalars.specs.ByteStrings.{data_val, data_same, unique_batch_item_id_val};
+ghost use Rattle.kmip_scalars.specs.ByteStrings.{unique_batch_item_id_same};
 
 use kmip_shape::read::{Outer, ReadError, ReadItem};
 use kmip_shape::{Item, ShowItem, TextWriter, WriteItem};
 use kmip_wire::{Blob, Buffer, ItemRef, OutOfMemory, Tag, TryClone};
 use std::alloc::Global;
 
-/// What an operation works on or gives: KMIP 1.2, 4.31.
+/// The data that an operation takes or returns: KMIP 1.2, 4.31 and 4.35.
 #[derive(PartialEq, Eq, Drop)]
 pub struct Data(pub Blob);
 
@@ -60,7 +61,7 @@ impl ShowItem for Data {
 pub struct UniqueBatchItemID(pub Blob);
 
 impl UniqueBatchItemID {
-    /// Whether it is these bytes.
+    /// Whether the identifier is `other`.
     pub fn is(&self, other: &[u8]) -> bool
         ensures { Decides result (self.now.0 ≡ other.now) }
     {

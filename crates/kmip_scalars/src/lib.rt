@@ -1,6 +1,6 @@
-//! The types of one field: names and identifiers, numbers, parameters and bytes.
+//! The types that wrap one value: names and identifiers, numbers, parameters and bytes.
 //!
-//! Each stands in one item and is read, written and shown as the value in it.
+//! Each is one item, and is read, written and shown as the value that it wraps.
 #![tactic(auto)]
 
 mod attribute_name;

@@ -4,19 +4,23 @@ ghost use Rattle.std.specs.Prelude.{◌≡◌};
 ghost use Rattle.std.specs.Bool.{Decides};
 ghost use Rattle.kmip_wire.specs.declared.kind.Kind.TheVariants.{DateTime, Integer};
 ghost use Rattle.kmip_shape.specs.Shape.{Scalar};
-ghost use Rattle.kmip_scalars.specs.Numbers.{attribute_index_val, attribute_index_same, data_length_val, data_length_same, cryptographic_length_val, cryptographic_length_same, compromise_occurrence_date_val, compromise_occurrence_date_same};
+ghost use Rattle.kmip_scalars.specs.Numbers.{attribute_index_val, attribute_index_same};
+ghost use Rattle.kmip_scalars.specs.Numbers.{data_length_val, data_length_same};
+ghost use Rattle.kmip_scalars.specs.Numbers.{cryptographic_length_val, cryptographic_length_same};
+ghost use Rattle.kmip_scalars.specs.Numbers.{compromise_occurrence_date_val};
+ghost use Rattle.kmip_scalars.specs.Numbers.{compromise_occurrence_date_same};
 
 use kmip_shape::read::{Outer, ReadError, ReadItem};
 use kmip_shape::{Item, ShowItem, TextWriter, WriteItem};
 use kmip_wire::{Buffer, ItemRef, Tag};
 use std::alloc::Global;
 
-/// Which of the attributes of one name, from 0: KMIP 1.0, 2.1.1.
+/// Which instance of the attributes of one name, counted from 0: KMIP 1.0, 2.1.1.
 #[derive(Clone, Copy, PartialEq, Eq, Drop)]
 pub struct AttributeIndex(pub i32);
 
 impl AttributeIndex {
-    /// Whether it is this index.
+    /// Whether the index is `other`.
     pub fn is(&self, other: i32) -> bool
         ensures { Decides result (self.now.0 ≡ other) }
     {
@@ -58,7 +62,7 @@ impl ShowItem for AttributeIndex {
     }
 }
 
-/// How many bytes are asked for: KMIP 1.2, 4.35.
+/// How many random bytes are asked for: KMIP 1.2, 4.35.
 #[derive(Clone, Copy, PartialEq, Eq, Drop)]
 pub struct DataLength(pub i32);
 
@@ -134,7 +138,9 @@ impl ShowItem for CryptographicLength {
     }
 }
 
-/// When an object was first compromised, in seconds from 1970 on: KMIP 1.0, 3.24.
+/// When an object is thought to have been first compromised: KMIP 1.0, 3.24.
+///
+/// In seconds since 1970-01-01 UTC, a negative number as its 64 bits in two's complement.
 #[derive(Clone, Copy, PartialEq, Eq, Drop)]
 pub struct CompromiseOccurrenceDate(pub u64);
 

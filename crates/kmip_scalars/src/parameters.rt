@@ -2,14 +2,20 @@
 
 ghost use Rattle.kmip_wire.specs.declared.kind.Kind.TheVariants.{Boolean, Integer};
 ghost use Rattle.kmip_shape.specs.Shape.{Scalar};
-ghost use Rattle.kmip_scalars.specs.Parameters.{random_iv_val, random_iv_same, iv_length_val, iv_length_same, tag_length_val, tag_length_same, fixed_field_length_val, fixed_field_length_same, invocation_field_length_val, invocation_field_length_same, counter_length_val, counter_length_same, initial_counter_value_val, initial_counter_value_same};
+ghost use Rattle.kmip_scalars.specs.Parameters.{random_iv_val, random_iv_same, iv_length_val};
+ghost use Rattle.kmip_scalars.specs.Parameters.{iv_length_same, tag_length_val, tag_length_same};
+ghost use Rattle.kmip_scalars.specs.Parameters.{fixed_field_length_val, fixed_field_length_same};
+ghost use Rattle.kmip_scalars.specs.Parameters.{invocation_field_length_val};
+ghost use Rattle.kmip_scalars.specs.Parameters.{invocation_field_length_same, counter_length_val};
+ghost use Rattle.kmip_scalars.specs.Parameters.{counter_length_same, initial_counter_value_val};
+ghost use Rattle.kmip_scalars.specs.Parameters.{initial_counter_value_same};
 
 use kmip_shape::read::{Outer, ReadError, ReadItem};
 use kmip_shape::{Item, ShowItem, TextWriter, WriteItem};
 use kmip_wire::{Buffer, ItemRef, Tag};
 use std::alloc::Global;
 
-/// Whether the server makes the initialization vector: KMIP 1.2, 3.6.
+/// Whether the server is asked to make the initialization vector: KMIP 1.2, 3.6.
 #[derive(Clone, Copy, PartialEq, Eq, Drop)]
 pub struct RandomIV(pub bool);
 
@@ -237,7 +243,7 @@ impl ShowItem for CounterLength {
     }
 }
 
-/// Where the counter begins: KMIP 1.2, 3.6.
+/// The first value of the counter: KMIP 1.2, 3.6.
 #[derive(Clone, Copy, PartialEq, Eq, Drop)]
 pub struct InitialCounterValue(pub i32);
 

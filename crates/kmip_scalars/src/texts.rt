@@ -4,7 +4,12 @@ ghost use Rattle.std.specs.Prelude.{◌≡◌, Some};
 ghost use Rattle.std.specs.Bool.{Decides};
 ghost use Rattle.kmip_wire.specs.declared.kind.Kind.TheVariants.{TextString};
 ghost use Rattle.kmip_shape.specs.Shape.{Scalar};
-ghost use Rattle.kmip_scalars.specs.Texts.{unique_identifier_val, unique_identifier_same, name_value_val, name_value_same, revocation_message_val, revocation_message_same, linked_object_identifier_val, linked_object_identifier_same, application_namespace_val, application_namespace_same, application_data_val, application_data_same};
+ghost use Rattle.kmip_scalars.specs.Texts.{unique_identifier_val, unique_identifier_same};
+ghost use Rattle.kmip_scalars.specs.Texts.{name_value_val, name_value_same, revocation_message_val};
+ghost use Rattle.kmip_scalars.specs.Texts.{revocation_message_same, linked_object_identifier_val};
+ghost use Rattle.kmip_scalars.specs.Texts.{linked_object_identifier_same};
+ghost use Rattle.kmip_scalars.specs.Texts.{application_namespace_val, application_namespace_same};
+ghost use Rattle.kmip_scalars.specs.Texts.{application_data_val, application_data_same};
 
 use kmip_shape::read::{Outer, ReadError, ReadItem};
 use kmip_shape::{Item, ShowItem, TextWriter, WriteItem};
@@ -17,14 +22,14 @@ use std::fmt::{self, Display, Formatter, Write};
 pub struct UniqueIdentifier(pub Text);
 
 impl UniqueIdentifier {
-    /// Its text.
+    /// The text of the identifier.
     pub fn as_str(&self) -> &str
         ensures { result.now ≡ self.now.0 }
     {
         self.0.as_str()
     }
 
-    /// Whether it is this identifier.
+    /// Whether the identifier is `other`.
     pub fn is(&self, other: &str) -> bool
         ensures { Decides result (self.now.0 ≡ other.now) }
     {
@@ -124,7 +129,7 @@ impl ShowItem for NameValue {
     }
 }
 
-/// What is said beside the reason for a revocation: KMIP 1.0, 3.26.
+/// The message that goes with the reason for a revocation: KMIP 1.0, 3.26.
 #[derive(PartialEq, Eq, Drop)]
 pub struct RevocationMessage(pub Text);
 
@@ -212,7 +217,7 @@ impl ShowItem for LinkedObjectIdentifier {
     }
 }
 
-/// The application, or the kind of application, that keeps data with an object: KMIP 1.0, 3.30.
+/// The namespace of the application that keeps data with an object: KMIP 1.0, 3.30.
 #[derive(PartialEq, Eq, Drop)]
 pub struct ApplicationNamespace(pub Text);
 
@@ -256,7 +261,7 @@ impl ShowItem for ApplicationNamespace {
     }
 }
 
-/// What an application keeps with an object: KMIP 1.0, 3.30.
+/// The data that an application keeps with an object: KMIP 1.0, 3.30.
 #[derive(PartialEq, Eq, Drop)]
 pub struct ApplicationData(pub Text);
 

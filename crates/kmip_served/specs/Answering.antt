@@ -1,4 +1,4 @@
--- What a server answered, and what it did to its objects and its maker.
+-- What a server returned, and what it did to its objects and its maker.
 use Rattle.std.specs.Prelude.{◌≡◌, ℕ, ℤ, Bool, cond, List, [], ◌∷◌, ◌++◌, true, Option, Some, None, Result, Ok, Err, IsTrue}
 use Rattle.std.specs.Option.{option_map}
 use Rattle.kmip_wire.specs.declared.error.WireError.{WireError}
@@ -22,18 +22,20 @@ abbrev pub list_of_option : {T : Type 0} → Option T → List T
 list_of_option None = []
 list_of_option (Some x) = x ∷ []
 
--- a maker's lists grew by the question, and by the answer to it, where there is one
-pub record Took (question : Option Asked) (made : Option Made) (before after : MakerState) : Type 0 where
+-- the lists of a maker grew by the question, where there is one, and by the answer to it
+pub record Took (question : Option Asked) (made : Option Made) (before after : MakerState) : Type
+    0 where
   pub asked : after.asked ≡ before.asked ++ list_of_option question
   pub given : after.given ≡ before.given ++ list_of_option made
 
--- The answer is one to the question: there is one exactly where there is a question, of the question's kind or a
--- refusal. A maker that tells was asked the question and gave the answer, and nothing else.
-pub record IsGiven (question : Option Asked) (made : Option Made) (before after : MakerState) : Type 0 where
+-- There is an answer exactly where there is a question, of the question's kind or a refusal. A
+-- maker that tells was asked this question and gave this answer, and nothing else.
+pub record IsGiven (question : Option Asked) (made : Option Made) (before after : MakerState) : Type
+    0 where
   pub suits_it : suits question made ≡ true
   pub took : IsTrue before.tells → Took question made before after
 
--- what a writer of responses answered
+-- what writing a response returned
 abbrev pub IsWritten : ResponseMessage → Result (List ℕ) WireError → Type 0
 IsWritten message (Ok bytes) = IsHeld message × (response_bytes message ≡ Some bytes)
 IsWritten message (Err NoForm) = response_bytes message ≡ None
@@ -44,10 +46,12 @@ IsWritten message (Err OutOfMemory) = Unit {0}
 abbrev pub IsTold : ℤ → BatchItem → List ℕ → Type 0
 IsTold time item bytes = IsWritten (message_with time item) (Ok bytes)
 
--- The maker was asked the question and gave an answer, and with that answer what is served was told and done; or the
--- message has no wire form, and the objects stay; or memory ran out, and the objects stay.
+-- The maker was asked the question and gave an answer, and what is served with that answer was
+-- done, and returned as bytes; or the message has no wire form, and the objects stay; or memory ran
+-- out, and the objects stay.
 pub data AnswersBy (question : Option Asked) (serve : Option Made → Served) (objects : List Object)
-    (before after : MakerState) (new : List Object) (result : Result (List ℕ) WireError) : Type 0 where
+    (before after : MakerState) (new : List Object) (result : Result (List ℕ) WireError) : Type
+    0 where
   answered : (made : Option Made) (bytes : List ℕ) → IsGiven question made before after →
       IsHeld (serve made).message → response_bytes (serve made).message ≡ Some bytes →
       result ≡ Ok bytes → new ≡ (serve made).objects →
@@ -71,14 +75,15 @@ abbrev pub answer_of : {T : Type 0} → (T → Answer) → Result T StoreError �
 answer_of answer (Ok x) = Some (answer x)
 answer_of answer (Err error) = refusal_of error
 
--- the item tells what a call of the store answered
+-- the item reports what a call of the store returned
 abbrev pub Tells : {T : Type 0} → (T → Answer) → Call → Result T StoreError → BatchItem → Type 0
 Tells answer call result item = option_map (item_for call) (answer_of answer result) ≡ Some item
 
 -- ---- a helper's call
 
--- what a server answered to the request of a helper's call
-abbrev pub Serves : Call → ℤ → List Object → MakerState → MakerState → List Object → Result (List ℕ) WireError → Type 0
+-- what a server returned for the request of a helper's call, and did
+abbrev pub Serves : Call → ℤ → List Object → MakerState → MakerState → List Object →
+    Result (List ℕ) WireError → Type 0
 Serves call time objects before after new result = AnswersBy (question objects call)
     (λ made. served_call objects call made time) objects before after new result
 
@@ -87,18 +92,21 @@ abbrev pub ServesAlone : Call → ℤ → List Object → List Object → Result
 ServesAlone call time objects new result =
     (maker : MakerState) → Serves call time objects maker maker new result
 
--- what a store answers to a call that changes an object, by whether it has the object, and its state allows the call
+-- the store's answer to a call that changes an object, by whether it has the object, and whether
+-- the state of the object allows the call
 abbrev pub change_answer : (Object → Bool) → Option Object → Answer
 change_answer allows None = NotFound
 change_answer allows (Some object) = cond (allows object) Done Denied
 
--- the response, unless the store lacked memory for what it tells
+-- the response, unless the store ran out of memory for what it reports
 abbrev pub response_of : Result (Unit {0}) StoreError → List ℕ → Result (List ℕ) WireError
 response_of (Err errors.OutOfMemory) response = Err OutOfMemory
 response_of _ response = Ok response
 
--- of the response that tells of a pair and the one that refuses it, the one that the store's answer wants
-abbrev pub response_of_pair : Result (List ℕ × List ℕ) StoreError → List ℕ → List ℕ → Result (List ℕ) WireError
+-- of two responses, one that reports a pair and one that refuses it, that which reports the store's
+-- result
+abbrev pub response_of_pair : Result (List ℕ × List ℕ) StoreError → List ℕ → List ℕ →
+    Result (List ℕ) WireError
 response_of_pair (Ok pair) made refused = Ok made
 response_of_pair (Err errors.CryptographicFailure) made refused = Ok refused
 response_of_pair (Err _) made refused = Err OutOfMemory

@@ -1,4 +1,4 @@
--- The batch items and the message that tell what a call came to (KMIP 1.0, 7.1 and 7.2).
+-- The batch items and the message that report what a call came to (KMIP 1.0, 7.1 and 7.2).
 use Rattle.std.specs.Prelude.{ℕ, ℤ, pos, cond, List, [], ◌∷◌, Option, Some, None, codes}
 use Rattle.kmip_enums.specs.declared.operation.Operation.{Operation}
 use Rattle.kmip_enums.specs.declared.object_type.ObjectType.{ObjectType}
@@ -27,11 +27,11 @@ use Rattle.kmip_served.specs.Requests.{call_operation}
 
 -- ---- payloads
 
--- an object is told as a public key, or else as a private key
+-- an object is returned as a public key, or else as a private key (KMIP 1.0, 3.3)
 abbrev pub key_type : Object → ObjectType
 key_type object = cond (is_public object.object_type) types.PublicKey types.PrivateKey
 
--- the key in PKCS #1, of RSA (KMIP 1.0, 2.1.3)
+-- the key block of an RSA key in PKCS#1 (KMIP 1.0, 2.1.3)
 abbrev pub key_block_of : Object → KeyBlock
 key_block_of object = record {
   key_format_type = KeyFormatType.PKCS1;
@@ -55,7 +55,7 @@ name_attribute name = record {
   value = values.Name (record { 0 = name }) UninterpretedTextString;
 }
 
--- what a call that was done answers; none where the call never answers so
+-- the payload for the answer to a call; none where the call never has such an answer
 abbrev pub payload_for : Call → Answer → Option ResponsePayload
 payload_for Query (Supports operations object_types) = Some (ResponsePayload.Query (record {
   operations = Some operations;
@@ -116,7 +116,7 @@ done_item operation payload = record {
   message_extension = None;
 }
 
--- the item that tells a call's answer
+-- the item that reports the answer to a call
 abbrev pub item_for : Call → Answer → BatchItem
 item_for call NotFound =
     failed_item (Some (call_operation call)) reasons.ItemNotFound (codes "no such object")
@@ -126,11 +126,11 @@ item_for call Failed =
     failed_item (Some (call_operation call)) reasons.CryptographicFailure (codes "maker failed")
 item_for call answer = done_item (call_operation call) (payload_for call answer)
 
--- the items of a pair, which tell nothing of what was asked for
+-- the items for a new pair, which are the same whatever length and names were asked for
 abbrev pub pair_item : Answer → BatchItem
 pair_item answer = item_for (CreateRsaKeyPair (pos 0) [] []) answer
 
--- the item that refuses bytes that are no request
+-- the item that refuses bytes that are no request of a client
 abbrev pub invalid_item : BatchItem
 invalid_item = failed_item None reasons.InvalidMessage (codes "invalid message")
 
@@ -139,19 +139,19 @@ abbrev pub unsupported_item : Operation → BatchItem
 unsupported_item operation = failed_item (Some operation) reasons.OperationNotSupported
     (codes "operation not supported")
 
--- the item that refuses a request of a helper's operation that the helper does not make
+-- the item that refuses a request that no helper makes, of an operation that a helper has
 abbrev pub unhelped_item : Operation → BatchItem
 unhelped_item operation =
     failed_item (Some operation) reasons.InvalidField (codes "not a helper request")
 
 -- ---- the message
 
--- the minor number of the version of KMIP 1 in which an operation is asked and answered
+-- the minor version of KMIP 1 that the messages of an operation carry (KMIP 1.0, 6.1)
 abbrev pub minor_of : Option Operation → ℕ
 minor_of None = 0
 minor_of (Some operation) = minor_for operation
 
--- a message of this time with one item
+-- a message with this time stamp and one item (KMIP 1.0, 7.1)
 abbrev pub message_with : ℤ → BatchItem → ResponseMessage
 message_with time item = record {
   header = record {

@@ -1,4 +1,5 @@
--- What a payload says where the arguments of a helper stand; where one is missing, any other is said.
+-- What a payload has at the places of the arguments of a helper; where it has none, an arbitrary
+-- value.
 use Rattle.std.specs.Prelude.{ℕ, ℤ, pos, List, [], ◌∷◌, Option, Some, None}
 use Rattle.kmip_types.specs.TheUniqueIdentifier.{UniqueIdentifier}
 use Rattle.kmip_types.specs.declared.attribute_value.AttributeValue.{AttributeValue}
@@ -24,12 +25,12 @@ abbrev pub value_number : AttributeValue → ℤ
 value_number (values.Integer z) = z
 value_number _ = pos 0
 
--- the name that stands first
+-- the name in the first attribute
 abbrev pub first_name : Option (List Attribute) → List ℕ
 first_name (Some (attribute ∷ attributes)) = value_name attribute.2
 first_name _ = []
 
--- the number that stands second
+-- the number in the second attribute
 abbrev pub second_number : Option (List Attribute) → ℤ
 second_number (Some (first ∷ attribute ∷ attributes)) = value_number attribute.2
 second_number _ = pos 0

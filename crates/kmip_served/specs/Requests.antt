@@ -41,7 +41,8 @@ is_served operations.Sign = true
 is_served operations.RNGRetrieve = true
 is_served _ = false
 
--- ---- where the arguments of a helper stand in its payload; where one is missing, any other is said
+-- ---- the arguments of a helper at their places in its payload; where one is missing, an arbitrary
+-- value
 
 abbrev pub field_in : ℕ → Fields → Option Field
 field_in n NoField = None
@@ -118,8 +119,8 @@ abbrev pub if_request : Val → Call → Option Call
 if_request payload call =
     if same_val (request_payload_val (request_of call)) payload then Some call else None
 
--- The helper's call whose request this is: the request of the call that is returned has this payload, and where none
--- is returned no helper's request has it.
+-- The helper's call whose request this is: where there is one, the request of that call has this
+-- payload, and where there is none, no helper's request has it.
 unfoldable pub call_of : Request → Option Call
 call_of request =
     option_and_then (if_request request.payload) (candidate request.operation request.payload)

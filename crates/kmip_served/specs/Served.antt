@@ -1,4 +1,4 @@
--- What a server answers to bytes, and what it asks its maker for that.
+-- What a server returns for bytes, and what it asks its maker for that.
 use Rattle.std.specs.Prelude.{ℕ, ℤ, List, Option, Some, None, if◌then◌else◌}
 use Rattle.kmip_enums.specs.declared.operation.Operation.{Operation}
 use Rattle.kmip_response.specs.declared.batch_item.BatchItem.{BatchItem}
@@ -12,12 +12,12 @@ use Rattle.kmip_store.specs.declared.object.Object.{Object}
 use Rattle.kmip_served.specs.Requests.{is_served, call_of}
 use Rattle.kmip_served.specs.Items.{item_for, invalid_item, unsupported_item, unhelped_item, message_with}
 
--- the objects after, and the response
+-- the objects after a request, and the response to it
 pub record Served : Type 0 where
   pub objects : List Object
   pub message : ResponseMessage
 
--- a step of the object map, and the message that tells it
+-- a step of the object map, and the message that reports it
 unfoldable pub served_call : List Object → Call → Option Made → ℤ → Served
 served_call objects call made time =
     let s = step objects call made in
@@ -39,7 +39,8 @@ served_request objects (Some request) made time =
     then served_known objects request.operation (call_of request) made time
     else refused_with objects time (unsupported_item request.operation)
 
--- The objects after these bytes, and the response to them; with the maker's answer, where it was asked.
+-- The objects after these bytes, and the response to them, given the maker's answer where it is
+-- asked.
 unfoldable pub served : List Object → List ℕ → Option Made → ℤ → Served
 served objects b made time = served_request objects (request_read b) made time
 

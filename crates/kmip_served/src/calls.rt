@@ -1,4 +1,4 @@
-//! Calls that change no key, and all calls.
+//! Calls that change no key, and the choice among all calls.
 
 ghost use Rattle.std.specs.Prelude.{◌≡◌, ℤ, List};
 ghost use Rattle.kmip_store.specs.Makers.{MakerKeeps};
@@ -12,7 +12,7 @@ use crate::stamp::Stamp;
 use kmip_store::{Call, Maker, Store};
 use kmip_wire::{Blob, Text, WireError};
 
-/// Tells what the server can do, and with which objects (KMIP 1.0, 4.24).
+/// Returns which operations the server has, and for which types of objects (KMIP 1.0, 4.24).
 fn query(stamp: &Stamp, store: &Store) -> Result<Blob, WireError>
     ensures { ServesAlone calls.Query stamp.now.time store.now store.now result }
 {
@@ -20,7 +20,7 @@ fn query(stamp: &Stamp, store: &Store) -> Result<Blob, WireError>
     stamp.write(item)
 }
 
-/// Tells of an object (KMIP 1.0, 4.10).
+/// Returns an object (KMIP 1.0, 4.10).
 fn get(stamp: &Stamp, store: &Store, id: &Text) -> Result<Blob, WireError>
     ensures { ServesAlone (calls.GetKey id.now) stamp.now.time store.now store.now result }
 {
@@ -28,7 +28,7 @@ fn get(stamp: &Stamp, store: &Store, id: &Text) -> Result<Blob, WireError>
     stamp.write(item)
 }
 
-/// Tells random bytes of the maker (KMIP 1.2, 4.35).
+/// Returns random bytes from the maker (KMIP 1.2, 4.35).
 fn retrieve<M: Maker>(
     stamp: &Stamp,
     store: &mut Store,
@@ -43,7 +43,7 @@ fn retrieve<M: Maker>(
     stamp.write(item)
 }
 
-/// Tells a signature of the maker by the key of an object (KMIP 1.2, 4.31).
+/// Returns the maker's signature by the key of an object (KMIP 1.2, 4.31).
 fn sign<M: Maker>(
     stamp: &Stamp,
     store: &mut Store,
@@ -60,7 +60,7 @@ fn sign<M: Maker>(
     stamp.write(item)
 }
 
-/// Answers a helper's call.
+/// Makes a helper's call on the store, and returns the response.
 pub fn answer_call<M: Maker>(
     stamp: &Stamp,
     store: &mut Store,

@@ -1,13 +1,15 @@
-//! The batch items that tell what a call came to.
+//! The batch items that report what a call came to.
 
 ghost use Rattle.std.specs.Prelude.{◌≡◌, ◌∷◌, [], ℕ, ℤ, List, Some, None, IfOk};
 ghost use Rattle.std.specs.Option.{option_map};
 ghost use Rattle.kmip_enums.specs.declared.object_type.ObjectType.TheVariants as types;
-ghost use Rattle.kmip_store.specs.Steps.{Supports, Created, Random, Signed, Done, step, supported_operations};
+ghost use Rattle.kmip_store.specs.Steps.{Supports, Created, Random, Signed, Done, step};
+ghost use Rattle.kmip_store.specs.Steps.{supported_operations};
 ghost use Rattle.kmip_store.specs.declared.call.Call.{Call};
 ghost use Rattle.kmip_store.specs.declared.call.Call.TheVariants as calls;
 ghost use Rattle.kmip_served.specs.Answering.{refusal_of, Tells};
-ghost use Rattle.kmip_served.specs.Items.{failed_item, done_item, item_for, key_type, key_block_of, key_object, name_attribute, pair_item};
+ghost use Rattle.kmip_served.specs.Items.{failed_item, done_item, item_for, key_type, key_block_of};
+ghost use Rattle.kmip_served.specs.Items.{key_object, name_attribute, pair_item};
 ghost use Rattle.kmip_served.specs.Requests.{call_operation};
 
 use kmip_enums::{NameType, ObjectType, Operation, ResultReason, ResultStatus};
@@ -25,7 +27,7 @@ use kmip_types::{
 use kmip_wire::{Blob, Boxed, List, OutOfMemory, Text, TryClone};
 use std::alloc::Global;
 
-/// An item that tells of a failure.
+/// An item that reports a failure.
 pub fn failure_item(
     alloc: Global,
     operation: Option<Operation>,
@@ -45,7 +47,7 @@ pub fn failure_item(
     })
 }
 
-/// An item that tells of a success.
+/// An item that reports a success.
 fn success_item(operation: Operation, payload: ResponsePayload) -> BatchItem
     ensures { result ≡ done_item operation (Some payload) }
 {
@@ -60,7 +62,7 @@ fn success_item(operation: Operation, payload: ResponsePayload) -> BatchItem
     }
 }
 
-/// The item that tells why the store refused a call.
+/// The item that reports why the store refused a call.
 pub fn refusal(
     alloc: Global,
     operation: Operation,
@@ -92,7 +94,7 @@ pub fn refusal(
     }
 }
 
-/// The operations of the helpers.
+/// The operations of the nine helpers.
 fn operations(alloc: Global) -> Result<List<Operation>, OutOfMemory>
     ensures { IfOk result (λ operations. operations ≡ supported_operations) }
 {
@@ -120,7 +122,7 @@ fn object_types(alloc: Global) -> Result<List<ObjectType>, OutOfMemory>
     Ok(object_types)
 }
 
-/// The item that tells what the server can do, and with which objects.
+/// The item that lists the operations of the server and the types of its objects.
 pub fn query_item(alloc: Global) -> Result<BatchItem, OutOfMemory>
     ensures { IfOk result (λ item. item ≡ item_for calls.Query
         (Supports supported_operations (types.PublicKey ∷ types.PrivateKey ∷ []))) }
@@ -135,7 +137,7 @@ pub fn query_item(alloc: Global) -> Result<BatchItem, OutOfMemory>
     Ok(success_item(Operation::Query, ResponsePayload::Query(payload)))
 }
 
-/// The item that tells the identifiers of a new pair.
+/// The item with the identifiers of a new pair.
 pub fn pair_item(private_id: Text, public_id: Text) -> BatchItem
     ensures { result ≡ pair_item (Created private_id public_id) }
 {
@@ -148,7 +150,7 @@ pub fn pair_item(private_id: Text, public_id: Text) -> BatchItem
     )
 }
 
-/// The item that tells of random bytes, or why there are none.
+/// The item with random bytes, or why there are none.
 pub fn rng_item(alloc: Global, answer: Result<Blob, StoreError>) -> Result<BatchItem, OutOfMemory>
     ensures { IfOk result (λ item. (n : ℤ) → Tells Random (calls.RngRetrieve n) answer item) }
 {
@@ -161,7 +163,7 @@ pub fn rng_item(alloc: Global, answer: Result<Blob, StoreError>) -> Result<Batch
     }
 }
 
-/// The item that tells of a signature, or why there is none.
+/// The item with a signature, or why there is none.
 pub fn sign_item(
     alloc: Global,
     id: &Text,
@@ -195,7 +197,7 @@ fn identifier_payload(
     })
 }
 
-/// The item that tells that an object was made Active, or why not.
+/// The item that reports that an object was made Active, or why not.
 pub fn activate_item(
     alloc: Global,
     id: &Text,
@@ -212,7 +214,7 @@ pub fn activate_item(
     }
 }
 
-/// The item that tells that an object was made Deactivated, or why not.
+/// The item that reports that an object was made Deactivated, or why not.
 pub fn revoke_item(
     alloc: Global,
     id: &Text,
@@ -229,7 +231,7 @@ pub fn revoke_item(
     }
 }
 
-/// The item that tells that an object was made Destroyed, or why not.
+/// The item that reports that an object was made Destroyed, or why not.
 pub fn destroy_item(
     alloc: Global,
     id: &Text,
@@ -260,7 +262,7 @@ fn name(alloc: Global, new_name: &Text) -> Result<Attribute, OutOfMemory>
     })
 }
 
-/// The item that tells of the new name of an object, or why it has none.
+/// The item with the new name of an object, or why it was not renamed.
 pub fn rename_item(
     alloc: Global,
     id: &Text,
@@ -285,7 +287,7 @@ pub fn rename_item(
     }
 }
 
-/// The key of an object in PKCS #1, of RSA (KMIP 1.0, 2.1.3).
+/// The key block of an object: an RSA key in PKCS#1 (KMIP 1.0, 2.1.3).
 fn key_block(alloc: Global, object: &Object) -> Result<KeyBlock, OutOfMemory>
     ensures { IfOk result (λ block. block ≡ key_block_of object.now) }
 {
@@ -302,7 +304,7 @@ fn key_block(alloc: Global, object: &Object) -> Result<KeyBlock, OutOfMemory>
     })
 }
 
-/// The payload that tells of an object: a public key, or else a private key.
+/// The payload with an object: a public key, or else a private key (KMIP 1.0, 4.10).
 fn key_payload(alloc: Global, id: &Text, object: &Object) -> Result<GetResponsePayload, OutOfMemory>
     ensures { IfOk result (λ payload. payload ≡ record {
       object_type = key_type object.now;
@@ -326,7 +328,7 @@ fn key_payload(alloc: Global, id: &Text, object: &Object) -> Result<GetResponseP
     })
 }
 
-/// The item that tells of an object, or why it is not told.
+/// The item with an object, or why it is not returned.
 pub fn get_item(alloc: Global, store: &Store, id: &Text) -> Result<BatchItem, OutOfMemory>
     ensures { IfOk result (λ item. item ≡ item_for (calls.GetKey id.now)
         (step store.now (calls.GetKey id.now) None).answer) }

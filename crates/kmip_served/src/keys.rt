@@ -1,8 +1,9 @@
-//! Calls that change a key, each done once the response that tells it is made.
+//! Calls that change a key, each done only after its response is made.
 
 ghost use Rattle.std.specs.Prelude.{◌≡◌, not, ◌||◌, Some, None, Ok, Err, cond};
 ghost use Rattle.std.specs.Option.{option_map};
-ghost use Rattle.kmip_store.specs.Objects.{find_in, object_of, is_pre_active, is_active, is_destroyed};
+ghost use Rattle.kmip_store.specs.Objects.{find_in, object_of, is_pre_active, is_active};
+ghost use Rattle.kmip_store.specs.Objects.{is_destroyed};
 ghost use Rattle.kmip_store.specs.Steps.{Done, Denied};
 ghost use Rattle.kmip_store.specs.declared.call.Call.TheVariants as calls;
 ghost use Rattle.kmip_served.specs.Answering.{answer_of, change_answer, response_of, ServesAlone};
@@ -12,7 +13,7 @@ use crate::stamp::Stamp;
 use kmip_store::{Store, StoreError};
 use kmip_wire::{Blob, Text, WireError};
 
-/// What the store will answer where it has the object.
+/// What the store will return where it has the object.
 fn permission(allowed: bool) -> Result<(), StoreError>
     ensures { answer_of (λ _. Done) result ≡ Some (cond allowed Done Denied) }
 {
@@ -23,7 +24,7 @@ fn permission(allowed: bool) -> Result<(), StoreError>
     }
 }
 
-/// What the store will answer to a call that makes the object Active.
+/// What the store will return for a call that makes the object Active.
 fn activates(store: &Store, id: &str) -> Result<(), StoreError>
     ensures { answer_of (λ _. Done) result ≡ Some
         (change_answer (λ object. is_pre_active object.state)
@@ -35,7 +36,7 @@ fn activates(store: &Store, id: &str) -> Result<(), StoreError>
     }
 }
 
-/// What the store will answer to a call that makes the object Deactivated.
+/// What the store will return for a call that makes the object Deactivated.
 fn revokes(store: &Store, id: &str) -> Result<(), StoreError>
     ensures { answer_of (λ _. Done) result ≡ Some (change_answer (λ object. is_active object.state)
         (option_map object_of (find_in store.now id.now))) }
@@ -46,7 +47,7 @@ fn revokes(store: &Store, id: &str) -> Result<(), StoreError>
     }
 }
 
-/// What the store will answer to a call that makes the object Destroyed.
+/// What the store will return for a call that makes the object Destroyed.
 fn destroys(store: &Store, id: &str) -> Result<(), StoreError>
     ensures { answer_of (λ _. Done) result ≡ Some (change_answer
         (λ object. not (is_active object.state || is_destroyed object.state))
@@ -58,7 +59,7 @@ fn destroys(store: &Store, id: &str) -> Result<(), StoreError>
     }
 }
 
-/// What the store will answer to a call that gives the object another name, memory aside.
+/// What the store will return for a call that gives the object another name, memory aside.
 fn renames(store: &Store, id: &str) -> Result<(), StoreError>
     ensures { answer_of (λ _. Done) result ≡ Some (change_answer
         (λ object. not (is_destroyed object.state))
@@ -70,7 +71,7 @@ fn renames(store: &Store, id: &str) -> Result<(), StoreError>
     }
 }
 
-/// The response, unless the store lacked memory for what it tells.
+/// The response, unless the store ran out of memory for what it reports.
 fn respond(answer: Result<(), StoreError>, response: Blob) -> Result<Blob, WireError>
     ensures { result ≡ response_of answer response }
 {
@@ -81,7 +82,7 @@ fn respond(answer: Result<(), StoreError>, response: Blob) -> Result<Blob, WireE
     }
 }
 
-/// Makes a key ready for use (KMIP 1.0, 4.18).
+/// Makes a PreActive key Active (KMIP 1.0, 4.18).
 pub fn activate(stamp: &Stamp, store: &mut Store, id: &Text) -> Result<Blob, WireError>
     ensures { ServesAlone (calls.ActivateKey id.now) stamp.now.time store.old store.new result }
 {
@@ -92,7 +93,7 @@ pub fn activate(stamp: &Stamp, store: &mut Store, id: &Text) -> Result<Blob, Wir
     }
 }
 
-/// Takes a key out of use (KMIP 1.0, 4.19).
+/// Makes an Active key Deactivated (KMIP 1.0, 4.19).
 pub fn revoke(stamp: &Stamp, store: &mut Store, id: &Text) -> Result<Blob, WireError>
     ensures { ServesAlone (calls.RevokeKey id.now) stamp.now.time store.old store.new result }
 {
@@ -103,7 +104,7 @@ pub fn revoke(stamp: &Stamp, store: &mut Store, id: &Text) -> Result<Blob, WireE
     }
 }
 
-/// Destroys a key (KMIP 1.0, 4.20).
+/// Makes a key Destroyed (KMIP 1.0, 4.20).
 pub fn destroy(stamp: &Stamp, store: &mut Store, id: &Text) -> Result<Blob, WireError>
     ensures { ServesAlone (calls.DestroyKey id.now) stamp.now.time store.old store.new result }
 {

@@ -10,17 +10,17 @@ ghost use Rattle.kmip_store.specs.declared.object.Object.{Object};
 ghost use Rattle.kmip_served.specs.Requests.{request_of, call_of};
 ghost use Rattle.kmip_served.specs.Served.{served_call};
 
-/// The request of a helper is matched, so that its bytes are read as it.
+/// The request of a helper is matched, so its bytes are read back as it.
 pub fn helper_is_matched()
     ensures { (call : Call) → IsMatched (request_of call) }
 {}
 
-/// The request of a helper's call is that of this call, and of no other.
+/// From the request of a helper's call, `call_of` gives back just this call.
 pub fn own_call()
     ensures { (call : Call) → call_of (request_for (request_of call)) ≡ Some call }
 {}
 
-/// The response to a helper's call is settled, so that its bytes are read as it. The premise
+/// The response to a helper's call is settled, so its bytes are read back as it. The premise
 /// `IsHeld` holds of every message that Rust can hold.
 pub fn served_is_settled()
     ensures { (objects : List Object) (call : Call) (made : Option Made) (time : ℤ) →

@@ -1,8 +1,9 @@
 //! A key server in memory that answers the requests of the client's nine helpers, and refuses all
 //! others.
 //!
-//! What it answers to bytes is one function of the definitions, `served`: a step of the object map,
-//! and the message that tells it. [`Server::answer`] is that, over any [`Maker`](kmip_store::Maker).
+//! What it returns for bytes is one function of the definitions, `served`: a step of the object
+//! map, and the message that reports it. [`Server::answer`] is that, over any
+//! [`Maker`](kmip_store::Maker).
 //!
 //!     let mut server = Server::new(alloc, PlainMaker::new(alloc), 0);
 //!     let response = server.answer(request)?;

@@ -99,7 +99,7 @@ pub fn is_made_by(
     }
 }
 
-/// Whether bytes are the request of this call with any credential.
+/// True only where the bytes are the request of this call, with any credential.
 pub fn is_request_of(alloc: Global, call: &Call, bytes: &[u8]) -> Result<bool, OutOfMemory>
     ensures { IfOk result (λ is. is ≡ true →
         request_read bytes.now ≡ Some (request_for (calls.request_of call.now))) }

@@ -17,7 +17,8 @@ use kmip_wire::{Blob, OutOfMemory, Text, WireError};
 
 /// The bytes of the response with this item.
 ///
-/// Identifiers and fixed texts are short, so that it has a wire form: memory alone is wanting.
+/// An item of a pair has only identifiers and fixed texts, which are short: it has a wire form, and
+/// writing it fails only where memory runs out. No clause says so.
 fn tell(stamp: &Stamp, item: BatchItem) -> Result<Blob, OutOfMemory>
     ensures { IfOk result (λ bytes. IsTold stamp.now.time item bytes) }
 {
@@ -27,7 +28,7 @@ fn tell(stamp: &Stamp, item: BatchItem) -> Result<Blob, OutOfMemory>
     }
 }
 
-/// The bytes of the response that tells the identifiers of the next pair.
+/// The bytes of the response with the identifiers of the next pair.
 fn created_bytes(stamp: &Stamp, store: &Store) -> Result<Blob, OutOfMemory>
     ensures { IfOk result (λ bytes. IsTold stamp.now.time (item_of_pair
         (Created (identifier (length store.now)) (identifier (length store.now + 1)))) bytes) }
@@ -54,7 +55,7 @@ fn refusal_bytes(stamp: &Stamp) -> Result<Blob, OutOfMemory>
     tell(stamp, item)
 }
 
-/// The response that the store's answer wants.
+/// Of the two responses, the one that reports the store's result.
 fn choose(
     answer: Result<(Text, Text), StoreError>,
     created: Blob,
@@ -69,8 +70,8 @@ fn choose(
     }
 }
 
-/// Adds an RSA pair (KMIP 1.0, 4.2). The response that tells its identifiers, and the one that
-/// refuses it, are both made before the maker is asked.
+/// Adds an RSA pair (KMIP 1.0, 4.2). The response with its identifiers and the one that refuses it
+/// are both made before the maker is asked.
 pub fn create<M: Maker>(
     stamp: &Stamp,
     store: &mut Store,

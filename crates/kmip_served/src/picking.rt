@@ -3,7 +3,9 @@
 ghost use Rattle.std.specs.Prelude.{◌≡◌, Some, IfOk};
 ghost use Rattle.kmip_request.specs.Message.{request_bytes};
 ghost use Rattle.kmip_request_read.specs.Reading.{request_for, request_read};
-ghost use Rattle.kmip_served.specs.Picked.{id_text, value_name, value_number, first_name, second_number, length_in, private_name, public_name, candidate_call};
+ghost use Rattle.kmip_served.specs.Picked.{id_text, value_name, value_number, first_name};
+ghost use Rattle.kmip_served.specs.Picked.{second_number, length_in, private_name, public_name};
+ghost use Rattle.kmip_served.specs.Picked.{candidate_call};
 ghost use Rattle.kmip_served.specs.Requests as calls;
 
 use crate::own::is_made_by;
@@ -17,7 +19,7 @@ use kmip_types::{AttributeValue, Data, DataLength, UniqueIdentifier};
 use kmip_wire::{Blob, List, OutOfMemory, Text, TryClone};
 use std::alloc::Global;
 
-/// The text of an identifier.
+/// The text of an identifier, and the empty text where there is none.
 fn identifier(alloc: Global, id: &Option<UniqueIdentifier>) -> Result<Text, OutOfMemory>
     ensures { IfOk result (λ text. text ≡ id_text id.now) }
 {
@@ -27,7 +29,7 @@ fn identifier(alloc: Global, id: &Option<UniqueIdentifier>) -> Result<Text, OutO
     }
 }
 
-/// The text of a name.
+/// The text of an attribute value that is a name, and else the empty text.
 fn name(alloc: Global, value: &AttributeValue) -> Result<Text, OutOfMemory>
     ensures { IfOk result (λ text. text ≡ value_name value.now) }
 {
@@ -37,7 +39,7 @@ fn name(alloc: Global, value: &AttributeValue) -> Result<Text, OutOfMemory>
     }
 }
 
-/// The text of the name that stands first.
+/// The text of the name in the first attribute.
 fn name_first(alloc: Global, attributes: &Option<List<Attribute>>) -> Result<Text, OutOfMemory>
     ensures { IfOk result (λ text. text ≡ first_name attributes.now) }
 {
@@ -76,7 +78,7 @@ fn name_of_public(
     }
 }
 
-/// The number that a value is.
+/// The number of an attribute value that is an Integer, and else 0.
 fn number(value: &AttributeValue) -> i32
     ensures { result ≡ value_number value.now }
 {
@@ -86,7 +88,7 @@ fn number(value: &AttributeValue) -> i32
     }
 }
 
-/// The number that stands second.
+/// The number in the second attribute.
 fn number_second(attributes: &Option<List<Attribute>>) -> i32
     ensures { result ≡ second_number attributes.now }
 {
@@ -99,7 +101,7 @@ fn number_second(attributes: &Option<List<Attribute>>) -> i32
     }
 }
 
-/// The length of both keys.
+/// The length of both keys in bits.
 fn key_length(template: &Option<CommonTemplateAttribute>) -> i32
     ensures { result ≡ length_in template.now }
 {
@@ -141,8 +143,8 @@ fn candidate_call(alloc: Global, payload: &RequestPayload) -> Result<Option<Call
 /// The helper's call whose request this payload is, where there is one. The bytes are those of the
 /// payload with this credential.
 ///
-/// The arguments of the call are taken from where they stand in the payload, and the request of that
-/// call is compared with the bytes as a whole.
+/// The arguments are taken from their places in the payload, and then the request of the call with
+/// these arguments is compared with the bytes as a whole.
 #[tactic(auto, using(crate::proofs::Requested::no_candidate))]
 pub fn call_of(
     alloc: Global,

@@ -38,7 +38,8 @@ impl<M: Maker> Model for Server<M> {
 }
 
 impl<M: Maker> Server<M> {
-    /// A server with no objects, which takes no memory. `time_stamp` is in seconds since 1970.
+    /// A server with no objects, which takes no memory. `time_stamp` is in seconds since
+    /// 1970-01-01 00:00 UTC.
     pub fn new(alloc: Global, maker: M, time_stamp: i64) -> Server<M>
         ensures { result ≡ record { objects = []; maker = maker; time = time_stamp } }
     {
@@ -68,10 +69,10 @@ impl<M: Maker> Server<M> {
 
     /// The bytes of the response to these bytes.
     ///
-    /// The first of these that fits is told in the response (KMIP 1.0, 6.9 to 6.11):
+    /// The response reports the first of these that fits (KMIP 1.0, 6.9 to 6.11):
     ///
     /// - `InvalidMessage`: the bytes are no request that a client writes;
-    /// - `OperationNotSupported`: the operation is none of the nine of the helpers;
+    /// - `OperationNotSupported`: no helper has the operation;
     /// - `InvalidField`: no helper makes this request;
     /// - `ItemNotFound`: no object has the identifier;
     /// - `PermissionDenied`: the object's state, or its type, does not allow the call;
@@ -79,8 +80,8 @@ impl<M: Maker> Server<M> {
     /// - success, with the payload of the call.
     ///
     /// `NoForm` comes exactly where the response has no wire form; for a maker that does not tell,
-    /// only where it has none for some answer of the maker. `Malformed` never comes. After both
-    /// errors the objects are as they were: the response is made before the store changes. The
+    /// only where it has none for some answer of the maker. `OutOfMemory` is the only other error.
+    /// After both the objects are as they were: the response is made before the store changes. The
     /// maker is asked last, and only where the call takes its answer.
     pub fn answer(&mut self, request: &[u8]) -> Result<Blob, WireError>
         ensures answers { Answers M.state self.old self.new request.now result }
@@ -109,7 +110,7 @@ fn is_served(operation: Operation) -> bool
     )
 }
 
-/// Answers a request that was read as this payload and credential.
+/// Returns the response to a request that was read as this payload and credential.
 fn answer_request<M: Maker>(
     stamp: &Stamp,
     store: &mut Store,
@@ -144,7 +145,7 @@ fn answer_request<M: Maker>(
     }
 }
 
-/// Answers bytes.
+/// Returns the response to bytes.
 fn answer_bytes<M: Maker>(
     stamp: &Stamp,
     store: &mut Store,

@@ -1,4 +1,4 @@
-//! The messages of a server.
+//! The response messages of a server.
 
 ghost use Rattle.kmip_served.specs.Answering.{IsWritten};
 ghost use Rattle.kmip_served.specs.Items.{minor_of, message_with, failed_item};
@@ -12,7 +12,7 @@ use kmip_shape::Item;
 use kmip_wire::{Blob, List, WireError};
 use std::alloc::Global;
 
-/// The minor number of the version of KMIP 1 in which an operation is answered.
+/// The minor version of KMIP 1 that the response of an operation carries (KMIP 1.0, 6.1).
 fn minor(operation: Option<Operation>) -> u8
     ensures { result ≡ minor_of operation }
 {
@@ -23,17 +23,18 @@ fn minor(operation: Option<Operation>) -> u8
     }
 }
 
-/// What every response of a server is made with.
+/// What each response of a server is made with.
 #[derive(Drop)]
 pub struct Stamp {
-    /// Where responses take their memory.
+    /// The allocator of the responses.
     pub alloc: Global,
-    /// Seconds since 1970.
+    /// The time stamp, in seconds since 1970-01-01 00:00 UTC: KMIP 1.0, 6.5.
     pub time: i64,
 }
 
 impl Stamp {
-    /// The bytes of the message with this one item. `Malformed` never comes.
+    /// The bytes of the message with this one item. `NoForm` comes where it has no wire form;
+    /// `Malformed` never comes.
     #[tactic(auto, using(crate::proofs::Writing::is_written))]
     pub fn write(&self, item: BatchItem) -> Result<Blob, WireError>
         ensures { IsWritten (message_with self.now.time item) result }

@@ -1,4 +1,4 @@
-//! Tests of a server's answers, and nothing else: a crate with tests is proved twice.
+//! Tests of a server's answers and of its store, and nothing else: a crate with tests is proved twice.
 #![tactic(auto)]
 
 #[cfg(test)]
@@ -7,3 +7,5 @@ mod answers;
 mod helpers;
 #[cfg(test)]
 mod refusals;
+#[cfg(test)]
+mod store;

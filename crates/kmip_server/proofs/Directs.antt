@@ -31,8 +31,8 @@ use Rattle.kmip_response.specs.declared.batch_item.BatchItem.{BatchItem}
 use Rattle.kmip_response.specs.declared.payload.ResponsePayload.{ResponsePayload}
 use Rattle.kmip_served.specs.Items.{payload_for, done_item, item_for, message_with}
 use Rattle.kmip_server.specs.Machine.{first_for, rest_for}
-use Rattle.kmip_server.specs.Joined.{Settings, Between, CallTold, Expected, Told', Next, IsHeldNext, Unless, AreHeldNext, helper_answer, turn_call_told, turn_with, next_with, next, expected_calls, Meets, Meet, finish, has_unsent}
-use Rattle.kmip_server.specs.Direct.{done_answer, reply_answer, direct, IsWithin, Fits', AllFit, answers_of}
+use Rattle.kmip_server.specs.Joined.{Settings, Between, CallTold, Expected, AsTold, Next, IsHeldNext, Unless, AreHeldNext, helper_answer, turn_call_told, turn_with, next_with, next, expected_calls, Meets, Meet, finish, has_unsent}
+use Rattle.kmip_server.specs.Direct.{done_answer, reply_answer, direct, IsWithin, OneFits, AllFit, answers_of}
 use Rattle.kmip_server.proofs.Steps.{after_bytes, next_formed, same_next, same_between}
 use Rattle.kmip_client.specs.declared.error.Error.{Error}
 use Rattle.kmip_store.specs.Makers.{MakerState}
@@ -138,7 +138,7 @@ record Own (settings : Settings) (objects : List Object) (given : List Made) (as
   pub told : CallTold
   pub answer : told.answer ≡ reply_answer call (step objects call (first_for (question objects call) given)).answer
   pub next_is : next settings (starts objects given asked) call ≡ record {
-    expected = Told' told;
+    expected = AsTold told;
     stops = false;
     after = starts (step objects call (first_for (question objects call) given)).objects (rest_for (question objects call) given) (asked ++ list_of_option (question objects call));
   }
@@ -151,7 +151,7 @@ served_call_message : (objects : List Object) (call : Call) (made : Option Made)
 unfolding served_call
 served_call_message objects call made t = refl
 
-own_next : Laws → (settings : Settings) (objects : List Object) (given : List Made) (askeds : List Asked) (call : Call) → Fits' settings objects call (first_for (question objects call) given) →
+own_next : Laws → (settings : Settings) (objects : List Object) (given : List Made) (askeds : List Asked) (call : Call) → OneFits settings objects call (first_for (question objects call) given) →
     IsHeldNext settings (starts objects given askeds) call → Own settings objects given askeds call
 own_next laws settings objects given askeds call fits held =
     let t : ℤ = settings.time in
@@ -185,8 +185,8 @@ own_next laws settings objects given askeds call fits held =
 
 -- ---- all calls
 
-expected_on : (settings : Settings) (now : Between) (call : Call) (calls : List Call) (told : CallTold) (after : Between) → next settings now call ≡ record { expected = Told' told; stops = false; after = after } →
-    expected_calls settings now (call ∷ calls) ≡ Told' told ∷ expected_calls settings after calls
+expected_on : (settings : Settings) (now : Between) (call : Call) (calls : List Call) (told : CallTold) (after : Between) → next settings now call ≡ record { expected = AsTold told; stops = false; after = after } →
+    expected_calls settings now (call ∷ calls) ≡ AsTold told ∷ expected_calls settings after calls
 unfolding expected_calls
 expected_on settings now call calls told after e = rw e refl
 
@@ -198,7 +198,7 @@ held_first : (settings : Settings) (now : Between) (call : Call) (calls : List C
 unfolding AreHeldNext
 held_first settings now call calls held = held.0
 
-held_later : (settings : Settings) (now : Between) (call : Call) (calls : List Call) (told : CallTold) (after : Between) → next settings now call ≡ record { expected = Told' told; stops = false; after = after } →
+held_later : (settings : Settings) (now : Between) (call : Call) (calls : List Call) (told : CallTold) (after : Between) → next settings now call ≡ record { expected = AsTold told; stops = false; after = after } →
     AreHeldNext settings now (call ∷ calls) → AreHeldNext settings after calls
 unfolding AreHeldNext
 held_later settings now call calls told after e held = let later : Unless (next settings now call).stops (AreHeldNext settings (next settings now call).after calls) = held.1 in
@@ -222,7 +222,7 @@ joined_is_direct laws settings objects given asked (call ∷ calls) xs fit held 
 
     go : ((ys : List CallTold) → Meet settings (expected_calls settings (starts (step objects call (first_for (question objects call) given)).objects (rest_for (question objects call) given) (asked ++ list_of_option (question objects call))) calls) ys →
         answers_of ys ≡ direct (step objects call (first_for (question objects call) given)).objects (rest_for (question objects call) given) calls) →
-        (ys : List CallTold) → Meet settings (Told' own.told ∷ expected_calls settings (starts (step objects call (first_for (question objects call) given)).objects (rest_for (question objects call) given) (asked ++ list_of_option (question objects call))) calls) ys →
+        (ys : List CallTold) → Meet settings (AsTold own.told ∷ expected_calls settings (starts (step objects call (first_for (question objects call) given)).objects (rest_for (question objects call) given) (asked ++ list_of_option (question objects call))) calls) ys →
         answers_of ys ≡ direct objects given (call ∷ calls)
     go hypothesis [] m = absurd m
     go hypothesis (y ∷ ys) m =

@@ -12,7 +12,7 @@ use Rattle.kmip_server.specs.Link.{ServerLinkState, server_link_state, IsServed,
 use Rattle.kmip_server.specs.Split.{messages_in}
 use Rattle.kmip_server.specs.Machine.{Run, fresh, run_of}
 use Rattle.kmip_server.specs.Serving.{AreHeld}
-use Rattle.kmip_server.specs.Joined.{Settings, Between, CallTold, Expected, Told', Unsent, next, expected_calls, finish, has_unsent, IsHeldNext, Unless, AreHeldNext, Meets, Meet, ends_lost}
+use Rattle.kmip_server.specs.Joined.{Settings, Between, CallTold, Expected, AsTold, Unsent, next, expected_calls, finish, has_unsent, IsHeldNext, Unless, AreHeldNext, Meets, Meet, ends_lost}
 use Rattle.kmip_server.specs.Direct.{AllFit, direct}
 use Rattle.kmip_server.specs.Came.{between, standing, Agrees, Came, CameAll, WasCut, IsCalled, went, was_cut, IsEnded}
 use Rattle.kmip_server.specs.Calls.{call_told}
@@ -63,17 +63,17 @@ pub going_more : (settings : Settings) (start now after : LinkState) (all : List
 going_more settings start now after all call later xs told going came given agrees =
     let one : Came settings call now after told false given = came.came given agrees in
     let before : GoesOn settings start now all (call ∷ later) xs given = going given one.agrees in
-    let cons : expected_calls settings (between settings.time given now) (call ∷ later) ≡ Told' told ∷ expected_calls settings (between settings.time given after) later =
-    expected_cons settings (between settings.time given now) call later (Told' told) false (between settings.time given after) one.next_is in
+    let cons : expected_calls settings (between settings.time given now) (call ∷ later) ≡ AsTold told ∷ expected_calls settings (between settings.time given after) later =
+    expected_cons settings (between settings.time given now) call later (AsTold told) false (between settings.time given after) one.next_is in
     record {
       agrees = before.agrees;
       meets = λ ys m.
-          let m' : Meet settings (Told' told ∷ expected_calls settings (between settings.time given after) later) (told ∷ ys) = (refl, m) in
+          let m' : Meet settings (AsTold told ∷ expected_calls settings (between settings.time given after) later) (told ∷ ys) = (refl, m) in
           let m'' : Meet settings (expected_calls settings (between settings.time given now) (call ∷ later)) (told ∷ ys) = subst (λ es. Meet settings es (told ∷ ys)) (sym cons) m' in
           subst (λ zs. Meet settings (expected_calls settings (between settings.time given start) all) zs) (sym (append_assoc xs (told ∷ []) ys)) (before.meets (told ∷ ys) m'');
-      ends = sym (finish_cons settings (between settings.time given now) call later (Told' told) false (between settings.time given after) one.next_is) ∙ before.ends;
+      ends = sym (finish_cons settings (between settings.time given now) call later (AsTold told) false (between settings.time given after) one.next_is) ∙ before.ends;
       cuts = ap has_unsent (sym cons) ∙ before.cuts;
-      holds = λ h. before.holds (held_cons settings (between settings.time given now) call later (Told' told) false (between settings.time given after) one.next_is one.held h);
+      holds = λ h. before.holds (held_cons settings (between settings.time given now) call later (AsTold told) false (between settings.time given after) one.next_is one.held h);
     }
 
 append_none : {A : Type 0} (xs : List A) → xs ++ [] ≡ xs
@@ -205,7 +205,7 @@ stopped state settings start now after all call later xs told known time going (
     let given = (state after.server.maker).given in
     let one = came.came given (agreed state settings.time after opened known time) in
     ended_open state settings start after all (xs ++ told ∷ []) opened known time
-    (going_stop settings start (server_link_state state now) all call later xs told given (Told' told) (between settings.time given (server_link_state state after)) going one.agrees one.next_is one.held refl)
+    (going_stop settings start (server_link_state state now) all call later xs told given (AsTold told) (between settings.time given (server_link_state state after)) going one.agrees one.next_is one.held refl)
 stopped state settings start now after all call later xs told known time going (was_cut so cut) =
     ended_cut state settings start after all (xs ++ told ∷ []) cut.faults
     (going_stop settings start (server_link_state state now) all call later xs told (state after.server.maker).given (Unsent cut.request) (standing state after) going cut.agrees cut.next_is cut.held cut.unsent)

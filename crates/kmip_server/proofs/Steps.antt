@@ -20,7 +20,7 @@ use Rattle.kmip_served.specs.Served.{Served, served, asks}
 use Rattle.kmip_served.specs.Requests.{request_of}
 use Rattle.kmip_server.specs.Machine.{Run, first_for, rest_for, serve, fresh, run_of}
 use Rattle.kmip_server.specs.Serving.{IsHeldTo, AreHeld}
-use Rattle.kmip_server.specs.Joined.{Settings, Between, CallTold, Expected, Told', Next, IsReadBack, IsHeldNext, turn_call_told, turn_with, next_with, answered_with, sent_with, next, expected_calls}
+use Rattle.kmip_server.specs.Joined.{Settings, Between, CallTold, Expected, AsTold, Next, IsReadBack, IsHeldNext, turn_call_told, turn_with, next_with, answered_with, sent_with, next, expected_calls}
 use Rattle.kmip_server.specs.Came.{between, Agrees, Came, CameAll}
 use Rattle.kmip_server.proofs.Splits.{split_message}
 use Rattle.kmip_server.proofs.Frames.{AreMessages, Framed, same_frames, response_to, run_framed, run_on, serve_objects, serve_given, serve_asked, Back, back_from}

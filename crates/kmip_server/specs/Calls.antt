@@ -1,4 +1,4 @@
--- What a call of a helper answered.
+-- What a call of a helper returned.
 use Rattle.std.specs.Prelude.{◌≡◌, ℕ, ℤ, List, [], Bool, Option, Result, Ok, Err, length, drop}
 use Rattle.kmip_link.specs.State.{LinkState}
 use Rattle.kmip_shape.specs.Val.{Val, Text, Record, One, AndField, NoField}
@@ -22,35 +22,57 @@ use Rattle.kmip_server.specs.declared.answers.CallAnswer.{CallAnswer}
 -- what a helper returned, as contracts see it
 abbrev pub answered_val : Answered → Val
 answered_val answered.Unit = no_val
-answered_val (answered.Pair private public) = Record (AndField (One (Text private)) (AndField (One (Text public)) NoField))
+answered_val (answered.Pair private public) =
+    Record (AndField (One (Text private)) (AndField (One (Text public)) NoField))
 answered_val (answered.Query payload) = response_payload_val (payloads.Query payload)
 answered_val (answered.Random payload) = response_payload_val (payloads.RNGRetrieve payload)
 answered_val (answered.Signed payload) = response_payload_val (payloads.Sign payload)
 answered_val (answered.Renamed payload) = response_payload_val (payloads.ModifyAttribute payload)
 answered_val (answered.Got payload) = response_payload_val (payloads.Get payload)
 
--- an answer, as contracts see it
+-- its result, as contracts see it
 abbrev pub answered_seen : Result Answered Error → Answer
 answered_seen = seen_by answered_val
 
 abbrev pub call_told : CallAnswer → CallTold
-call_told x = record { sent = x.sent; answer = answered_seen x.answer; request_text = x.req_diag; response_text = x.res_diag }
+call_told x = record {
+  sent = x.sent;
+  answer = answered_seen x.answer;
+  request_text = x.req_diag;
+  response_text = x.res_diag;
+}
 
--- What a helper's call did: its request went over the link, and its answer is a part of what that came to.
-pub data IsAsked {T : Type 0} (state : T → LinkState) (call : Call) (before after : ClientState T) (result : Result Answered Error) : Type 0 where
-  called : (answer : Answer) → IsCall state (request_of call) before after answer → answered_seen result ≡ helper_answer call answer → IsAsked state call before after result
+-- What a helper's call did: its request went over the link, and it returned its part of what that
+-- came to; or memory ran out before, and nothing changed.
+pub data IsAsked {T : Type 0} (state : T → LinkState) (call : Call) (before after : ClientState T)
+    (result : Result Answered Error) : Type 0 where
+  called : (answer : Answer) → IsCall state (request_of call) before after answer →
+      answered_seen result ≡ helper_answer call answer → IsAsked state call before after result
   not_made : result ≡ Err OutOfMemory → after ≡ before → IsAsked state call before after result
 
 abbrev pub settings_of : {M : Type 0} → ClientState (ServerLinkState M) → Settings
-settings_of client = record { credential = client.credential; limit = client.limit; buffered = client.buffered; time = client.link.server.time }
+settings_of client = record {
+  credential = client.credential;
+  limit = client.limit;
+  buffered = client.buffered;
+  time = client.link.server.time;
+}
 
--- what stands before the calls that left the link so, with the maker's answers as they stand in the end
-abbrev pub before_all : {M : Type 0} → (M → MakerState) → ClientState (ServerLinkState M) → ServerLinkState M → Between
-before_all state client after = between client.link.server.time (state after.server.maker).given (server_link_state state client.link)
+-- server and client before calls that left the link so, with the maker's answers as they are in the
+-- end
+abbrev pub before_all : {M : Type 0} → (M → MakerState) → ClientState (ServerLinkState M) →
+    ServerLinkState M → Between
+before_all state client after =
+    between client.link.server.time (state after.server.maker).given
+    (server_link_state state client.link)
 
--- what is to come of the calls, and what they leave
-abbrev pub expected_of : {M : Type 0} → (M → MakerState) → ClientState (ServerLinkState M) → ServerLinkState M → List Call → List Expected
-expected_of state client after calls = expected_calls (settings_of client) (before_all state client after) calls
+-- what is to come of the calls, and below what they leave
+abbrev pub expected_of : {M : Type 0} → (M → MakerState) → ClientState (ServerLinkState M) →
+    ServerLinkState M → List Call → List Expected
+expected_of state client after calls =
+    expected_calls (settings_of client) (before_all state client after) calls
 
-abbrev pub finish_of : {M : Type 0} → (M → MakerState) → ClientState (ServerLinkState M) → ServerLinkState M → List Call → Between
-finish_of state client after calls = finish (settings_of client) (before_all state client after) calls
+abbrev pub finish_of : {M : Type 0} → (M → MakerState) → ClientState (ServerLinkState M) →
+    ServerLinkState M → List Call → Between
+finish_of state client after calls =
+    finish (settings_of client) (before_all state client after) calls

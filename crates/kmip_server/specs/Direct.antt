@@ -17,16 +17,20 @@ use Rattle.kmip_served.specs.Served.{served_call}
 use Rattle.kmip_server.specs.Machine.{first_for, rest_for}
 use Rattle.kmip_server.specs.Joined.{Settings, part_for, CallTold}
 
--- what a helper returns where a call was done; a call never answers another's payload
+-- what a helper returns where a call was done; no call has the payload of another
 abbrev pub done_answer : Call → Option ResponsePayload → Answer
-done_answer call None = Err (InternalError (codes "Unable to process response payload due to wrong deserialized type!"))
+done_answer call None =
+    Err (InternalError (codes "Unable to process response payload due to wrong deserialized type!"))
 done_answer call (Some payload) = Ok (part_for call (response_payload_val payload))
 
 -- a reply of the object map, as a client's helper returns it
 abbrev pub reply_answer : Call → Reply → Answer
-reply_answer call NotFound = Err (ItemNotFound (failed_text (call_operation call) (codes "no such object")))
-reply_answer call Denied = Err (ServerError (failed_text (call_operation call) (codes "not allowed in this state")))
-reply_answer call Failed = Err (ServerError (failed_text (call_operation call) (codes "maker failed")))
+reply_answer call NotFound =
+    Err (ItemNotFound (failed_text (call_operation call) (codes "no such object")))
+reply_answer call Denied =
+    Err (ServerError (failed_text (call_operation call) (codes "not allowed in this state")))
+reply_answer call Failed =
+    Err (ServerError (failed_text (call_operation call) (codes "maker failed")))
 reply_answer call reply = done_answer call (payload_for call reply)
 
 -- the answers of the object map to these calls, with the maker's answers in order
@@ -42,19 +46,20 @@ IsWithin None bytes = Unit {0}
 IsWithin (Some limit) bytes = length bytes ≤ limit
 
 -- The request of a call is valid, and the response to it has a wire form within the limit.
-pub record Fits' (settings : Settings) (objects : List Object) (call : Call) (made : Option Made) : Type 0 where
+pub record OneFits (settings : Settings) (objects : List Object) (call : Call)
+    (made : Option Made) : Type 0 where
   pub request : List ℕ
   pub valid : request_bytes (request_of call) settings.credential ≡ Some request
   pub response : List ℕ
   pub formed : response_bytes (served_call objects call made settings.time).message ≡ Some response
   pub within : IsWithin settings.limit response
 
--- So for each call in order.
+-- So it is for each call in order.
 abbrev pub AllFit : Settings → List Object → List Made → List Call → Type 0
 AllFit settings objects given [] = Unit {0}
 AllFit settings objects given (call ∷ calls) =
     let q = question objects call in
-    Fits' settings objects call (first_for q given)
+    OneFits settings objects call (first_for q given)
     × AllFit settings (step objects call (first_for q given)).objects (rest_for q given) calls
 
 abbrev pub answers_of : List CallTold → List Answer

@@ -1,4 +1,4 @@
--- Calls of a client over a server: what each comes to.
+-- What each call of a client over a server comes to.
 use Rattle.std.specs.Prelude.{◌≡◌, ℕ, ℤ, ◌<◌, Bool, true, false, List, [], ◌∷◌, ◌++◌, length, take, drop, Option, Some, None, if◌then◌else◌, Ok, Err, codes}
 use Rattle.kmip_shape.specs.Val.{Val, Record, Case, NoField}
 use Rattle.kmip_request.specs.Message.{request_bytes, operation_of}
@@ -21,22 +21,23 @@ use Rattle.kmip_served.specs.Served.{Served, served, asks}
 use Rattle.kmip_served.specs.Requests.{request_of}
 use Rattle.kmip_server.specs.Machine.{first_for, rest_for}
 
--- the settings of a client, and the time of its server
+-- the settings of a client, and the time stamp of its server
 pub record Settings : Type 0 where
   pub credential : Option CredentialType
   pub limit : Option ℕ
   pub buffered : Bool
   pub time : ℤ
 
--- a server and its client between two calls: the objects, the maker's answers to come, and the bytes left to read
+-- a server and its client between two calls: the objects, the maker's answers to come, its
+-- questions so far, and the bytes left to read
 pub record Between : Type 0 where
   pub objects : List Object
   pub given : List Made
-  -- what the maker was asked
+  -- what the maker was asked so far
   pub asked : List Asked
   pub rest : List ℕ
 
--- what is no answer of interest
+-- the value of a helper that returns `()`
 abbrev pub no_val : Val
 no_val = Record NoField
 
@@ -45,7 +46,7 @@ abbrev pub inside : Val → Val
 inside (Case n val) = val
 inside val = val
 
--- what a helper returns of a payload: both identifiers of a pair, nothing, or the payload
+-- what a helper returns of a payload: both identifiers of a pair, `()`, or the payload
 abbrev pub part_for : Call → Val → Val
 part_for (CreateRsaKeyPair bits private public) val = inside val
 part_for (ActivateKey id) val = no_val
@@ -57,7 +58,7 @@ abbrev pub helper_answer : Call → Answer → Answer
 helper_answer call (Ok val) = Ok (part_for call val)
 helper_answer call (Err error) = Err error
 
--- a call as it is told
+-- the report of a call: what it sent, its answer, and its diagnostics
 pub record CallTold : Type 0 where
   pub sent : List ℕ
   pub answer : Answer
@@ -67,13 +68,18 @@ pub record CallTold : Type 0 where
 abbrev pub turn_call_told : Settings → Call → Turn → CallTold
 turn_call_told settings call turn =
     let told = told_of settings.buffered turn.request turn.outcome.answer (take turn.outcome.taken turn.rest) in
-    record { sent = turn.outcome.sent; answer = helper_answer call turn.outcome.answer; request_text = told.request_text; response_text = told.response_text }
+    record {
+      sent = turn.outcome.sent;
+      answer = helper_answer call turn.outcome.answer;
+      request_text = told.request_text;
+      response_text = told.response_text;
+    }
 
 -- what is to come of a call
 pub data Expected : Type 0 where
-  -- it is told so
-  Told' : CallTold → Expected
-  -- the response has no wire form, and the request of these bytes is not sent whole
+  -- it is reported so
+  AsTold : CallTold → Expected
+  -- the response has no wire form, so the request, of these bytes, is not sent whole
   Unsent : List ℕ → Expected
 
 pub record Next : Type 0 where
@@ -82,70 +88,102 @@ pub record Next : Type 0 where
   pub stops : Bool
   pub after : Between
 
--- the turn of a call whose request has these bytes, or none, on these bytes left
+-- the turn of a call whose request has these bytes, if it is valid, over these bytes left to read
 abbrev pub turn_with : Settings → Call → Option (List ℕ) → List ℕ → Turn
-turn_with settings call request rest = record { request = request; rest = rest; outcome = outcome_of request (operation_of (request_of call)) settings.limit rest }
+turn_with settings call request rest =
+    record {
+      request = request;
+      rest = rest;
+      outcome = outcome_of request (operation_of (request_of call)) settings.limit rest;
+    }
 
 abbrev pub next_with : Settings → Call → Turn → Between → Next
 next_with settings call turn after = record {
-  expected = Told' (turn_call_told settings call turn);
+  expected = AsTold (turn_call_told settings call turn);
   stops = loses_connection turn.outcome.answer;
   after = record after { rest = drop turn.outcome.taken turn.rest };
 }
 
--- where the response has no wire form the objects stay
+-- where the response has no wire form, the objects stay
 abbrev pub answered_with : Settings → Call → Between → Between → List ℕ → Option (List ℕ) → Next
-answered_with settings call now after request None = record { expected = Unsent request; stops = true; after = record after { objects = now.objects } }
+answered_with settings call now after request None =
+    record {
+      expected = Unsent request;
+      stops = true;
+      after = record after { objects = now.objects };
+    }
 answered_with settings call now after request (Some response) =
     next_with settings call (turn_with settings call (Some request) (after.rest ++ response)) after
 
 abbrev pub sent_with : Settings → Call → Between → Option (List ℕ) → Next
-sent_with settings call now None = next_with settings call (turn_with settings call None now.rest) now
+sent_with settings call now None =
+    next_with settings call (turn_with settings call None now.rest) now
 sent_with settings call now (Some request) =
     let q = asks now.objects request in
     let s = served now.objects request (first_for q now.given) settings.time in
-    answered_with settings call now (record { objects = s.objects; given = rest_for q now.given; asked = now.asked ++ list_of_option q; rest = now.rest }) request (response_bytes s.message)
+    answered_with settings call now
+    (record {
+      objects = s.objects;
+      given = rest_for q now.given;
+      asked = now.asked ++ list_of_option q;
+      rest = now.rest;
+    }) request
+    (response_bytes s.message)
 
--- one call: for a valid request the response is added to the bytes left, and the call comes to its outcome on these
+-- one call: where its request is valid the response to it is added to the bytes left, and the
+-- outcome of the call is that over these bytes
 unfoldable pub next : Settings → Between → Call → Next
-next settings now call = sent_with settings call now (request_bytes (request_of call) settings.credential)
+next settings now call =
+    sent_with settings call now (request_bytes (request_of call) settings.credential)
 
 -- the calls in order, none after a lost connection
 unfoldable pub expected_calls : Settings → Between → List Call → List Expected
 expected_calls settings now [] = []
 expected_calls settings now (call ∷ calls) = (next settings now call).expected ∷
-    (if (next settings now call).stops then [] else expected_calls settings (next settings now call).after calls)
+    (if (next settings now call).stops then []
+    else expected_calls settings (next settings now call).after calls)
 
--- what stands between the last of the calls that are made and the next
+-- server and client after the last of the calls that are made
 unfoldable pub finish : Settings → Between → List Call → Between
 finish settings now [] = now
-finish settings now (call ∷ calls) = if (next settings now call).stops then (next settings now call).after else finish settings (next settings now call).after calls
+finish settings now (call ∷ calls) =
+    if (next settings now call).stops then (next settings now call).after
+    else finish settings (next settings now call).after calls
 
--- whether a response has no wire form
+-- whether the response to one of the calls has no wire form
 abbrev pub has_unsent : List Expected → Bool
 has_unsent [] = false
 has_unsent (Unsent request ∷ es) = true
-has_unsent (Told' told ∷ es) = has_unsent es
+has_unsent (AsTold told ∷ es) = has_unsent es
 
--- The request of a call, where it is valid, is read as it.
+-- The bytes of a call's request, where it is valid, are read as that request.
 abbrev pub IsReadBack : Call → Option CredentialType → Type 0
-IsReadBack call credential = (request : List ℕ) → request_bytes (request_of call) credential ≡ Some request → request_read request ≡ Some (request_for (request_of call))
+IsReadBack call credential = (request : List ℕ) →
+    request_bytes (request_of call) credential ≡ Some request →
+    request_read request ≡ Some (request_for (request_of call))
 
--- So it is, and the response to it, where it has a wire form, is a message that Rust can hold.
+-- The request is read back, and the response to it, where it has a wire form, is a message that
+-- Rust can hold.
 pub record IsHeldNext (settings : Settings) (now : Between) (call : Call) : Type 0 where
   pub reads : IsReadBack call settings.credential
-  pub holds : (request response : List ℕ) → request_bytes (request_of call) settings.credential ≡ Some request →
-      response_bytes (served now.objects request (first_for (asks now.objects request) now.given) settings.time).message ≡ Some response →
-      IsHeldResponse (served now.objects request (first_for (asks now.objects request) now.given) settings.time).message
+  pub holds : (request response : List ℕ) →
+      request_bytes (request_of call) settings.credential ≡ Some request →
+      response_bytes (served now.objects request (first_for (asks now.objects request) now.given)
+      settings.time).message ≡ Some response →
+      IsHeldResponse (served now.objects request (first_for (asks now.objects request) now.given)
+      settings.time).message
 
 abbrev pub Unless : Bool → Type 0 → Type 0
 Unless true P = Unit {0}
 Unless false P = P
 
--- so for each of the calls that are made
+-- so it is for each of the calls that are made
 unfoldable pub AreHeldNext : Settings → Between → List Call → Type 0
 AreHeldNext settings now [] = Unit {0}
-AreHeldNext settings now (call ∷ calls) = IsHeldNext settings now call × Unless (next settings now call).stops (AreHeldNext settings (next settings now call).after calls)
+AreHeldNext settings now (call ∷ calls) =
+    IsHeldNext settings now call ×
+    Unless (next settings now call).stops
+    (AreHeldNext settings (next settings now call).after calls)
 
 -- a call that the link cut short: a proper part of the request was sent
 pub record IsUnsent (settings : Settings) (request : List ℕ) (told : CallTold) : Type 0 where
@@ -157,10 +195,10 @@ pub record IsUnsent (settings : Settings) (request : List ℕ) (told : CallTold)
   pub response_text : told.response_text ≡ None
 
 abbrev pub Meets : Settings → Expected → CallTold → Type 0
-Meets settings (Told' told) told' = told' ≡ told
+Meets settings (AsTold told) told' = told' ≡ told
 Meets settings (Unsent request) told' = IsUnsent settings request told'
 
--- The calls were told as expected, one for one.
+-- The calls were reported as expected, one for one.
 abbrev pub Meet : Settings → List Expected → List CallTold → Type 0
 Meet settings [] [] = Unit {0}
 Meet settings (e ∷ es) (x ∷ xs) = Meets settings e x × Meet settings es xs

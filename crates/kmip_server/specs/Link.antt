@@ -1,4 +1,4 @@
--- A link round a server, as a value, and what holds of each.
+-- A link over a server of its own, as contracts see it, and what holds of each.
 use Rattle.std.specs.Prelude.{◌≡◌, ◌≢◌, ℕ, ℤ, pos, negsuc, ◌+◌, ◌*◌, ◌<◌, ◌≤◌, suc, List, [], ◌∷◌, ◌++◌, length, Bool, true, false, Option, Some, None, IsTrue, Result, Ok, Err, take}
 use Rattle.kmip_link.specs.State.{LinkState}
 use Rattle.kmip_link.specs.declared.link.LinkError.{LinkError}
@@ -21,10 +21,10 @@ pub record ServerLinkState (M : Type 0) : Type 0 where
   -- the message whose response has no wire form, once there is one
   pub kept : List ℕ
   pub faults : ℕ
-  -- whether a write lacked memory
+  -- whether a write ran out of memory
   pub starved : Bool
 
--- a time as a number of its own
+-- a number for each time stamp, no two the same
 abbrev pub time_number : ℤ → ℕ
 time_number (pos n) = 2 * n
 time_number (negsuc n) = suc (2 * n)
@@ -33,7 +33,7 @@ abbrev pub bit_of : Bool → ℕ
 bit_of true = 1
 bit_of false = 0
 
--- what the link means
+-- the link as a client sees it
 abbrev pub server_link_state : {M : Type 0} → (M → MakerState) → ServerLinkState M → LinkState
 server_link_state state link = record {
   tells = true;
@@ -45,48 +45,64 @@ server_link_state state link = record {
   faults = link.faults;
 }
 
--- The objects, the questions and the bytes to read are what serving the whole messages comes to, with the maker's answers
--- in order; and so it stays, whatever answers come later.
+-- The objects, the questions and the bytes to read are what serving the whole messages comes to,
+-- with the maker's answers in order, whatever answers come later.
 abbrev pub IsServed : ℤ → List Object → MakerState → List ℕ → List ℕ → Type 0
 IsServed time objects maker ever sent = (more : List Made) →
-    run_of time (maker.given ++ more) (messages_in sent).whole ≡ record { objects = objects; ever = Some ever; asked = maker.asked; given = more }
+    run_of time (maker.given ++ more)
+    (messages_in sent).whole ≡ record {
+      objects = objects;
+      ever = Some ever;
+      asked = maker.asked;
+      given = more;
+    }
 
 -- and each response was a message that Rust can hold
-pub record Serves (time : ℤ) (objects : List Object) (maker : MakerState) (ever sent : List ℕ) : Type 0 where
+pub record Serves (time : ℤ) (objects : List Object) (maker : MakerState)
+    (ever sent : List ℕ) : Type 0 where
   pub run : IsServed time objects maker ever sent
-  pub held : (more : List Made) → AreHeld time (fresh (maker.given ++ more)) (messages_in sent).whole
+  pub held : (more : List Made) →
+      AreHeld time (fresh (maker.given ++ more)) (messages_in sent).whole
 
--- What holds once a message came whose response has no wire form: the same, but for the question and the answer of that
--- message, where it takes one; these are the last. The message begins with what was sent of it, and is longer.
-pub record IsCut (time : ℤ) (objects : List Object) (maker : MakerState) (ever sent kept : List ℕ) : Type 0 where
+-- What holds once a message came whose response has no wire form: the same, but that the maker was
+-- last asked the question of that message, where it has one. The message begins with what was sent
+-- of it, and is longer.
+pub record IsCut (time : ℤ) (objects : List Object) (maker : MakerState)
+    (ever sent kept : List ℕ) : Type 0 where
   pub objects_are : (run_of time maker.given (messages_in sent).whole).objects ≡ objects
   pub ever_is : (run_of time maker.given (messages_in sent).whole).ever ≡ Some ever
   pub held : AreHeld time (fresh maker.given) (messages_in sent).whole
   pub none : (serve time (run_of time maker.given (messages_in sent).whole) kept).ever ≡ None
-  pub asked : (serve time (run_of time maker.given (messages_in sent).whole) kept).asked ≡ maker.asked
+  pub asked : (serve time (run_of time maker.given (messages_in sent).whole)
+      kept).asked ≡ maker.asked
   pub given : (serve time (run_of time maker.given (messages_in sent).whole) kept).given ≡ []
   pub message : is_message kept ≡ true
   pub begins : take (length (messages_in sent).begun) kept ≡ (messages_in sent).begun
   pub longer : length (messages_in sent).begun < length kept
 
--- What holds of each link: where it is neither faulted nor starved and its maker tells, and where it is faulted.
-pub record IsKept {M : Type 0} (state : M → MakerState) (link : ServerLinkState M) (begun : List ℕ) : Type 0 where
+-- What holds of each link that is not starved and whose maker tells: where it is not faulted, and
+-- where it is.
+pub record IsKept {M : Type 0} (state : M → MakerState) (link : ServerLinkState M)
+    (begun : List ℕ) : Type 0 where
   pub within : link.pos ≤ length link.ever
   pub begun_is : begun ≡ (messages_in link.sent).begun
   pub serves : link.starved ≡ false → IsTrue (state link.server.maker).tells → link.faults ≡ 0 →
       Serves link.server.time link.server.objects (state link.server.maker) link.ever link.sent
   pub cut : link.starved ≡ false → IsTrue (state link.server.maker).tells → 0 < link.faults →
-      IsCut link.server.time link.server.objects (state link.server.maker) link.ever link.sent link.kept
+      IsCut link.server.time link.server.objects (state link.server.maker) link.ever link.sent
+      link.kept
 
--- what its user knows of it
+-- what its user knows of it: the same, but for the begun message
 pub record IsKnown {M : Type 0} (state : M → MakerState) (link : ServerLinkState M) : Type 0 where
   pub within : link.pos ≤ length link.ever
   pub serves : link.starved ≡ false → IsTrue (state link.server.maker).tells → link.faults ≡ 0 →
       Serves link.server.time link.server.objects (state link.server.maker) link.ever link.sent
   pub cut : link.starved ≡ false → IsTrue (state link.server.maker).tells → 0 < link.faults →
-      IsCut link.server.time link.server.objects (state link.server.maker) link.ever link.sent link.kept
+      IsCut link.server.time link.server.objects (state link.server.maker) link.ever link.sent
+      link.kept
 
--- a link that calls can go over: it is neither starved nor faulted, was sent whole messages, and its maker tells
+-- a link that calls can go over: it is neither starved nor faulted, was sent only whole messages,
+-- and its maker tells
 pub record IsOpen {M : Type 0} (state : M → MakerState) (link : ServerLinkState M) : Type 0 where
   pub fed : link.starved ≡ false
   pub sound : link.faults ≡ 0
@@ -108,7 +124,8 @@ pub record IsNew {M : Type 0} (state : M → MakerState) (link : ServerLinkState
   pub tells : IsTrue (state link.server.maker).tells
 
 -- what a link holds of its server between two writes
-pub record Holds {M : Type 0} (state : M → MakerState) (server : ServerState M) (ever sent begun : List ℕ) : Type 0 where
+pub record Holds {M : Type 0} (state : M → MakerState) (server : ServerState M)
+    (ever sent begun : List ℕ) : Type 0 where
   pub begun_is : begun ≡ (messages_in sent).begun
   pub serves : Serves server.time server.objects (state server.maker) ever sent
 
@@ -122,11 +139,13 @@ is_memory (Refusal.NoForm message) = false
 is_memory Refusal.OutOfMemory = true
 
 -- what it holds once the server was handed a message whose response has no wire form
-abbrev pub IsRefused : {M : Type 0} → (M → MakerState) → ServerState M → List ℕ → List ℕ → Result ℕ Refusal → Type 0
-IsRefused state server ever sent (Err (Refusal.NoForm message)) = IsCut server.time server.objects (state server.maker) ever sent message.items
+abbrev pub IsRefused : {M : Type 0} → (M → MakerState) → ServerState M → List ℕ → List ℕ →
+    Result ℕ Refusal → Type 0
+IsRefused state server ever sent (Err (Refusal.NoForm message)) =
+    IsCut server.time server.objects (state server.maker) ever sent message.items
 IsRefused state server ever sent _ = Unit {0}
 
--- a write took the first n of the bytes, and what became readable came at the end
+-- a write took the first n of the bytes, and added any response at the end of what there is to read
 pub record Accepted (bytes : List ℕ) (n : ℕ) (ever ever' sent sent' : List ℕ) : Type 0 where
   pub within : n ≤ length bytes
   pub some : 0 < length bytes → 0 < n
@@ -136,32 +155,50 @@ pub record Accepted (bytes : List ℕ) (n : ℕ) (ever ever' sent sent' : List �
 
 -- ---- one write
 
--- What a link that was not faulted did with bytes: `server`, `ever` and `sent` are those before, and the next of each those after.
-pub data Did {M : Type 0} (state : M → MakerState) (server server' : ServerState M) (ever ever' sent sent' bytes : List ℕ) (result : Result ℕ Refusal) : Type 0 where
+-- What a link that was not faulted did with bytes: `server`, `ever` and `sent` are those before,
+-- and `server'`, `ever'` and `sent'` those after.
+pub data Did {M : Type 0} (state : M → MakerState) (server server' : ServerState M)
+    (ever ever' sent sent' bytes : List ℕ) (result : Result ℕ Refusal) : Type 0 where
   -- all bytes are taken, and the begun message goes on
-  goes_on : (n : ℕ) → result ≡ Ok n → n ≡ length bytes → (messages_in sent').whole ≡ (messages_in sent).whole → server' ≡ server → ever' ≡ ever →
+  goes_on : (n : ℕ) → result ≡ Ok n → n ≡ length bytes →
+      (messages_in sent').whole ≡ (messages_in sent).whole → server' ≡ server → ever' ≡ ever →
       Did state server server' ever ever' sent sent' bytes result
-  -- it ends, and the server's response to it comes after what was readable
-  ends : (n : ℕ) (message response : List ℕ) → result ≡ Ok n → messages_in sent' ≡ record { whole = (messages_in sent).whole ++ message ∷ []; begun = [] } →
+  -- it ends, and the server's response to it is added after what there was to read
+  ends : (n : ℕ) (message response : List ℕ) → result ≡ Ok n →
+      messages_in sent' ≡ record { whole = (messages_in sent).whole ++ message ∷ []; begun = [] } →
       Answers state server server' message (Ok response) → ever' ≡ ever ++ response →
       Did state server server' ever ever' sent sent' bytes result
   -- it ends, and the response to it has no wire form
-  formless : (n : ℕ) (refusal : Refusal) → result ≡ Err refusal → is_message (kept_in refusal) ≡ true → kept_in refusal ≡ (messages_in sent).begun ++ take n bytes →
+  formless : (n : ℕ) (refusal : Refusal) → result ≡ Err refusal →
+      is_message (kept_in refusal) ≡ true →
+      kept_in refusal ≡ (messages_in sent).begun ++ take n bytes →
       Answers state server server' (kept_in refusal) (Err NoForm) → is_memory refusal ≡ false →
       Did state server server' ever ever' sent sent' bytes result
-  no_memory : result ≡ Err Refusal.OutOfMemory → Did state server server' ever ever' sent sent' bytes result
+  no_memory : result ≡ Err Refusal.OutOfMemory →
+      Did state server server' ever ever' sent sent' bytes result
 
--- What a write did. It answers `Fault` exactly where the link is faulted already, and then the server isn't asked; and where it
--- ends a message whose response has no wire form, which the link keeps. It takes bytes up to the end of a message, and starves the
--- link only where memory runs out.
-pub data WritesTo {M : Type 0} (state : M → MakerState) (before after : ServerLinkState M) (bytes : List ℕ) (result : Result ℕ LinkError) : Type 0 where
-  refused : 0 < before.faults → result ≡ Err Fault → after.starved ≡ before.starved → after.server ≡ before.server → after.kept ≡ before.kept → WritesTo state before after bytes result
-  goes_on : (n : ℕ) → before.faults ≡ 0 → after.starved ≡ before.starved → result ≡ Ok n → n ≡ length bytes → (messages_in after.sent).whole ≡ (messages_in before.sent).whole → after.server ≡ before.server → after.ever ≡ before.ever →
+-- What a write did. It returns `Fault` exactly where the link is faulted already, and then the
+-- server is not asked, or where it ends a message whose response has no wire form, which the link
+-- keeps. It takes bytes up to the end of a message. It starves the link only where memory runs out.
+pub data WritesTo {M : Type 0} (state : M → MakerState) (before after : ServerLinkState M)
+    (bytes : List ℕ) (result : Result ℕ LinkError) : Type 0 where
+  refused : 0 < before.faults → result ≡ Err Fault → after.starved ≡ before.starved →
+      after.server ≡ before.server → after.kept ≡ before.kept →
       WritesTo state before after bytes result
-  ends : (n : ℕ) (message response : List ℕ) → before.faults ≡ 0 → after.starved ≡ before.starved → result ≡ Ok n → messages_in after.sent ≡ record { whole = (messages_in before.sent).whole ++ message ∷ []; begun = [] } →
-      Answers state before.server after.server message (Ok response) → after.ever ≡ before.ever ++ response →
+  goes_on : (n : ℕ) → before.faults ≡ 0 → after.starved ≡ before.starved → result ≡ Ok n →
+      n ≡ length bytes → (messages_in after.sent).whole ≡ (messages_in before.sent).whole →
+      after.server ≡ before.server → after.ever ≡ before.ever →
       WritesTo state before after bytes result
-  formless : (n : ℕ) → before.faults ≡ 0 → after.starved ≡ before.starved → result ≡ Err Fault → is_message after.kept ≡ true → after.kept ≡ (messages_in before.sent).begun ++ take n bytes →
-      Answers state before.server after.server after.kept (Err NoForm) → WritesTo state before after bytes result
+  ends : (n : ℕ) (message response : List ℕ) → before.faults ≡ 0 → after.starved ≡ before.starved →
+      result ≡ Ok n → messages_in
+      after.sent ≡ record { whole = (messages_in before.sent).whole ++ message ∷ []; begun = [] } →
+      Answers state before.server after.server message (Ok response) →
+      after.ever ≡ before.ever ++ response →
+      WritesTo state before after bytes result
+  formless : (n : ℕ) → before.faults ≡ 0 → after.starved ≡ before.starved → result ≡ Err Fault →
+      is_message after.kept ≡ true → after.kept ≡ (messages_in before.sent).begun ++ take n bytes →
+      Answers state before.server after.server after.kept (Err NoForm) →
+      WritesTo state before after bytes result
   -- the link is starved from then on
-  no_memory : before.faults ≡ 0 → result ≡ Err OutOfMemory → after.starved ≡ true → after.faults ≡ 0 → WritesTo state before after bytes result
+  no_memory : before.faults ≡ 0 → result ≡ Err OutOfMemory → after.starved ≡ true →
+      after.faults ≡ 0 → WritesTo state before after bytes result

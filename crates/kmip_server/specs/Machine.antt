@@ -1,4 +1,4 @@
--- A server that is fed bytes: the messages in them, and what serving these one after the other comes to.
+-- What a server comes to that serves messages one after the other.
 use Rattle.std.specs.Prelude.{◌≡◌, ℕ, ℤ, List, [], ◌∷◌, ◌++◌, fold, Option, Some, None}
 use Rattle.kmip_response_write.specs.Settled.{response_bytes}
 use Rattle.kmip_store.specs.declared.object.Object.{Object}
@@ -7,14 +7,14 @@ use Rattle.kmip_store.specs.declared.maker.Made.{Made}
 use Rattle.kmip_served.specs.Answering.{list_of_option}
 use Rattle.kmip_served.specs.Served.{Served, served, asks}
 
--- what serving came to
+-- what serving messages came to
 pub record Run : Type 0 where
   pub objects : List Object
-  -- the responses one after the other, none once a response has no wire form
+  -- the bytes of the responses, one after the other; `None` once a response has no wire form
   pub ever : Option (List ℕ)
   -- the questions to the maker
   pub asked : List Asked
-  -- its answers that no question took yet
+  -- the maker's answers that no question took yet
   pub given : List Made
 
 abbrev pub first_for : Option Asked → List Made → Option Made
@@ -31,7 +31,7 @@ abbrev pub then_bytes : Option (List ℕ) → Option (List ℕ) → Option (List
 then_bytes (Some ever) (Some bytes) = Some (ever ++ bytes)
 then_bytes ever bytes = None
 
--- one message more
+-- serving one message more
 unfoldable pub serve : ℤ → Run → List ℕ → Run
 serve time run b =
     let s = served run.objects b (first_for (asks run.objects b) run.given) time in

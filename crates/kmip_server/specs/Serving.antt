@@ -7,13 +7,15 @@ use Rattle.kmip_server.specs.Machine.{Run, first_for, serve}
 
 -- the response to a message, where the server stands so
 abbrev pub message_to : ℤ → Run → List ℕ → ResponseMessage
-message_to time run b = (served run.objects b (first_for (asks run.objects b) run.given) time).message
+message_to time run b =
+    (served run.objects b (first_for (asks run.objects b) run.given) time).message
 
 -- where it has a wire form, it is a message that Rust can hold
 abbrev pub IsHeldTo : ℤ → Run → List ℕ → Type 0
-IsHeldTo time run b = (bytes : List ℕ) → response_bytes (message_to time run b) ≡ Some bytes → IsHeldResponse (message_to time run b)
+IsHeldTo time run b = (bytes : List ℕ) → response_bytes (message_to time run b) ≡ Some bytes →
+    IsHeldResponse (message_to time run b)
 
--- so for each of these messages in order
+-- so it is for each of these messages in order
 abbrev pub AreHeld : ℤ → Run → List (List ℕ) → Type 0
 AreHeld time run [] = Unit {0}
 AreHeld time run (b ∷ bs) = IsHeldTo time run b × AreHeld time (serve time run b) bs

@@ -14,7 +14,7 @@ pub enum Answered {
     Unit,
     /// The identifiers of the private and the public key of a new pair.
     Pair(Text, Text),
-    /// What the server can do.
+    /// Which operations the server has, and for which types of objects.
     Query(QueryResponsePayload),
     /// Random bytes.
     Random(RNGRetrieveResponsePayload),
@@ -29,13 +29,14 @@ pub enum Answered {
 /// A call that was made.
 #[derive(Drop)]
 pub struct CallAnswer {
-    /// The bytes that its link took in this call.
+    /// The bytes that went over its link in this call.
     pub sent: Blob,
-    /// What the helper returned, or why it has no payload.
+    /// What the helper returned.
     pub answer: Result<Answered>,
     /// The diagnostic of its request, where the client keeps diagnostics and the request is valid.
     pub req_diag: Option<Text>,
-    /// That of the bytes that it took, where the client keeps diagnostics and the whole request was sent.
+    /// The diagnostic of the bytes that it took, where the client keeps diagnostics and the request
+    /// was sent whole.
     pub res_diag: Option<Text>,
 }
 

@@ -1,7 +1,8 @@
 //! One call of a client over a server.
-ghost use Rattle.std.specs.Prelude.{◌≡◌, List, IfOk, IfErr, option_map, drop, length, true};
+ghost use Rattle.std.specs.Prelude.{◌≡◌, List, IfOk, IfErr, drop, length, true};
 ghost use Rattle.kmip_link.specs.State.{Keeps};
-ghost use Rattle.kmip_client.specs.Client.{loses_connection, lacks_memory, count_after, ClientState};
+ghost use Rattle.kmip_client.specs.Client.{loses_connection, lacks_memory, count_after};
+ghost use Rattle.kmip_client.specs.Client.{ClientState};
 ghost use Rattle.kmip_client.specs.Outcome.{seen_by};
 ghost use Rattle.kmip_client.specs.declared.error.Error.TheVariants.{OutOfMemory as no_memory};
 ghost use Rattle.kmip_server.specs.Calls.{answered_val, answered_seen, call_told, settings_of};
@@ -16,7 +17,7 @@ use kmip_client::{Client, Error, Result};
 use kmip_request_read::{request_is_message, request_is_read};
 use kmip_served::{call_known, helper_is_matched, is_request_of};
 use kmip_store::{Call, Maker};
-use kmip_wire::{Blob, OutOfMemory, Text};
+use kmip_wire::{Blob, OutOfMemory};
 use std::alloc::Global;
 
 /// How a call left its link.
@@ -36,7 +37,7 @@ fn loses_connection(answer: &Result<Answered>) -> bool
     }
 }
 
-/// Whether memory ran out.
+/// Whether the call ran out of memory.
 fn lacks_memory(answer: &Result<Answered>) -> bool
     ensures { result ≡ lacks_memory (answered_seen answer.now) }
 {
@@ -74,7 +75,7 @@ fn left_by<M: Maker>(client: &mut Client<ServerLink<M>>) -> Left
     }
 }
 
-/// Whether the link keeps the request of this call.
+/// True only where the link keeps the request of this call.
 fn keeps_request_of<M: Maker>(
     alloc: Global,
     client: &mut Client<ServerLink<M>>,
@@ -86,7 +87,7 @@ fn keeps_request_of<M: Maker>(
     is_request_of(alloc, call, client.inner().kept())
 }
 
-/// Whether a request was not sent.
+/// Whether the call failed at sending its request.
 fn fails_writing(answer: &Result<Answered>) -> bool
     ensures { result ≡ fails_writing (answered_seen answer.now) }
 {
@@ -96,7 +97,8 @@ fn fails_writing(answer: &Result<Answered>) -> bool
     }
 }
 
-/// Sees to it that a call left the link open, or was cut short by a response with no wire form.
+/// Checks that a call left the link open, or was cut short by a response with no wire form. Else it
+/// returns `OutOfMemory`.
 fn settle<M: Maker>(
     alloc: Global,
     client: &mut Client<ServerLink<M>>,
@@ -124,7 +126,7 @@ fn settle<M: Maker>(
     }
 }
 
-/// What was sent from there on.
+/// A copy of what was sent after the first `from` bytes.
 fn sent_from<M: Maker>(
     alloc: Global,
     client: &mut Client<ServerLink<M>>,
@@ -141,17 +143,7 @@ fn sent_from<M: Maker>(
     }
 }
 
-/// A copy of a text that there may be.
-fn copy_text(alloc: Global, text: Option<&str>) -> std::result::Result<Option<Text>, OutOfMemory>
-    ensures { IfOk result (λ made. made ≡ option_map (λ s. s.now) text.entry) }
-{
-    match text {
-        Some(text) => Ok(Some(Text::of(alloc, text)?)),
-        None => Ok(None),
-    }
-}
-
-/// An answer beside what was sent for it and copies of its diagnostics.
+/// The report of a call: what it sent, its answer, and copies of its diagnostics.
 fn call_answer<M: Maker>(
     alloc: Global,
     client: &mut Client<ServerLink<M>>,
@@ -170,12 +162,12 @@ fn call_answer<M: Maker>(
     Ok(CallAnswer {
         sent,
         answer,
-        req_diag: copy_text(alloc, client.last_req_diag_str())?,
-        res_diag: copy_text(alloc, client.last_res_diag_str())?,
+        req_diag: client.copy_req_diag(alloc)?,
+        res_diag: client.copy_res_diag(alloc)?,
     })
 }
 
-/// The request of the call, where it is valid, is read as it.
+/// The bytes of the call's request, where it is valid, are read as that request.
 fn reads_back<T>(
     alloc: Global,
     client: &Client<T>,
@@ -189,7 +181,7 @@ fn reads_back<T>(
     call_known(alloc, call)
 }
 
-/// One call, and whether it was the last.
+/// Makes a call, and says whether it was the last: its answer is a connection error.
 pub fn make_call<M: Maker>(
     alloc: Global,
     client: &mut Client<ServerLink<M>>,

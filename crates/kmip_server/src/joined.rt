@@ -21,16 +21,17 @@ use std::alloc::Global;
 
 /// Makes the calls in order, none after an answer that is a connection error.
 ///
-/// Over a link that was just made, whose maker tells, where each request is valid and each response has a wire form
-/// within the client's limit, the answers are those of the object map asked directly, with the maker's answers in
-/// order.
+/// Over a link that was just made, whose maker tells, where each request is valid and each response
+/// has a wire form within the client's limit, the answers are those of the object map asked
+/// directly, with the maker's answers in order.
 ///
-/// Over any link that is neither faulted nor starved, that was sent whole messages and whose maker tells, each call
-/// is told as expected: what it sent, its answer and its diagnostics are those of one exchange on the bytes left, to
-/// which the server's response was added first. A call whose response has no wire form is the last: a part of its
-/// request was sent, and its answer is `RequestWriteError`.
+/// Over any link that is neither faulted nor starved, that was sent only whole messages and whose
+/// maker tells, what each call sent, its answer and its diagnostics are those of one exchange over
+/// the bytes left to read, after the server's response was added to these. A call whose response
+/// has no wire form is the last: a part of its request was sent, and its answer is
+/// `RequestWriteError`.
 ///
-/// Its only error is `OutOfMemory`. Then some of the calls may have been made.
+/// Its only error is `OutOfMemory`: then any number of the calls may have been made.
 pub fn call_all<M: Maker>(
     alloc: Global,
     client: &mut Client<ServerLink<M>>,
@@ -65,7 +66,7 @@ pub fn call_all<M: Maker>(
     calls_over(alloc, client, calls)
 }
 
-/// The same, without the object map.
+/// Makes the same calls; its clauses do not speak of the object map.
 fn calls_over<M: Maker>(
     alloc: Global,
     client: &mut Client<ServerLink<M>>,

@@ -1,9 +1,11 @@
-//! A link round a server of its own.
-ghost use Rattle.std.specs.Prelude.{◌≡◌, ◌<◌, ◌≤◌, ◌++◌, [], true, false, IsTrue, length, take, ◌≢◌, IfOk, IfErr, OnErr, IsErrOf, ℕ, List};
+//! A link over a server of its own.
+ghost use Rattle.std.specs.Prelude.{◌≡◌, ◌<◌, ◌≤◌, ◌++◌, [], true, false, IsTrue, length, take};
+ghost use Rattle.std.specs.Prelude.{◌≢◌, IfOk, IfErr, OnErr, IsErrOf, ℕ, List};
 ghost use Rattle.kmip_link.specs.declared.link.LinkError.{LinkError};
 ghost use Rattle.kmip_link.specs.State.{Keeps, IsIdle, Reads, Writes, Rose};
 ghost use Rattle.kmip_store.specs.Makers.{MakerKeeps};
-ghost use Rattle.kmip_server.specs.Link.{ServerLinkState, server_link_state, IsKept, IsKnown, Holds, Accepted, IsRefused, IsUnused, Did, WritesTo};
+ghost use Rattle.kmip_server.specs.Link.{ServerLinkState, server_link_state, IsKept, IsKnown};
+ghost use Rattle.kmip_server.specs.Link.{Holds, Accepted, IsRefused, IsUnused, Did, WritesTo};
 ghost use Rattle.kmip_server.specs.Split.{messages_in};
 
 use crate::take::{grow_both, take_bytes};
@@ -53,7 +55,8 @@ impl<M: Maker> Model for ServerLink<M> {
 }
 
 impl<M: Maker> ServerLink<M> {
-    /// A link round a server with no objects. It takes no memory.
+    /// A link over a server with no objects. `time_stamp` is in seconds since 1970-01-01 00:00 UTC.
+    /// It takes no memory.
     pub fn new(alloc: Global, maker: M, time_stamp: i64) -> ServerLink<M>
         requires { IsTrue (M.state maker).tells → IsUnused (M.state maker) }
         ensures { result ≡ record {
@@ -86,14 +89,14 @@ impl<M: Maker> ServerLink<M> {
         &self.server
     }
 
-    /// All that was sent.
+    /// All bytes that were sent over it.
     pub fn sent(&self) -> &[u8]
         ensures { result.now ≡ self.now.sent }
     {
         &self.sent
     }
 
-    /// Whether a message was met whose response has no wire form.
+    /// Whether a message came whose response has no wire form: then each further write fails.
     pub fn faulted(&self) -> bool
         ensures faulted { IsTrue result → 0 < self.now.faults }
         ensures sound { result ≡ false → self.now.faults ≡ 0 }
@@ -101,14 +104,14 @@ impl<M: Maker> ServerLink<M> {
         self.faults != 0
     }
 
-    /// Whether a write lacked memory.
+    /// Whether a write ran out of memory.
     pub fn starved(&self) -> bool
         ensures { result ≡ self.now.starved }
     {
         self.starved
     }
 
-    /// The message whose response has no wire form; none before there was one.
+    /// The message whose response has no wire form; empty before one came.
     pub fn kept(&self) -> &[u8]
         ensures { result.now ≡ self.now.kept }
     {
@@ -125,8 +128,9 @@ impl<M: Maker> ServerLink<M> {
 
 /// Why a write took nothing.
 enum Refusal {
-    /// The message that it ends has no response.
+    /// The response to this message, which it ends, has no wire form.
     NoForm(Vec<u8>),
+    /// Out of memory; the server may have served the message that it ends.
     OutOfMemory,
 }
 
@@ -189,7 +193,8 @@ fn accept<M: Maker>(
 impl<M: Maker> Link for ServerLink<M> {
     ghost state = { server_link_state M.state };
 
-    /// Moves what the server answered to the front of `into`. It answers no error.
+    /// Moves bytes of the server's responses to the front of `into`, as many as there are and fit.
+    /// It never fails.
     fn read(&mut self, into: &mut [u8]) -> Result<usize, LinkError>
         ensures keeps { Keeps (server_link_state M.state self.old)
             (server_link_state M.state self.new) }
@@ -208,10 +213,11 @@ impl<M: Maker> Link for ServerLink<M> {
         Ok(count)
     }
 
-    /// Takes bytes up to the end of the message that they are in, which the server answers at once.
+    /// Takes bytes up to the end of the message that they are in. The server answers that message
+    /// at once.
     ///
-    /// `Fault` comes exactly where the link is faulted already, and then the server isn't asked, or where the message
-    /// ends whose response has no wire form: the link keeps that message.
+    /// `Fault` comes exactly where the link is faulted already, and then the server is not asked,
+    /// or where a message ends whose response has no wire form: the link keeps that message.
     fn write(&mut self, bytes: &[u8]) -> Result<usize, LinkError>
         ensures keeps { Keeps (server_link_state M.state self.old)
             (server_link_state M.state self.new) }

@@ -5,7 +5,7 @@ ghost use Rattle.kmip_server.specs.Split.{is_message, Takes};
 
 use std::alloc::{AllocError, Global};
 
-/// Whether bytes are a head and as many more as it tells.
+/// Whether bytes are a head and as many more as its length says.
 #[tactic(auto, unfolding(crate::specs::Split::is_message))]
 pub fn is_message(b: &[u8]) -> bool
     ensures { result ≡ is_message b.now }
@@ -13,7 +13,7 @@ pub fn is_message(b: &[u8]) -> bool
     b.len() >= 8 && b.len() as u64 == 8 + head_length(b) as u64
 }
 
-/// The length that a head tells.
+/// The length in a head, in bytes (KMIP 1.0, 9.1.1).
 fn head_length(b: &[u8]) -> u32
     requires { 8 ≤ length b.now }
     ensures { result ≡ head_length b.now }
@@ -35,7 +35,7 @@ pub fn take_bytes(alloc: Global, begun: &[u8], bytes: &[u8]) -> Result<(Vec<u8>,
     Ok((message, false))
 }
 
-/// Adds to both, or to none.
+/// Adds the response to the one and the bytes to the other; where memory runs out, to none.
 pub fn grow_both(
     ever: &mut Vec<u8>,
     response: &[u8],

@@ -5,7 +5,6 @@ use Rattle.std.proofs.lemmas.Str.{encode_ascii}
 use Rattle.std.specs.Char.{encode_utf8}
 use lib.Utf8.{next}
 use Rattle.kmip_shape.specs.declared.style.Style.{Style}
-use Rattle.kmip_shape.specs.declared.style.Style.TheVariants.{Bare, Json}
 use Rattle.kmip_shape.specs.Shown.{Growing, Grows, always, control_mark, escape, hex_byte}
 use Rattle.kmip_shape.proofs.Growth.{in_style}
 

@@ -11,7 +11,8 @@ abbrev mutual
   val_code (Bytes b) = gcons (gcons gnil (gcons gnil gnil)) ((coded_list coded_ℕ).code b)
   val_code (Truth b) = gcons (gcons (gcons gnil gnil) gnil) (coded_bool.code b)
   val_code (Record fields) = gcons (gcons (gcons gnil gnil) (gcons gnil gnil)) (fields_code fields)
-  val_code (Case n val) = gcons (gcons (gcons gnil (gcons gnil gnil)) gnil) (gcons (coded_ℕ.code n) (val_code val))
+  val_code (Case n val) =
+      gcons (gcons (gcons gnil (gcons gnil gnil)) gnil) (gcons (coded_ℕ.code n) (val_code val))
 
   pub fields_code : Fields → Gv
   fields_code NoField = gnil

@@ -26,7 +26,8 @@ has_name s (e ∷ es) = cond (bytes_eq s e.name) true (has_name s es)
 -- no number and no name stands twice in a table
 abbrev pub are_distinct : List Entry → Bool
 are_distinct [] = true
-are_distinct (e ∷ es) = not (has_number e.number es) && (not (has_name e.name es) && are_distinct es)
+are_distinct (e ∷ es) =
+    not (has_number e.number es) && (not (has_name e.name es) && are_distinct es)
 
 -- each variant is found by its number
 abbrev pub AreFound : {T : Type 0} → (T → Entry) → List T → Type 0
@@ -38,11 +39,13 @@ enumeration_val line x = Number (pos (line x).number)
 pub some_same : {T : Type 0} {x y : T} → Some x ≡ Some y → x ≡ y
 some_same h = cc
 
-pub same_variant : {T : Type 0} (line : T → Entry) (variants : List T) → AreFound line variants → IsFaithful (enumeration_val line)
+pub same_variant : {T : Type 0} (line : T → Entry) (variants : List T) → AreFound line variants →
+    IsFaithful (enumeration_val line)
 same_variant line variants found x y h =
     some_same (sym (found x) ∙ (ap (variant_at line variants) (same_unsigned h) ∙ found y))
 
 -- two variants are one where the numbers are, or the names are
 abbrev pub AreDistinct : {T : Type 0} → (T → Entry) → Type 0
 AreDistinct {T} line =
-    ((x y : T) → (line x).number ≡ (line y).number → x ≡ y) × ((x y : T) → (line x).name ≡ (line y).name → x ≡ y)
+    ((x y : T) → (line x).number ≡ (line y).number → x ≡ y) ×
+    ((x y : T) → (line x).name ≡ (line y).name → x ≡ y)

@@ -12,7 +12,8 @@ AreBytes (b ∷ bs) = (b < 256) × AreBytes bs
 -- a value of the kind, with its number in range, its text in UTF-8 and its bytes below 256
 abbrev pub kind_fits : Kind → Val → Type 0
 kind_fits Integer (Number z) = (negsuc 0x7fff_ffff ≤ℤ z) × (z ≤ℤ pos 0x7fff_ffff)
-kind_fits LongInteger (Number z) = (negsuc 0x7fff_ffff_ffff_ffff ≤ℤ z) × (z ≤ℤ pos 0x7fff_ffff_ffff_ffff)
+kind_fits LongInteger (Number z) =
+    (negsuc 0x7fff_ffff_ffff_ffff ≤ℤ z) × (z ≤ℤ pos 0x7fff_ffff_ffff_ffff)
 kind_fits BigInteger (Bytes b) = AreBytes b
 kind_fits Enumeration (Number (pos n)) = n < 2 ^ 32
 kind_fits Boolean (Truth b) = Unit {0}
@@ -46,7 +47,8 @@ abbrev mutual
   fits_in (Record fields) around shape = elim shape [
     | Rows rows ↦ fields_fit fields NoCase rows
     | RowsOrBytes n rows ↦ fields_fit fields NoCase rows
-    | Custom ↦ fields_fit fields NoCase (AndRow [] (Under attribute_value) AnyNumber Plain (Choice OfName around) NoRow)
+    | Custom ↦ fields_fit fields NoCase
+        (AndRow [] (Under attribute_value) AnyNumber Plain (Choice OfName around) NoRow)
     | _ ↦ ⊥
   ]
   fits_in (Case n val) around shape = elim shape [
@@ -101,14 +103,20 @@ abbrev mutual
   selected_in (Truth b) around shape outer tag = Unit {0}
   selected_in (Record fields) around shape outer tag = elim shape [
     | Rows rows ↦ fields_selected fields NoCase rows outer no_outer
-    | RowsOrBytes n rows ↦ elim (byte_form n fields) [ None ↦ fields_selected fields NoCase rows outer no_outer | Some b ↦ Unit {0} ]
+    | RowsOrBytes n rows ↦
+        elim (byte_form n fields) [
+          | None ↦
+              fields_selected fields NoCase rows outer no_outer
+          | Some b ↦ Unit {0}
+        ]
     | Custom ↦ custom_selected around fields
     | _ ↦ Unit {0}
   ]
   selected_in (Case n val) around shape outer tag = elim shape [
     | Choice rule cases ↦ elim (case_at cases n) [
       | None ↦ Unit {0}
-      | Some c ↦ IfSome (tree_in val cases c.shape (tag_or c.tag tag)) (λ t. selected_case (key_of rule cases outer t) cases ≡ Some n)
+      | Some c ↦ IfSome (tree_in val cases c.shape (tag_or c.tag tag))
+          (λ t. selected_case (key_of rule cases outer t) cases ≡ Some n)
           × selected_in val cases c.shape outer (tag_or c.tag tag)
     ]
     | _ ↦ Unit {0}
@@ -117,8 +125,10 @@ abbrev mutual
   pub fields_selected : Fields → Cases → RowList → OuterValue → OuterValue → Type 0
   fields_selected NoField around rows outer chosen = Unit {0}
   fields_selected (AndField field fields) around NoRow outer chosen = Unit {0}
-  fields_selected (AndField field fields) around (AndRow name place mark role shape rows) outer chosen =
-      mark_selected mark field × field_selected field around shape (outer_for role outer chosen) (place_tag place)
+  fields_selected (AndField field fields) around (AndRow name place mark role shape rows) outer
+      chosen =
+      mark_selected mark field ×
+      field_selected field around shape (outer_for role outer chosen) (place_tag place)
       × fields_selected fields around rows outer (chosen_after role field chosen)
 
   pub field_selected : Field → Cases → Shape → OuterValue → ℕ → Type 0
@@ -156,7 +166,8 @@ fixes_none NoCase = true
 fixes_none (AndCase n name selector None shape cases) = fixes_none cases
 fixes_none (AndCase n name selector (Some t) shape cases) = false
 
--- under a tag stands no choice whose cases fix one, and by its cases only a choice by number or by tag
+-- under a tag stands no choice whose cases fix one, and by its cases only a choice by number or by
+-- tag
 abbrev pub place_stands : Place → Shape → Bool
 place_stands (Under tag) (Choice rule cases) = fixes_none cases
 place_stands (Under tag) _ = true
@@ -180,12 +191,14 @@ abbrev mutual
   pub rows_once : RowList → Bool
   rows_once NoRow = true
   rows_once (AndRow name place mark role shape rows) =
-      apart (all_tags place shape) (rows_tags rows) && (place_stands place shape && (tags_once shape && rows_once rows))
+      apart (all_tags place shape) (rows_tags rows) &&
+      (place_stands place shape && (tags_once shape && rows_once rows))
 
   pub cases_once : Cases → Bool
   cases_once NoCase = true
   cases_once (AndCase n name selector fixed shape cases) =
-      not (among n (numbers cases)) && (not (is_choice shape) && (tags_once shape && cases_once cases))
+      not (among n (numbers cases)) &&
+      (not (is_choice shape) && (tags_once shape && cases_once cases))
 
 -- Choosers stand where they can be used.
 
@@ -215,4 +228,5 @@ choosers_stand _ = true
 -- the tags of the rows are tags
 abbrev pub are_tags : RowList → Bool
 are_tags NoRow = true
-are_tags (AndRow name place mark role shape rows) = nat_lt (place_tag place) (2 ^ 24) && are_tags rows
+are_tags (AndRow name place mark role shape rows) =
+    nat_lt (place_tag place) (2 ^ 24) && are_tags rows

@@ -11,7 +11,8 @@ use Rattle.kmip_shape.specs.Shape.{Shape, RowList, Cases, Mark, Required, Option
 -- the values of several items, in order
 abbrev pub each : (Tree → Option Val) → List Tree → Option Vals
 each read [] = Some NoVal
-each read (tree ∷ trees) = option_and_then (λ val. option_map (AndVal val) (each read trees)) (read tree)
+each read (tree ∷ trees) =
+    option_and_then (λ val. option_map (AndVal val) (each read trees)) (read tree)
 
 -- the field that the items of a row make, counted by its mark
 abbrev pub marked_field : Mark → (Tree → Option Val) → List Tree → Option Field
@@ -47,12 +48,14 @@ read_kind Interval tree = option_map (λ n. Number (pos n)) (interval_in tree)
 
 abbrev pub read_entry : List Entry → Tree → Option Val
 read_entry entries tree =
-    option_and_then (λ n. if in_table n entries then Some (Number (pos n)) else None) (enumeration_in tree)
+    option_and_then (λ n. if in_table n entries then Some (Number (pos n)) else None)
+    (enumeration_in tree)
 
 -- a child of a custom structure is read by its type alone
 abbrev pub read_plain : Cases → Tree → Option Val
 read_plain around tree =
-    option_and_then (λ leaf. option_map (λ n. Case n (val_of leaf)) (selected_case (TypeKey (code_of (kind_of_scalar leaf))) around)) (scalar_in tree)
+    option_and_then (λ leaf. option_map (λ n. Case n (val_of leaf))
+    (selected_case (TypeKey (code_of (kind_of_scalar leaf))) around)) (scalar_in tree)
 
 abbrev pub absent_fields : RowList → Fields
 absent_fields NoRow = NoField
@@ -69,27 +72,33 @@ abbrev mutual
   read_in (Scalar kind) around outer tree = read_kind kind tree
   read_in (OneOf entries) around outer tree = read_entry entries tree
   read_in (Rows rows) around outer tree =
-      option_and_then (λ trees. option_map Record (read_rows rows outer no_outer trees)) (children_in tree)
+      option_and_then (λ trees. option_map Record (read_rows rows outer no_outer trees))
+      (children_in tree)
   read_in (RowsOrBytes n rows) around outer tree = elim (bytes_in tree) [
     | Some b ↦ bytes_record n rows b
-    | None ↦ option_and_then (λ trees. option_map Record (read_rows rows outer no_outer trees)) (children_in tree)
+    | None ↦ option_and_then (λ trees. option_map Record (read_rows rows outer no_outer trees))
+        (children_in tree)
   ]
-  read_in (Choice rule cases) around outer tree = read_case cases cases (key_of rule cases outer tree) outer tree
+  read_in (Choice rule cases) around outer tree =
+      read_case cases cases (key_of rule cases outer tree) outer tree
   read_in Custom around outer tree =
-      option_and_then (λ trees. option_map (λ vals. Record (AndField (Many vals) NoField)) (each (read_plain around) trees)) (children_in tree)
+      option_and_then (λ trees. option_map (λ vals. Record (AndField (Many vals) NoField))
+      (each (read_plain around) trees)) (children_in tree)
 
   -- the fields of rows, of which the chooser seen so far gives the second outer value
   pub read_rows : RowList → OuterValue → OuterValue → List Tree → Option Fields
   read_rows NoRow outer chosen trees = Some NoField
   read_rows (AndRow name place mark role shape rows) outer chosen trees =
-      with_field (marked_field mark (read_in shape NoCase (outer_for role outer chosen)) (filter (in_place place shape (outer_for role outer chosen)) trees))
+      with_field (marked_field mark (read_in shape NoCase (outer_for role outer chosen))
+      (filter (in_place place shape (outer_for role outer chosen)) trees))
       (λ field. read_rows rows outer (chosen_after role field chosen) trees)
 
   -- the first case that the key selects
   pub read_case : Cases → Cases → Key → OuterValue → Tree → Option Val
   read_case NoCase around key outer tree = None
   read_case (AndCase n name selector fixed shape cases) around key outer tree =
-      if matches key selector then option_map (Case n) (read_in shape around outer tree) else read_case cases around key outer tree
+      if matches key selector then option_map (Case n) (read_in shape around outer tree)
+      else read_case cases around key outer tree
 
 -- the value that a tree reads as, where it reads as one
 abbrev pub read_of : Shape → OuterValue → Tree → Option Val

@@ -54,9 +54,13 @@ resume_only read false kept trees = resume_kept Required read kept trees
 abbrev pub case_field : Cases → Cases → OuterValue → ℕ → List Tree → Option Field
 case_field NoCase around outer n trees = None
 case_field (AndCase k name selector fixed shape cases) around outer n trees =
-    if matches (NumberKey n) selector then marked_field Required (λ tree. option_map (Case k) (read_in shape around outer tree)) (filter (has_tag (tag_or fixed 0)) trees)
+    if matches (NumberKey n) selector
+    then marked_field Required (λ tree. option_map (Case k) (read_in shape around outer tree))
+    (filter (has_tag (tag_or fixed 0)) trees)
     else case_field cases around outer n trees
 
 -- the field of a plain row under a tag, of the children of a tree
 abbrev pub read_row : Mark → Shape → OuterValue → ℕ → Tree → Option Field
-read_row mark shape outer tag tree = option_and_then (λ trees. marked_field mark (read_of shape outer) (filter (has_tag tag) trees)) (children_in tree)
+read_row mark shape outer tag tree =
+    option_and_then (λ trees. marked_field mark (read_of shape outer) (filter (has_tag tag) trees))
+    (children_in tree)

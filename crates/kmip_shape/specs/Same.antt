@@ -33,16 +33,19 @@ same_unsigned h = cc
 abbrev pub IsFaithful : {T V : Type 0} → (T → V) → Type 0
 IsFaithful {T} {V} val = (x y : T) → val x ≡ val y → x ≡ y
 
-pub same_one : {T : Type 0} (val : T → Val) → IsFaithful val → (x y : T) → One (val x) ≡ One (val y) → x ≡ y
+pub same_one : {T : Type 0} (val : T → Val) → IsFaithful val → (x y : T) →
+    One (val x) ≡ One (val y) → x ≡ y
 same_one val f x y h = f x y cc
 
-pub same_optional : {T : Type 0} (val : T → Val) → IsFaithful val → (x y : Option T) → optional val x ≡ optional val y → x ≡ y
+pub same_optional : {T : Type 0} (val : T → Val) → IsFaithful val → (x y : Option T) →
+    optional val x ≡ optional val y → x ≡ y
 same_optional val f None None h = refl
 same_optional val f None (Some y) h = cc
 same_optional val f (Some x) None h = cc
 same_optional val f (Some x) (Some y) h = ap Some (f x y cc)
 
-same_vals : {T : Type 0} (val : T → Val) → IsFaithful val → (xs ys : List T) → vals val xs ≡ vals val ys → xs ≡ ys
+same_vals : {T : Type 0} (val : T → Val) → IsFaithful val → (xs ys : List T) →
+    vals val xs ≡ vals val ys → xs ≡ ys
 same_vals val f [] [] h = refl
 same_vals val f [] (y ∷ ys) h = cc
 same_vals val f (x ∷ xs) [] h = cc
@@ -51,30 +54,37 @@ same_vals val f (x ∷ xs) (y ∷ ys) h =
     let g : vals val xs ≡ vals val ys = cc in
     ap (λ z. z ∷ xs) (f x y e) ∙ ap (λ zs. y ∷ zs) (same_vals val f xs ys g)
 
-pub same_list : {T : Type 0} (val : T → Val) → IsFaithful val → (xs ys : List T) → Many (vals val xs) ≡ Many (vals val ys) → xs ≡ ys
+pub same_list : {T : Type 0} (val : T → Val) → IsFaithful val → (xs ys : List T) →
+    Many (vals val xs) ≡ Many (vals val ys) → xs ≡ ys
 same_list val f xs ys h = same_vals val f xs ys cc
 
-pub same_optional_list : {T : Type 0} (val : T → Val) → IsFaithful val → (x y : Option (List T)) → optional_list val x ≡ optional_list val y → x ≡ y
+pub same_optional_list : {T : Type 0} (val : T → Val) → IsFaithful val → (x y : Option (List T)) →
+    optional_list val x ≡ optional_list val y → x ≡ y
 same_optional_list val f None None h = refl
 same_optional_list val f None (Some ys) h = cc
 same_optional_list val f (Some xs) None h = cc
 same_optional_list val f (Some xs) (Some ys) h = ap Some (same_vals val f xs ys cc)
 
--- The fields of a record as nested pairs, row by row: `and_row (one_row name_same) (and_row (optional_row index_same) no_row)`.
+-- The fields of a record as nested pairs, row by row: `and_row (one_row name_same) (and_row
+-- (optional_row index_same) no_row)`.
 
 pub one_row : {T : Type 0} {val : T → Val} → IsFaithful val → IsFaithful (λ (x : T). One (val x))
 one_row {T} {val} f x y h = same_one val f x y h
 
-pub optional_row : {T : Type 0} {val : T → Val} → IsFaithful val → IsFaithful (λ (x : Option T). optional val x)
+pub optional_row : {T : Type 0} {val : T → Val} → IsFaithful val →
+    IsFaithful (λ (x : Option T). optional val x)
 optional_row {T} {val} f x y h = same_optional val f x y h
 
-pub list_row : {T : Type 0} {val : T → Val} → IsFaithful val → IsFaithful (λ (x : List T). Many (vals val x))
+pub list_row : {T : Type 0} {val : T → Val} → IsFaithful val →
+    IsFaithful (λ (x : List T). Many (vals val x))
 list_row {T} {val} f x y h = same_list val f x y h
 
-pub optional_list_row : {T : Type 0} {val : T → Val} → IsFaithful val → IsFaithful (λ (x : Option (List T)). optional_list val x)
+pub optional_list_row : {T : Type 0} {val : T → Val} → IsFaithful val →
+    IsFaithful (λ (x : Option (List T)). optional_list val x)
 optional_list_row {T} {val} f x y h = same_optional_list val f x y h
 
-pub and_row : {A B : Type 0} {field : A → Field} {fields : B → Fields} → IsFaithful field → IsFaithful fields → IsFaithful (λ (t : A × B). AndField (field t.0) (fields t.1))
+pub and_row : {A B : Type 0} {field : A → Field} {fields : B → Fields} → IsFaithful field →
+    IsFaithful fields → IsFaithful (λ (t : A × B). AndField (field t.0) (fields t.1))
 and_row {A} {B} {field} {fields} f g x y h =
     let r = same_rows h in
     ap (λ (a : A). (a, x.1)) (f x.0 y.0 r.0) ∙ ap (λ (b : B). (y.0, b)) (g x.1 y.1 r.1)

@@ -11,7 +11,8 @@ use Rattle.kmip_shape.specs.Val.{Val, Field, Number, Text, Bytes, Truth, Absent,
 pub data Mark : Type 0 where
   Required Optional AnyNumber AtLeastOne OptionalList : Mark
 
--- what a row has to do with choosing: the rows after a chooser that are chosen are read with its value as
+-- what a row has to do with choosing: the rows after a chooser that are chosen are read with its
+-- value as
 -- their outer value, the others with that of the record; a record has at most one chooser
 pub data Role : Type 0 where
   Plain Chooser Chosen : Role
@@ -35,7 +36,8 @@ pub data Selector : Type 0 where
   -- never selected, and without a wire form
   Formless : Selector
 
--- by what a choice selects: the outer number, the outer text and else the item's type, or the item's tag
+-- by what a choice selects: the outer number, the outer text and else the item's type, or the
+-- item's tag
 pub data Rule : Type 0 where
   OfNumber OfName OfTag : Rule
 
@@ -74,7 +76,8 @@ pub record Found : Type 0 where
 abbrev pub case_at : Cases → ℕ → Option Found
 case_at NoCase n = None
 case_at (AndCase m name selector tag shape cases) n =
-    cond (nat_eq m n) (Some (record { name = name; selector = selector; tag = tag; shape = shape })) (case_at cases n)
+    cond (nat_eq m n) (Some (record { name = name; selector = selector; tag = tag; shape = shape }))
+    (case_at cases n)
 
 -- the value of a leaf of a kind
 abbrev pub leaf_of : Kind → Val → Option Leaf

@@ -55,7 +55,8 @@ name_mark Json = 58 ∷ []
 -- the name of a number, and its digits where the table has none
 abbrev pub entry_styled : List Entry → ℕ → Style → List ℕ
 entry_styled [] n style = decimal n
-entry_styled (entry ∷ entries) n style = cond (nat_eq entry.number n) (word entry.name style) (entry_styled entries n style)
+entry_styled (entry ∷ entries) n style =
+    cond (nat_eq entry.number n) (word entry.name style) (entry_styled entries n style)
 
 abbrev pub leaf_styled : Shape → ℤ → Style → List ℕ
 leaf_styled (OneOf entries) (pos n) style = entry_styled entries n style
@@ -124,7 +125,12 @@ abbrev mutual
     | _ ↦ []
   ]
   styled_in (Case n val) around shape style = elim shape [
-    | Choice rule cases ↦ elim (case_at cases n) [ None ↦ [] | Some c ↦ case_styled val c.name (styled_in val cases c.shape) style ]
+    | Choice rule cases ↦
+        elim (case_at cases n) [
+          | None ↦ []
+          | Some c ↦
+              case_styled val c.name (styled_in val cases c.shape) style
+        ]
     | _ ↦ []
   ]
 
@@ -132,26 +138,32 @@ abbrev mutual
   pub fields_styled : Fields → Cases → RowList → Bool → Style → List ℕ
   fields_styled NoField around rows after style = []
   fields_styled (AndField field fields) around NoRow after style = []
-  fields_styled (AndField field fields) around (AndRow name place mark role shape rows) after style =
-      row_styled field around name shape after style ++ fields_styled fields around rows (after || stands field) style
+  fields_styled (AndField field fields) around (AndRow name place mark role shape rows) after
+      style =
+      row_styled field around name shape after style ++ fields_styled fields around rows
+      (after || stands field) style
 
   pub row_styled : Field → Cases → List ℕ → Shape → Bool → Style → List ℕ
   row_styled Absent around name shape after style = []
   row_styled (One val) around name shape after style =
       comma after ++ (word name style ++ (name_mark style ++ styled_in val around shape style))
   row_styled (Many vals) around name shape after style =
-      comma after ++ (word name style ++ (name_mark style ++ 91 ∷ (list_styled vals around shape false style ++ 93 ∷ [])))
+      comma after ++ (word name
+      style ++ (name_mark style ++ 91 ∷
+      (list_styled vals around shape false style ++ 93 ∷ [])))
 
   pub list_styled : Vals → Cases → Shape → Bool → Style → List ℕ
   list_styled NoVal around shape after style = []
-  list_styled (AndVal val vals) around shape after style = comma after ++ (styled_in val around shape style ++ list_styled vals around shape true style)
+  list_styled (AndVal val vals) around shape after style =
+      comma after ++ (styled_in val around shape style ++ list_styled vals around shape true style)
 
   -- a custom structure is shown as its list
   pub members_styled : Fields → Cases → Style → List ℕ
   members_styled NoField around style = []
   members_styled (AndField Absent fields) around style = []
   members_styled (AndField (One val) fields) around style = []
-  members_styled (AndField (Many vals) fields) around style = 91 ∷ (list_styled vals NoCase (Choice OfName around) false style ++ 93 ∷ [])
+  members_styled (AndField (Many vals) fields) around style =
+      91 ∷ (list_styled vals NoCase (Choice OfName around) false style ++ 93 ∷ [])
 
 abbrev pub shown_as : Shape → Val → Style → List ℕ
 shown_as shape val = styled_in val NoCase shape
@@ -162,7 +174,8 @@ record_styled fields rows style = 123 ∷ (fields_styled fields NoCase rows fals
 abbrev pub shown : Shape → Val → List ℕ
 shown shape val = shown_as shape val Bare
 
--- A value as JSON (RFC 8259): a record is an object of the fields that stand, a list an array, and a
+-- A value as JSON (RFC 8259): a record is an object of the fields that stand, a list an array, and
+-- a
 -- choice an object of one member. Bytes are a string of upper-case hex digits, the name of an
 -- enumeration's number and a text are strings, and numbers and truth values are themselves: numbers
 -- of 64 bits, so that a reader with doubles loses the last digits from 2^53 on. In a string `"` and
@@ -193,7 +206,8 @@ pub record AddsPart (old : List ℕ) (new : List ℕ) (text : List ℕ) : Type 0
   pub whole : part ++ rest ≡ text
   pub added : new ≡ old ++ part
 
--- the text in the style was appended where memory sufficed, and else a first part of it, after which no
+-- the text in the style was appended where memory sufficed, and else a first part of it, after
+-- which no
 -- more is; the style stays
 pub record Grows (old : Growing) (new : Growing) (text : Style → List ℕ) : Type 0 where
   pub same : new.style ≡ old.style

@@ -36,7 +36,8 @@ plain_tree cases _ = None
 
 abbrev pub plain_trees : Cases → Vals → Option (List Tree)
 plain_trees cases NoVal = Some []
-plain_trees cases (AndVal val vals) = then_trees (one_tree (plain_tree cases val)) (plain_trees cases vals)
+plain_trees cases (AndVal val vals) =
+    then_trees (one_tree (plain_tree cases val)) (plain_trees cases vals)
 
 abbrev pub custom_trees : Cases → Fields → Option (List Tree)
 custom_trees cases (AndField (Many vals) NoField) = plain_trees cases vals
@@ -69,7 +70,8 @@ abbrev mutual
   tree_in (Truth b) around shape tag = leaf_tree shape tag (Truth b)
   tree_in (Record fields) around shape tag = elim shape [
     | Rows rows ↦ structure_of tag (field_trees fields NoCase rows)
-    | RowsOrBytes n rows ↦ bytes_or tag (byte_form n fields) (structure_of tag (field_trees fields NoCase rows))
+    | RowsOrBytes n rows ↦
+        bytes_or tag (byte_form n fields) (structure_of tag (field_trees fields NoCase rows))
     | Custom ↦ structure_of tag (custom_trees around fields)
     | _ ↦ None
   ]

@@ -65,7 +65,8 @@ maybe_len (Some leaf) = cond (leaf_has_form leaf) (Some (leaf_size leaf)) None
 
 -- a child of a custom structure
 abbrev pub plain_leaf : Cases → Val → Option Leaf
-plain_leaf around (Case n val) = elim (case_at around n) [ None ↦ None | Some c ↦ leaf_at c.shape val ]
+plain_leaf around (Case n val) =
+    elim (case_at around n) [ None ↦ None | Some c ↦ leaf_at c.shape val ]
 plain_leaf around _ = None
 
 abbrev pub plains_size : Cases → Vals → ℕ
@@ -78,7 +79,8 @@ plains_form around (AndVal val vals) = maybe_form (plain_leaf around val) × pla
 
 abbrev pub plains_text : Cases → Vals → List ℕ
 plains_text around NoVal = []
-plains_text around (AndVal val vals) = maybe_text attribute_value (plain_leaf around val) ++ plains_text around vals
+plains_text around (AndVal val vals) =
+    maybe_text attribute_value (plain_leaf around val) ++ plains_text around vals
 
 -- both lengths together, which are below what a length field holds
 abbrev pub plus_len : Option ℕ → Option ℕ → Option ℕ
@@ -97,14 +99,16 @@ sum_len (len ∷ lens) = plus_len len (sum_len lens)
 
 abbrev pub plains_len : Cases → Vals → Option ℕ
 plains_len around NoVal = Some 0
-plains_len around (AndVal val vals) = plus_len (maybe_len (plain_leaf around val)) (plains_len around vals)
+plains_len around (AndVal val vals) =
+    plus_len (maybe_len (plain_leaf around val)) (plains_len around vals)
 
 abbrev pub many_of : Fields → Vals
 many_of (AndField (Many vals) fields) = vals
 many_of _ = NoVal
 
 abbrev pub custom_form : Cases → Fields → Type 0
-custom_form around (AndField (Many vals) NoField) = plains_form around vals × (plains_size around vals < 2 ^ 32)
+custom_form around (AndField (Many vals) NoField) =
+    plains_form around vals × (plains_size around vals < 2 ^ 32)
 custom_form around _ = ⊥
 
 abbrev pub custom_len : Cases → Fields → Option ℕ
@@ -120,7 +124,12 @@ abbrev mutual
   size_in (Truth b) around shape = maybe_size (leaf_at shape (Truth b))
   size_in (Record fields) around shape = elim shape [
     | Rows rows ↦ 8 + fields_size fields rows
-    | RowsOrBytes n rows ↦ elim (byte_form n fields) [ None ↦ 8 + fields_size fields rows | Some b ↦ leaf_size (byte_string b) ]
+    | RowsOrBytes n rows ↦
+        elim (byte_form n fields) [
+          | None ↦ 8 + fields_size fields rows
+          | Some b ↦
+              leaf_size (byte_string b)
+        ]
     | Custom ↦ 8 + plains_size around (many_of fields)
     | _ ↦ 0
   ]
@@ -132,7 +141,8 @@ abbrev mutual
   pub fields_size : Fields → RowList → ℕ
   fields_size NoField rows = 0
   fields_size (AndField field fields) NoRow = 0
-  fields_size (AndField field fields) (AndRow name place mark role shape rows) = field_size field shape + fields_size fields rows
+  fields_size (AndField field fields) (AndRow name place mark role shape rows) =
+      field_size field shape + fields_size fields rows
 
   pub field_size : Field → Shape → ℕ
   field_size Absent shape = 0
@@ -152,7 +162,13 @@ abbrev mutual
   form_in (Truth b) around shape = maybe_form (leaf_at shape (Truth b))
   form_in (Record fields) around shape = elim shape [
     | Rows rows ↦ fields_form fields rows × (fields_size fields rows < 2 ^ 32)
-    | RowsOrBytes n rows ↦ elim (byte_form n fields) [ None ↦ fields_form fields rows × (fields_size fields rows < 2 ^ 32) | Some b ↦ leaf_form (byte_string b) ]
+    | RowsOrBytes n rows ↦
+        elim (byte_form n fields) [
+          | None ↦
+              fields_form fields rows × (fields_size fields rows < 2 ^ 32)
+          | Some b ↦
+              leaf_form (byte_string b)
+        ]
     | Custom ↦ custom_form around fields
     | _ ↦ ⊥
   ]
@@ -168,7 +184,8 @@ abbrev mutual
   fields_form NoField NoRow = Unit {0}
   fields_form NoField (AndRow name place mark role shape rows) = ⊥
   fields_form (AndField field fields) NoRow = ⊥
-  fields_form (AndField field fields) (AndRow name place mark role shape rows) = field_form field shape × fields_form fields rows
+  fields_form (AndField field fields) (AndRow name place mark role shape rows) =
+      field_form field shape × fields_form fields rows
 
   pub field_form : Field → Shape → Type 0
   field_form Absent shape = Unit {0}
@@ -188,19 +205,28 @@ abbrev mutual
   text_in (Truth b) around shape tag = maybe_text tag (leaf_at shape (Truth b))
   text_in (Record fields) around shape tag = elim shape [
     | Rows rows ↦ structure_head tag (fields_size fields rows) ++ fields_text fields rows
-    | RowsOrBytes n rows ↦ elim (byte_form n fields) [ None ↦ structure_head tag (fields_size fields rows) ++ fields_text fields rows | Some b ↦ leaf_text tag (byte_string b) ]
-    | Custom ↦ structure_head tag (plains_size around (many_of fields)) ++ plains_text around (many_of fields)
+    | RowsOrBytes n rows ↦
+        elim (byte_form n fields) [
+          | None ↦
+              structure_head tag (fields_size fields rows) ++ fields_text fields rows
+          | Some b ↦
+              leaf_text tag (byte_string b)
+        ]
+    | Custom ↦ structure_head tag (plains_size around (many_of fields)) ++ plains_text around
+        (many_of fields)
     | _ ↦ []
   ]
   text_in (Case n val) around shape tag = elim shape [
-    | Choice rule cases ↦ elim (case_at cases n) [ None ↦ [] | Some c ↦ text_in val cases c.shape (tag_or c.tag tag) ]
+    | Choice rule cases ↦
+        elim (case_at cases n) [ None ↦ [] | Some c ↦ text_in val cases c.shape (tag_or c.tag tag) ]
     | _ ↦ []
   ]
 
   pub fields_text : Fields → RowList → List ℕ
   fields_text NoField rows = []
   fields_text (AndField field fields) NoRow = []
-  fields_text (AndField field fields) (AndRow name place mark role shape rows) = field_text field shape (place_tag place) ++ fields_text fields rows
+  fields_text (AndField field fields) (AndRow name place mark role shape rows) =
+      field_text field shape (place_tag place) ++ fields_text fields rows
 
   pub field_text : Field → Shape → ℕ → List ℕ
   field_text Absent shape tag = []
@@ -220,7 +246,12 @@ abbrev mutual
   len_in (Truth b) around shape = maybe_len (leaf_at shape (Truth b))
   len_in (Record fields) around shape = elim shape [
     | Rows rows ↦ structure_len (fields_len fields rows)
-    | RowsOrBytes n rows ↦ elim (byte_form n fields) [ None ↦ structure_len (fields_len fields rows) | Some b ↦ maybe_len (Some (byte_string b)) ]
+    | RowsOrBytes n rows ↦
+        elim (byte_form n fields) [
+          | None ↦ structure_len (fields_len fields rows)
+          | Some b ↦
+              maybe_len (Some (byte_string b))
+        ]
     | Custom ↦ custom_len around fields
     | _ ↦ None
   ]
@@ -236,7 +267,8 @@ abbrev mutual
   fields_len NoField NoRow = Some 0
   fields_len NoField (AndRow name place mark role shape rows) = None
   fields_len (AndField field fields) NoRow = None
-  fields_len (AndField field fields) (AndRow name place mark role shape rows) = plus_len (field_len field shape) (fields_len fields rows)
+  fields_len (AndField field fields) (AndRow name place mark role shape rows) =
+      plus_len (field_len field shape) (fields_len fields rows)
 
   pub field_len : Field → Shape → Option ℕ
   field_len Absent shape = Some 0

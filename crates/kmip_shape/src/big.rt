@@ -14,7 +14,7 @@ ghost use Rattle.std.specs.Prelude.{refl};
 use crate::item::{Item, WriteItem};
 use crate::item_lists::known_bytes;
 use crate::read::{Outer, ReadError, ReadItem};
-use crate::row_readers::ReadRow;
+use crate::row_readers::{ReadRow, takes};
 use crate::row_writers::{FieldRow, ShowRow, WriteRow};
 use crate::scalars::{big_integer_len, put_big_integer};
 use crate::show::ShowItem;
@@ -54,14 +54,9 @@ impl<'a, const TAG: u32> ReadRow<'a> for BigOne<TAG> {
         outer: Outer<'_>,
         child: ItemRef<'a>,
     ) -> Result<(), ReadError> {
-        if child.tag().number() != TAG {
-            return Ok(());
+        if takes(child.tag().number() == TAG, self.slot.is_some())? {
+            self.slot = Some(BigInteger::read(alloc, outer, child)?.0);
         }
-        if self.slot.is_some() {
-            return Err(ReadError::Unread);
-        }
-        let BigInteger(value) = BigInteger::read(alloc, outer, child)?;
-        self.slot = Some(value);
         Ok(())
     }
 
@@ -142,14 +137,9 @@ impl<'a, const TAG: u32> ReadRow<'a> for BigOpt<TAG> {
         outer: Outer<'_>,
         child: ItemRef<'a>,
     ) -> Result<(), ReadError> {
-        if child.tag().number() != TAG {
-            return Ok(());
+        if takes(child.tag().number() == TAG, self.slot.is_some())? {
+            self.slot = Some(BigInteger::read(alloc, outer, child)?.0);
         }
-        if self.slot.is_some() {
-            return Err(ReadError::Unread);
-        }
-        let BigInteger(value) = BigInteger::read(alloc, outer, child)?;
-        self.slot = Some(value);
         Ok(())
     }
 

@@ -16,7 +16,7 @@ ghost use Rattle.kmip_shape.specs.Resume.{resume_single};
 use crate::item::{Item, WriteItem};
 use crate::item_lists::{known_optional, optional_len, write_optional};
 use crate::read::{Outer, ReadError, ReadItem};
-use crate::row_readers::ReadRow;
+use crate::row_readers::{ReadRow, takes};
 use crate::row_writers::{FieldRow, ShowRow, WriteRow};
 use crate::show::{ShowItem, show_optional};
 use crate::text_writer::TextWriter;
@@ -71,13 +71,9 @@ impl<'a, T: OfTag> ReadRow<'a> for TagOpt<T> {
         outer: Outer<'_>,
         child: ItemRef<'a>,
     ) -> Result<(), ReadError> {
-        if !T::has_case(child.tag()) {
-            return Ok(());
+        if takes(T::has_case(child.tag()), self.slot.is_some())? {
+            self.slot = Some(T::read(alloc, outer, child)?);
         }
-        if self.slot.is_some() {
-            return Err(ReadError::Unread);
-        }
-        self.slot = Some(T::read(alloc, outer, child)?);
         Ok(())
     }
 

@@ -2,9 +2,9 @@
 //! traits by which types of items are written, read and shown.
 //!
 //! A type implements `Item`, and then what it needs of `WriteItem`, `ReadItem` and `ShowItem`. The
-//! rows of a record are one type, as `Row<One<AttributeName, ATTRIBUTE_NAME>, Row<Opt<AttributeIndex,
-//! ATTRIBUTE_INDEX>, End>>`, by which it is read (`read_record`), written (`record_len`, `write_record`)
-//! and shown (`show_record`).
+//! rows of a record are one type, as `Row<One<AttributeName, ATTRIBUTE_NAME>,
+//! Row<Opt<AttributeIndex, ATTRIBUTE_INDEX>, End>>`, by which it is read (`read_record`), written
+//! (`record_len`, `write_record`) and shown (`show_record`).
 #![tactic(auto)]
 
 pub mod big;

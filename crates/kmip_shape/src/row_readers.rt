@@ -1,6 +1,6 @@
 //! The items of one row, gathered in a walk over the children of a record.
 ghost use Rattle.std.specs.Prelude.{◌≡◌, ℕ, IfOk, Some, None, Err, Option, [], ◌∷◌, filter, map};
-ghost use Rattle.std.specs.Prelude.{refl};
+ghost use Rattle.std.specs.Prelude.{refl, Ok, ◌&&◌, if◌then◌else◌};
 ghost use Rattle.std.specs.Prelude as p;
 ghost use Rattle.std.specs.Option.{option_map, option_and_then};
 ghost use Rattle.kmip_wire.specs.Tree.{Tree};
@@ -71,6 +71,18 @@ pub trait ReadRow<'a>: Drop {
         ≡ with_field (reads o c xs) (λ f. read_rows rest o c xs) };
 }
 
+/// Whether a row of at most one item takes a child: where it is the row's and none was taken.
+/// `Unread` comes where it is a second one.
+#[inline(always)]
+pub(crate) fn takes(of_row: bool, full: bool) -> Result<bool, ReadError>
+    ensures { result ≡ (if of_row && full then Err ReadError.Unread else Ok of_row) }
+{
+    if of_row && full {
+        return Err(ReadError::Unread);
+    }
+    Ok(of_row)
+}
+
 /// A required item.
 #[derive(Drop)]
 pub struct One<T, const TAG: u32> {
@@ -101,13 +113,9 @@ impl<'a, T: ReadItem, const TAG: u32> ReadRow<'a> for One<T, TAG> {
         outer: Outer<'_>,
         child: ItemRef<'a>,
     ) -> Result<(), ReadError> {
-        if child.tag().number() != TAG {
-            return Ok(());
+        if takes(child.tag().number() == TAG, self.slot.is_some())? {
+            self.slot = Some(T::read(alloc, outer, child)?);
         }
-        if self.slot.is_some() {
-            return Err(ReadError::Unread);
-        }
-        self.slot = Some(T::read(alloc, outer, child)?);
         Ok(())
     }
 
@@ -146,13 +154,9 @@ impl<'a, T: ReadItem, const TAG: u32> ReadRow<'a> for Opt<T, TAG> {
         outer: Outer<'_>,
         child: ItemRef<'a>,
     ) -> Result<(), ReadError> {
-        if child.tag().number() != TAG {
-            return Ok(());
+        if takes(child.tag().number() == TAG, self.slot.is_some())? {
+            self.slot = Some(T::read(alloc, outer, child)?);
         }
-        if self.slot.is_some() {
-            return Err(ReadError::Unread);
-        }
-        self.slot = Some(T::read(alloc, outer, child)?);
         Ok(())
     }
 
@@ -200,13 +204,9 @@ impl<'a, T: ReadItem, const TAG: u32> ReadRow<'a> for ChosenOpt<'a, T, TAG> {
         _outer: Outer<'_>,
         child: ItemRef<'a>,
     ) -> Result<(), ReadError> {
-        if child.tag().number() != TAG {
-            return Ok(());
+        if takes(child.tag().number() == TAG, self.kept.is_some())? {
+            self.kept = Some(child);
         }
-        if self.kept.is_some() {
-            return Err(ReadError::Unread);
-        }
-        self.kept = Some(child);
         Ok(())
     }
 
@@ -257,13 +257,9 @@ impl<'a, T: ReadItem, const TAG: u32> ReadRow<'a> for ChosenOne<'a, T, TAG> {
         _outer: Outer<'_>,
         child: ItemRef<'a>,
     ) -> Result<(), ReadError> {
-        if child.tag().number() != TAG {
-            return Ok(());
+        if takes(child.tag().number() == TAG, self.kept.is_some())? {
+            self.kept = Some(child);
         }
-        if self.kept.is_some() {
-            return Err(ReadError::Unread);
-        }
-        self.kept = Some(child);
         Ok(())
     }
 

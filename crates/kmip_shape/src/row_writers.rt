@@ -1,8 +1,8 @@
 //! The fields of a record by its rows: known, written and shown, each in one call.
 //!
 //! A record's rows are one type, for reading as for these calls, as `Row<One<AttributeName,
-//! ATTRIBUTE_NAME>, ..>`. Its fields are lent as nested pairs in the order of the rows: `(&self.name,
-//! (&self.index, ()))`.
+//! ATTRIBUTE_NAME>, ..>`. Its fields are lent as nested pairs in the order of the rows:
+//! `(&self.name, (&self.index, ()))`.
 //!
 //! `FieldRows`, `WriteRows` and `ShowRows` each name what lends the fields and what they are, with
 //! no trait above them and no bound on what lends: either is looked up anew at every row, more

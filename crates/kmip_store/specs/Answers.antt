@@ -1,4 +1,4 @@
--- What a call of the store answers and leaves, said by its step.
+-- What a call of the store returns and leaves, said by its step.
 use Rattle.std.specs.Prelude.{◌≡◌, List, Option, Some, None, Bool, true, false, Result, Ok, Err, IsTrue}
 use Rattle.kmip_store.specs.declared.object.Object.{Object}
 use Rattle.kmip_store.specs.declared.error.StoreError.{StoreError}
@@ -10,7 +10,7 @@ use Rattle.kmip_store.specs.Makers.{MakerState, Answered, IsSilent, Rose, Makes,
 use Rattle.kmip_store.specs.declared.call.Call.{Call}
 use Rattle.kmip_store.specs.Steps.{Answer, NotFound, Denied, Failed, stay, step, question}
 
--- A call that asks no maker is its step. Where memory runs out, the objects are as they were.
+-- A call that asks no maker is its step. Where memory runs out, the objects are as before.
 abbrev pub Steps :
     {T : Type 0} → (T → Answer) → List Object → Call → List Object → Result T StoreError → Type 0
 Steps answer before call after (Ok x) = step before call None ≡ stay after (answer x)

@@ -1,4 +1,4 @@
--- What a maker means, and what one call does to that.
+-- A maker as contracts see it, and what one call does to it.
 use Rattle.std.specs.Prelude.{◌≡◌, ℕ, ◌+◌, ◌-◌, ◌^◌, ◌≤◌, min, List, [], ◌∷◌, ◌++◌, Bool, true, false, IsTrue, Result, Ok, Err}
 use Rattle.kmip_store.specs.declared.maker.Asked.{Asked}
 use Rattle.kmip_store.specs.declared.maker.Asked.TheVariants as questions
@@ -8,12 +8,12 @@ use Rattle.kmip_store.specs.declared.maker.MakerError.{MakerError}
 use Rattle.kmip_store.specs.declared.maker.MakerError.TheVariants.{Fault, OutOfMemory}
 
 pub record MakerState : Type 0 where
-  -- whether `asked` and `given` are told; where not, no clause speaks of them
+  -- whether `asked` and `given` record its calls; where not, no clause speaks of them
   pub tells : Bool
   -- its questions so far, and its answers to them
   pub asked : List Asked
   pub given : List Made
-  -- how often it refused, up to the greatest `u64`
+  -- how often it refused, up to 2^64 - 1
   pub faults : ℕ
 
 -- a pair answers the question for a pair, and bytes answer the two others
@@ -28,7 +28,7 @@ abbrev pub is_answer : Asked → Made → Bool
 is_answer asked answers.Refused = true
 is_answer asked made = is_of_kind asked made
 
--- The count of faults rose, or it stands at its last value, the greatest `u64`.
+-- The count of faults rose, or it stands at its last value, 2^64 - 1.
 abbrev pub Rose : ℕ → ℕ → Type 0
 Rose before now = min (before + 1) (2 ^ 64 - 1) ≤ now
 
@@ -48,7 +48,7 @@ pub record IsSilent (before after : MakerState) : Type 0 where
   pub given : after.given ≡ before.given
 
 -- One call of a maker with this question: it answered; or it refused, and its count of faults says
--- so; or it was refused memory, and nothing was asked.
+-- so; or memory ran out, and nothing was asked.
 abbrev pub Makes :
     {T : Type 0} → (T → Made) → Asked → MakerState → MakerState → Result T MakerError → Type 0
 Makes made question before after (Ok x) =

@@ -7,7 +7,7 @@ use Rattle.kmip_store.specs.declared.maker.Asked.TheVariants.{KeyPair, Random, S
 use Rattle.kmip_store.specs.declared.maker.Made.{Made}
 use Rattle.kmip_store.specs.declared.maker.Made.TheVariants.{Pair, Bytes}
 
--- none for a negative number, and at most 65,536
+-- how many random bytes are made: none for a negative number, and at most 65,536
 abbrev pub count_of : ℤ → ℕ
 count_of (pos n) = min n 65536
 count_of (negsuc n) = 0
@@ -18,7 +18,7 @@ plain_answer n (KeyPair bits) =
 plain_answer n (Random count) = Bytes (replicate (count_of count) (n % 256))
 plain_answer n (Sign key bytes) = Bytes (to_be_bytes w64 n)
 
--- its answers to these questions, the first of which has the number after n
+-- its answers to these questions, the first of which is number n + 1
 abbrev pub plain_answers : ℕ → List Asked → List Made
 plain_answers n [] = []
 plain_answers n (asked ∷ questions) =
@@ -29,6 +29,6 @@ pub record PlainMemory : Type 0 where
   pub asked : List Asked
   pub given : List Made
 
--- what it means: it always tells, and never refuses
+-- the plain maker as contracts see it: it always tells, and never refuses
 abbrev pub plain_state : PlainMemory → MakerState
 plain_state m = record { tells = true; asked = m.asked; given = m.given; faults = 0 }

@@ -9,16 +9,16 @@ use Rattle.kmip_store.specs.declared.maker.MakerError.{MakerError}
 use Rattle.kmip_store.specs.declared.maker.MakerError.TheVariants.{Fault, OutOfMemory}
 
 pub record PlannedMemory : Type 0 where
-  -- those that are left, in order
+  -- the answers that are left, in order
   pub answers : List Made
-  -- the numbers of the calls that are refused: how many questions were asked before the call
+  -- the numbers of the calls to refuse; a call is numbered by how many questions came before it
   pub failing : List ℕ
   pub asked : List Asked
   pub given : List Made
-  -- how often it refused, up to the greatest `u64`
+  -- how often it refused, up to 2^64 - 1
   pub faults : ℕ
 
--- what it means: it always tells
+-- the planned maker as contracts see it: it always tells
 abbrev pub planned_state : PlannedMemory → MakerState
 planned_state m =
     record { tells = true; asked = m.asked; given = m.given; faults = m.faults }
@@ -33,7 +33,7 @@ abbrev pub answer_to : Asked → Option Made → Made
 answer_to asked None = Refused
 answer_to asked (Some made) = cond (is_of_kind asked made) made Refused
 
--- a count that stops at its last value, the greatest `u64`
+-- a count that stops at its last value, 2^64 - 1
 abbrev pub next_count : ℕ → ℕ
 next_count n = min (n + 1) (2 ^ 64 - 1)
 
@@ -61,7 +61,7 @@ pub record Gave (before now : PlannedMemory) (asked : Asked) (made : Made) : Typ
   pub planned : answer_to asked (next_made before) ≡ made
   pub kept : now ≡ after before asked made
 
--- One call of the maker, as it was planned; where memory is refused, nothing changes.
+-- One call of the maker, as it was planned; where memory runs out, nothing changes.
 abbrev pub IsPlanned :
     {T : Type 0} → (T → Made) → Asked → PlannedMemory → PlannedMemory → Result T MakerError → Type 0
 IsPlanned made asked before now (Ok x) = Gave before now asked (made x)

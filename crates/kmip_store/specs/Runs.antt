@@ -1,4 +1,4 @@
--- Many calls, one after the other.
+-- Calls of a store, one after the other.
 use Rattle.std.specs.Prelude.{List, [], ◌∷◌, ◌++◌, ℕ, Option}
 use Rattle.kmip_store.specs.declared.object.Object.{Object}
 use Rattle.kmip_store.specs.declared.maker.Made.{Made}

@@ -18,7 +18,7 @@ use Rattle.kmip_store.specs.Objects.{identifier, find_in, is_pre_active, is_acti
 pub data Answer : Type 0 where
   -- no object has the identifier
   NotFound : Answer
-  -- its state, or its type, does not allow the call
+  -- the object's state or type does not allow the call
   Denied : Answer
   -- the maker refused
   Failed : Answer
@@ -30,7 +30,7 @@ pub data Answer : Type 0 where
   Signed : List ℕ → Answer
   Got : Object → Answer
 
--- what a call leaves, and what it answers
+-- the objects that a call leaves, and its answer
 pub record Stepped : Type 0 where
   pub objects : List Object
   pub answer : Answer
@@ -38,7 +38,7 @@ pub record Stepped : Type 0 where
 abbrev pub stay : List Object → Answer → Stepped
 stay objects answer = record { objects = objects; answer = answer }
 
--- the one object at the place becomes another; all else stays
+-- the object at the place becomes another; all others stay
 abbrev pub become : List Object → ℕ → Object → Stepped
 become objects place object = record { objects = slice_set objects place object; answer = Done }
 
@@ -87,7 +87,7 @@ key_of object_type name length key = record {
   key = key;
 }
 
--- a pair stands after the objects, the private key first
+-- a new pair is added after the objects, the private key first
 abbrev pub create : List Object → ℤ → List ℕ → List ℕ → Option Made → Stepped
 create objects bits private public (Some (answers.Pair private_key public_key)) = record {
   objects = objects
@@ -106,7 +106,7 @@ supported_operations =
     ∷ operations.Revoke ∷ operations.Destroy ∷ operations.Query ∷ operations.Sign
     ∷ operations.RNGRetrieve ∷ []
 
--- what a call leaves and answers; `made` is the maker's answer, for a call that asks it
+-- one call; `made` is the maker's answer, where the call asks it
 abbrev pub step : List Object → Call → Option Made → Stepped
 step objects Query made = stay objects (Supports supported_operations (PublicKey ∷ PrivateKey ∷ []))
 step objects (CreateRsaKeyPair bits private public) made = create objects bits private public made

@@ -6,16 +6,16 @@ use std::alloc::AllocError;
 
 /// Why a call of the store was refused. The objects are then as they were.
 ///
-/// The first two come exactly where the step of the object map has them, in this order.
+/// Memory aside, the first two come exactly where the step of the object map has them.
 #[derive(Clone, Copy, Debug, PartialEq, Eq, Drop)]
 pub enum StoreError {
     /// No object has the identifier; the maker was not asked.
     ItemNotFound,
     /// The object's state, or its type, does not allow the call; the maker was not asked.
     PermissionDenied,
-    /// The maker refused. Its count of faults rose, or stands at the greatest `u64`.
+    /// The maker refused. Its count of faults rose, or stands at `u64::MAX`.
     CryptographicFailure,
-    /// Memory was refused, to the store or to the maker; a maker that tells was asked nothing.
+    /// Out of memory, in the store or in the maker; a maker that tells was asked nothing.
     OutOfMemory,
 }
 

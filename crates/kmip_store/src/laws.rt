@@ -15,8 +15,8 @@ pub fn destroyed_stays()
         slice_get (objects_after objects turns) place ≡ Some object }
 {}
 
-/// Whatever calls are made, no identifier is given twice. The premise holds of every list in
-/// memory.
+/// Whatever calls are made, no identifier is given twice. The premise, fewer than 2^64 objects,
+/// holds of every list in memory.
 pub fn identifiers_differ()
     ensures { (objects : List Object) (turns : List Turn) →
         length (objects_after objects turns) < 2 ^ 64 →

@@ -1,4 +1,4 @@
-//! The objects of a key server in memory, with their states, and what it answers about them.
+//! The objects of a key server, in memory, with their states and the calls on them.
 //!
 //! What a call does is one function of the definitions, `step`: the objects after it and its
 //! answer, from the objects before it, the call, and for some calls one answer of a [`Maker`],
@@ -29,6 +29,3 @@ pub use memory_maker::MemoryMaker;
 pub use object::Object;
 pub use plain_maker::PlainMaker;
 pub use store::Store;
-
-#[cfg(test)]
-mod tests;

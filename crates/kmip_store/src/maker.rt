@@ -13,9 +13,9 @@ use std::alloc::{AllocError, Global};
 pub enum Asked {
     /// A key pair of this length in bits.
     KeyPair(i32),
-    /// So many random bytes.
+    /// This many random bytes.
     Random(i32),
-    /// The signature by a key, which stands first, of some bytes.
+    /// A signature: the key, and the bytes to sign with it.
     Sign(Blob, Blob),
 }
 
@@ -33,9 +33,9 @@ pub enum Made {
 /// Why a maker made nothing.
 #[derive(Clone, Copy, Debug, PartialEq, Eq, Drop)]
 pub enum MakerError {
-    /// It refused. Its count of faults rose, or stands at the greatest `u64`.
+    /// It refused. Its count of faults rose, or stands at `u64::MAX`.
     Fault,
-    /// Memory was refused; a maker that tells appended nothing to its lists.
+    /// Out of memory; a maker that tells appended nothing to its lists.
     OutOfMemory,
 }
 
@@ -61,9 +61,9 @@ impl From<AllocError> for MakerError {
 
 /// What makes keys, random bytes and signatures.
 ///
-/// A maker that tells keeps the list of its questions and the list of its answers, and each call
-/// appends to both: its question, and the answer or the refusal. A call that is refused memory
-/// appends nothing. A refusal raises the count of faults, up to the greatest `u64`.
+/// A maker that tells keeps a list of its questions and a list of its answers. Each call appends
+/// its question to the one and its answer or refusal to the other, but nothing where memory runs
+/// out. A refusal raises the count of faults, up to `u64::MAX`.
 pub trait Maker {
     ghost state: { Self → MakerState };
 
@@ -73,7 +73,7 @@ pub trait Maker {
         ensures call { Makes (λ pair. Pair pair.0 pair.1) (KeyPair key_length)
             (state self.old) (state self.new) result };
 
-    /// Random bytes.
+    /// Random bytes, where `num_bytes` are asked for. No clause says that there are as many.
     fn random(&mut self, alloc: Global, num_bytes: i32) -> Result<Blob, MakerError>
         ensures keeps { MakerKeeps (state self.old) (state self.new) }
         ensures call { Makes (λ bytes. Bytes bytes) (Random num_bytes)

@@ -18,7 +18,7 @@ use std::marker::Model;
 /// A call's number, from 0, is how many questions were asked before it. A call is refused exactly
 /// where its number is among the planned ones, or no answer of its kind is next: a pair for a key
 /// pair, bytes for random bytes and for a signature. A refused call raises the count of faults and
-/// uses up no answer. A call that is refused memory changes nothing and is not counted.
+/// uses up no answer. A call that runs out of memory changes nothing and is not counted.
 #[derive(Drop)]
 pub struct MemoryMaker {
     answers: Vec<Made>,
@@ -43,8 +43,8 @@ impl Model for MemoryMaker {
 }
 
 impl MemoryMaker {
-    /// A maker that was asked nothing, with the answers that it will give, in order, and the
-    /// numbers of the calls that it will refuse.
+    /// A maker that was asked nothing yet. `answers` are those that it will give, in order, and
+    /// `failing` the numbers of the calls that it will refuse.
     pub fn new(
         alloc: Global,
         answers: List<Made>,

@@ -10,15 +10,15 @@ use kmip_wire::{Blob, Text};
 /// A managed object (KMIP 1.0, 2.2) with its attributes.
 #[derive(Drop)]
 pub struct Object {
-    /// `PrivateKey` or `PublicKey`, for an object that a store made.
+    /// `PrivateKey` or `PublicKey`, for an object that a store made: KMIP 1.0, 3.3.
     pub object_type: ObjectType,
-    /// Where it is in its life (KMIP 1.0, 3.17).
+    /// Where it is in its life: KMIP 1.0, 3.17.
     pub state: State,
-    /// Its name, as it was given last.
+    /// Its name, as it was given last: KMIP 1.0, 3.2.
     pub name: Text,
-    /// The length of the key in bits.
+    /// The length of the key in bits: KMIP 1.0, 3.5.
     pub length: i32,
-    /// The bytes of the key; none where the object is destroyed.
+    /// The bytes of the key; empty where the object is destroyed.
     pub key: Blob,
 }
 
@@ -57,7 +57,7 @@ impl Object {
         matches!(self.state, State::Destroyed)
     }
 
-    /// Whether it can sign: a key that is not public, and Active.
+    /// Whether it can sign: it is Active, and no public key.
     pub fn can_sign(&self) -> bool
         ensures { result ≡ can_sign self.now }
     {

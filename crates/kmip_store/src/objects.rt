@@ -79,8 +79,8 @@ pub fn next_identifiers(alloc: Global, objects: &[Object]) -> Result<(Text, Text
     Ok((first, second))
 }
 
-/// A new pair of keys stands after the objects, the private key first. All memory but the maker's
-/// is taken before the maker is asked.
+/// Adds a new pair of keys after the objects, the private key first. All memory but the maker's is
+/// taken before the maker is asked.
 pub fn create<M: Maker>(
     alloc: Global,
     objects: &mut Vec<Object>,
@@ -183,7 +183,7 @@ pub fn sign<M: Maker>(
     signature(alloc, maker, object, bytes)
 }
 
-/// An object that is PreActive becomes Active.
+/// Makes a PreActive object Active.
 pub fn activate(objects: &mut [Object], id: &str) -> Result<(), StoreError>
     ensures step { Steps (λ _. Done) objects.old (ActivateKey id.now) objects.new result }
     ensures memory { IfErr result (λ e. e ≢ StoreError.OutOfMemory) }
@@ -198,7 +198,7 @@ pub fn activate(objects: &mut [Object], id: &str) -> Result<(), StoreError>
     Ok(())
 }
 
-/// An object that is Active becomes Deactivated.
+/// Makes an Active object Deactivated.
 pub fn revoke(objects: &mut [Object], id: &str) -> Result<(), StoreError>
     ensures step { Steps (λ _. Done) objects.old (RevokeKey id.now) objects.new result }
     ensures memory { IfErr result (λ e. e ≢ StoreError.OutOfMemory) }
@@ -213,7 +213,7 @@ pub fn revoke(objects: &mut [Object], id: &str) -> Result<(), StoreError>
     Ok(())
 }
 
-/// An object becomes Destroyed, and its key bytes are dropped.
+/// Makes an object Destroyed, and drops its key bytes.
 pub fn destroy(alloc: Global, objects: &mut [Object], id: &str) -> Result<(), StoreError>
     ensures step { Steps (λ _. Done) objects.old (DestroyKey id.now) objects.new result }
     ensures memory { IfErr result (λ e. e ≢ StoreError.OutOfMemory) }
@@ -229,7 +229,7 @@ pub fn destroy(alloc: Global, objects: &mut [Object], id: &str) -> Result<(), St
     Ok(())
 }
 
-/// An object gets another name.
+/// Gives an object another name.
 pub fn rename(alloc: Global, objects: &mut [Object], id: &str, name: &str) -> Result<(), StoreError>
     ensures { Steps (λ _. Done) objects.old (RenameKey id.now name.now) objects.new result }
 {
@@ -244,7 +244,7 @@ pub fn rename(alloc: Global, objects: &mut [Object], id: &str, name: &str) -> Re
     Ok(())
 }
 
-/// The object, where it is not destroyed.
+/// The object that has the identifier, where it is not destroyed.
 pub fn get<'a>(objects: &'a [Object], id: &str) -> Result<&'a Object, StoreError>
     ensures step { Steps (λ object. Got object.now) objects.now (GetKey id.now) objects.now result }
     ensures memory { IfErr result (λ e. e ≢ StoreError.OutOfMemory) }

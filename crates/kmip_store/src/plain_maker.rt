@@ -36,7 +36,7 @@ impl Model for PlainMaker {
     ghost invariant = { λ m. m.given.items ≡ plain_answers 0 m.asked.items };
 }
 
-/// Bytes, and one more.
+/// A copy of the bytes with one more at the end.
 fn with_byte(alloc: Global, bytes: &[u8], last: u8) -> Result<Blob, MakerError>
     ensures made { IfOk result (λ made. made ≡ bytes.now ++ last ∷ []) }
     ensures memory { IfErr result (λ e. e ≡ MakerError.OutOfMemory) }
@@ -57,7 +57,7 @@ impl PlainMaker {
         }
     }
 
-    /// What holds of each: its answers are those of their numbers. It takes no memory.
+    /// Its answers are made from their numbers: this holds of each. It takes no memory.
     pub fn known(&self)
         ensures { self.now.given ≡ plain_answers 0 self.now.asked }
     {

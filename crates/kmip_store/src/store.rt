@@ -23,7 +23,7 @@ use std::marker::Model;
 /// The identifier of an object is its place, counted from 1, in decimal. No object is ever taken
 /// away: one that is destroyed keeps its place and its identifier, and has no key bytes.
 ///
-/// What a call answers and leaves is one step of the object map ([`StoreError`] says why a call is
+/// What a call returns and leaves is one step of the object map ([`StoreError`] says why a call is
 /// refused). After each error the objects are as they were. A maker is asked last, when all other
 /// memory is taken.
 #[derive(Drop)]
@@ -108,7 +108,7 @@ impl Store {
         )
     }
 
-    /// Random bytes of the maker (RNG Retrieve: KMIP 1.2, 4.35).
+    /// Random bytes from the maker (RNG Retrieve: KMIP 1.2, 4.35).
     ///
     /// `num_bytes` goes to the maker as it is. `CryptographicFailure` comes where the maker
     /// refused.
@@ -181,7 +181,7 @@ impl Store {
     /// Gives an object another name (Modify Attribute of its Name: KMIP 1.0, 4.14 and 3.2).
     ///
     /// `ItemNotFound` comes where no object has the identifier, and `PermissionDenied` where the
-    /// object is destroyed.
+    /// object is destroyed. `OutOfMemory` leaves the object its old name.
     pub fn rename_key(&mut self, id: &str, new_name: &str) -> Result<(), StoreError>
         ensures { Steps (λ _. Done) self.old (RenameKey id.now new_name.now) self.new result }
     {

@@ -1,4 +1,5 @@
-//! The tags of KMIP (KMIP 1.0, 9.1.3.1): a constant for each, and their names as a table and as a function.
+//! The tags of KMIP (KMIP 1.0, 9.1.3.1): a constant for each, and their names as a table and as a
+//! function.
 //!
 //! ```rust
 //! use kmip_tags::{name_of, tags};
@@ -15,8 +16,6 @@ ghost use Rattle.kmip_tags.specs.Table.{names};
 mod map;
 mod table;
 pub mod tags;
-#[cfg(test)]
-mod tests;
 
 use kmip_wire::Tag;
 pub use map::{TagMap, make_kmip_tag_map};

@@ -24,7 +24,8 @@ impl Model for TagMap {
         (length t.names.now ≡ 292) };
 }
 
-/// The whole table, which stands in the program: the allocator is not used, and `OutOfMemory` never comes.
+/// The whole table, which stands in the program: the allocator is not used, and `OutOfMemory` never
+/// comes.
 pub fn make_kmip_tag_map(_alloc: Global) -> Result<TagMap, OutOfMemory>
     ensures { MatchResult result (λ made. made ≡ entries) (λ _. ⊥) }
 {
@@ -40,7 +41,8 @@ impl TagMap {
         self.names.len()
     }
 
-    /// The tag and the name at the place `index`, counted from 0 in tag order. `None` exactly from `len` on.
+    /// The tag and the name at the place `index`, counted from 0 in tag order. `None` exactly from
+    /// `len` on.
     pub fn at(&self, index: usize) -> Option<(Tag, &'static str)>
         ensures { option_map (λ entry. (entry.0, entry.1.now)) result ≡ slice_get self.now index }
     {

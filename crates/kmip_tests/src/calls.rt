@@ -1,150 +1,178 @@
 //! Each helper of a client, called once over a link that holds its answer.
-use crate::helpers::{is_copied, is_shown};
-use kmip_client::{Client, ClientBuilder, Error, Result};
+use crate::helpers::{client_fed, is_answered, is_copied, text, told};
+use kmip_client::{Client, Error, Result};
 use kmip_link::MemoryLink;
-use kmip_shape::ShowItem;
 use kmip_wire::Text;
-use std::alloc::Global;
 use std::process::Abort;
-use std::test::Fail;
 
-/// A client over a link that holds these bytes.
-fn client_fed(alloc: Global, response: &[u8]) -> std::result::Result<Client<MemoryLink>, Fail> {
-    let mut link = MemoryLink::new(alloc);
-    link.feed(response)?;
-    Ok(ClientBuilder::new(link).build())
-}
-
-/// The answer is a payload that is shown so.
-fn answers<P: ShowItem + Drop>(
-    rt: &impl Abort,
-    alloc: Global,
-    answer: Result<P>,
-    expected: &str,
-) -> std::result::Result<(), Fail> {
-    match answer {
-        Ok(payload) => is_shown::<P>(rt, alloc, &payload, expected),
-        Err(_) => Err(Fail::from("an error")),
-    }
-}
-
-/// There is an answer.
-fn is_done(rt: &impl Abort, answer: Result<()>) -> std::result::Result<(), Fail> {
-    assert!(rt; answer.is_ok());
-    Ok(())
+/// The call came to its end, and took the whole response.
+fn is_done(rt: &impl Abort, mut client: Client<MemoryLink>, answer: Result<()>) {
+    answer.expect(rt, "an answer");
+    assert!(rt; client.inner().rest().is_empty());
+    drop(client);
 }
 
 #[test]
-fn query(rt: HostRuntime) -> std::result::Result<(), Fail> {
+fn query(rt: HostRuntime) {
     let alloc = rt.alloc();
     // 7C{5C e8}
-    let bytes =
-        b"\x42\x00\x7B\x01\x00\x00\x00\x90\x42\x00\x7A\x01\x00\x00\x00\x48\x42\x00\x69\x01\x00\x00\x00\x20\x42\x00\x6A\x02\x00\x00\x00\x04\x00\x00\x00\x01\x00\x00\x00\x00\x42\x00\x6B\x02\x00\x00\x00\x04\x00\x00\x00\x02\x00\x00\x00\x00\x42\x00\x92\x09\x00\x00\x00\x08\x00\x00\x00\x00\x00\x00\x00\x01\x42\x00\x0D\x02\x00\x00\x00\x04\x00\x00\x00\x01\x00\x00\x00\x00\x42\x00\x0F\x01\x00\x00\x00\x38\x42\x00\x5C\x05\x00\x00\x00\x04\x00\x00\x00\x18\x00\x00\x00\x00\x42\x00\x7F\x05\x00\x00\x00\x04\x00\x00\x00\x00\x00\x00\x00\x00\x42\x00\x7C\x01\x00\x00\x00\x10\x42\x00\x5C\x05\x00\x00\x00\x04\x00\x00\x00\x08\x00\x00\x00\x00";
-    let mut client = client_fed(alloc, bytes)?;
-    let answer = client.query(alloc);
-    answers(&rt, alloc, answer, "{operations=[Locate]}")
+    let hex = concat!(
+        "42007B010000009042007A0100000048420069010000002042006A02000000040000000100000000",
+        "42006B020000000400000002000000004200920900000008000000000000000142000D0200000004",
+        "000000010000000042000F010000003842005C0500000004000000180000000042007F0500000004",
+        "000000000000000042007C010000001042005C05000000040000000800000000",
+    );
+    let mut client = client_fed(&rt, alloc, hex);
+    let answer = told(&rt, alloc, client.query(alloc));
+    is_answered(&rt, client, &answer, "{operations=[Locate]}");
 }
 
 #[test]
-fn rng_retrieve(rt: HostRuntime) -> std::result::Result<(), Fail> {
+fn rng_retrieve(rt: HostRuntime) {
     let alloc = rt.alloc();
     // 7C{C2 xAA}
-    let bytes =
-        b"\x42\x00\x7B\x01\x00\x00\x00\x90\x42\x00\x7A\x01\x00\x00\x00\x48\x42\x00\x69\x01\x00\x00\x00\x20\x42\x00\x6A\x02\x00\x00\x00\x04\x00\x00\x00\x01\x00\x00\x00\x00\x42\x00\x6B\x02\x00\x00\x00\x04\x00\x00\x00\x02\x00\x00\x00\x00\x42\x00\x92\x09\x00\x00\x00\x08\x00\x00\x00\x00\x00\x00\x00\x01\x42\x00\x0D\x02\x00\x00\x00\x04\x00\x00\x00\x01\x00\x00\x00\x00\x42\x00\x0F\x01\x00\x00\x00\x38\x42\x00\x5C\x05\x00\x00\x00\x04\x00\x00\x00\x25\x00\x00\x00\x00\x42\x00\x7F\x05\x00\x00\x00\x04\x00\x00\x00\x00\x00\x00\x00\x00\x42\x00\x7C\x01\x00\x00\x00\x10\x42\x00\xC2\x08\x00\x00\x00\x01\xAA\x00\x00\x00\x00\x00\x00\x00";
-    let mut client = client_fed(alloc, bytes)?;
-    let answer = client.rng_retrieve(alloc, 1);
-    answers(&rt, alloc, answer, "{random_bytes=x\"AA\"}")
+    let hex = concat!(
+        "42007B010000009042007A0100000048420069010000002042006A02000000040000000100000000",
+        "42006B020000000400000002000000004200920900000008000000000000000142000D0200000004",
+        "000000010000000042000F010000003842005C0500000004000000250000000042007F0500000004",
+        "000000000000000042007C01000000104200C20800000001AA00000000000000",
+    );
+    let mut client = client_fed(&rt, alloc, hex);
+    let answer = told(&rt, alloc, client.rng_retrieve(alloc, 1));
+    is_answered(&rt, client, &answer, "{random_bytes=x\"AA\"}");
 }
 
 #[test]
-fn sign(rt: HostRuntime) -> std::result::Result<(), Fail> {
+fn sign(rt: HostRuntime) {
     let alloc = rt.alloc();
     // 7C{94 "k",C3 xAA}
-    let bytes =
-        b"\x42\x00\x7B\x01\x00\x00\x00\xA0\x42\x00\x7A\x01\x00\x00\x00\x48\x42\x00\x69\x01\x00\x00\x00\x20\x42\x00\x6A\x02\x00\x00\x00\x04\x00\x00\x00\x01\x00\x00\x00\x00\x42\x00\x6B\x02\x00\x00\x00\x04\x00\x00\x00\x02\x00\x00\x00\x00\x42\x00\x92\x09\x00\x00\x00\x08\x00\x00\x00\x00\x00\x00\x00\x01\x42\x00\x0D\x02\x00\x00\x00\x04\x00\x00\x00\x01\x00\x00\x00\x00\x42\x00\x0F\x01\x00\x00\x00\x48\x42\x00\x5C\x05\x00\x00\x00\x04\x00\x00\x00\x21\x00\x00\x00\x00\x42\x00\x7F\x05\x00\x00\x00\x04\x00\x00\x00\x00\x00\x00\x00\x00\x42\x00\x7C\x01\x00\x00\x00\x20\x42\x00\x94\x07\x00\x00\x00\x01\x6B\x00\x00\x00\x00\x00\x00\x00\x42\x00\xC3\x08\x00\x00\x00\x01\xAA\x00\x00\x00\x00\x00\x00\x00";
-    let mut client = client_fed(alloc, bytes)?;
-    let answer = client.sign(alloc, "k", b"\xBB");
-    answers(
+    let hex = concat!(
+        "42007B01000000A042007A0100000048420069010000002042006A02000000040000000100000000",
+        "42006B020000000400000002000000004200920900000008000000000000000142000D0200000004",
+        "000000010000000042000F010000004842005C0500000004000000210000000042007F0500000004",
+        "000000000000000042007C010000002042009407000000016B000000000000004200C30800000001",
+        "AA00000000000000",
+    );
+    let mut client = client_fed(&rt, alloc, hex);
+    let answer = told(&rt, alloc, client.sign(alloc, "k", b"\xBB"));
+    is_answered(
         &rt,
-        alloc,
-        answer,
+        client,
+        &answer,
         "{unique_identifier=\"k\",signature_data=x\"AA\"}",
-    )
+    );
 }
 
 #[test]
-fn rename_key(rt: HostRuntime) -> std::result::Result<(), Fail> {
+fn rename_key(rt: HostRuntime) {
     let alloc = rt.alloc();
     // 7C{94 "k",08{0A "Name",0B{55 "n",54 e1}}}
-    let bytes =
-        b"\x42\x00\x7B\x01\x00\x00\x00\xD0\x42\x00\x7A\x01\x00\x00\x00\x48\x42\x00\x69\x01\x00\x00\x00\x20\x42\x00\x6A\x02\x00\x00\x00\x04\x00\x00\x00\x01\x00\x00\x00\x00\x42\x00\x6B\x02\x00\x00\x00\x04\x00\x00\x00\x02\x00\x00\x00\x00\x42\x00\x92\x09\x00\x00\x00\x08\x00\x00\x00\x00\x00\x00\x00\x01\x42\x00\x0D\x02\x00\x00\x00\x04\x00\x00\x00\x01\x00\x00\x00\x00\x42\x00\x0F\x01\x00\x00\x00\x78\x42\x00\x5C\x05\x00\x00\x00\x04\x00\x00\x00\x0E\x00\x00\x00\x00\x42\x00\x7F\x05\x00\x00\x00\x04\x00\x00\x00\x00\x00\x00\x00\x00\x42\x00\x7C\x01\x00\x00\x00\x50\x42\x00\x94\x07\x00\x00\x00\x01\x6B\x00\x00\x00\x00\x00\x00\x00\x42\x00\x08\x01\x00\x00\x00\x38\x42\x00\x0A\x07\x00\x00\x00\x04\x4E\x61\x6D\x65\x00\x00\x00\x00\x42\x00\x0B\x01\x00\x00\x00\x20\x42\x00\x55\x07\x00\x00\x00\x01\x6E\x00\x00\x00\x00\x00\x00\x00\x42\x00\x54\x05\x00\x00\x00\x04\x00\x00\x00\x01\x00\x00\x00\x00";
-    let mut client = client_fed(alloc, bytes)?;
-    let answer = client.rename_key(alloc, "k", Text::of(alloc, "n")?);
-    answers(
+    let hex = concat!(
+        "42007B01000000D042007A0100000048420069010000002042006A02000000040000000100000000",
+        "42006B020000000400000002000000004200920900000008000000000000000142000D0200000004",
+        "000000010000000042000F010000007842005C05000000040000000E0000000042007F0500000004",
+        "000000000000000042007C010000005042009407000000016B000000000000004200080100000038",
+        "42000A07000000044E616D650000000042000B010000002042005507000000016E00000000000000",
+        "42005405000000040000000100000000",
+    );
+    let mut client = client_fed(&rt, alloc, hex);
+    let answer = told(
         &rt,
         alloc,
-        answer,
+        client.rename_key(alloc, "k", text(&rt, alloc, "n")),
+    );
+    is_answered(
+        &rt,
+        client,
+        &answer,
         "{unique_identifier=\"k\",attribute={name=\"Name\",value=Name{name_value=\"n\",name_type=UninterpretedTextString}}}",
-    )
+    );
 }
 
 #[test]
-fn get_key(rt: HostRuntime) -> std::result::Result<(), Fail> {
+fn get_key(rt: HostRuntime) {
     let alloc = rt.alloc();
     // 7C{57 e4,94 "k",64{40{42 e1,45{43 xAA}}}}
-    let bytes =
-        b"\x42\x00\x7B\x01\x00\x00\x00\xD8\x42\x00\x7A\x01\x00\x00\x00\x48\x42\x00\x69\x01\x00\x00\x00\x20\x42\x00\x6A\x02\x00\x00\x00\x04\x00\x00\x00\x01\x00\x00\x00\x00\x42\x00\x6B\x02\x00\x00\x00\x04\x00\x00\x00\x02\x00\x00\x00\x00\x42\x00\x92\x09\x00\x00\x00\x08\x00\x00\x00\x00\x00\x00\x00\x01\x42\x00\x0D\x02\x00\x00\x00\x04\x00\x00\x00\x01\x00\x00\x00\x00\x42\x00\x0F\x01\x00\x00\x00\x80\x42\x00\x5C\x05\x00\x00\x00\x04\x00\x00\x00\x0A\x00\x00\x00\x00\x42\x00\x7F\x05\x00\x00\x00\x04\x00\x00\x00\x00\x00\x00\x00\x00\x42\x00\x7C\x01\x00\x00\x00\x58\x42\x00\x57\x05\x00\x00\x00\x04\x00\x00\x00\x04\x00\x00\x00\x00\x42\x00\x94\x07\x00\x00\x00\x01\x6B\x00\x00\x00\x00\x00\x00\x00\x42\x00\x64\x01\x00\x00\x00\x30\x42\x00\x40\x01\x00\x00\x00\x28\x42\x00\x42\x05\x00\x00\x00\x04\x00\x00\x00\x01\x00\x00\x00\x00\x42\x00\x45\x01\x00\x00\x00\x10\x42\x00\x43\x08\x00\x00\x00\x01\xAA\x00\x00\x00\x00\x00\x00\x00";
-    let mut client = client_fed(alloc, bytes)?;
-    let answer = client.get_key(alloc, "k");
-    answers(
+    let hex = concat!(
+        "42007B01000000D842007A0100000048420069010000002042006A02000000040000000100000000",
+        "42006B020000000400000002000000004200920900000008000000000000000142000D0200000004",
+        "000000010000000042000F010000008042005C05000000040000000A0000000042007F0500000004",
+        "000000000000000042007C0100000058420057050000000400000004000000004200940700000001",
+        "6B000000000000004200640100000030420040010000002842004205000000040000000100000000",
+        "42004501000000104200430800000001AA00000000000000",
+    );
+    let mut client = client_fed(&rt, alloc, hex);
+    let answer = told(&rt, alloc, client.get_key(alloc, "k"));
+    is_answered(
         &rt,
-        alloc,
-        answer,
+        client,
+        &answer,
         "{object_type=PrivateKey,unique_identifier=\"k\",cryptographic_object=PrivateKey{key_block={key_format_type=Raw,key_value={key_material=Bytes(x\"AA\")}}}}",
-    )
+    );
 }
 
 #[test]
-fn keys_change_state(rt: HostRuntime) -> std::result::Result<(), Fail> {
+fn keys_change_state(rt: HostRuntime) {
     let alloc = rt.alloc();
     // activate_key: 7C{94 "k"}
-    let bytes =
-        b"\x42\x00\x7B\x01\x00\x00\x00\x90\x42\x00\x7A\x01\x00\x00\x00\x48\x42\x00\x69\x01\x00\x00\x00\x20\x42\x00\x6A\x02\x00\x00\x00\x04\x00\x00\x00\x01\x00\x00\x00\x00\x42\x00\x6B\x02\x00\x00\x00\x04\x00\x00\x00\x02\x00\x00\x00\x00\x42\x00\x92\x09\x00\x00\x00\x08\x00\x00\x00\x00\x00\x00\x00\x01\x42\x00\x0D\x02\x00\x00\x00\x04\x00\x00\x00\x01\x00\x00\x00\x00\x42\x00\x0F\x01\x00\x00\x00\x38\x42\x00\x5C\x05\x00\x00\x00\x04\x00\x00\x00\x12\x00\x00\x00\x00\x42\x00\x7F\x05\x00\x00\x00\x04\x00\x00\x00\x00\x00\x00\x00\x00\x42\x00\x7C\x01\x00\x00\x00\x10\x42\x00\x94\x07\x00\x00\x00\x01\x6B\x00\x00\x00\x00\x00\x00\x00";
-    is_done(&rt, client_fed(alloc, bytes)?.activate_key(alloc, "k"))?;
+    let hex = concat!(
+        "42007B010000009042007A0100000048420069010000002042006A02000000040000000100000000",
+        "42006B020000000400000002000000004200920900000008000000000000000142000D0200000004",
+        "000000010000000042000F010000003842005C0500000004000000120000000042007F0500000004",
+        "000000000000000042007C010000001042009407000000016B00000000000000",
+    );
+    let mut client = client_fed(&rt, alloc, hex);
+    let answer = client.activate_key(alloc, "k");
+    is_done(&rt, client, answer);
     // revoke_key: 7C{94 "k"}
-    let bytes =
-        b"\x42\x00\x7B\x01\x00\x00\x00\x90\x42\x00\x7A\x01\x00\x00\x00\x48\x42\x00\x69\x01\x00\x00\x00\x20\x42\x00\x6A\x02\x00\x00\x00\x04\x00\x00\x00\x01\x00\x00\x00\x00\x42\x00\x6B\x02\x00\x00\x00\x04\x00\x00\x00\x02\x00\x00\x00\x00\x42\x00\x92\x09\x00\x00\x00\x08\x00\x00\x00\x00\x00\x00\x00\x01\x42\x00\x0D\x02\x00\x00\x00\x04\x00\x00\x00\x01\x00\x00\x00\x00\x42\x00\x0F\x01\x00\x00\x00\x38\x42\x00\x5C\x05\x00\x00\x00\x04\x00\x00\x00\x13\x00\x00\x00\x00\x42\x00\x7F\x05\x00\x00\x00\x04\x00\x00\x00\x00\x00\x00\x00\x00\x42\x00\x7C\x01\x00\x00\x00\x10\x42\x00\x94\x07\x00\x00\x00\x01\x6B\x00\x00\x00\x00\x00\x00\x00";
-    is_done(&rt, client_fed(alloc, bytes)?.revoke_key(alloc, "k"))?;
+    let hex = concat!(
+        "42007B010000009042007A0100000048420069010000002042006A02000000040000000100000000",
+        "42006B020000000400000002000000004200920900000008000000000000000142000D0200000004",
+        "000000010000000042000F010000003842005C0500000004000000130000000042007F0500000004",
+        "000000000000000042007C010000001042009407000000016B00000000000000",
+    );
+    let mut client = client_fed(&rt, alloc, hex);
+    let answer = client.revoke_key(alloc, "k");
+    is_done(&rt, client, answer);
     // destroy_key: 7C{94 "k"}
-    let bytes =
-        b"\x42\x00\x7B\x01\x00\x00\x00\x90\x42\x00\x7A\x01\x00\x00\x00\x48\x42\x00\x69\x01\x00\x00\x00\x20\x42\x00\x6A\x02\x00\x00\x00\x04\x00\x00\x00\x01\x00\x00\x00\x00\x42\x00\x6B\x02\x00\x00\x00\x04\x00\x00\x00\x02\x00\x00\x00\x00\x42\x00\x92\x09\x00\x00\x00\x08\x00\x00\x00\x00\x00\x00\x00\x01\x42\x00\x0D\x02\x00\x00\x00\x04\x00\x00\x00\x01\x00\x00\x00\x00\x42\x00\x0F\x01\x00\x00\x00\x38\x42\x00\x5C\x05\x00\x00\x00\x04\x00\x00\x00\x14\x00\x00\x00\x00\x42\x00\x7F\x05\x00\x00\x00\x04\x00\x00\x00\x00\x00\x00\x00\x00\x42\x00\x7C\x01\x00\x00\x00\x10\x42\x00\x94\x07\x00\x00\x00\x01\x6B\x00\x00\x00\x00\x00\x00\x00";
-    is_done(&rt, client_fed(alloc, bytes)?.destroy_key(alloc, "k"))?;
-    Ok(())
+    let hex = concat!(
+        "42007B010000009042007A0100000048420069010000002042006A02000000040000000100000000",
+        "42006B020000000400000002000000004200920900000008000000000000000142000D0200000004",
+        "000000010000000042000F010000003842005C0500000004000000140000000042007F0500000004",
+        "000000000000000042007C010000001042009407000000016B00000000000000",
+    );
+    let mut client = client_fed(&rt, alloc, hex);
+    let answer = client.destroy_key(alloc, "k");
+    is_done(&rt, client, answer);
 }
 
 #[test]
-fn create_rsa_key_pair(rt: HostRuntime) -> std::result::Result<(), Fail> {
+fn create_rsa_key_pair(rt: HostRuntime) {
     let alloc = rt.alloc();
     // 7C{66 "a",6F "b"}
-    let bytes =
-        b"\x42\x00\x7B\x01\x00\x00\x00\xA0\x42\x00\x7A\x01\x00\x00\x00\x48\x42\x00\x69\x01\x00\x00\x00\x20\x42\x00\x6A\x02\x00\x00\x00\x04\x00\x00\x00\x01\x00\x00\x00\x00\x42\x00\x6B\x02\x00\x00\x00\x04\x00\x00\x00\x02\x00\x00\x00\x00\x42\x00\x92\x09\x00\x00\x00\x08\x00\x00\x00\x00\x00\x00\x00\x01\x42\x00\x0D\x02\x00\x00\x00\x04\x00\x00\x00\x01\x00\x00\x00\x00\x42\x00\x0F\x01\x00\x00\x00\x48\x42\x00\x5C\x05\x00\x00\x00\x04\x00\x00\x00\x02\x00\x00\x00\x00\x42\x00\x7F\x05\x00\x00\x00\x04\x00\x00\x00\x00\x00\x00\x00\x00\x42\x00\x7C\x01\x00\x00\x00\x20\x42\x00\x66\x07\x00\x00\x00\x01\x61\x00\x00\x00\x00\x00\x00\x00\x42\x00\x6F\x07\x00\x00\x00\x01\x62\x00\x00\x00\x00\x00\x00\x00";
-    let mut client = client_fed(alloc, bytes)?;
-    let (private_key, public_key) = (Text::of(alloc, "x")?, Text::of(alloc, "y")?);
+    let hex = concat!(
+        "42007B01000000A042007A0100000048420069010000002042006A02000000040000000100000000",
+        "42006B020000000400000002000000004200920900000008000000000000000142000D0200000004",
+        "000000010000000042000F010000004842005C0500000004000000020000000042007F0500000004",
+        "000000000000000042007C01000000204200660700000001610000000000000042006F0700000001",
+        "6200000000000000",
+    );
+    let mut client = client_fed(&rt, alloc, hex);
+    let (private_key, public_key) = (text(&rt, alloc, "x"), text(&rt, alloc, "y"));
     let made = client.create_rsa_key_pair(alloc, 2048, private_key, public_key);
-    are_identifiers(&rt, made)
+    are_identifiers(&rt, made);
+    drop(client);
 }
 
 /// The call made a pair of these identifiers.
-fn are_identifiers(rt: &impl Abort, made: Result<(Text, Text)>) -> std::result::Result<(), Fail> {
-    let Ok(pair) = made else {
-        return Err(Fail::from("no pair"));
-    };
-    assert!(rt; pair.0.as_str() == "a" && pair.1.as_str() == "b");
-    Ok(())
+fn are_identifiers(rt: &impl Abort, made: Result<(Text, Text)>) {
+    let (private_key, public_key) = made.expect(rt, "a pair");
+    assert!(rt; private_key.as_str() == "a" && public_key.as_str() == "b");
 }
 
 #[test]
-fn an_error_is_copied(rt: HostRuntime) -> std::result::Result<(), Fail> {
-    let error = Error::ServerError(Text::of(rt.alloc(), "x")?);
-    is_copied::<Error>(&rt, rt.alloc(), &error)
+fn an_error_is_copied(rt: HostRuntime) {
+    let error = Error::ServerError(text(&rt, rt.alloc(), "x"));
+    is_copied::<Error>(&rt, rt.alloc(), &error);
+    drop(error);
 }

@@ -1,101 +1,110 @@
 //! The client over links with planned faults, and over a link of this file's own.
+use crate::helpers::{bytes_of, client_fed, is_answered, is_copied, text, told};
 use kmip_client::{Client, ClientBuilder, Error};
 use kmip_link::{Link, LinkError, MemoryLink, PlannedLink};
 use kmip_request::{Attribute, RequestPayload};
-use kmip_shape::ShowItem;
 use kmip_types::{AttributeName, AttributeValue, UniqueIdentifier, Values};
-use kmip_wire::{Blob, Config, List, Text, TryClone};
+use kmip_wire::{Config, List, Text};
 use std::alloc::Global;
 use std::process::Abort;
-use std::test::Fail;
 
 /// A response to a request for random bytes: 152 bytes, of which the last item holds four.
-pub(crate) const RESPONSE: &[u8] =
-    b"\x42\x00\x7B\x01\x00\x00\x00\x90\x42\x00\x7A\x01\x00\x00\x00\x48\x42\x00\x69\x01\
-      \x00\x00\x00\x20\x42\x00\x6A\x02\x00\x00\x00\x04\x00\x00\x00\x01\x00\x00\x00\x00\
-      \x42\x00\x6B\x02\x00\x00\x00\x04\x00\x00\x00\x02\x00\x00\x00\x00\x42\x00\x92\x09\
-      \x00\x00\x00\x08\x00\x00\x00\x00\x00\x00\x00\x01\x42\x00\x0D\x02\x00\x00\x00\x04\
-      \x00\x00\x00\x01\x00\x00\x00\x00\x42\x00\x0F\x01\x00\x00\x00\x38\x42\x00\x5C\x05\
-      \x00\x00\x00\x04\x00\x00\x00\x25\x00\x00\x00\x00\x42\x00\x7F\x05\x00\x00\x00\x04\
-      \x00\x00\x00\x00\x00\x00\x00\x00\x42\x00\x7C\x01\x00\x00\x00\x10\x42\x00\xC2\x08\
-      \x00\x00\x00\x04\xDE\xAD\xBE\xEF\x00\x00\x00\x00";
+pub(crate) const RESPONSE: &str = concat!(
+    "42007B010000009042007A0100000048420069010000002042006A02000000040000000100000000",
+    "42006B020000000400000002000000004200920900000008000000000000000142000D0200000004",
+    "000000010000000042000F010000003842005C0500000004000000250000000042007F0500000004",
+    "000000000000000042007C01000000104200C20800000004DEADBEEF00000000",
+);
 
-/// A client over a link with these pieces that is fed with the response and fails at these calls.
-fn client_over(
-    alloc: Global,
-    pieces: &[usize],
-    failing: &[u64],
-) -> Result<Client<PlannedLink>, LinkError> {
+/// What a request for random bytes is answered by the response, and by a link that fails as it is written or read.
+const ANSWERED: &str = "{random_bytes=x\"DEADBEEF\"}";
+
+const UNSENT: &str = "Request send error: link failed";
+
+const UNREAD: &str = "Response read error: link failed";
+
+/// A link of pieces of 40 bytes that is fed with the response and fails at these calls.
+fn planned_link(rt: &impl Abort, alloc: Global, failing: &[u64]) -> PlannedLink {
     let mut memory = MemoryLink::new(alloc);
-    memory.feed(RESPONSE)?;
-    memory.plan_pieces(pieces)?;
-    let link = PlannedLink::new(alloc, memory, failing)?;
-    let config = Config::new().with_read_buf();
-    Ok(ClientBuilder::new(link).with_reader_config(config).build())
+    memory
+        .feed(&bytes_of(rt, alloc, RESPONSE))
+        .expect(rt, "memory");
+    memory.plan_pieces(&[40]).expect(rt, "memory");
+    PlannedLink::new(alloc, memory, failing).expect(rt, "memory")
 }
 
-/// What a request for random bytes answers: the bytes, or the printed error.
-fn random_bytes<L: Link>(
+/// A client over a link, with diagnostics.
+pub(crate) fn client_over<L: Link>(link: L) -> Client<L> {
+    let config = Config::new().with_read_buf();
+    ClientBuilder::new(link).with_reader_config(config).build()
+}
+
+/// What a request for random bytes is answered.
+fn random_bytes<L: Link>(rt: &impl Abort, alloc: Global, client: &mut Client<L>) -> Text {
+    told(rt, alloc, client.rng_retrieve(alloc, 16))
+}
+
+/// A request for random bytes over a link that fails at this call is answered so, with so much then sent and left.
+fn planned_fault(
+    rt: &impl Abort,
     alloc: Global,
-    client: &mut Client<L>,
-) -> Result<Result<Blob, String>, Fail> {
-    match client.rng_retrieve(alloc, 16) {
-        Ok(payload) => Ok(Ok(payload.random_bytes)),
-        Err(error) => Ok(Err(error.to_string(alloc)?)),
-    }
+    call: u64,
+    expected: &str,
+    sent: usize,
+    left: usize,
+) {
+    let mut client = client_over(planned_link(rt, alloc, &[call]));
+    let answer = random_bytes(rt, alloc, &mut client);
+    assert_eq!(rt; answer.as_str(), expected, "at {call}");
+    let lost = if expected == ANSWERED { 0 } else { 1 };
+    assert_eq!(rt; client.connection_error_count(), lost, "at {call}");
+    let request = "78[77[69[6Ai6Bi]0Di]0F[5Ce25:79[C4i]]]";
+    assert_eq!(rt; client.last_req_diag_str(), Some(request), "at {call}");
+    let is_unread = client.last_res_diag_str().is_none();
+    assert_eq!(rt; is_unread, expected == UNSENT, "at {call}");
+    let link = client.inner().inner();
+    assert_eq!(rt; link.sent().len(), sent, "sent at {call}");
+    assert_eq!(rt; link.rest().len(), left, "left at {call}");
+    drop(client);
 }
 
 #[test]
-fn planned_faults(rt: HostRuntime) -> Result<(), Fail> {
-    let writing = "Request send error: link failed";
-    let reading = "Response read error: link failed";
+fn planned_faults(rt: HostRuntime) {
     let rows = [
-        (0, Some(writing), 0, 152),
-        (1, Some(writing), 40, 152),
-        (2, Some(writing), 80, 152),
-        (3, Some(reading), 120, 152),
-        (4, Some(reading), 120, 144),
-        (5, Some(reading), 120, 104),
-        (6, Some(reading), 120, 64),
-        (7, Some(reading), 120, 24),
-        (8, None, 120, 0),
+        (0, UNSENT, 0, 152),
+        (1, UNSENT, 40, 152),
+        (2, UNSENT, 80, 152),
+        (3, UNREAD, 120, 152),
+        (4, UNREAD, 120, 144),
+        (5, UNREAD, 120, 104),
+        (6, UNREAD, 120, 64),
+        (7, UNREAD, 120, 24),
+        (8, ANSWERED, 120, 0),
     ];
     for (call, expected, sent, left) in rows {
-        let mut client = client_over(rt.alloc(), &[40], &[call])?;
-        let answer = random_bytes(rt.alloc(), &mut client)?;
-        match (&answer, expected) {
-            (Ok(bytes), None) => assert_eq!(rt; bytes.as_slice(), b"\xDE\xAD\xBE\xEF".as_slice()),
-            (Err(text), Some(expected)) => assert_eq!(rt; text.as_str(), expected, "at {call}"),
-            _ => assert!(rt; false, "at {call}"),
-        }
-        let lost = if expected.is_some() { 1 } else { 0 };
-        assert_eq!(rt; client.connection_error_count(), lost, "at {call}");
-        let request = "78[77[69[6Ai6Bi]0Di]0F[5Ce25:79[C4i]]]";
-        assert_eq!(rt; client.last_req_diag_str(), Some(request), "at {call}");
-        assert_eq!(rt;
-            client.last_res_diag_str().is_none(),
-            expected == Some(writing),
-            "at {call}"
-        );
-        assert_eq!(rt; client.inner().inner().sent().len(), sent, "sent at {call}");
-        assert_eq!(rt; client.inner().inner().rest().len(), left, "left at {call}");
+        planned_fault(&rt, rt.alloc(), call, expected, sent, left);
     }
-    Ok(())
+}
+
+/// Makes 256 requests, of which each fails and is counted.
+fn fail_256_times(rt: &impl Abort, alloc: Global, client: &mut Client<PlannedLink>) {
+    for request in 0..256u32 {
+        assert_eq!(rt; u32::from(client.connection_error_count()), request);
+        let answer = random_bytes(rt, alloc, client);
+        assert_eq!(rt; answer.as_str(), UNSENT);
+    }
 }
 
 #[test]
-fn connection_errors_count_modulo_256(rt: HostRuntime) -> Result<(), Fail> {
+fn connection_errors_count_modulo_256(rt: HostRuntime) {
     let mut failing = Vec::new(rt.alloc());
     for request in 0..256u64 {
-        failing.push(3 * request + 2)?;
+        failing.push(3 * request + 2).expect(&rt, "memory");
     }
-    let mut client = client_over(rt.alloc(), &[40], &failing)?;
-    for request in 0..256u32 {
-        assert_eq!(rt; u32::from(client.connection_error_count()), request);
-        assert!(rt; random_bytes(rt.alloc(), &mut client)?.is_err());
-    }
-    assert_eq!(rt; client.connection_error_count(), 0);
-    Ok(())
+    let mut client = client_over(planned_link(&rt, rt.alloc(), &failing));
+    fail_256_times(&rt, rt.alloc(), &mut client);
+    assert_eq!(&rt; client.connection_error_count(), 0);
+    drop(client);
 }
 
 /// A link that tells nothing, gives eight bytes and keeps the room that each read offers.
@@ -127,268 +136,312 @@ impl Link for Watched {
 }
 
 #[test]
-fn a_false_length_takes_room_piece_by_piece(rt: HostRuntime) -> Result<(), Fail> {
+fn a_false_length_takes_room_piece_by_piece(rt: HostRuntime) {
     let rooms = Vec::new(rt.alloc());
     let mut client = ClientBuilder::new(Watched { rooms }).build();
-    let answer = random_bytes(rt.alloc(), &mut client)?;
-    assert_eq!(rt;
-        answer.err().as_deref(),
-        Some("Response read error: end of input")
-    );
-    assert_eq!(rt; client.inner().rooms.as_slice(), [8, 65536].as_slice());
-    Ok(())
+    let answer = random_bytes(&rt, rt.alloc(), &mut client);
+    assert_eq!(&rt; answer.as_str(), "Response read error: end of input");
+    assert_eq!(&rt; client.inner().rooms.as_slice(), [8, 65536].as_slice());
+    drop(client);
+}
+
+/// The error is printed so, is that of a lost connection or not, and has a copy that equals it.
+fn is_error(rt: &impl Abort, alloc: Global, error: Error, expected: &str, is_lost: bool) {
+    let printed = error.to_string(alloc).expect(rt, "memory");
+    assert_eq!(rt; printed.as_str(), expected);
+    assert_eq!(rt; error.is_connection_error(), is_lost, "{expected}");
+    is_copied::<Error>(rt, alloc, &error);
+    drop(error);
 }
 
 #[test]
-fn errors_are_printed_and_cloned(rt: HostRuntime) -> Result<(), Fail> {
-    let rows = [
-        (
-            Error::ConfigurationError(Text::of(rt.alloc(), "x")?),
-            "Configuration error: x",
-            false,
-        ),
-        (
-            Error::SerializeError(Text::of(rt.alloc(), "x")?),
-            "Serialize error: x",
-            false,
-        ),
-        (
-            Error::RequestWriteError(Text::of(rt.alloc(), "x")?),
-            "Request send error: x",
-            true,
-        ),
-        (
-            Error::ResponseReadError(Text::of(rt.alloc(), "x")?),
-            "Response read error: x",
-            true,
-        ),
-        (
-            Error::DeserializeError(Text::of(rt.alloc(), "x")?),
-            "Deserialize error: x",
-            false,
-        ),
-        (
-            Error::ServerError(Text::of(rt.alloc(), "x")?),
-            "Server error: x",
-            false,
-        ),
-        (
-            Error::InternalError(Text::of(rt.alloc(), "x")?),
-            "Internal error: x",
-            false,
-        ),
-        (
-            Error::ItemNotFound(Text::of(rt.alloc(), "x")?),
-            "Item not found: x",
-            false,
-        ),
-        (
-            Error::Unknown(Text::of(rt.alloc(), "x")?),
-            "Unknown error: x",
-            false,
-        ),
-        (Error::OutOfMemory, "Out of memory", false),
-    ];
-    for (error, text, is_lost) in &rows {
-        assert_eq!(rt; error.to_string(rt.alloc())?.as_str(), *text);
-        assert_eq!(rt; error.is_connection_error(), *is_lost, "{text}");
-        assert!(rt; error.try_clone(rt.alloc())? == *error, "{text}");
-    }
-    Ok(())
+fn errors_are_printed_and_cloned(rt: HostRuntime) {
+    let alloc = rt.alloc();
+    let error = Error::ConfigurationError(text(&rt, alloc, "x"));
+    is_error(&rt, alloc, error, "Configuration error: x", false);
+    let error = Error::SerializeError(text(&rt, alloc, "x"));
+    is_error(&rt, alloc, error, "Serialize error: x", false);
+    let error = Error::RequestWriteError(text(&rt, alloc, "x"));
+    is_error(&rt, alloc, error, "Request send error: x", true);
+    let error = Error::ResponseReadError(text(&rt, alloc, "x"));
+    is_error(&rt, alloc, error, "Response read error: x", true);
+    let error = Error::DeserializeError(text(&rt, alloc, "x"));
+    is_error(&rt, alloc, error, "Deserialize error: x", false);
+    let error = Error::ServerError(text(&rt, alloc, "x"));
+    is_error(&rt, alloc, error, "Server error: x", false);
+    let error = Error::InternalError(text(&rt, alloc, "x"));
+    is_error(&rt, alloc, error, "Internal error: x", false);
+    let error = Error::ItemNotFound(text(&rt, alloc, "x"));
+    is_error(&rt, alloc, error, "Item not found: x", false);
+    let error = Error::Unknown(text(&rt, alloc, "x"));
+    is_error(&rt, alloc, error, "Unknown error: x", false);
+    is_error(&rt, alloc, Error::OutOfMemory, "Out of memory", false);
 }
 
 // The request of Activate for k1, and its response.
-const ACTIVATE: &[u8] =
-    b"\x42\x00\x78\x01\x00\x00\x00\x70\x42\x00\x77\x01\x00\x00\x00\x38\x42\x00\x69\x01\x00\x00\x00\x20\x42\x00\x6A\x02\x00\x00\x00\x04\x00\x00\x00\x01\x00\x00\x00\x00\x42\x00\x6B\x02\x00\x00\x00\x04\x00\x00\x00\x00\x00\x00\x00\x00\x42\x00\x0D\x02\x00\x00\x00\x04\x00\x00\x00\x01\x00\x00\x00\x00\x42\x00\x0F\x01\x00\x00\x00\x28\x42\x00\x5C\x05\x00\x00\x00\x04\x00\x00\x00\x12\x00\x00\x00\x00\x42\x00\x79\x01\x00\x00\x00\x10\x42\x00\x94\x07\x00\x00\x00\x02\x6B\x31\x00\x00\x00\x00\x00\x00";
+const ACTIVATE: &str = concat!(
+    "42007801000000704200770100000038420069010000002042006A02000000040000000100000000",
+    "42006B0200000004000000000000000042000D0200000004000000010000000042000F0100000028",
+    "42005C05000000040000001200000000420079010000001042009407000000026B31000000000000",
+);
 
-const ACTIVATED: &[u8] =
-    b"\x42\x00\x7B\x01\x00\x00\x00\x90\x42\x00\x7A\x01\x00\x00\x00\x48\x42\x00\x69\x01\x00\x00\x00\x20\x42\x00\x6A\x02\x00\x00\x00\x04\x00\x00\x00\x01\x00\x00\x00\x00\x42\x00\x6B\x02\x00\x00\x00\x04\x00\x00\x00\x00\x00\x00\x00\x00\x42\x00\x92\x09\x00\x00\x00\x08\x00\x00\x00\x00\x00\x00\x00\x01\x42\x00\x0D\x02\x00\x00\x00\x04\x00\x00\x00\x01\x00\x00\x00\x00\x42\x00\x0F\x01\x00\x00\x00\x38\x42\x00\x5C\x05\x00\x00\x00\x04\x00\x00\x00\x12\x00\x00\x00\x00\x42\x00\x7F\x05\x00\x00\x00\x04\x00\x00\x00\x00\x00\x00\x00\x00\x42\x00\x7C\x01\x00\x00\x00\x10\x42\x00\x94\x07\x00\x00\x00\x02\x6B\x31\x00\x00\x00\x00\x00\x00";
+const ACTIVATED: &str = concat!(
+    "42007B010000009042007A0100000048420069010000002042006A02000000040000000100000000",
+    "42006B020000000400000000000000004200920900000008000000000000000142000D0200000004",
+    "000000010000000042000F010000003842005C0500000004000000120000000042007F0500000004",
+    "000000000000000042007C010000001042009407000000026B31000000000000",
+);
 
 #[test]
-fn a_key_is_activated(rt: HostRuntime) -> Result<(), Fail> {
-    let mut link = MemoryLink::new(rt.alloc());
-    link.feed(ACTIVATED)?;
-    let mut client = ClientBuilder::new(link).build();
-    assert!(&rt; client.activate_key(rt.alloc(), "k1").is_ok());
-    assert!(&rt; client.inner().sent() == ACTIVATE);
+fn a_key_is_activated(rt: HostRuntime) {
+    let mut client = client_fed(&rt, rt.alloc(), ACTIVATED);
+    let answer = client.activate_key(rt.alloc(), "k1");
+    answer.expect(&rt, "an answer");
+    let request = bytes_of(&rt, rt.alloc(), ACTIVATE);
+    assert!(&rt; client.inner().sent() == request.as_slice());
     assert!(&rt; client.inner().rest().is_empty());
-    Ok(())
+    drop(client);
+}
+
+/// The request for an object.
+fn get(rt: &impl Abort, alloc: Global, id: &str) -> RequestPayload {
+    RequestPayload::Get(Some(identifier(rt, alloc, id)), None, None, None)
 }
 
 /// The identifier of an object.
-fn id(alloc: Global, text: &str) -> Result<UniqueIdentifier, Fail> {
-    Ok(UniqueIdentifier(Text::of(alloc, text)?))
+fn identifier(rt: &impl Abort, alloc: Global, id: &str) -> UniqueIdentifier {
+    UniqueIdentifier(text(rt, alloc, id))
 }
 
-/// An answer as it is shown: the payload, or the printed error.
-fn shown<P: ShowItem + Drop>(alloc: Global, answer: kmip_client::Result<P>) -> Result<Text, Fail> {
-    let mut shown = Text::new(alloc);
-    match answer {
-        Ok(payload) => payload.show(alloc, &mut shown)?,
-        Err(error) => shown.push_str(error.to_string(alloc)?.as_str())?,
-    }
-    Ok(shown)
-}
-
-/// A client over a link that holds these bytes.
-fn client_fed(alloc: Global, response: &[u8]) -> Result<Client<MemoryLink>, Fail> {
-    let mut link = MemoryLink::new(alloc);
-    link.feed(response)?;
-    Ok(ClientBuilder::new(link).build())
-}
-
-/// That an answer is shown so, and that the whole response was taken.
-fn is_answered(
+/// What a request is answered.
+fn answer(
     rt: &impl Abort,
+    alloc: Global,
     client: &mut Client<MemoryLink>,
-    answer: &Text,
-    expected: &str,
-) -> Result<(), Fail> {
-    assert_eq!(rt; answer.as_str(), expected);
-    assert!(rt; client.inner().rest().is_empty());
-    Ok(())
+    request: RequestPayload,
+) -> Text {
+    told(rt, alloc, client.do_request(alloc, request))
+}
+
+/// The request is answered so by this response, which is taken whole.
+fn answers(rt: &impl Abort, alloc: Global, hex: &str, request: RequestPayload, expected: &str) {
+    let mut client = client_fed(rt, alloc, hex);
+    let answer = answer(rt, alloc, &mut client, request);
+    is_answered(rt, client, &answer, expected);
 }
 
 // OK0(A, 57 e3,94 "p1",6D{40{42 eB,45{43{52 b0000000000C5A1B3,6C b0000000000010001}}}})
-const A_TRANSPARENT_KEY_IS_GOT: &[u8] =
-    b"\x42\x00\x7B\x01\x00\x00\x00\xF0\x42\x00\x7A\x01\x00\x00\x00\x48\x42\x00\x69\x01\x00\x00\x00\x20\x42\x00\x6A\x02\x00\x00\x00\x04\x00\x00\x00\x01\x00\x00\x00\x00\x42\x00\x6B\x02\x00\x00\x00\x04\x00\x00\x00\x00\x00\x00\x00\x00\x42\x00\x92\x09\x00\x00\x00\x08\x00\x00\x00\x00\x00\x00\x00\x01\x42\x00\x0D\x02\x00\x00\x00\x04\x00\x00\x00\x01\x00\x00\x00\x00\x42\x00\x0F\x01\x00\x00\x00\x98\x42\x00\x5C\x05\x00\x00\x00\x04\x00\x00\x00\x0A\x00\x00\x00\x00\x42\x00\x7F\x05\x00\x00\x00\x04\x00\x00\x00\x00\x00\x00\x00\x00\x42\x00\x7C\x01\x00\x00\x00\x70\x42\x00\x57\x05\x00\x00\x00\x04\x00\x00\x00\x03\x00\x00\x00\x00\x42\x00\x94\x07\x00\x00\x00\x02\x70\x31\x00\x00\x00\x00\x00\x00\x42\x00\x6D\x01\x00\x00\x00\x48\x42\x00\x40\x01\x00\x00\x00\x40\x42\x00\x42\x05\x00\x00\x00\x04\x00\x00\x00\x0B\x00\x00\x00\x00\x42\x00\x45\x01\x00\x00\x00\x28\x42\x00\x43\x01\x00\x00\x00\x20\x42\x00\x52\x04\x00\x00\x00\x08\x00\x00\x00\x00\x00\xC5\xA1\xB3\x42\x00\x6C\x04\x00\x00\x00\x08\x00\x00\x00\x00\x00\x01\x00\x01";
+const A_TRANSPARENT_KEY_IS_GOT: &str = concat!(
+    "42007B01000000F042007A0100000048420069010000002042006A02000000040000000100000000",
+    "42006B020000000400000000000000004200920900000008000000000000000142000D0200000004",
+    "000000010000000042000F010000009842005C05000000040000000A0000000042007F0500000004",
+    "000000000000000042007C0100000070420057050000000400000003000000004200940700000002",
+    "703100000000000042006D0100000048420040010000004042004205000000040000000B00000000",
+    "4200450100000028420043010000002042005204000000080000000000C5A1B342006C0400000008",
+    "0000000000010001",
+);
 
 #[test]
-fn a_transparent_key_is_got(rt: HostRuntime) -> Result<(), Fail> {
-    let mut client = client_fed(rt.alloc(), A_TRANSPARENT_KEY_IS_GOT)?;
-    let request = RequestPayload::Get(Some(id(rt.alloc(), "p1")?), None, None, None);
+fn a_transparent_key_is_got(rt: HostRuntime) {
+    let request = get(&rt, rt.alloc(), "p1");
     let expected =
         "Get{object_type=PublicKey,unique_identifier=\"p1\",cryptographic_object=PublicKey{key_block={key_format_type=TransparentRSAPublicKey,key_value={key_material=TransparentRSAPublicKey{modulus=x\"0000000000C5A1B3\",public_exponent=x\"0000000000010001\"}}}}}";
-    let answer = shown(rt.alloc(), client.do_request(rt.alloc(), request))?;
-    is_answered(&rt, &mut client, &answer, expected)
+    answers(&rt, rt.alloc(), A_TRANSPARENT_KEY_IS_GOT, request, expected);
 }
 
 // OK0(A, 57 e2,94 "s1",8F{40{42 e1,45{43 x00112233445566778899AABBCCDDEEFF},28 e3,2A i128}})
-const A_KEY_IS_GOT: &[u8] =
-    b"\x42\x00\x7B\x01\x00\x00\x01\x00\x42\x00\x7A\x01\x00\x00\x00\x48\x42\x00\x69\x01\x00\x00\x00\x20\x42\x00\x6A\x02\x00\x00\x00\x04\x00\x00\x00\x01\x00\x00\x00\x00\x42\x00\x6B\x02\x00\x00\x00\x04\x00\x00\x00\x00\x00\x00\x00\x00\x42\x00\x92\x09\x00\x00\x00\x08\x00\x00\x00\x00\x00\x00\x00\x01\x42\x00\x0D\x02\x00\x00\x00\x04\x00\x00\x00\x01\x00\x00\x00\x00\x42\x00\x0F\x01\x00\x00\x00\xA8\x42\x00\x5C\x05\x00\x00\x00\x04\x00\x00\x00\x0A\x00\x00\x00\x00\x42\x00\x7F\x05\x00\x00\x00\x04\x00\x00\x00\x00\x00\x00\x00\x00\x42\x00\x7C\x01\x00\x00\x00\x80\x42\x00\x57\x05\x00\x00\x00\x04\x00\x00\x00\x02\x00\x00\x00\x00\x42\x00\x94\x07\x00\x00\x00\x02\x73\x31\x00\x00\x00\x00\x00\x00\x42\x00\x8F\x01\x00\x00\x00\x58\x42\x00\x40\x01\x00\x00\x00\x50\x42\x00\x42\x05\x00\x00\x00\x04\x00\x00\x00\x01\x00\x00\x00\x00\x42\x00\x45\x01\x00\x00\x00\x18\x42\x00\x43\x08\x00\x00\x00\x10\x00\x11\x22\x33\x44\x55\x66\x77\x88\x99\xAA\xBB\xCC\xDD\xEE\xFF\x42\x00\x28\x05\x00\x00\x00\x04\x00\x00\x00\x03\x00\x00\x00\x00\x42\x00\x2A\x02\x00\x00\x00\x04\x00\x00\x00\x80\x00\x00\x00\x00";
+const A_KEY_IS_GOT: &str = concat!(
+    "42007B010000010042007A0100000048420069010000002042006A02000000040000000100000000",
+    "42006B020000000400000000000000004200920900000008000000000000000142000D0200000004",
+    "000000010000000042000F01000000A842005C05000000040000000A0000000042007F0500000004",
+    "000000000000000042007C0100000080420057050000000400000002000000004200940700000002",
+    "733100000000000042008F0100000058420040010000005042004205000000040000000100000000",
+    "4200450100000018420043080000001000112233445566778899AABBCCDDEEFF4200280500000004",
+    "000000030000000042002A02000000040000008000000000",
+);
 
 #[test]
-fn a_key_is_got(rt: HostRuntime) -> Result<(), Fail> {
-    let mut client = client_fed(rt.alloc(), A_KEY_IS_GOT)?;
-    let request = RequestPayload::Get(Some(id(rt.alloc(), "s1")?), None, None, None);
+fn a_key_is_got(rt: HostRuntime) {
+    let request = get(&rt, rt.alloc(), "s1");
     let expected =
         "Get{object_type=SymmetricKey,unique_identifier=\"s1\",cryptographic_object=SymmetricKey{key_block={key_format_type=Raw,key_value={key_material=Bytes(x\"00112233445566778899AABBCCDDEEFF\")},cryptographic_algorithm=AES,cryptographic_length=128}}}";
-    let answer = shown(rt.alloc(), client.do_request(rt.alloc(), request))?;
-    is_answered(&rt, &mut client, &answer, expected)
+    answers(&rt, rt.alloc(), A_KEY_IS_GOT, request, expected);
 }
 
 // OK0(A, 8F{40{42 e1,45{43 x00112233445566778899AABBCCDDEEFF},28 e3,2A i128}},94 "s1",57 e2)
-const THE_OBJECT_TYPE_MAY_COME_LAST: &[u8] =
-    b"\x42\x00\x7B\x01\x00\x00\x01\x00\x42\x00\x7A\x01\x00\x00\x00\x48\x42\x00\x69\x01\x00\x00\x00\x20\x42\x00\x6A\x02\x00\x00\x00\x04\x00\x00\x00\x01\x00\x00\x00\x00\x42\x00\x6B\x02\x00\x00\x00\x04\x00\x00\x00\x00\x00\x00\x00\x00\x42\x00\x92\x09\x00\x00\x00\x08\x00\x00\x00\x00\x00\x00\x00\x01\x42\x00\x0D\x02\x00\x00\x00\x04\x00\x00\x00\x01\x00\x00\x00\x00\x42\x00\x0F\x01\x00\x00\x00\xA8\x42\x00\x5C\x05\x00\x00\x00\x04\x00\x00\x00\x0A\x00\x00\x00\x00\x42\x00\x7F\x05\x00\x00\x00\x04\x00\x00\x00\x00\x00\x00\x00\x00\x42\x00\x7C\x01\x00\x00\x00\x80\x42\x00\x8F\x01\x00\x00\x00\x58\x42\x00\x40\x01\x00\x00\x00\x50\x42\x00\x42\x05\x00\x00\x00\x04\x00\x00\x00\x01\x00\x00\x00\x00\x42\x00\x45\x01\x00\x00\x00\x18\x42\x00\x43\x08\x00\x00\x00\x10\x00\x11\x22\x33\x44\x55\x66\x77\x88\x99\xAA\xBB\xCC\xDD\xEE\xFF\x42\x00\x28\x05\x00\x00\x00\x04\x00\x00\x00\x03\x00\x00\x00\x00\x42\x00\x2A\x02\x00\x00\x00\x04\x00\x00\x00\x80\x00\x00\x00\x00\x42\x00\x94\x07\x00\x00\x00\x02\x73\x31\x00\x00\x00\x00\x00\x00\x42\x00\x57\x05\x00\x00\x00\x04\x00\x00\x00\x02\x00\x00\x00\x00";
+const THE_OBJECT_TYPE_MAY_COME_LAST: &str = concat!(
+    "42007B010000010042007A0100000048420069010000002042006A02000000040000000100000000",
+    "42006B020000000400000000000000004200920900000008000000000000000142000D0200000004",
+    "000000010000000042000F01000000A842005C05000000040000000A0000000042007F0500000004",
+    "000000000000000042007C010000008042008F010000005842004001000000504200420500000004",
+    "00000001000000004200450100000018420043080000001000112233445566778899AABBCCDDEEFF",
+    "4200280500000004000000030000000042002A020000000400000080000000004200940700000002",
+    "733100000000000042005705000000040000000200000000",
+);
 
 #[test]
-fn the_object_type_may_come_last(rt: HostRuntime) -> Result<(), Fail> {
-    let mut client = client_fed(rt.alloc(), THE_OBJECT_TYPE_MAY_COME_LAST)?;
-    let request = RequestPayload::Get(Some(id(rt.alloc(), "s1")?), None, None, None);
+fn the_object_type_may_come_last(rt: HostRuntime) {
+    let request = get(&rt, rt.alloc(), "s1");
     let expected =
         "Get{object_type=SymmetricKey,unique_identifier=\"s1\",cryptographic_object=SymmetricKey{key_block={key_format_type=Raw,key_value={key_material=Bytes(x\"00112233445566778899AABBCCDDEEFF\")},cryptographic_algorithm=AES,cryptographic_length=128}}}";
-    let answer = shown(rt.alloc(), client.do_request(rt.alloc(), request))?;
-    is_answered(&rt, &mut client, &answer, expected)
+    answers(
+        &rt,
+        rt.alloc(),
+        THE_OBJECT_TYPE_MAY_COME_LAST,
+        request,
+        expected,
+    );
 }
 
 // OK0(A, 57 e2,94 "s1",8F{40{42 e1,45 xAABB,28 e3,2A i128,46{9E e1,36{94 "w1",2B{11 eD}}}}})
-const A_WRAPPED_KEY_IS_GOT: &[u8] =
-    b"\x42\x00\x7B\x01\x00\x00\x01\x38\x42\x00\x7A\x01\x00\x00\x00\x48\x42\x00\x69\x01\x00\x00\x00\x20\x42\x00\x6A\x02\x00\x00\x00\x04\x00\x00\x00\x01\x00\x00\x00\x00\x42\x00\x6B\x02\x00\x00\x00\x04\x00\x00\x00\x00\x00\x00\x00\x00\x42\x00\x92\x09\x00\x00\x00\x08\x00\x00\x00\x00\x00\x00\x00\x01\x42\x00\x0D\x02\x00\x00\x00\x04\x00\x00\x00\x01\x00\x00\x00\x00\x42\x00\x0F\x01\x00\x00\x00\xE0\x42\x00\x5C\x05\x00\x00\x00\x04\x00\x00\x00\x0A\x00\x00\x00\x00\x42\x00\x7F\x05\x00\x00\x00\x04\x00\x00\x00\x00\x00\x00\x00\x00\x42\x00\x7C\x01\x00\x00\x00\xB8\x42\x00\x57\x05\x00\x00\x00\x04\x00\x00\x00\x02\x00\x00\x00\x00\x42\x00\x94\x07\x00\x00\x00\x02\x73\x31\x00\x00\x00\x00\x00\x00\x42\x00\x8F\x01\x00\x00\x00\x90\x42\x00\x40\x01\x00\x00\x00\x88\x42\x00\x42\x05\x00\x00\x00\x04\x00\x00\x00\x01\x00\x00\x00\x00\x42\x00\x45\x08\x00\x00\x00\x02\xAA\xBB\x00\x00\x00\x00\x00\x00\x42\x00\x28\x05\x00\x00\x00\x04\x00\x00\x00\x03\x00\x00\x00\x00\x42\x00\x2A\x02\x00\x00\x00\x04\x00\x00\x00\x80\x00\x00\x00\x00\x42\x00\x46\x01\x00\x00\x00\x40\x42\x00\x9E\x05\x00\x00\x00\x04\x00\x00\x00\x01\x00\x00\x00\x00\x42\x00\x36\x01\x00\x00\x00\x28\x42\x00\x94\x07\x00\x00\x00\x02\x77\x31\x00\x00\x00\x00\x00\x00\x42\x00\x2B\x01\x00\x00\x00\x10\x42\x00\x11\x05\x00\x00\x00\x04\x00\x00\x00\x0D\x00\x00\x00\x00";
+const A_WRAPPED_KEY_IS_GOT: &str = concat!(
+    "42007B010000013842007A0100000048420069010000002042006A02000000040000000100000000",
+    "42006B020000000400000000000000004200920900000008000000000000000142000D0200000004",
+    "000000010000000042000F01000000E042005C05000000040000000A0000000042007F0500000004",
+    "000000000000000042007C01000000B8420057050000000400000002000000004200940700000002",
+    "733100000000000042008F0100000090420040010000008842004205000000040000000100000000",
+    "4200450800000002AABB0000000000004200280500000004000000030000000042002A0200000004",
+    "0000008000000000420046010000004042009E050000000400000001000000004200360100000028",
+    "4200940700000002773100000000000042002B010000001042001105000000040000000D00000000",
+);
 
 #[test]
-fn a_wrapped_key_is_got(rt: HostRuntime) -> Result<(), Fail> {
-    let mut client = client_fed(rt.alloc(), A_WRAPPED_KEY_IS_GOT)?;
-    let request = RequestPayload::Get(Some(id(rt.alloc(), "s1")?), None, None, None);
+fn a_wrapped_key_is_got(rt: HostRuntime) {
+    let request = get(&rt, rt.alloc(), "s1");
     let expected =
         "Get{object_type=SymmetricKey,unique_identifier=\"s1\",cryptographic_object=SymmetricKey{key_block={key_format_type=Raw,key_value={key_material=Wrapped(x\"AABB\")},cryptographic_algorithm=AES,cryptographic_length=128,key_wrapping_data={wrapping_method=Encrypt,encryption_key_information={unique_identifier=\"w1\",cryptographic_parameters={block_cipher_mode=NISTKeyWrap}}}}}}";
-    let answer = shown(rt.alloc(), client.do_request(rt.alloc(), request))?;
-    is_answered(&rt, &mut client, &answer, expected)
+    answers(&rt, rt.alloc(), A_WRAPPED_KEY_IS_GOT, request, expected);
 }
 
 // OK0(8, )
-const NOTHING_IS_LOCATED: &[u8] =
-    b"\x42\x00\x7B\x01\x00\x00\x00\x80\x42\x00\x7A\x01\x00\x00\x00\x48\x42\x00\x69\x01\x00\x00\x00\x20\x42\x00\x6A\x02\x00\x00\x00\x04\x00\x00\x00\x01\x00\x00\x00\x00\x42\x00\x6B\x02\x00\x00\x00\x04\x00\x00\x00\x00\x00\x00\x00\x00\x42\x00\x92\x09\x00\x00\x00\x08\x00\x00\x00\x00\x00\x00\x00\x01\x42\x00\x0D\x02\x00\x00\x00\x04\x00\x00\x00\x01\x00\x00\x00\x00\x42\x00\x0F\x01\x00\x00\x00\x28\x42\x00\x5C\x05\x00\x00\x00\x04\x00\x00\x00\x08\x00\x00\x00\x00\x42\x00\x7F\x05\x00\x00\x00\x04\x00\x00\x00\x00\x00\x00\x00\x00\x42\x00\x7C\x01\x00\x00\x00\x00";
+const NOTHING_IS_LOCATED: &str = concat!(
+    "42007B010000008042007A0100000048420069010000002042006A02000000040000000100000000",
+    "42006B020000000400000000000000004200920900000008000000000000000142000D0200000004",
+    "000000010000000042000F010000002842005C0500000004000000080000000042007F0500000004",
+    "000000000000000042007C0100000000",
+);
 
 #[test]
-fn nothing_is_located(rt: HostRuntime) -> Result<(), Fail> {
-    let mut client = client_fed(rt.alloc(), NOTHING_IS_LOCATED)?;
+fn nothing_is_located(rt: HostRuntime) {
     let request = RequestPayload::Locate(List::new(rt.alloc()));
     let expected = "Locate{unique_identifiers=[]}";
-    let answer = shown(rt.alloc(), client.do_request(rt.alloc(), request))?;
-    is_answered(&rt, &mut client, &answer, expected)
+    answers(&rt, rt.alloc(), NOTHING_IS_LOCATED, request, expected);
 }
 
 // OK0(B, 94 "2",08{0A "Name",0B{55 "priv",54 e1}},08{0A "Object Type",0B e4},08{0A "Cryptographic Algorithm",0B e4},08{0A "Cryptographic Length",0B i2048},08{0A "Cryptographic Usage Mask",0B i1},08{0A "State",0B e2},08{0A "Initial Date",0B d1700000000},08{0A "Link",0B{4B e102,4C "1"}},08{0A "Digest",0B{38 e6,35 xAABB,42 e3}},08{0A "Lease Time",0B n3600})
-const ATTRIBUTES_ARE_GOT: &[u8] =
-    b"\x42\x00\x7B\x01\x00\x00\x02\xC0\x42\x00\x7A\x01\x00\x00\x00\x48\x42\x00\x69\x01\x00\x00\x00\x20\x42\x00\x6A\x02\x00\x00\x00\x04\x00\x00\x00\x01\x00\x00\x00\x00\x42\x00\x6B\x02\x00\x00\x00\x04\x00\x00\x00\x00\x00\x00\x00\x00\x42\x00\x92\x09\x00\x00\x00\x08\x00\x00\x00\x00\x00\x00\x00\x01\x42\x00\x0D\x02\x00\x00\x00\x04\x00\x00\x00\x01\x00\x00\x00\x00\x42\x00\x0F\x01\x00\x00\x02\x68\x42\x00\x5C\x05\x00\x00\x00\x04\x00\x00\x00\x0B\x00\x00\x00\x00\x42\x00\x7F\x05\x00\x00\x00\x04\x00\x00\x00\x00\x00\x00\x00\x00\x42\x00\x7C\x01\x00\x00\x02\x40\x42\x00\x94\x07\x00\x00\x00\x01\x32\x00\x00\x00\x00\x00\x00\x00\x42\x00\x08\x01\x00\x00\x00\x38\x42\x00\x0A\x07\x00\x00\x00\x04\x4E\x61\x6D\x65\x00\x00\x00\x00\x42\x00\x0B\x01\x00\x00\x00\x20\x42\x00\x55\x07\x00\x00\x00\x04\x70\x72\x69\x76\x00\x00\x00\x00\x42\x00\x54\x05\x00\x00\x00\x04\x00\x00\x00\x01\x00\x00\x00\x00\x42\x00\x08\x01\x00\x00\x00\x28\x42\x00\x0A\x07\x00\x00\x00\x0B\x4F\x62\x6A\x65\x63\x74\x20\x54\x79\x70\x65\x00\x00\x00\x00\x00\x42\x00\x0B\x05\x00\x00\x00\x04\x00\x00\x00\x04\x00\x00\x00\x00\x42\x00\x08\x01\x00\x00\x00\x30\x42\x00\x0A\x07\x00\x00\x00\x17\x43\x72\x79\x70\x74\x6F\x67\x72\x61\x70\x68\x69\x63\x20\x41\x6C\x67\x6F\x72\x69\x74\x68\x6D\x00\x42\x00\x0B\x05\x00\x00\x00\x04\x00\x00\x00\x04\x00\x00\x00\x00\x42\x00\x08\x01\x00\x00\x00\x30\x42\x00\x0A\x07\x00\x00\x00\x14\x43\x72\x79\x70\x74\x6F\x67\x72\x61\x70\x68\x69\x63\x20\x4C\x65\x6E\x67\x74\x68\x00\x00\x00\x00\x42\x00\x0B\x02\x00\x00\x00\x04\x00\x00\x08\x00\x00\x00\x00\x00\x42\x00\x08\x01\x00\x00\x00\x30\x42\x00\x0A\x07\x00\x00\x00\x18\x43\x72\x79\x70\x74\x6F\x67\x72\x61\x70\x68\x69\x63\x20\x55\x73\x61\x67\x65\x20\x4D\x61\x73\x6B\x42\x00\x0B\x02\x00\x00\x00\x04\x00\x00\x00\x01\x00\x00\x00\x00\x42\x00\x08\x01\x00\x00\x00\x20\x42\x00\x0A\x07\x00\x00\x00\x05\x53\x74\x61\x74\x65\x00\x00\x00\x42\x00\x0B\x05\x00\x00\x00\x04\x00\x00\x00\x02\x00\x00\x00\x00\x42\x00\x08\x01\x00\x00\x00\x28\x42\x00\x0A\x07\x00\x00\x00\x0C\x49\x6E\x69\x74\x69\x61\x6C\x20\x44\x61\x74\x65\x00\x00\x00\x00\x42\x00\x0B\x09\x00\x00\x00\x08\x00\x00\x00\x00\x65\x53\xF1\x00\x42\x00\x08\x01\x00\x00\x00\x38\x42\x00\x0A\x07\x00\x00\x00\x04\x4C\x69\x6E\x6B\x00\x00\x00\x00\x42\x00\x0B\x01\x00\x00\x00\x20\x42\x00\x4B\x05\x00\x00\x00\x04\x00\x00\x01\x02\x00\x00\x00\x00\x42\x00\x4C\x07\x00\x00\x00\x01\x31\x00\x00\x00\x00\x00\x00\x00\x42\x00\x08\x01\x00\x00\x00\x48\x42\x00\x0A\x07\x00\x00\x00\x06\x44\x69\x67\x65\x73\x74\x00\x00\x42\x00\x0B\x01\x00\x00\x00\x30\x42\x00\x38\x05\x00\x00\x00\x04\x00\x00\x00\x06\x00\x00\x00\x00\x42\x00\x35\x08\x00\x00\x00\x02\xAA\xBB\x00\x00\x00\x00\x00\x00\x42\x00\x42\x05\x00\x00\x00\x04\x00\x00\x00\x03\x00\x00\x00\x00\x42\x00\x08\x01\x00\x00\x00\x28\x42\x00\x0A\x07\x00\x00\x00\x0A\x4C\x65\x61\x73\x65\x20\x54\x69\x6D\x65\x00\x00\x00\x00\x00\x00\x42\x00\x0B\x0A\x00\x00\x00\x04\x00\x00\x0E\x10\x00\x00\x00\x00";
+const ATTRIBUTES_ARE_GOT: &str = concat!(
+    "42007B01000002C042007A0100000048420069010000002042006A02000000040000000100000000",
+    "42006B020000000400000000000000004200920900000008000000000000000142000D0200000004",
+    "000000010000000042000F010000026842005C05000000040000000B0000000042007F0500000004",
+    "000000000000000042007C0100000240420094070000000132000000000000004200080100000038",
+    "42000A07000000044E616D650000000042000B010000002042005507000000047072697600000000",
+    "42005405000000040000000100000000420008010000002842000A070000000B4F626A6563742054",
+    "797065000000000042000B05000000040000000400000000420008010000003042000A0700000017",
+    "43727970746F6772617068696320416C676F726974686D0042000B05000000040000000400000000",
+    "420008010000003042000A070000001443727970746F67726170686963204C656E67746800000000",
+    "42000B02000000040000080000000000420008010000003042000A070000001843727970746F6772",
+    "6170686963205573616765204D61736B42000B020000000400000001000000004200080100000020",
+    "42000A0700000005537461746500000042000B050000000400000002000000004200080100000028",
+    "42000A070000000C496E697469616C20446174650000000042000B0900000008000000006553F100",
+    "420008010000003842000A07000000044C696E6B0000000042000B010000002042004B0500000004",
+    "000001020000000042004C07000000013100000000000000420008010000004842000A0700000006",
+    "446967657374000042000B0100000030420038050000000400000006000000004200350800000002",
+    "AABB00000000000042004205000000040000000300000000420008010000002842000A070000000A",
+    "4C656173652054696D6500000000000042000B0A0000000400000E1000000000",
+);
 
 #[test]
-fn attributes_are_got(rt: HostRuntime) -> Result<(), Fail> {
-    let mut client = client_fed(rt.alloc(), ATTRIBUTES_ARE_GOT)?;
-    let request = RequestPayload::GetAttributes(Some(id(rt.alloc(), "2")?), None);
+fn attributes_are_got(rt: HostRuntime) {
+    let request = RequestPayload::GetAttributes(Some(identifier(&rt, rt.alloc(), "2")), None);
     let expected =
         "GetAttributes{unique_identifier=\"2\",attributes=[{name=\"Name\",value=Name{name_value=\"priv\",name_type=UninterpretedTextString}},{name=\"Object Type\",value=ObjectType(PrivateKey)},{name=\"Cryptographic Algorithm\",value=CryptographicAlgorithm(RSA)},{name=\"Cryptographic Length\",value=Integer(2048)},{name=\"Cryptographic Usage Mask\",value=Integer(1)},{name=\"State\",value=State(Active)},{name=\"Initial Date\",value=DateTime(1700000000)},{name=\"Link\",value=Link{link_type=PublicKeyLink,linked_object_identifier=\"1\"}},{name=\"Digest\",value=Structure[Enumeration(6),ByteString(x\"AABB\"),Enumeration(3)]},{name=\"Lease Time\",value=Interval(3600)}]}";
-    let answer = shown(rt.alloc(), client.do_request(rt.alloc(), request))?;
-    is_answered(&rt, &mut client, &answer, expected)
+    answers(&rt, rt.alloc(), ATTRIBUTES_ARE_GOT, request, expected);
 }
 
 // OK0(C, 94 "2",0A "Name")
-const ATTRIBUTE_NAMES_ARE_LISTED: &[u8] =
-    b"\x42\x00\x7B\x01\x00\x00\x00\xA0\x42\x00\x7A\x01\x00\x00\x00\x48\x42\x00\x69\x01\x00\x00\x00\x20\x42\x00\x6A\x02\x00\x00\x00\x04\x00\x00\x00\x01\x00\x00\x00\x00\x42\x00\x6B\x02\x00\x00\x00\x04\x00\x00\x00\x00\x00\x00\x00\x00\x42\x00\x92\x09\x00\x00\x00\x08\x00\x00\x00\x00\x00\x00\x00\x01\x42\x00\x0D\x02\x00\x00\x00\x04\x00\x00\x00\x01\x00\x00\x00\x00\x42\x00\x0F\x01\x00\x00\x00\x48\x42\x00\x5C\x05\x00\x00\x00\x04\x00\x00\x00\x0C\x00\x00\x00\x00\x42\x00\x7F\x05\x00\x00\x00\x04\x00\x00\x00\x00\x00\x00\x00\x00\x42\x00\x7C\x01\x00\x00\x00\x20\x42\x00\x94\x07\x00\x00\x00\x01\x32\x00\x00\x00\x00\x00\x00\x00\x42\x00\x0A\x07\x00\x00\x00\x04\x4E\x61\x6D\x65\x00\x00\x00\x00";
+const ATTRIBUTE_NAMES_ARE_LISTED: &str = concat!(
+    "42007B01000000A042007A0100000048420069010000002042006A02000000040000000100000000",
+    "42006B020000000400000000000000004200920900000008000000000000000142000D0200000004",
+    "000000010000000042000F010000004842005C05000000040000000C0000000042007F0500000004",
+    "000000000000000042007C01000000204200940700000001320000000000000042000A0700000004",
+    "4E616D6500000000",
+);
 
 #[test]
-fn attribute_names_are_listed(rt: HostRuntime) -> Result<(), Fail> {
-    let mut client = client_fed(rt.alloc(), ATTRIBUTE_NAMES_ARE_LISTED)?;
-    let request = RequestPayload::GetAttributeList(Some(id(rt.alloc(), "2")?));
+fn attribute_names_are_listed(rt: HostRuntime) {
+    let request = RequestPayload::GetAttributeList(Some(identifier(&rt, rt.alloc(), "2")));
     let expected = "GetAttributeList{unique_identifier=\"2\",attributes=[\"Name\"]}";
-    let answer = shown(rt.alloc(), client.do_request(rt.alloc(), request))?;
-    is_answered(&rt, &mut client, &answer, expected)
+    answers(
+        &rt,
+        rt.alloc(),
+        ATTRIBUTE_NAMES_ARE_LISTED,
+        request,
+        expected,
+    );
 }
 
 // OK0(C, 94 "2")
-const AN_EMPTY_LIST_OF_NAMES_IS_NO_ANSWER: &[u8] =
-    b"\x42\x00\x7B\x01\x00\x00\x00\x90\x42\x00\x7A\x01\x00\x00\x00\x48\x42\x00\x69\x01\x00\x00\x00\x20\x42\x00\x6A\x02\x00\x00\x00\x04\x00\x00\x00\x01\x00\x00\x00\x00\x42\x00\x6B\x02\x00\x00\x00\x04\x00\x00\x00\x00\x00\x00\x00\x00\x42\x00\x92\x09\x00\x00\x00\x08\x00\x00\x00\x00\x00\x00\x00\x01\x42\x00\x0D\x02\x00\x00\x00\x04\x00\x00\x00\x01\x00\x00\x00\x00\x42\x00\x0F\x01\x00\x00\x00\x38\x42\x00\x5C\x05\x00\x00\x00\x04\x00\x00\x00\x0C\x00\x00\x00\x00\x42\x00\x7F\x05\x00\x00\x00\x04\x00\x00\x00\x00\x00\x00\x00\x00\x42\x00\x7C\x01\x00\x00\x00\x10\x42\x00\x94\x07\x00\x00\x00\x01\x32\x00\x00\x00\x00\x00\x00\x00";
+const AN_EMPTY_LIST_OF_NAMES_IS_NO_ANSWER: &str = concat!(
+    "42007B010000009042007A0100000048420069010000002042006A02000000040000000100000000",
+    "42006B020000000400000000000000004200920900000008000000000000000142000D0200000004",
+    "000000010000000042000F010000003842005C05000000040000000C0000000042007F0500000004",
+    "000000000000000042007C010000001042009407000000013200000000000000",
+);
 
 #[test]
-fn an_empty_list_of_names_is_no_answer(rt: HostRuntime) -> Result<(), Fail> {
-    let mut client = client_fed(rt.alloc(), AN_EMPTY_LIST_OF_NAMES_IS_NO_ANSWER)?;
-    let request = RequestPayload::GetAttributeList(Some(id(rt.alloc(), "2")?));
+fn an_empty_list_of_names_is_no_answer(rt: HostRuntime) {
+    let request = RequestPayload::GetAttributeList(Some(identifier(&rt, rt.alloc(), "2")));
     let expected = "Internal error: not a response message";
-    let answer = shown(rt.alloc(), client.do_request(rt.alloc(), request))?;
-    is_answered(&rt, &mut client, &answer, expected)
+    answers(
+        &rt,
+        rt.alloc(),
+        AN_EMPTY_LIST_OF_NAMES_IS_NO_ANSWER,
+        request,
+        expected,
+    );
 }
 
 // OK1(1E, 69{6A i1,6B i2},69{6A i1,6B i0})
-const VERSIONS_ARE_TOLD: &[u8] =
-    b"\x42\x00\x7B\x01\x00\x00\x00\xD0\x42\x00\x7A\x01\x00\x00\x00\x48\x42\x00\x69\x01\x00\x00\x00\x20\x42\x00\x6A\x02\x00\x00\x00\x04\x00\x00\x00\x01\x00\x00\x00\x00\x42\x00\x6B\x02\x00\x00\x00\x04\x00\x00\x00\x01\x00\x00\x00\x00\x42\x00\x92\x09\x00\x00\x00\x08\x00\x00\x00\x00\x00\x00\x00\x01\x42\x00\x0D\x02\x00\x00\x00\x04\x00\x00\x00\x01\x00\x00\x00\x00\x42\x00\x0F\x01\x00\x00\x00\x78\x42\x00\x5C\x05\x00\x00\x00\x04\x00\x00\x00\x1E\x00\x00\x00\x00\x42\x00\x7F\x05\x00\x00\x00\x04\x00\x00\x00\x00\x00\x00\x00\x00\x42\x00\x7C\x01\x00\x00\x00\x50\x42\x00\x69\x01\x00\x00\x00\x20\x42\x00\x6A\x02\x00\x00\x00\x04\x00\x00\x00\x01\x00\x00\x00\x00\x42\x00\x6B\x02\x00\x00\x00\x04\x00\x00\x00\x02\x00\x00\x00\x00\x42\x00\x69\x01\x00\x00\x00\x20\x42\x00\x6A\x02\x00\x00\x00\x04\x00\x00\x00\x01\x00\x00\x00\x00\x42\x00\x6B\x02\x00\x00\x00\x04\x00\x00\x00\x00\x00\x00\x00\x00";
+const VERSIONS_ARE_TOLD: &str = concat!(
+    "42007B01000000D042007A0100000048420069010000002042006A02000000040000000100000000",
+    "42006B020000000400000001000000004200920900000008000000000000000142000D0200000004",
+    "000000010000000042000F010000007842005C05000000040000001E0000000042007F0500000004",
+    "000000000000000042007C0100000050420069010000002042006A02000000040000000100000000",
+    "42006B02000000040000000200000000420069010000002042006A02000000040000000100000000",
+    "42006B02000000040000000000000000",
+);
 
 #[test]
-fn versions_are_told(rt: HostRuntime) -> Result<(), Fail> {
-    let mut client = client_fed(rt.alloc(), VERSIONS_ARE_TOLD)?;
+fn versions_are_told(rt: HostRuntime) {
     let request = RequestPayload::DiscoverVersions(List::new(rt.alloc()));
     let expected = "DiscoverVersions{supported_versions=[{major=1,minor=2},{major=1,minor=0}]}";
-    let answer = shown(rt.alloc(), client.do_request(rt.alloc(), request))?;
-    is_answered(&rt, &mut client, &answer, expected)
+    answers(&rt, rt.alloc(), VERSIONS_ARE_TOLD, request, expected);
+}
+
+/// A request that has no wire form: a structure within a custom attribute.
+fn unformed(rt: &impl Abort, alloc: Global) -> RequestPayload {
+    let mut members = Values::new(alloc);
+    let inner = AttributeValue::Structure(Values::new(alloc));
+    members.push(inner).expect(rt, "memory");
+    let name = AttributeName(text(rt, alloc, "x-a"));
+    let attribute = Attribute(name, None, AttributeValue::Structure(members));
+    let mut attributes = List::new(alloc);
+    attributes.push(attribute).expect(rt, "memory");
+    RequestPayload::Locate(attributes)
 }
 
 #[test]
-fn a_request_without_a_form_is_not_sent(rt: HostRuntime) -> Result<(), Fail> {
-    let link = MemoryLink::new(rt.alloc());
-    let config = Config::new().with_read_buf();
-    let mut client = ClientBuilder::new(link).with_reader_config(config).build();
-    let mut members = Values::new(rt.alloc());
-    members.push(AttributeValue::Structure(Values::new(rt.alloc())))?;
-    let name = AttributeName(Text::of(rt.alloc(), "x-a")?);
-    let mut attributes = List::new(rt.alloc());
-    attributes.push(Attribute(name, None, AttributeValue::Structure(members)))?;
-    let request = RequestPayload::Locate(attributes);
-    let answer = shown(rt.alloc(), client.do_request(rt.alloc(), request))?;
-    assert_eq!(&rt;
-        answer.as_str(),
-        "Serialize error: request has no wire form"
-    );
+fn a_request_without_a_form_is_not_sent(rt: HostRuntime) {
+    let alloc = rt.alloc();
+    let mut client = client_over(MemoryLink::new(alloc));
+    let answer = answer(&rt, alloc, &mut client, unformed(&rt, alloc));
     assert!(&rt; client.last_req_diag_str().is_none());
     assert!(&rt; client.last_res_diag_str().is_none());
     assert!(&rt; client.inner().sent().is_empty());
-    Ok(())
+    is_answered(
+        &rt,
+        client,
+        &answer,
+        "Serialize error: request has no wire form",
+    );
 }

@@ -1,43 +1,45 @@
-//! What the tests of many types share. No function here has a clause, so that a test's proof has none to meet.
+//! What the tests of many types share. No function here has a clause, so that a test's proof has none to meet; and each
+//! ends the run where something is amiss, so that no test has a way out at which it lets go of the values that it holds.
+use kmip_client::{Client, ClientBuilder, Result};
+use kmip_link::MemoryLink;
 use kmip_shape::{Outer, ReadItem, ShowItem, WriteItem, to_blob};
 use kmip_wire::{ItemRef, Text, TryClone};
 use std::alloc::Global;
 use std::process::Abort;
-use std::test::Fail;
+
+/// A text.
+pub fn text(rt: &impl Abort, alloc: Global, text: &str) -> Text {
+    Text::of(alloc, text).expect(rt, "memory")
+}
+
+/// The bytes of a text in hex.
+pub fn bytes_of(rt: &impl Abort, alloc: Global, hex: &str) -> Vec<u8> {
+    hex::decode(alloc, hex).expect(rt, "hex")
+}
 
 /// The two are equal.
-pub fn are_equal<T: PartialEq>(rt: &impl Abort, value: &T, expected: &T) -> Result<(), Fail> {
+pub fn are_equal<T: PartialEq>(rt: &impl Abort, value: &T, expected: &T) {
     assert!(rt; value == expected);
-    Ok(())
 }
 
 /// The value has a copy that equals it.
-pub fn is_copied<T: TryClone + PartialEq + Drop>(
-    rt: &impl Abort,
-    alloc: Global,
-    value: &T,
-) -> Result<(), Fail> {
-    assert!(rt; value.try_clone(alloc)? == *value);
-    Ok(())
+pub fn is_copied<T: TryClone + PartialEq + Drop>(rt: &impl Abort, alloc: Global, value: &T) {
+    let copy = value.try_clone(alloc).expect(rt, "memory");
+    assert!(rt; copy == *value);
 }
 
 /// The value is shown as this text.
-pub fn is_shown<T: ShowItem>(
-    rt: &impl Abort,
-    alloc: Global,
-    value: &T,
-    shown: &str,
-) -> Result<(), Fail> {
-    let mut text = Text::new(alloc);
-    value.show(alloc, &mut text)?;
-    assert_eq!(rt; text.as_str(), shown);
-    Ok(())
+pub fn is_shown<T: ShowItem>(rt: &impl Abort, alloc: Global, value: &T, expected: &str) {
+    let mut shown = Text::new(alloc);
+    value.show(alloc, &mut shown).expect(rt, "memory");
+    assert_eq!(rt; shown.as_str(), expected);
 }
 
 /// The value of one item.
-pub fn is_read_alone<T: ReadItem>(alloc: Global, bytes: &[u8]) -> Result<T, Fail> {
-    let item = ItemRef::root(bytes).ok_or("no item")?;
-    Ok(T::read(alloc, Outer::none(), item)?)
+pub fn is_read_alone<T: ReadItem>(rt: &impl Abort, alloc: Global, hex: &str) -> T {
+    let bytes = bytes_of(rt, alloc, hex);
+    let item = ItemRef::root(&bytes).expect(rt, "an item");
+    T::read(alloc, Outer::none(), item).expect(rt, "a value")
 }
 
 /// The value of one item, which has a copy that equals it.
@@ -45,12 +47,13 @@ pub fn is_read<T: ReadItem + TryClone + PartialEq>(
     rt: &impl Abort,
     alloc: Global,
     number: Option<u32>,
-    bytes: &[u8],
-) -> Result<T, Fail> {
-    let item = ItemRef::root(bytes).ok_or("no item")?;
-    let value = T::read(alloc, Outer { number, name: None }, item)?;
-    assert!(rt; value.try_clone(alloc)? == value);
-    Ok(value)
+    hex: &str,
+) -> T {
+    let bytes = bytes_of(rt, alloc, hex);
+    let item = ItemRef::root(&bytes).expect(rt, "an item");
+    let value = T::read(alloc, Outer { number, name: None }, item).expect(rt, "a value");
+    assert!(rt; value.try_clone(alloc).expect(rt, "memory") == value);
+    value
 }
 
 /// The item is read as a value that is shown as this text and has a copy that equals it.
@@ -58,16 +61,16 @@ pub fn shows<T: ReadItem + ShowItem + TryClone + PartialEq>(
     rt: &impl Abort,
     alloc: Global,
     number: Option<u32>,
-    bytes: &[u8],
-    shown: &str,
-) -> Result<(), Fail> {
-    let item = ItemRef::root(bytes).ok_or("no item")?;
-    let value = T::read(alloc, Outer { number, name: None }, item)?;
-    let mut text = Text::new(alloc);
-    value.show(alloc, &mut text)?;
-    assert_eq!(rt; text.as_str(), shown);
-    assert!(rt; value.try_clone(alloc)? == value);
-    Ok(())
+    hex: &str,
+    expected: &str,
+) {
+    let bytes = bytes_of(rt, alloc, hex);
+    let item = ItemRef::root(&bytes).expect(rt, "an item");
+    let value = T::read(alloc, Outer { number, name: None }, item).expect(rt, "a value");
+    assert!(rt; value.try_clone(alloc).expect(rt, "memory") == value);
+    let mut shown = Text::new(alloc);
+    value.show(alloc, &mut shown).expect(rt, "memory");
+    assert_eq!(rt; shown.as_str(), expected);
 }
 
 /// The item is read as a value that is written as the same bytes and has a copy that equals it.
@@ -75,39 +78,89 @@ pub fn is_written<T: ReadItem + WriteItem + TryClone + PartialEq>(
     rt: &impl Abort,
     alloc: Global,
     number: Option<u32>,
-    bytes: &[u8],
-) -> Result<(), Fail> {
-    let item = ItemRef::root(bytes).ok_or("no item")?;
-    let value = T::read(alloc, Outer { number, name: None }, item)?;
-    assert!(rt; to_blob(alloc, &value, item.tag())?.as_slice() == bytes);
-    assert!(rt; value.try_clone(alloc)? == value);
-    Ok(())
+    hex: &str,
+) {
+    let bytes = bytes_of(rt, alloc, hex);
+    let item = ItemRef::root(&bytes).expect(rt, "an item");
+    let value = T::read(alloc, Outer { number, name: None }, item).expect(rt, "a value");
+    assert!(rt; value.try_clone(alloc).expect(rt, "memory") == value);
+    let written = to_blob(alloc, &value, item.tag()).expect(rt, "a blob");
+    assert!(rt; written.as_slice() == bytes.as_slice());
 }
 
-/// The same of a value that is copied without memory.
-pub fn is_written_alone<T: ReadItem + WriteItem>(
+/// The item is read as a value that is shown as this text, is written as the same bytes and has a copy that equals it.
+pub fn shows_what_is_written<T: ReadItem + ShowItem + WriteItem + TryClone + PartialEq>(
     rt: &impl Abort,
     alloc: Global,
-    bytes: &[u8],
-) -> Result<(), Fail> {
-    let item = ItemRef::root(bytes).ok_or("no item")?;
-    let value = T::read(alloc, Outer::none(), item)?;
-    assert!(rt; to_blob(alloc, &value, item.tag())?.as_slice() == bytes);
-    Ok(())
+    hex: &str,
+    expected: &str,
+) {
+    let bytes = bytes_of(rt, alloc, hex);
+    let item = ItemRef::root(&bytes).expect(rt, "an item");
+    let value = T::read(alloc, Outer::none(), item).expect(rt, "a value");
+    assert!(rt; value.try_clone(alloc).expect(rt, "memory") == value);
+    let written = to_blob(alloc, &value, item.tag()).expect(rt, "a blob");
+    assert!(rt; written.as_slice() == bytes.as_slice());
+    let mut shown = Text::new(alloc);
+    value.show(alloc, &mut shown).expect(rt, "memory");
+    assert_eq!(rt; shown.as_str(), expected);
+}
+
+/// The item is read as a value, copied without memory, that is written as the same bytes.
+pub fn is_written_alone<T: ReadItem + WriteItem>(rt: &impl Abort, alloc: Global, hex: &str) {
+    let bytes = bytes_of(rt, alloc, hex);
+    let item = ItemRef::root(&bytes).expect(rt, "an item");
+    let value = T::read(alloc, Outer::none(), item).expect(rt, "a value");
+    let written = to_blob(alloc, &value, item.tag()).expect(rt, "a blob");
+    assert!(rt; written.as_slice() == bytes.as_slice());
 }
 
 /// The same, with what it is shown as.
 pub fn is_plain<T: ReadItem + WriteItem + ShowItem>(
     rt: &impl Abort,
     alloc: Global,
-    bytes: &[u8],
-    shown: &str,
-) -> Result<(), Fail> {
-    let item = ItemRef::root(bytes).ok_or("no item")?;
-    let value = T::read(alloc, Outer::none(), item)?;
-    let mut text = Text::new(alloc);
-    value.show(alloc, &mut text)?;
-    assert_eq!(rt; text.as_str(), shown);
-    assert!(rt; to_blob(alloc, &value, item.tag())?.as_slice() == bytes);
-    Ok(())
+    hex: &str,
+    expected: &str,
+) {
+    let bytes = bytes_of(rt, alloc, hex);
+    let item = ItemRef::root(&bytes).expect(rt, "an item");
+    let value = T::read(alloc, Outer::none(), item).expect(rt, "a value");
+    let written = to_blob(alloc, &value, item.tag()).expect(rt, "a blob");
+    assert!(rt; written.as_slice() == bytes.as_slice());
+    let mut shown = Text::new(alloc);
+    value.show(alloc, &mut shown).expect(rt, "memory");
+    assert_eq!(rt; shown.as_str(), expected);
+}
+
+/// A client over a link that holds these bytes.
+pub fn client_fed(rt: &impl Abort, alloc: Global, hex: &str) -> Client<MemoryLink> {
+    let mut link = MemoryLink::new(alloc);
+    link.feed(&bytes_of(rt, alloc, hex)).expect(rt, "memory");
+    ClientBuilder::new(link).build()
+}
+
+/// Appends an answer as it is shown: the payload, or the printed error.
+pub fn tell<P: ShowItem>(rt: &impl Abort, alloc: Global, answer: &Result<P>, told: &mut Text) {
+    match answer {
+        Ok(payload) => payload.show(alloc, told).expect(rt, "memory"),
+        Err(error) => {
+            let printed = error.to_string(alloc).expect(rt, "memory");
+            told.push_str(printed.as_str()).expect(rt, "memory");
+        }
+    }
+}
+
+/// An answer as it is shown.
+pub fn told<P: ShowItem + Drop>(rt: &impl Abort, alloc: Global, answer: Result<P>) -> Text {
+    let mut told = Text::new(alloc);
+    tell(rt, alloc, &answer, &mut told);
+    drop(answer);
+    told
+}
+
+/// The client told this text, and took the whole response.
+pub fn is_answered(rt: &impl Abort, mut client: Client<MemoryLink>, told: &Text, expected: &str) {
+    assert_eq!(rt; told.as_str(), expected);
+    assert!(rt; client.inner().rest().is_empty());
+    drop(client);
 }

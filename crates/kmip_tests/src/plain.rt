@@ -1,5 +1,5 @@
 //! Values of one item, and lists: each read, shown, written and copied once.
-use crate::helpers::{are_equal, is_copied, is_plain, is_shown};
+use crate::helpers::{are_equal, bytes_of, is_copied, is_plain, is_shown, text};
 use kmip_enums::ObjectType;
 use kmip_request::{RequestPayload, write_request};
 use kmip_response::{GetResponsePayload, from_slice};
@@ -14,157 +14,168 @@ use kmip_types::{AttributeValue, CryptographicParameters, DataLength, Values};
 use kmip_wire::{Blob, ItemRef, List, Text, Tree, Trees, clone_items, read_tree};
 use std::alloc::Global;
 use std::process::Abort;
-use std::test::Fail;
 
 #[test]
-fn plain_values(rt: HostRuntime) -> Result<(), Fail> {
+fn plain_values(rt: HostRuntime) {
     let alloc = rt.alloc();
     // 09 i-5
-    let bytes = b"\x42\x00\x09\x02\x00\x00\x00\x04\xFF\xFF\xFF\xFB\x00\x00\x00\x00";
-    is_plain::<i32>(&rt, alloc, bytes, "-5")?;
+    let hex = "4200090200000004FFFFFFFB00000000";
+    is_plain::<i32>(&rt, alloc, hex, "-5");
     // 0B l-5
-    let bytes = b"\x42\x00\x0B\x03\x00\x00\x00\x08\xFF\xFF\xFF\xFF\xFF\xFF\xFF\xFB";
-    is_plain::<i64>(&rt, alloc, bytes, "-5")?;
+    let hex = "42000B0300000008FFFFFFFFFFFFFFFB";
+    is_plain::<i64>(&rt, alloc, hex, "-5");
     // 26 t1
-    let bytes = b"\x42\x00\x26\x06\x00\x00\x00\x08\x00\x00\x00\x00\x00\x00\x00\x01";
-    is_plain::<bool>(&rt, alloc, bytes, "true")?;
+    let hex = "42002606000000080000000000000001";
+    is_plain::<bool>(&rt, alloc, hex, "true");
     // 92 d5
-    let bytes = b"\x42\x00\x92\x09\x00\x00\x00\x08\x00\x00\x00\x00\x00\x00\x00\x05";
-    is_plain::<u64>(&rt, alloc, bytes, "5")?;
+    let hex = "42009209000000080000000000000005";
+    is_plain::<u64>(&rt, alloc, hex, "5");
     // 49 n5
-    let bytes = b"\x42\x00\x49\x0A\x00\x00\x00\x04\x00\x00\x00\x05\x00\x00\x00\x00";
-    is_plain::<u32>(&rt, alloc, bytes, "5")?;
+    let hex = "4200490A000000040000000500000000";
+    is_plain::<u32>(&rt, alloc, hex, "5");
     // 92 d5
-    let bytes = b"\x42\x00\x92\x09\x00\x00\x00\x08\x00\x00\x00\x00\x00\x00\x00\x05";
-    is_plain::<Timestamp>(&rt, alloc, bytes, "5")?;
+    let hex = "42009209000000080000000000000005";
+    is_plain::<Timestamp>(&rt, alloc, hex, "5");
     // 94 "a"
-    let bytes = b"\x42\x00\x94\x07\x00\x00\x00\x01\x61\x00\x00\x00\x00\x00\x00\x00";
-    is_plain::<Text>(&rt, alloc, bytes, "\"a\"")?;
+    let hex = "42009407000000016100000000000000";
+    is_plain::<Text>(&rt, alloc, hex, "\"a\"");
     // C2 xAA
-    let bytes = b"\x42\x00\xC2\x08\x00\x00\x00\x01\xAA\x00\x00\x00\x00\x00\x00\x00";
-    is_plain::<Blob>(&rt, alloc, bytes, "x\"AA\"")?;
+    let hex = "4200C20800000001AA00000000000000";
+    is_plain::<Blob>(&rt, alloc, hex, "x\"AA\"");
     // 52 b0000000000000005
-    let bytes = b"\x42\x00\x52\x04\x00\x00\x00\x08\x00\x00\x00\x00\x00\x00\x00\x05";
-    is_plain::<BigInteger>(&rt, alloc, bytes, "x\"0000000000000005\"")?;
+    let hex = "42005204000000080000000000000005";
+    is_plain::<BigInteger>(&rt, alloc, hex, "x\"0000000000000005\"");
     // 57 e2
-    let bytes = b"\x42\x00\x57\x05\x00\x00\x00\x04\x00\x00\x00\x02\x00\x00\x00\x00";
-    is_plain::<ObjectType>(&rt, alloc, bytes, "SymmetricKey")?;
+    let hex = "42005705000000040000000200000000";
+    is_plain::<ObjectType>(&rt, alloc, hex, "SymmetricKey");
     // 2B{11 e1}
-    let bytes =
-        b"\x42\x00\x2B\x01\x00\x00\x00\x10\x42\x00\x11\x05\x00\x00\x00\x04\x00\x00\x00\x01\x00\x00\x00\x00";
-    is_plain::<CryptographicParameters>(&rt, alloc, bytes, "{block_cipher_mode=CBC}")?;
-    Ok(())
+    let hex = "42002B010000001042001105000000040000000100000000";
+    is_plain::<CryptographicParameters>(&rt, alloc, hex, "{block_cipher_mode=CBC}");
 }
 
-/// A list of one text.
-fn list(alloc: Global) -> Result<List<Text>, Fail> {
-    let mut texts = List::new(alloc);
-    texts.push(Text::of(alloc, "a")?)?;
-    Ok(texts)
+/// A list of one value.
+fn list<T: Drop>(rt: &impl Abort, alloc: Global, value: T) -> List<T> {
+    let mut list = List::new(alloc);
+    list.push(value).expect(rt, "memory");
+    list
 }
 
 /// The members of a custom structure.
-fn members(alloc: Global) -> Result<Values, Fail> {
+fn members(rt: &impl Abort, alloc: Global) -> Values {
     let mut members = Values::new(alloc);
-    members.push(AttributeValue::Integer(5))?;
-    Ok(members)
+    members
+        .push(AttributeValue::Integer(5))
+        .expect(rt, "memory");
+    members
 }
 
-/// Trees have copies that equal them.
-fn trees_are_copied(rt: &impl Abort, alloc: Global, tree: Tree) -> Result<(), Fail> {
-    is_copied::<Tree>(rt, alloc, &tree)?;
+/// Trees of one tree.
+fn trees(rt: &impl Abort, alloc: Global, tree: Tree) -> Trees {
     let mut trees = Trees::new(alloc);
-    trees.push(tree)?;
-    is_copied::<Trees>(rt, alloc, &trees)
+    trees.push(tree).expect(rt, "memory");
+    trees
 }
 
 #[test]
-fn copies(rt: HostRuntime) -> Result<(), Fail> {
+fn copies(rt: HostRuntime) {
     let alloc = rt.alloc();
-    is_copied::<Text>(&rt, alloc, &Text::of(alloc, "a")?)?;
-    is_copied::<Blob>(&rt, alloc, &Blob::of(alloc, b"\xAA")?)?;
-    is_copied::<BigInteger>(&rt, alloc, &BigInteger(Blob::of(alloc, b"\xAA")?))?;
-    is_copied::<List<Text>>(&rt, alloc, &list(alloc)?)?;
-    is_copied::<Values>(&rt, alloc, &members(alloc)?)?;
-    // 36{94 "k",2B{11 e1}}
-    let bytes =
-        b"\x42\x00\x36\x01\x00\x00\x00\x28\x42\x00\x94\x07\x00\x00\x00\x01\x6B\x00\x00\x00\x00\x00\x00\x00\x42\x00\x2B\x01\x00\x00\x00\x10\x42\x00\x11\x05\x00\x00\x00\x04\x00\x00\x00\x01\x00\x00\x00\x00";
-    let (tree, size) = read_tree(alloc, bytes)?;
-    assert_eq!(&rt; size, 48);
-    trees_are_copied(&rt, alloc, tree)
+    let blob = Blob::of(alloc, b"\xAA").expect(&rt, "memory");
+    is_copied::<Text>(&rt, alloc, &text(&rt, alloc, "a"));
+    is_copied::<Blob>(&rt, alloc, &blob);
+    is_copied::<BigInteger>(&rt, alloc, &BigInteger(blob));
+    is_copied::<List<Text>>(&rt, alloc, &list(&rt, alloc, text(&rt, alloc, "a")));
+    let members = members(&rt, alloc);
+    is_copied::<Values>(&rt, alloc, &members);
+    drop(members);
 }
 
-/// The object of a Get payload.
-fn object_of(alloc: Global, bytes: &[u8]) -> Result<ManagedObject, Fail> {
-    match from_slice::<GetResponsePayload>(alloc, bytes) {
-        Ok(payload) => Ok(payload.cryptographic_object),
-        Err(_error) => Err(Fail::from("no payload")),
-    }
+#[test]
+fn copies_of_trees(rt: HostRuntime) {
+    let alloc = rt.alloc();
+    // 36{94 "k",2B{11 e1}}
+    let hex = concat!(
+        "420036010000002842009407000000016B0000000000000042002B01000000104200110500000004",
+        "0000000100000000",
+    );
+    let bytes = bytes_of(&rt, alloc, hex);
+    let (tree, size) = read_tree(alloc, &bytes).expect(&rt, "a tree");
+    assert_eq!(&rt; size, 48);
+    is_copied::<Tree>(&rt, alloc, &tree);
+    let trees = trees(&rt, alloc, tree);
+    is_copied::<Trees>(&rt, alloc, &trees);
+    drop(trees);
 }
 
 // 7C{57 e4,94 "k",64{40{42 e1,45{43 xAA}}}}
-const OBJECT: &[u8] =
-    b"\x42\x00\x7C\x01\x00\x00\x00\x58\x42\x00\x57\x05\x00\x00\x00\x04\x00\x00\x00\x04\x00\x00\x00\x00\x42\x00\x94\x07\x00\x00\x00\x01\x6B\x00\x00\x00\x00\x00\x00\x00\x42\x00\x64\x01\x00\x00\x00\x30\x42\x00\x40\x01\x00\x00\x00\x28\x42\x00\x42\x05\x00\x00\x00\x04\x00\x00\x00\x01\x00\x00\x00\x00\x42\x00\x45\x01\x00\x00\x00\x10\x42\x00\x43\x08\x00\x00\x00\x01\xAA\x00\x00\x00\x00\x00\x00\x00";
+const OBJECT: &str = concat!(
+    "42007C01000000584200570500000004000000040000000042009407000000016B00000000000000",
+    "42006401000000304200400100000028420042050000000400000001000000004200450100000010",
+    "4200430800000001AA00000000000000",
+);
 
-/// The object is shown as it should be, and has a copy that equals it.
-fn is_an_object(rt: &impl Abort, alloc: Global, object: &ManagedObject) -> Result<(), Fail> {
+#[test]
+fn an_object(rt: HostRuntime) {
+    let alloc = rt.alloc();
+    let bytes = bytes_of(&rt, alloc, OBJECT);
+    let payload = from_slice::<GetResponsePayload>(alloc, &bytes).expect(&rt, "a payload");
+    let object = &payload.cryptographic_object;
     is_shown::<ManagedObject>(
-        rt,
+        &rt,
         alloc,
         object,
         "PrivateKey{key_block={key_format_type=Raw,key_value={key_material=Bytes(x\"AA\")}}}",
-    )?;
-    is_copied::<ManagedObject>(rt, alloc, object)
+    );
+    is_copied::<ManagedObject>(&rt, alloc, object);
+    drop(payload);
 }
 
 #[test]
-fn an_object(rt: HostRuntime) -> Result<(), Fail> {
-    let object = object_of(rt.alloc(), OBJECT)?;
-    is_an_object(&rt, rt.alloc(), &object)
-}
-
-#[test]
-fn lists(rt: HostRuntime) -> Result<(), Fail> {
+fn lists(rt: HostRuntime) {
     let alloc = rt.alloc();
-    let texts = list(alloc)?;
-    are_equal(&rt, &clone_items(texts.as_slice(), alloc)?, &texts)?;
-    let mut types = List::new(alloc);
-    types.push(ObjectType::SymmetricKey)?;
-    are_equal(&rt, &copy_list(&types, alloc)?, &types)?;
+    let texts = list(&rt, alloc, text(&rt, alloc, "a"));
+    let copied = clone_items(texts.as_slice(), alloc).expect(&rt, "memory");
+    are_equal(&rt, &copied, &texts);
+    let types = list(&rt, alloc, ObjectType::SymmetricKey);
+    let copied = copy_list(&types, alloc).expect(&rt, "memory");
+    are_equal(&rt, &copied, &types);
     let types = Some(types);
-    are_equal(&rt, &copy_optional_list(&types, alloc)?, &types)?;
-    Ok(())
+    let copied = copy_optional_list(&types, alloc).expect(&rt, "memory");
+    are_equal(&rt, &copied, &types);
 }
 
 #[test]
-fn records(rt: HostRuntime) -> Result<(), Fail> {
+fn a_record(rt: HostRuntime) {
     let alloc = rt.alloc();
     // 08{09 i5}
-    let bytes =
-        b"\x42\x00\x08\x01\x00\x00\x00\x10\x42\x00\x09\x02\x00\x00\x00\x04\x00\x00\x00\x05\x00\x00\x00\x00";
-    let item = ItemRef::root(bytes).ok_or("no item")?;
-    let fields![number] = read_record::<Row<One<i32, ATTRIBUTE_INDEX>, End>>(
-        alloc,
-        Outer::none(),
-        item,
-    )?;
+    let hex = "420008010000001042000902000000040000000500000000";
+    let bytes = bytes_of(&rt, alloc, hex);
+    let item = ItemRef::root(&bytes).expect(&rt, "an item");
+    let read = read_record::<Row<One<i32, ATTRIBUTE_INDEX>, End>>(alloc, Outer::none(), item);
+    let fields![number] = read.expect(&rt, "a record");
     assert_eq!(&rt; number, 5);
-    // 7C{57 e4,94 "k",64{40{42 e1,45{43 xAA}}}}
-    let bytes =
-        b"\x42\x00\x7C\x01\x00\x00\x00\x58\x42\x00\x57\x05\x00\x00\x00\x04\x00\x00\x00\x04\x00\x00\x00\x00\x42\x00\x94\x07\x00\x00\x00\x01\x6B\x00\x00\x00\x00\x00\x00\x00\x42\x00\x64\x01\x00\x00\x00\x30\x42\x00\x40\x01\x00\x00\x00\x28\x42\x00\x42\x05\x00\x00\x00\x04\x00\x00\x00\x01\x00\x00\x00\x00\x42\x00\x45\x01\x00\x00\x00\x10\x42\x00\x43\x08\x00\x00\x00\x01\xAA\x00\x00\x00\x00\x00\x00\x00";
-    let item = ItemRef::root(bytes).ok_or("no item")?;
-    let payload = read_root::<GetResponsePayload>(alloc, item)?;
-    assert_eq!(&rt; payload.unique_identifier.0.as_str(), "k");
-    Ok(())
 }
 
 #[test]
-fn a_request(rt: HostRuntime) -> Result<(), Fail> {
+fn a_root(rt: HostRuntime) {
+    let bytes = bytes_of(&rt, rt.alloc(), OBJECT);
+    let item = ItemRef::root(&bytes).expect(&rt, "an item");
+    let payload = read_root::<GetResponsePayload>(rt.alloc(), item).expect(&rt, "a payload");
+    assert_eq!(&rt; payload.unique_identifier.0.as_str(), "k");
+    drop(payload);
+}
+
+#[test]
+fn a_request(rt: HostRuntime) {
     // 78{77{69{6A i1,6B i2},0D i1},0F{5C e37,79{C4 i16}}}
-    let bytes =
-        b"\x42\x00\x78\x01\x00\x00\x00\x70\x42\x00\x77\x01\x00\x00\x00\x38\x42\x00\x69\x01\x00\x00\x00\x20\x42\x00\x6A\x02\x00\x00\x00\x04\x00\x00\x00\x01\x00\x00\x00\x00\x42\x00\x6B\x02\x00\x00\x00\x04\x00\x00\x00\x02\x00\x00\x00\x00\x42\x00\x0D\x02\x00\x00\x00\x04\x00\x00\x00\x01\x00\x00\x00\x00\x42\x00\x0F\x01\x00\x00\x00\x28\x42\x00\x5C\x05\x00\x00\x00\x04\x00\x00\x00\x25\x00\x00\x00\x00\x42\x00\x79\x01\x00\x00\x00\x10\x42\x00\xC4\x02\x00\x00\x00\x04\x00\x00\x00\x10\x00\x00\x00\x00";
+    let hex = concat!(
+        "42007801000000704200770100000038420069010000002042006A02000000040000000100000000",
+        "42006B0200000004000000020000000042000D0200000004000000010000000042000F0100000028",
+        "42005C0500000004000000250000000042007901000000104200C402000000040000001000000000",
+    );
     let payload = RequestPayload::RNGRetrieve(DataLength(16));
-    let written = write_request(rt.alloc(), payload, &mut None)?;
+    let authentication = None;
+    let written = write_request(rt.alloc(), &payload, &authentication).expect(&rt, "a request");
+    let bytes = bytes_of(&rt, rt.alloc(), hex);
     assert!(&rt; written.as_slice() == bytes.as_slice());
-    Ok(())
+    drop(authentication);
 }

@@ -9,162 +9,205 @@ use kmip_request::{
     PublicKeyTemplateAttribute, RequestHeader, RequestMessage, RequestPayload, RevocationReason,
     SymmetricKey, Template, TemplateAttribute, Username,
 };
-use std::test::Fail;
 
 #[test]
-fn attributes_and_templates(rt: HostRuntime) -> Result<(), Fail> {
+fn attributes_and_templates(rt: HostRuntime) {
     let alloc = rt.alloc();
     // 53{55 "n",54 e1}
-    let bytes =
-        b"\x42\x00\x53\x01\x00\x00\x00\x20\x42\x00\x55\x07\x00\x00\x00\x01\x6E\x00\x00\x00\x00\x00\x00\x00\x42\x00\x54\x05\x00\x00\x00\x04\x00\x00\x00\x01\x00\x00\x00\x00";
-    is_written::<Name>(&rt, alloc, None, bytes)?;
+    let hex = "420053010000002042005507000000016E0000000000000042005405000000040000000100000000";
+    is_written::<Name>(&rt, alloc, None, hex);
     // 08{0A "x-a",09 i1,0B i5}
-    let bytes =
-        b"\x42\x00\x08\x01\x00\x00\x00\x30\x42\x00\x0A\x07\x00\x00\x00\x03\x78\x2D\x61\x00\x00\x00\x00\x00\x42\x00\x09\x02\x00\x00\x00\x04\x00\x00\x00\x01\x00\x00\x00\x00\x42\x00\x0B\x02\x00\x00\x00\x04\x00\x00\x00\x05\x00\x00\x00\x00";
-    is_written::<Attribute>(&rt, alloc, None, bytes)?;
+    let hex = concat!(
+        "420008010000003042000A0700000003782D61000000000042000902000000040000000100000000",
+        "42000B02000000040000000500000000",
+    );
+    is_written::<Attribute>(&rt, alloc, None, hex);
     // 91{53{55 "n",54 e1},08{0A "x-a",09 i1,0B i5}}
-    let bytes =
-        b"\x42\x00\x91\x01\x00\x00\x00\x60\x42\x00\x53\x01\x00\x00\x00\x20\x42\x00\x55\x07\x00\x00\x00\x01\x6E\x00\x00\x00\x00\x00\x00\x00\x42\x00\x54\x05\x00\x00\x00\x04\x00\x00\x00\x01\x00\x00\x00\x00\x42\x00\x08\x01\x00\x00\x00\x30\x42\x00\x0A\x07\x00\x00\x00\x03\x78\x2D\x61\x00\x00\x00\x00\x00\x42\x00\x09\x02\x00\x00\x00\x04\x00\x00\x00\x01\x00\x00\x00\x00\x42\x00\x0B\x02\x00\x00\x00\x04\x00\x00\x00\x05\x00\x00\x00\x00";
-    is_written::<TemplateAttribute>(&rt, alloc, None, bytes)?;
+    let hex = concat!(
+        "4200910100000060420053010000002042005507000000016E000000000000004200540500000004",
+        "0000000100000000420008010000003042000A0700000003782D6100000000004200090200000004",
+        "000000010000000042000B02000000040000000500000000",
+    );
+    is_written::<TemplateAttribute>(&rt, alloc, None, hex);
     // 1F{53{55 "n",54 e1},08{0A "x-a",09 i1,0B i5}}
-    let bytes =
-        b"\x42\x00\x1F\x01\x00\x00\x00\x60\x42\x00\x53\x01\x00\x00\x00\x20\x42\x00\x55\x07\x00\x00\x00\x01\x6E\x00\x00\x00\x00\x00\x00\x00\x42\x00\x54\x05\x00\x00\x00\x04\x00\x00\x00\x01\x00\x00\x00\x00\x42\x00\x08\x01\x00\x00\x00\x30\x42\x00\x0A\x07\x00\x00\x00\x03\x78\x2D\x61\x00\x00\x00\x00\x00\x42\x00\x09\x02\x00\x00\x00\x04\x00\x00\x00\x01\x00\x00\x00\x00\x42\x00\x0B\x02\x00\x00\x00\x04\x00\x00\x00\x05\x00\x00\x00\x00";
-    is_written::<CommonTemplateAttribute>(&rt, alloc, None, bytes)?;
+    let hex = concat!(
+        "42001F0100000060420053010000002042005507000000016E000000000000004200540500000004",
+        "0000000100000000420008010000003042000A0700000003782D6100000000004200090200000004",
+        "000000010000000042000B02000000040000000500000000",
+    );
+    is_written::<CommonTemplateAttribute>(&rt, alloc, None, hex);
     // 65{53{55 "n",54 e1},08{0A "x-a",09 i1,0B i5}}
-    let bytes =
-        b"\x42\x00\x65\x01\x00\x00\x00\x60\x42\x00\x53\x01\x00\x00\x00\x20\x42\x00\x55\x07\x00\x00\x00\x01\x6E\x00\x00\x00\x00\x00\x00\x00\x42\x00\x54\x05\x00\x00\x00\x04\x00\x00\x00\x01\x00\x00\x00\x00\x42\x00\x08\x01\x00\x00\x00\x30\x42\x00\x0A\x07\x00\x00\x00\x03\x78\x2D\x61\x00\x00\x00\x00\x00\x42\x00\x09\x02\x00\x00\x00\x04\x00\x00\x00\x01\x00\x00\x00\x00\x42\x00\x0B\x02\x00\x00\x00\x04\x00\x00\x00\x05\x00\x00\x00\x00";
-    is_written::<PrivateKeyTemplateAttribute>(&rt, alloc, None, bytes)?;
+    let hex = concat!(
+        "4200650100000060420053010000002042005507000000016E000000000000004200540500000004",
+        "0000000100000000420008010000003042000A0700000003782D6100000000004200090200000004",
+        "000000010000000042000B02000000040000000500000000",
+    );
+    is_written::<PrivateKeyTemplateAttribute>(&rt, alloc, None, hex);
     // 6E{53{55 "n",54 e1},08{0A "x-a",09 i1,0B i5}}
-    let bytes =
-        b"\x42\x00\x6E\x01\x00\x00\x00\x60\x42\x00\x53\x01\x00\x00\x00\x20\x42\x00\x55\x07\x00\x00\x00\x01\x6E\x00\x00\x00\x00\x00\x00\x00\x42\x00\x54\x05\x00\x00\x00\x04\x00\x00\x00\x01\x00\x00\x00\x00\x42\x00\x08\x01\x00\x00\x00\x30\x42\x00\x0A\x07\x00\x00\x00\x03\x78\x2D\x61\x00\x00\x00\x00\x00\x42\x00\x09\x02\x00\x00\x00\x04\x00\x00\x00\x01\x00\x00\x00\x00\x42\x00\x0B\x02\x00\x00\x00\x04\x00\x00\x00\x05\x00\x00\x00\x00";
-    is_written::<PublicKeyTemplateAttribute>(&rt, alloc, None, bytes)?;
+    let hex = concat!(
+        "42006E0100000060420053010000002042005507000000016E000000000000004200540500000004",
+        "0000000100000000420008010000003042000A0700000003782D6100000000004200090200000004",
+        "000000010000000042000B02000000040000000500000000",
+    );
+    is_written::<PublicKeyTemplateAttribute>(&rt, alloc, None, hex);
     // 81{82 e1,80 "why"}
-    let bytes =
-        b"\x42\x00\x81\x01\x00\x00\x00\x20\x42\x00\x82\x05\x00\x00\x00\x04\x00\x00\x00\x01\x00\x00\x00\x00\x42\x00\x80\x07\x00\x00\x00\x03\x77\x68\x79\x00\x00\x00\x00\x00";
-    is_written::<RevocationReason>(&rt, alloc, None, bytes)?;
-    Ok(())
+    let hex = "42008101000000204200820500000004000000010000000042008007000000037768790000000000";
+    is_written::<RevocationReason>(&rt, alloc, None, hex);
 }
 
 #[test]
-fn wrapping(rt: HostRuntime) -> Result<(), Fail> {
+fn wrapping(rt: HostRuntime) {
     let alloc = rt.alloc();
     // 36{94 "k",2B{11 e1}}
-    let bytes =
-        b"\x42\x00\x36\x01\x00\x00\x00\x28\x42\x00\x94\x07\x00\x00\x00\x01\x6B\x00\x00\x00\x00\x00\x00\x00\x42\x00\x2B\x01\x00\x00\x00\x10\x42\x00\x11\x05\x00\x00\x00\x04\x00\x00\x00\x01\x00\x00\x00\x00";
-    is_written::<EncryptionKeyInformation>(&rt, alloc, None, bytes)?;
+    let hex = concat!(
+        "420036010000002842009407000000016B0000000000000042002B01000000104200110500000004",
+        "0000000100000000",
+    );
+    is_written::<EncryptionKeyInformation>(&rt, alloc, None, hex);
     // 4E{94 "m"}
-    let bytes =
-        b"\x42\x00\x4E\x01\x00\x00\x00\x10\x42\x00\x94\x07\x00\x00\x00\x01\x6D\x00\x00\x00\x00\x00\x00\x00";
-    is_written::<MACOrSignatureKeyInformation>(&rt, alloc, None, bytes)?;
+    let hex = "42004E010000001042009407000000016D00000000000000";
+    is_written::<MACOrSignatureKeyInformation>(&rt, alloc, None, hex);
     // 4D xAA
-    let bytes = b"\x42\x00\x4D\x08\x00\x00\x00\x01\xAA\x00\x00\x00\x00\x00\x00\x00";
-    is_written::<MACOrSignature>(&rt, alloc, None, bytes)?;
+    let hex = "42004D0800000001AA00000000000000";
+    is_written::<MACOrSignature>(&rt, alloc, None, hex);
     // 3D xBB
-    let bytes = b"\x42\x00\x3D\x08\x00\x00\x00\x01\xBB\x00\x00\x00\x00\x00\x00\x00";
-    is_written::<IVOrCounterOrNonce>(&rt, alloc, None, bytes)?;
+    let hex = "42003D0800000001BB00000000000000";
+    is_written::<IVOrCounterOrNonce>(&rt, alloc, None, hex);
     // 46{9E e1,36{94 "k"},4E{94 "m"},4D xAA,3D xBB,08{0A "x-a",09 i1,0B i5}}
-    let bytes =
-        b"\x42\x00\x46\x01\x00\x00\x00\x98\x42\x00\x9E\x05\x00\x00\x00\x04\x00\x00\x00\x01\x00\x00\x00\x00\x42\x00\x36\x01\x00\x00\x00\x10\x42\x00\x94\x07\x00\x00\x00\x01\x6B\x00\x00\x00\x00\x00\x00\x00\x42\x00\x4E\x01\x00\x00\x00\x10\x42\x00\x94\x07\x00\x00\x00\x01\x6D\x00\x00\x00\x00\x00\x00\x00\x42\x00\x4D\x08\x00\x00\x00\x01\xAA\x00\x00\x00\x00\x00\x00\x00\x42\x00\x3D\x08\x00\x00\x00\x01\xBB\x00\x00\x00\x00\x00\x00\x00\x42\x00\x08\x01\x00\x00\x00\x30\x42\x00\x0A\x07\x00\x00\x00\x03\x78\x2D\x61\x00\x00\x00\x00\x00\x42\x00\x09\x02\x00\x00\x00\x04\x00\x00\x00\x01\x00\x00\x00\x00\x42\x00\x0B\x02\x00\x00\x00\x04\x00\x00\x00\x05\x00\x00\x00\x00";
-    is_written::<KeyWrappingData>(&rt, alloc, None, bytes)?;
+    let hex = concat!(
+        "420046010000009842009E0500000004000000010000000042003601000000104200940700000001",
+        "6B0000000000000042004E010000001042009407000000016D0000000000000042004D0800000001",
+        "AA0000000000000042003D0800000001BB00000000000000420008010000003042000A0700000003",
+        "782D6100000000004200090200000004000000010000000042000B02000000040000000500000000",
+    );
+    is_written::<KeyWrappingData>(&rt, alloc, None, hex);
     // 47{9E e1,36{94 "k"},4E{94 "m"},08{0A "x-a",09 i1,0B i5}}
-    let bytes =
-        b"\x42\x00\x47\x01\x00\x00\x00\x78\x42\x00\x9E\x05\x00\x00\x00\x04\x00\x00\x00\x01\x00\x00\x00\x00\x42\x00\x36\x01\x00\x00\x00\x10\x42\x00\x94\x07\x00\x00\x00\x01\x6B\x00\x00\x00\x00\x00\x00\x00\x42\x00\x4E\x01\x00\x00\x00\x10\x42\x00\x94\x07\x00\x00\x00\x01\x6D\x00\x00\x00\x00\x00\x00\x00\x42\x00\x08\x01\x00\x00\x00\x30\x42\x00\x0A\x07\x00\x00\x00\x03\x78\x2D\x61\x00\x00\x00\x00\x00\x42\x00\x09\x02\x00\x00\x00\x04\x00\x00\x00\x01\x00\x00\x00\x00\x42\x00\x0B\x02\x00\x00\x00\x04\x00\x00\x00\x05\x00\x00\x00\x00";
-    is_written::<KeyWrappingSpecification>(&rt, alloc, None, bytes)?;
-    Ok(())
+    let hex = concat!(
+        "420047010000007842009E0500000004000000010000000042003601000000104200940700000001",
+        "6B0000000000000042004E010000001042009407000000016D000000000000004200080100000030",
+        "42000A0700000003782D6100000000004200090200000004000000010000000042000B0200000004",
+        "0000000500000000",
+    );
+    is_written::<KeyWrappingSpecification>(&rt, alloc, None, hex);
 }
 
 #[test]
-fn objects(rt: HostRuntime) -> Result<(), Fail> {
+fn objects(rt: HostRuntime) {
     let alloc = rt.alloc();
     // 45{43 xAA,08{0A "x-a",09 i1,0B i5}}
-    let bytes =
-        b"\x42\x00\x45\x01\x00\x00\x00\x48\x42\x00\x43\x08\x00\x00\x00\x01\xAA\x00\x00\x00\x00\x00\x00\x00\x42\x00\x08\x01\x00\x00\x00\x30\x42\x00\x0A\x07\x00\x00\x00\x03\x78\x2D\x61\x00\x00\x00\x00\x00\x42\x00\x09\x02\x00\x00\x00\x04\x00\x00\x00\x01\x00\x00\x00\x00\x42\x00\x0B\x02\x00\x00\x00\x04\x00\x00\x00\x05\x00\x00\x00\x00";
-    is_written::<KeyValue>(&rt, alloc, Some(1), bytes)?;
+    let hex = concat!(
+        "42004501000000484200430800000001AA00000000000000420008010000003042000A0700000003",
+        "782D6100000000004200090200000004000000010000000042000B02000000040000000500000000",
+    );
+    is_written::<KeyValue>(&rt, alloc, Some(1), hex);
     // 40{42 e1,45{43 xAA},28 e3,2A i128,46{9E e1}}
-    let bytes =
-        b"\x42\x00\x40\x01\x00\x00\x00\x60\x42\x00\x42\x05\x00\x00\x00\x04\x00\x00\x00\x01\x00\x00\x00\x00\x42\x00\x45\x01\x00\x00\x00\x10\x42\x00\x43\x08\x00\x00\x00\x01\xAA\x00\x00\x00\x00\x00\x00\x00\x42\x00\x28\x05\x00\x00\x00\x04\x00\x00\x00\x03\x00\x00\x00\x00\x42\x00\x2A\x02\x00\x00\x00\x04\x00\x00\x00\x80\x00\x00\x00\x00\x42\x00\x46\x01\x00\x00\x00\x10\x42\x00\x9E\x05\x00\x00\x00\x04\x00\x00\x00\x01\x00\x00\x00\x00";
-    is_written::<KeyBlock>(&rt, alloc, None, bytes)?;
+    let hex = concat!(
+        "42004001000000604200420500000004000000010000000042004501000000104200430800000001",
+        "AA000000000000004200280500000004000000030000000042002A02000000040000008000000000",
+        "420046010000001042009E05000000040000000100000000",
+    );
+    is_written::<KeyBlock>(&rt, alloc, None, hex);
     // 8F{40{42 e1,45{43 xAA}}}
-    let bytes =
-        b"\x42\x00\x8F\x01\x00\x00\x00\x30\x42\x00\x40\x01\x00\x00\x00\x28\x42\x00\x42\x05\x00\x00\x00\x04\x00\x00\x00\x01\x00\x00\x00\x00\x42\x00\x45\x01\x00\x00\x00\x10\x42\x00\x43\x08\x00\x00\x00\x01\xAA\x00\x00\x00\x00\x00\x00\x00";
-    is_written::<SymmetricKey>(&rt, alloc, None, bytes)?;
+    let hex = concat!(
+        "42008F01000000304200400100000028420042050000000400000001000000004200450100000010",
+        "4200430800000001AA00000000000000",
+    );
+    is_written::<SymmetricKey>(&rt, alloc, None, hex);
     // 6D{40{42 e1,45{43 xAA}}}
-    let bytes =
-        b"\x42\x00\x6D\x01\x00\x00\x00\x30\x42\x00\x40\x01\x00\x00\x00\x28\x42\x00\x42\x05\x00\x00\x00\x04\x00\x00\x00\x01\x00\x00\x00\x00\x42\x00\x45\x01\x00\x00\x00\x10\x42\x00\x43\x08\x00\x00\x00\x01\xAA\x00\x00\x00\x00\x00\x00\x00";
-    is_written::<PublicKey>(&rt, alloc, None, bytes)?;
+    let hex = concat!(
+        "42006D01000000304200400100000028420042050000000400000001000000004200450100000010",
+        "4200430800000001AA00000000000000",
+    );
+    is_written::<PublicKey>(&rt, alloc, None, hex);
     // 64{40{42 e1,45{43 xAA}}}
-    let bytes =
-        b"\x42\x00\x64\x01\x00\x00\x00\x30\x42\x00\x40\x01\x00\x00\x00\x28\x42\x00\x42\x05\x00\x00\x00\x04\x00\x00\x00\x01\x00\x00\x00\x00\x42\x00\x45\x01\x00\x00\x00\x10\x42\x00\x43\x08\x00\x00\x00\x01\xAA\x00\x00\x00\x00\x00\x00\x00";
-    is_written::<PrivateKey>(&rt, alloc, None, bytes)?;
+    let hex = concat!(
+        "42006401000000304200400100000028420042050000000400000001000000004200450100000010",
+        "4200430800000001AA00000000000000",
+    );
+    is_written::<PrivateKey>(&rt, alloc, None, hex);
     // 90{08{0A "x-a",09 i1,0B i5}}
-    let bytes =
-        b"\x42\x00\x90\x01\x00\x00\x00\x38\x42\x00\x08\x01\x00\x00\x00\x30\x42\x00\x0A\x07\x00\x00\x00\x03\x78\x2D\x61\x00\x00\x00\x00\x00\x42\x00\x09\x02\x00\x00\x00\x04\x00\x00\x00\x01\x00\x00\x00\x00\x42\x00\x0B\x02\x00\x00\x00\x04\x00\x00\x00\x05\x00\x00\x00\x00";
-    is_written::<Template>(&rt, alloc, None, bytes)?;
+    let hex = concat!(
+        "4200900100000038420008010000003042000A0700000003782D6100000000004200090200000004",
+        "000000010000000042000B02000000040000000500000000",
+    );
+    is_written::<Template>(&rt, alloc, None, hex);
     // 8F{40{42 e1,45{43 xAA}}}
-    let bytes =
-        b"\x42\x00\x8F\x01\x00\x00\x00\x30\x42\x00\x40\x01\x00\x00\x00\x28\x42\x00\x42\x05\x00\x00\x00\x04\x00\x00\x00\x01\x00\x00\x00\x00\x42\x00\x45\x01\x00\x00\x00\x10\x42\x00\x43\x08\x00\x00\x00\x01\xAA\x00\x00\x00\x00\x00\x00\x00";
-    is_written::<ManagedObject>(&rt, alloc, None, bytes)?;
-    Ok(())
+    let hex = concat!(
+        "42008F01000000304200400100000028420042050000000400000001000000004200450100000010",
+        "4200430800000001AA00000000000000",
+    );
+    is_written::<ManagedObject>(&rt, alloc, None, hex);
 }
 
 #[test]
-fn messages_and_credentials(rt: HostRuntime) -> Result<(), Fail> {
+fn messages_and_credentials(rt: HostRuntime) {
     let alloc = rt.alloc();
     // 99 "alice"
-    let bytes = b"\x42\x00\x99\x07\x00\x00\x00\x05\x61\x6C\x69\x63\x65\x00\x00\x00";
-    is_written::<Username>(&rt, alloc, None, bytes)?;
+    let hex = "4200990700000005616C696365000000";
+    is_written::<Username>(&rt, alloc, None, hex);
     // A1 "secret"
-    let bytes = b"\x42\x00\xA1\x07\x00\x00\x00\x06\x73\x65\x63\x72\x65\x74\x00\x00";
-    is_written::<Password>(&rt, alloc, None, bytes)?;
+    let hex = "4200A107000000067365637265740000";
+    is_written::<Password>(&rt, alloc, None, hex);
     // 25{99 "alice",A1 "secret"}
-    let bytes =
-        b"\x42\x00\x25\x01\x00\x00\x00\x20\x42\x00\x99\x07\x00\x00\x00\x05\x61\x6C\x69\x63\x65\x00\x00\x00\x42\x00\xA1\x07\x00\x00\x00\x06\x73\x65\x63\x72\x65\x74\x00\x00";
-    is_written::<CredentialValue>(&rt, alloc, Some(1), bytes)?;
+    let hex = "42002501000000204200990700000005616C6963650000004200A107000000067365637265740000";
+    is_written::<CredentialValue>(&rt, alloc, Some(1), hex);
     // 23{24 e1,25{99 "alice",A1 "secret"}}
-    let bytes =
-        b"\x42\x00\x23\x01\x00\x00\x00\x38\x42\x00\x24\x05\x00\x00\x00\x04\x00\x00\x00\x01\x00\x00\x00\x00\x42\x00\x25\x01\x00\x00\x00\x20\x42\x00\x99\x07\x00\x00\x00\x05\x61\x6C\x69\x63\x65\x00\x00\x00\x42\x00\xA1\x07\x00\x00\x00\x06\x73\x65\x63\x72\x65\x74\x00\x00";
-    is_written::<Credential>(&rt, alloc, None, bytes)?;
+    let hex = concat!(
+        "42002301000000384200240500000004000000010000000042002501000000204200990700000005",
+        "616C6963650000004200A107000000067365637265740000",
+    );
+    is_written::<Credential>(&rt, alloc, None, hex);
     // 0C{23{24 e1,25{99 "alice",A1 "secret"}}}
-    let bytes =
-        b"\x42\x00\x0C\x01\x00\x00\x00\x40\x42\x00\x23\x01\x00\x00\x00\x38\x42\x00\x24\x05\x00\x00\x00\x04\x00\x00\x00\x01\x00\x00\x00\x00\x42\x00\x25\x01\x00\x00\x00\x20\x42\x00\x99\x07\x00\x00\x00\x05\x61\x6C\x69\x63\x65\x00\x00\x00\x42\x00\xA1\x07\x00\x00\x00\x06\x73\x65\x63\x72\x65\x74\x00\x00";
-    is_written::<Authentication>(&rt, alloc, None, bytes)?;
+    let hex = concat!(
+        "42000C01000000404200230100000038420024050000000400000001000000004200250100000020",
+        "4200990700000005616C6963650000004200A107000000067365637265740000",
+    );
+    is_written::<Authentication>(&rt, alloc, None, hex);
     // 77{69{6A i1,6B i2},50 i256,0C{23{24 e1,25{99 "alice",A1 "secret"}}},0D i1}
-    let bytes =
-        b"\x42\x00\x77\x01\x00\x00\x00\x90\x42\x00\x69\x01\x00\x00\x00\x20\x42\x00\x6A\x02\x00\x00\x00\x04\x00\x00\x00\x01\x00\x00\x00\x00\x42\x00\x6B\x02\x00\x00\x00\x04\x00\x00\x00\x02\x00\x00\x00\x00\x42\x00\x50\x02\x00\x00\x00\x04\x00\x00\x01\x00\x00\x00\x00\x00\x42\x00\x0C\x01\x00\x00\x00\x40\x42\x00\x23\x01\x00\x00\x00\x38\x42\x00\x24\x05\x00\x00\x00\x04\x00\x00\x00\x01\x00\x00\x00\x00\x42\x00\x25\x01\x00\x00\x00\x20\x42\x00\x99\x07\x00\x00\x00\x05\x61\x6C\x69\x63\x65\x00\x00\x00\x42\x00\xA1\x07\x00\x00\x00\x06\x73\x65\x63\x72\x65\x74\x00\x00\x42\x00\x0D\x02\x00\x00\x00\x04\x00\x00\x00\x01\x00\x00\x00\x00";
-    is_written::<RequestHeader>(&rt, alloc, None, bytes)?;
+    let hex = concat!(
+        "4200770100000090420069010000002042006A0200000004000000010000000042006B0200000004",
+        "00000002000000004200500200000004000001000000000042000C01000000404200230100000038",
+        "4200240500000004000000010000000042002501000000204200990700000005616C696365000000",
+        "4200A10700000006736563726574000042000D02000000040000000100000000",
+    );
+    is_written::<RequestHeader>(&rt, alloc, None, hex);
     // 79{C4 i16}
-    let bytes =
-        b"\x42\x00\x79\x01\x00\x00\x00\x10\x42\x00\xC4\x02\x00\x00\x00\x04\x00\x00\x00\x10\x00\x00\x00\x00";
-    is_written::<RequestPayload>(&rt, alloc, Some(37), bytes)?;
+    let hex = "42007901000000104200C402000000040000001000000000";
+    is_written::<RequestPayload>(&rt, alloc, Some(37), hex);
     // 0F{5C e37,93 xAA,79{C4 i16}}
-    let bytes =
-        b"\x42\x00\x0F\x01\x00\x00\x00\x38\x42\x00\x5C\x05\x00\x00\x00\x04\x00\x00\x00\x25\x00\x00\x00\x00\x42\x00\x93\x08\x00\x00\x00\x01\xAA\x00\x00\x00\x00\x00\x00\x00\x42\x00\x79\x01\x00\x00\x00\x10\x42\x00\xC4\x02\x00\x00\x00\x04\x00\x00\x00\x10\x00\x00\x00\x00";
-    is_written::<BatchItem>(&rt, alloc, None, bytes)?;
+    let hex = concat!(
+        "42000F010000003842005C050000000400000025000000004200930800000001AA00000000000000",
+        "42007901000000104200C402000000040000001000000000",
+    );
+    is_written::<BatchItem>(&rt, alloc, None, hex);
     // 78{77{69{6A i1,6B i2},50 i256,0C{23{24 e1,25{99 "alice",A1 "secret"}}},0D i1},0F{5C e37,93 xAA,79{C4 i16}}}
-    let bytes =
-        b"\x42\x00\x78\x01\x00\x00\x00\xD8\x42\x00\x77\x01\x00\x00\x00\x90\x42\x00\x69\x01\x00\x00\x00\x20\x42\x00\x6A\x02\x00\x00\x00\x04\x00\x00\x00\x01\x00\x00\x00\x00\x42\x00\x6B\x02\x00\x00\x00\x04\x00\x00\x00\x02\x00\x00\x00\x00\x42\x00\x50\x02\x00\x00\x00\x04\x00\x00\x01\x00\x00\x00\x00\x00\x42\x00\x0C\x01\x00\x00\x00\x40\x42\x00\x23\x01\x00\x00\x00\x38\x42\x00\x24\x05\x00\x00\x00\x04\x00\x00\x00\x01\x00\x00\x00\x00\x42\x00\x25\x01\x00\x00\x00\x20\x42\x00\x99\x07\x00\x00\x00\x05\x61\x6C\x69\x63\x65\x00\x00\x00\x42\x00\xA1\x07\x00\x00\x00\x06\x73\x65\x63\x72\x65\x74\x00\x00\x42\x00\x0D\x02\x00\x00\x00\x04\x00\x00\x00\x01\x00\x00\x00\x00\x42\x00\x0F\x01\x00\x00\x00\x38\x42\x00\x5C\x05\x00\x00\x00\x04\x00\x00\x00\x25\x00\x00\x00\x00\x42\x00\x93\x08\x00\x00\x00\x01\xAA\x00\x00\x00\x00\x00\x00\x00\x42\x00\x79\x01\x00\x00\x00\x10\x42\x00\xC4\x02\x00\x00\x00\x04\x00\x00\x00\x10\x00\x00\x00\x00";
-    is_written::<RequestMessage>(&rt, alloc, None, bytes)?;
-    Ok(())
+    let hex = concat!(
+        "42007801000000D84200770100000090420069010000002042006A02000000040000000100000000",
+        "42006B020000000400000002000000004200500200000004000001000000000042000C0100000040",
+        "42002301000000384200240500000004000000010000000042002501000000204200990700000005",
+        "616C6963650000004200A10700000006736563726574000042000D02000000040000000100000000",
+        "42000F010000003842005C050000000400000025000000004200930800000001AA00000000000000",
+        "42007901000000104200C402000000040000001000000000",
+    );
+    is_written::<RequestMessage>(&rt, alloc, None, hex);
 }
 
 #[test]
-fn numbers(rt: HostRuntime) -> Result<(), Fail> {
+fn numbers(rt: HostRuntime) {
     let alloc = rt.alloc();
     // 69{6A i1,6B i2}
-    let bytes =
-        b"\x42\x00\x69\x01\x00\x00\x00\x20\x42\x00\x6A\x02\x00\x00\x00\x04\x00\x00\x00\x01\x00\x00\x00\x00\x42\x00\x6B\x02\x00\x00\x00\x04\x00\x00\x00\x02\x00\x00\x00\x00";
-    is_written_alone::<ProtocolVersion>(&rt, alloc, bytes)?;
+    let hex = "420069010000002042006A0200000004000000010000000042006B02000000040000000200000000";
+    is_written_alone::<ProtocolVersion>(&rt, alloc, hex);
     // 0D i1
-    let bytes = b"\x42\x00\x0D\x02\x00\x00\x00\x04\x00\x00\x00\x01\x00\x00\x00\x00";
-    is_written_alone::<BatchCount>(&rt, alloc, bytes)?;
+    let hex = "42000D02000000040000000100000000";
+    is_written_alone::<BatchCount>(&rt, alloc, hex);
     // 50 i256
-    let bytes = b"\x42\x00\x50\x02\x00\x00\x00\x04\x00\x00\x01\x00\x00\x00\x00\x00";
-    is_written_alone::<MaximumResponseSize>(&rt, alloc, bytes)?;
+    let hex = "42005002000000040000010000000000";
+    is_written_alone::<MaximumResponseSize>(&rt, alloc, hex);
     // 6A i1
-    let bytes = b"\x42\x00\x6A\x02\x00\x00\x00\x04\x00\x00\x00\x01\x00\x00\x00\x00";
-    is_written_alone::<ProtocolVersionMajor>(&rt, alloc, bytes)?;
+    let hex = "42006A02000000040000000100000000";
+    is_written_alone::<ProtocolVersionMajor>(&rt, alloc, hex);
     // 6B i2
-    let bytes = b"\x42\x00\x6B\x02\x00\x00\x00\x04\x00\x00\x00\x02\x00\x00\x00\x00";
-    is_written_alone::<ProtocolVersionMinor>(&rt, alloc, bytes)?;
-    Ok(())
+    let hex = "42006B02000000040000000200000000";
+    is_written_alone::<ProtocolVersionMinor>(&rt, alloc, hex);
 }

@@ -33,29 +33,40 @@ name = Rows
 abbrev pub link : Shape
 link = Rows
     (AndRow (codes "link_type") (Under LINK_TYPE) Required Plain (OneOf link_types)
-    (AndRow (codes "linked_object_identifier") (Under LINKED_OBJECT_IDENTIFIER) Required Plain (Scalar kinds.TextString)
+    (AndRow (codes "linked_object_identifier") (Under LINKED_OBJECT_IDENTIFIER) Required Plain
+    (Scalar kinds.TextString)
     NoRow))
 
 -- Application Specific Information (KMIP 1.0, 3.30)
 abbrev pub application_specific_information : Shape
 application_specific_information = Rows
-    (AndRow (codes "application_namespace") (Under APPLICATION_NAMESPACE) Required Plain (Scalar kinds.TextString)
-    (AndRow (codes "application_data") (Under APPLICATION_DATA) Required Plain (Scalar kinds.TextString)
+    (AndRow (codes "application_namespace") (Under APPLICATION_NAMESPACE) Required Plain
+    (Scalar kinds.TextString)
+    (AndRow (codes "application_data") (Under APPLICATION_DATA) Required Plain
+    (Scalar kinds.TextString)
     NoRow))
 
--- the cases of an attribute's value: by the name of the attribute, and under any other name by the type of the item
+-- the cases of an attribute's value: by the attribute's name, and under any other by the item's
+-- type
 -- (KMIP 1.0, 2.1.1 and 3)
 abbrev pub attribute_values : Cases
 attribute_values =
     AndCase 1 (codes "Name") (ByNames (codes "Name" ∷ [])) None name
     (AndCase 2 (codes "ObjectType") (ByNames (codes "Object Type" ∷ [])) None (OneOf object_types)
-    (AndCase 3 (codes "CryptographicAlgorithm") (ByNames (codes "Cryptographic Algorithm" ∷ [])) None (OneOf cryptographic_algorithms)
-    (AndCase 4 (codes "CryptographicParameters") (ByNames (codes "Cryptographic Parameters" ∷ [])) None cryptographic_parameters
+    (AndCase 3 (codes "CryptographicAlgorithm") (ByNames (codes "Cryptographic Algorithm" ∷ []))
+    None (OneOf cryptographic_algorithms)
+    (AndCase 4 (codes "CryptographicParameters") (ByNames (codes "Cryptographic Parameters" ∷ []))
+    None cryptographic_parameters
     (AndCase 5 (codes "State") (ByNames (codes "State" ∷ [])) None (OneOf states)
-    (AndCase 6 (codes "ObjectGroup") (ByNames (codes "Object Group" ∷ [])) None (Scalar kinds.TextString)
-    (AndCase 7 (codes "Link") (ByNames (codes "Link" ∷ codes "Linked Object Identifier" ∷ [])) None link
-    (AndCase 8 (codes "ApplicationSpecificInformation") (ByNames (codes "Application Specific Information" ∷ [])) None application_specific_information
-    (AndCase 9 (codes "ContactInformation") (ByNames (codes "Contact Information" ∷ [])) None (Scalar kinds.TextString)
+    (AndCase 6 (codes "ObjectGroup") (ByNames (codes "Object Group" ∷ [])) None
+    (Scalar kinds.TextString)
+    (AndCase 7 (codes "Link") (ByNames (codes "Link" ∷ codes "Linked Object Identifier" ∷ [])) None
+    link
+    (AndCase 8 (codes "ApplicationSpecificInformation")
+    (ByNames (codes "Application Specific Information" ∷ [])) None
+    application_specific_information
+    (AndCase 9 (codes "ContactInformation") (ByNames (codes "Contact Information" ∷ [])) None
+    (Scalar kinds.TextString)
     (AndCase 10 (codes "Structure") (ByKind kinds.Structure) None Custom
     (AndCase 11 (codes "Integer") (ByKind kinds.Integer) None (Scalar kinds.Integer)
     (AndCase 12 (codes "LongInteger") (ByKind kinds.LongInteger) None (Scalar kinds.LongInteger)
@@ -72,14 +83,18 @@ abbrev pub attribute_value : Shape
 attribute_value = Choice OfName attribute_values
 
 abbrev pub name_val : NameValue → NameType → Val
-name_val value type = Record (AndField (One (name_value_val value)) (AndField (One (name_type_val type)) NoField))
+name_val value type =
+    Record (AndField (One (name_value_val value)) (AndField (One (name_type_val type)) NoField))
 
 abbrev pub link_val : LinkType → LinkedObjectIdentifier → Val
-link_val type identifier = Record (AndField (One (link_type_val type)) (AndField (One (linked_object_identifier_val identifier)) NoField))
+link_val type identifier =
+    Record (AndField (One (link_type_val type))
+    (AndField (One (linked_object_identifier_val identifier)) NoField))
 
 abbrev pub application_specific_information_val : ApplicationNamespace → ApplicationData → Val
 application_specific_information_val namespace contents =
-    Record (AndField (One (application_namespace_val namespace)) (AndField (One (application_data_val contents)) NoField))
+    Record (AndField (One (application_namespace_val namespace))
+    (AndField (One (application_data_val contents)) NoField))
 
 -- a value is the case of its variant
 abbrev pub attribute_value_val : AttributeValue → Val
@@ -90,7 +105,8 @@ attribute_value_val (CryptographicParameters x) = Case 4 (cryptographic_paramete
 attribute_value_val (State x) = Case 5 (state_val x)
 attribute_value_val (ObjectGroup s) = Case 6 (Text s)
 attribute_value_val (Link type identifier) = Case 7 (link_val type identifier)
-attribute_value_val (ApplicationSpecificInformation namespace contents) = Case 8 (application_specific_information_val namespace contents)
+attribute_value_val (ApplicationSpecificInformation namespace contents) =
+    Case 8 (application_specific_information_val namespace contents)
 attribute_value_val (ContactInformation s) = Case 9 (Text s)
 attribute_value_val (Structure values) = Case 10 (Record (AndField (Many (vals_of values)) NoField))
 attribute_value_val (Integer z) = Case 11 (Number z)
@@ -149,22 +165,33 @@ whole_information t = ApplicationSpecificInformation t.0 (t.1).0
 
 pub attribute_value_same : IsFaithful attribute_value_val
 attribute_value_same (Name v t) (Name w u) h =
-    ap whole_name (and_row (one_row name_value_same) (and_row (one_row name_type_same) no_row) (v, (t, tt)) (w, (u, tt)) (same_record (same_case h).1))
-attribute_value_same (ObjectType x) (ObjectType y) h = ap ObjectType (object_type_same x y (same_case h).1)
-attribute_value_same (CryptographicAlgorithm x) (CryptographicAlgorithm y) h = ap CryptographicAlgorithm (cryptographic_algorithm_same x y (same_case h).1)
-attribute_value_same (CryptographicParameters x) (CryptographicParameters y) h = ap CryptographicParameters (cryptographic_parameters_same x y (same_case h).1)
+    ap whole_name (and_row (one_row name_value_same) (and_row (one_row name_type_same) no_row)
+    (v, (t, tt)) (w, (u, tt)) (same_record (same_case h).1))
+attribute_value_same (ObjectType x) (ObjectType y) h =
+    ap ObjectType (object_type_same x y (same_case h).1)
+attribute_value_same (CryptographicAlgorithm x) (CryptographicAlgorithm y) h =
+    ap CryptographicAlgorithm (cryptographic_algorithm_same x y (same_case h).1)
+attribute_value_same (CryptographicParameters x) (CryptographicParameters y) h =
+    ap CryptographicParameters (cryptographic_parameters_same x y (same_case h).1)
 attribute_value_same (State x) (State y) h = ap State (state_same x y (same_case h).1)
 attribute_value_same (ObjectGroup x) (ObjectGroup y) h = ap ObjectGroup (same_text (same_case h).1)
 attribute_value_same (Link t i) (Link u j) h =
-    ap whole_link (and_row (one_row link_type_same) (and_row (one_row linked_object_identifier_same) no_row) (t, (i, tt)) (u, (j, tt)) (same_record (same_case h).1))
+    ap whole_link (and_row (one_row link_type_same)
+    (and_row (one_row linked_object_identifier_same) no_row) (t, (i, tt)) (u, (j, tt))
+    (same_record (same_case h).1))
 attribute_value_same (ApplicationSpecificInformation n d) (ApplicationSpecificInformation m e) h =
-    ap whole_information (and_row (one_row application_namespace_same) (and_row (one_row application_data_same) no_row) (n, (d, tt)) (m, (e, tt)) (same_record (same_case h).1))
-attribute_value_same (ContactInformation x) (ContactInformation y) h = ap ContactInformation (same_text (same_case h).1)
+    ap whole_information (and_row (one_row application_namespace_same)
+    (and_row (one_row application_data_same) no_row) (n, (d, tt)) (m, (e, tt))
+    (same_record (same_case h).1))
+attribute_value_same (ContactInformation x) (ContactInformation y) h =
+    ap ContactInformation (same_text (same_case h).1)
 attribute_value_same (Structure x) (Structure y) h = let g : vals_of x ≡ vals_of y = cc in ap Structure (same_vals_of x y g)
 attribute_value_same (Integer x) (Integer y) h = ap Integer (same_number (same_case h).1)
-attribute_value_same (LongInteger x) (LongInteger y) h = ap LongInteger (same_number (same_case h).1)
+attribute_value_same (LongInteger x) (LongInteger y) h =
+    ap LongInteger (same_number (same_case h).1)
 attribute_value_same (BigInteger x) (BigInteger y) h = ap BigInteger (same_bytes (same_case h).1)
-attribute_value_same (Enumeration x) (Enumeration y) h = ap Enumeration (same_unsigned (same_case h).1)
+attribute_value_same (Enumeration x) (Enumeration y) h =
+    ap Enumeration (same_unsigned (same_case h).1)
 attribute_value_same (Boolean x) (Boolean y) h = ap Boolean (same_truth (same_case h).1)
 attribute_value_same (TextString x) (TextString y) h = ap TextString (same_text (same_case h).1)
 attribute_value_same (ByteString x) (ByteString y) h = ap ByteString (same_bytes (same_case h).1)

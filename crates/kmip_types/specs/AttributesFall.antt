@@ -1,4 +1,4 @@
--- Each value among the members of a custom structure is smaller.
+-- Each member of a custom structure is smaller than the structure.
 use Rattle.std.specs.Prelude.{◌≤◌, List, [], ◌∷◌, map}
 use Rattle.std.proofs.Common.{arith}
 use denote.Param.Weighed.{most}
@@ -29,6 +29,7 @@ deep_le (ByteString x) = omega arith
 deep_le (DateTime x) = omega arith
 deep_le (Interval x) = omega arith
 
-pub most_le-weight : (xs : List AttributeValue) → most deep-AttributeValue xs ≤ vals_weight (vals_of (map attribute_value_val xs))
+pub most_le-weight : (xs : List AttributeValue) →
+    most deep-AttributeValue xs ≤ vals_weight (vals_of (map attribute_value_val xs))
 most_le-weight [] = omega arith
 most_le-weight (x ∷ xs) = omega (arith, deep_le x, most_le-weight xs)

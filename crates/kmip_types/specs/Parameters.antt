@@ -32,19 +32,25 @@ use Rattle.kmip_types.specs.declared.cryptographic_parameters.CryptographicParam
 -- Cryptographic Parameters (KMIP 1.0, 3.6; KMIP 1.2, 3.6)
 abbrev pub parameter_rows : RowList
 parameter_rows =
-    AndRow (codes "block_cipher_mode") (Under BLOCK_CIPHER_MODE) Optional Plain (OneOf block_cipher_modes)
+    AndRow (codes "block_cipher_mode") (Under BLOCK_CIPHER_MODE) Optional Plain
+    (OneOf block_cipher_modes)
     (AndRow (codes "padding_method") (Under PADDING_METHOD) Optional Plain (OneOf padding_methods)
-    (AndRow (codes "hashing_algorithm") (Under HASHING_ALGORITHM) Optional Plain (OneOf hashing_algorithms)
+    (AndRow (codes "hashing_algorithm") (Under HASHING_ALGORITHM) Optional Plain
+    (OneOf hashing_algorithms)
     (AndRow (codes "key_role_type") (Under KEY_ROLE_TYPE) Optional Plain (OneOf key_role_types)
-    (AndRow (codes "digital_signature_algorithm") (Under DIGITAL_SIGNATURE_ALGORITHM) Optional Plain (OneOf digital_signature_algorithms)
-    (AndRow (codes "cryptographic_algorithm") (Under CRYPTOGRAPHIC_ALGORITHM) Optional Plain (OneOf cryptographic_algorithms)
+    (AndRow (codes "digital_signature_algorithm") (Under DIGITAL_SIGNATURE_ALGORITHM) Optional Plain
+    (OneOf digital_signature_algorithms)
+    (AndRow (codes "cryptographic_algorithm") (Under CRYPTOGRAPHIC_ALGORITHM) Optional Plain
+    (OneOf cryptographic_algorithms)
     (AndRow (codes "random_iv") (Under RANDOM_IV) Optional Plain (Scalar Boolean)
     (AndRow (codes "iv_length") (Under IV_LENGTH) Optional Plain (Scalar Integer)
     (AndRow (codes "tag_length") (Under TAG_LENGTH) Optional Plain (Scalar Integer)
     (AndRow (codes "fixed_field_length") (Under FIXED_FIELD_LENGTH) Optional Plain (Scalar Integer)
-    (AndRow (codes "invocation_field_length") (Under INVOCATION_FIELD_LENGTH) Optional Plain (Scalar Integer)
+    (AndRow (codes "invocation_field_length") (Under INVOCATION_FIELD_LENGTH) Optional Plain
+    (Scalar Integer)
     (AndRow (codes "counter_length") (Under COUNTER_LENGTH) Optional Plain (Scalar Integer)
-    (AndRow (codes "initial_counter_value") (Under INITIAL_COUNTER_VALUE) Optional Plain (Scalar Integer)
+    (AndRow (codes "initial_counter_value") (Under INITIAL_COUNTER_VALUE) Optional Plain
+    (Scalar Integer)
     NoRow))))))))))))
 
 abbrev pub cryptographic_parameters : Shape
@@ -70,10 +76,55 @@ parameter_fields x =
 abbrev pub cryptographic_parameters_val : CryptographicParameters → Val
 cryptographic_parameters_val x = Record (parameter_fields x)
 
-abbrev whole : Option BlockCipherMode × (Option PaddingMethod × (Option HashingAlgorithm × (Option KeyRoleType × (Option DigitalSignatureAlgorithm × (Option CryptographicAlgorithm × (Option RandomIV × (Option IVLength × (Option TagLength × (Option FixedFieldLength × (Option InvocationFieldLength × (Option CounterLength × (Option InitialCounterValue × Unit {0})))))))))))) → CryptographicParameters
-whole t = record { block_cipher_mode = t.0; padding_method = (t.1).0; hashing_algorithm = ((t.1).1).0; key_role_type = (((t.1).1).1).0; digital_signature_algorithm = ((((t.1).1).1).1).0; cryptographic_algorithm = (((((t.1).1).1).1).1).0; random_iv = ((((((t.1).1).1).1).1).1).0; iv_length = (((((((t.1).1).1).1).1).1).1).0; tag_length = ((((((((t.1).1).1).1).1).1).1).1).0; fixed_field_length = (((((((((t.1).1).1).1).1).1).1).1).1).0; invocation_field_length = ((((((((((t.1).1).1).1).1).1).1).1).1).1).0; counter_length = (((((((((((t.1).1).1).1).1).1).1).1).1).1).1).0; initial_counter_value = ((((((((((((t.1).1).1).1).1).1).1).1).1).1).1).1).0 }
+abbrev whole : Option BlockCipherMode ×
+    (Option PaddingMethod ×
+    (Option HashingAlgorithm ×
+    (Option KeyRoleType ×
+    (Option DigitalSignatureAlgorithm ×
+    (Option CryptographicAlgorithm ×
+    (Option RandomIV × (Option IVLength ×
+    (Option TagLength ×
+    (Option FixedFieldLength ×
+    (Option InvocationFieldLength ×
+    (Option CounterLength × (Option InitialCounterValue × Unit {0})))))))))))) →
+    CryptographicParameters
+whole t = record {
+  block_cipher_mode = t.0;
+  padding_method = (t.1).0;
+  hashing_algorithm = ((t.1).1).0;
+  key_role_type =
+      (((t.1).1).1).0;
+  digital_signature_algorithm = ((((t.1).1).1).1).0;
+  cryptographic_algorithm =
+      (((((t.1).1).1).1).1).0;
+  random_iv = ((((((t.1).1).1).1).1).1).0;
+  iv_length =
+      (((((((t.1).1).1).1).1).1).1).0;
+  tag_length =
+      ((((((((t.1).1).1).1).1).1).1).1).0;
+  fixed_field_length =
+      (((((((((t.1).1).1).1).1).1).1).1).1).0;
+  invocation_field_length =
+      ((((((((((t.1).1).1).1).1).1).1).1).1).1).0;
+  counter_length =
+      (((((((((((t.1).1).1).1).1).1).1).1).1).1).1).0;
+  initial_counter_value =
+      ((((((((((((t.1).1).1).1).1).1).1).1).1).1).1).1).0;
+}
 
 pub cryptographic_parameters_same : IsFaithful cryptographic_parameters_val
 cryptographic_parameters_same x y h =
-    ap whole (and_row (optional_row block_cipher_mode_same) (and_row (optional_row padding_method_same) (and_row (optional_row hashing_algorithm_same) (and_row (optional_row key_role_type_same) (and_row (optional_row digital_signature_algorithm_same) (and_row (optional_row cryptographic_algorithm_same) (and_row (optional_row random_iv_same) (and_row (optional_row iv_length_same) (and_row (optional_row tag_length_same) (and_row (optional_row fixed_field_length_same) (and_row (optional_row invocation_field_length_same) (and_row (optional_row counter_length_same) (and_row (optional_row initial_counter_value_same) no_row))))))))))))
+    ap whole (and_row (optional_row block_cipher_mode_same)
+    (and_row (optional_row padding_method_same)
+    (and_row (optional_row hashing_algorithm_same)
+    (and_row (optional_row key_role_type_same)
+    (and_row (optional_row digital_signature_algorithm_same)
+    (and_row (optional_row cryptographic_algorithm_same)
+    (and_row (optional_row random_iv_same)
+    (and_row (optional_row iv_length_same)
+    (and_row (optional_row tag_length_same)
+    (and_row (optional_row fixed_field_length_same)
+    (and_row (optional_row invocation_field_length_same)
+    (and_row (optional_row counter_length_same)
+    (and_row (optional_row initial_counter_value_same) no_row))))))))))))
     (x.block_cipher_mode, (x.padding_method, (x.hashing_algorithm, (x.key_role_type, (x.digital_signature_algorithm, (x.cryptographic_algorithm, (x.random_iv, (x.iv_length, (x.tag_length, (x.fixed_field_length, (x.invocation_field_length, (x.counter_length, (x.initial_counter_value, tt))))))))))))) (y.block_cipher_mode, (y.padding_method, (y.hashing_algorithm, (y.key_role_type, (y.digital_signature_algorithm, (y.cryptographic_algorithm, (y.random_iv, (y.iv_length, (y.tag_length, (y.fixed_field_length, (y.invocation_field_length, (y.counter_length, (y.initial_counter_value, tt))))))))))))) (same_record h))

@@ -1,4 +1,4 @@
--- Equality of values as a test.
+-- Equality of values as a Boolean.
 use Rattle.std.specs.Prelude.{◌≡◌, refl, Bool, true, false, ◌&&◌, List, nat_eq, bytes_eq}
 use Rattle.std.specs.Ordering.{int_eq}
 use Rattle.std.specs.Bool.{Decides}

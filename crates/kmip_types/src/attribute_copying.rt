@@ -1,4 +1,4 @@
-//! Copies of attribute values.
+//! Copying attribute values.
 
 use crate::attribute_value::{AttributeValue, Values};
 use kmip_wire::{OutOfMemory, TryClone};

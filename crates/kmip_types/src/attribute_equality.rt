@@ -4,7 +4,10 @@ ghost use Rattle.std.specs.Prelude.{◌≡◌};
 ghost use Rattle.kmip_types.specs.Parameters.{cryptographic_parameters_val};
 ghost use Rattle.kmip_shape.specs.Enumerations.{enumeration_val};
 ghost use Rattle.kmip_shape.specs.Writes.{optional};
-ghost use Rattle.kmip_scalars.specs.Parameters.{random_iv_val, iv_length_val, tag_length_val, fixed_field_length_val, invocation_field_length_val, counter_length_val, initial_counter_value_val};
+ghost use Rattle.kmip_scalars.specs.Parameters.{random_iv_val, iv_length_val, tag_length_val};
+ghost use Rattle.kmip_scalars.specs.Parameters.{fixed_field_length_val};
+ghost use Rattle.kmip_scalars.specs.Parameters.{invocation_field_length_val, counter_length_val};
+ghost use Rattle.kmip_scalars.specs.Parameters.{initial_counter_value_val};
 ghost use Rattle.kmip_types.specs.SameValues.{same_val, same_field, same_value, same_members};
 
 use crate::attribute_value::{AttributeValue, Values};
@@ -51,7 +54,7 @@ impl Eq for Values {
     ghost laws = { same_members-equiv };
 }
 
-/// Whether two fields that may be absent are equal: both absent, or both there with the same contents.
+/// Whether two optional fields are equal: both absent, or both present with equal contents.
 macro_rules! same_option {
     ($left:ident, $right:ident) => {
         match $left {
@@ -67,7 +70,7 @@ macro_rules! same_option {
     };
 }
 
-/// Whether two variants that may be absent are equal.
+/// Whether two optional variants are equal.
 fn same_variants<T: Enumeration>(left: &Option<T>, right: &Option<T>) -> bool
     ensures { result ≡
         same_field (optional (enumeration_val T.line) left.now)

@@ -1,4 +1,4 @@
-//! Attribute values read: by the name of the attribute, and under any other name by the type of the item.
+//! Reading attribute values: by the attribute's name, and under any other name by the item's type.
 
 ghost use Rattle.std.specs.Prelude.{◌≡◌, IfOk, Some, None, Err};
 ghost use Rattle.std.specs.Option.{option_and_then, option_map};
@@ -8,7 +8,8 @@ ghost use Rattle.kmip_shape.specs.Val.{Case, vals_of};
 ghost use Rattle.kmip_shape.specs.Shape.{type_key};
 ghost use Rattle.kmip_shape.specs.Reads.{each, read_case, read_of, read_plain};
 ghost use Rattle.kmip_shape.specs.Resume.{outer_of};
-ghost use Rattle.kmip_types.specs.AttributeValues.{attribute_values, attribute_value_val, name, link, application_specific_information};
+ghost use Rattle.kmip_types.specs.AttributeValues.{attribute_values, attribute_value_val, name};
+ghost use Rattle.kmip_types.specs.AttributeValues.{link, application_specific_information};
 
 use crate::attribute_value::{AttributeValue, InformationRows, LinkRows, NameRows, Values};
 use crate::cryptographic_parameters::CryptographicParameters;
@@ -18,7 +19,8 @@ use kmip_shape::{BigInteger, Outer, ReadError, ReadItem, fields, read_record};
 use kmip_wire::{Blob, ItemRef, Kind, Text};
 use std::alloc::Global;
 
-/// A child of a custom structure, read by its type alone. `Unread` comes exactly where it is a structure itself.
+/// A child of a custom structure, read by its type alone. `Unread` comes only where it is a
+/// structure itself.
 fn read_child(alloc: Global, child: ItemRef<'_>) -> Result<AttributeValue, ReadError>
     ensures ok { IfOk result (λ x. read_plain attribute_values (item_tree child.entry) ≡
         Some (attribute_value_val x)) }
@@ -46,7 +48,8 @@ fn read_child(alloc: Global, child: ItemRef<'_>) -> Result<AttributeValue, ReadE
     }
 }
 
-/// The members of a custom structure. `Unread` comes exactly where the item is no Structure or one of them is.
+/// The members of a custom structure. `Unread` comes only where the item is no Structure, or a
+/// member is one.
 #[tactic(auto, using(kmip_shape::proofs::Gathered::gathering))]
 fn read_values(alloc: Global, item: ItemRef<'_>) -> Result<Values, ReadError>
     ensures ok { IfOk result (λ made. option_and_then (each (read_plain attribute_values))
@@ -64,7 +67,7 @@ fn read_values(alloc: Global, item: ItemRef<'_>) -> Result<Values, ReadError>
     Ok(Values::of_vec(items))
 }
 
-/// A value whose name is not in the table, read by the type of its item.
+/// The value under a name that is not in the table, read by its item's type.
 fn read_by_type(
     alloc: Global,
     outer: Outer<'_>,

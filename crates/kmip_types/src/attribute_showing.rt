@@ -1,4 +1,4 @@
-//! Attribute values shown as text.
+//! Showing attribute values as text.
 
 ghost use Rattle.std.specs.Prelude.{◌≡◌, false};
 ghost use Rattle.kmip_shape.specs.Val.{vals_of, Case as case};
@@ -7,7 +7,9 @@ ghost use Rattle.kmip_shape.specs.Shown.{Grows, shown_as, list_styled, in_bracke
 ghost use Rattle.kmip_types.specs.AttributeValues.{attribute_value, attribute_value_val};
 ghost use Rattle.kmip_types.specs.AttributesShown.{case_name, plain_styled, plain_text};
 ghost use Rattle.kmip_types.specs.Parameters.{cryptographic_parameters_val};
-ghost use Rattle.kmip_types.specs.declared.attribute_value.AttributeValue.TheVariants.{Name, Link, ApplicationSpecificInformation, Structure};
+ghost use Rattle.kmip_types.specs.declared.attribute_value.AttributeValue.TheVariants.{Name, Link};
+ghost use Rattle.kmip_types.specs.declared.attribute_value.AttributeValue.TheVariants.{ApplicationSpecificInformation};
+ghost use Rattle.kmip_types.specs.declared.attribute_value.AttributeValue.TheVariants.{Structure};
 
 use crate::attribute_value::{AttributeValue, InformationRows, LinkRows, NameRows, Values};
 use crate::cryptographic_parameters::CryptographicParameters;
@@ -44,7 +46,7 @@ fn show_structure(values: &Values, out: &mut TextWriter)
     out.close_case();
 }
 
-/// A value that is no record, as what appends it takes it.
+/// A value that is no record, as the writer of text takes it.
 #[derive(Drop)]
 enum Piece<'a> {
     Word(&'static str),
@@ -123,7 +125,7 @@ fn show_piece(piece: Piece<'_>, out: &mut TextWriter)
     }
 }
 
-/// Appends the name of a variant, and its value in round brackets.
+/// Appends the name of a variant, and its value in parentheses.
 fn show_plain(value: &AttributeValue, out: &mut TextWriter)
     ensures { Grows out.old out.new (in_brackets (case_name value.now) (plain_styled value.now)) }
 {

@@ -1,11 +1,13 @@
 //! Attribute values, and the members of custom structures.
 
-ghost use Rattle.std.specs.Prelude.{◌≡◌, [], ◌∷◌, ◌++◌, length, map, is_ok, if◌then◌else◌, option_copied, slice_get};
+ghost use Rattle.std.specs.Prelude.{◌≡◌, [], ◌∷◌, ◌++◌, length, map, is_ok, if◌then◌else◌};
+ghost use Rattle.std.specs.Prelude.{option_copied, slice_get};
 ghost use Rattle.std.specs.Option.{option_map};
 ghost use Rattle.kmip_shape.specs.Val.{vals_of};
 ghost use Rattle.kmip_shape.specs.Shape.{NoCase};
 ghost use Rattle.kmip_shape.specs.Fits.{vals_fit};
-ghost use Rattle.kmip_types.specs.AttributeValues.{attribute_value, attribute_value_val, attribute_value_same};
+ghost use Rattle.kmip_types.specs.AttributeValues.{attribute_value, attribute_value_val};
+ghost use Rattle.kmip_types.specs.AttributeValues.{attribute_value_same};
 
 use crate::cryptographic_parameters::CryptographicParameters;
 use kmip_cryptography::CryptographicAlgorithm;
@@ -24,8 +26,9 @@ use std::marker::Model;
 
 /// The value of an attribute: KMIP 1.0, 2.1.1.
 ///
-/// The name of the attribute chooses the first nine variants. Under another name the type of the item chooses among
-/// the other ten. A value is written by its own variant, whatever its attribute's name.
+/// A value is read by its attribute's name as one of the first nine variants, and under any other
+/// name by its item's type as one of the other ten. It is written by its variant, whatever the
+/// name.
 #[cycle(attribute_value)]
 #[derive(Drop)]
 pub enum AttributeValue {
@@ -47,15 +50,16 @@ pub enum AttributeValue {
     ApplicationSpecificInformation(ApplicationNamespace, ApplicationData),
     /// Under `Contact Information`: KMIP 1.0, 3.31.
     ContactInformation(Text),
-    /// A custom structure. It has a wire form where none of its members writes a structure.
+    /// A custom structure: KMIP 1.0, 3.33. It has no wire form where a member writes a structure.
     Structure(Values),
     /// A value of type Integer.
     Integer(i32),
     /// A value of type Long Integer.
     LongInteger(i64),
-    /// The bytes of the number, the highest first. It has a wire form where they are a multiple of 8.
+    /// A value of type Big Integer: two's complement, the highest byte first. Where its length is
+    /// no multiple of 8 bytes it has no wire form.
     BigInteger(Blob),
-    /// The number of an enumeration.
+    /// A value of type Enumeration, as its number.
     Enumeration(u32),
     /// A value of type Boolean.
     Boolean(bool),
@@ -63,13 +67,15 @@ pub enum AttributeValue {
     TextString(Text),
     /// A value of type Byte String.
     ByteString(Blob),
-    /// The eight bytes of the signed seconds since 1970, as an unsigned number.
+    /// A value of type Date-Time, in seconds since 1970-01-01 UTC: a negative number as its 64 bits
+    /// in two's complement.
     DateTime(u64),
-    /// Seconds.
+    /// A value of type Interval, in seconds.
     Interval(u32),
 }
 
-/// The members of a custom structure, in order. Contracts see them as the list of their values.
+/// The members of a custom structure, in order: KMIP 1.0, 3.33. Contracts see them as the list of
+/// their values.
 #[cycle(attribute_value)]
 #[derive(Drop)]
 pub struct Values {
@@ -100,7 +106,7 @@ impl Model for Values {
 }
 
 impl Values {
-    /// The empty list, which takes no memory.
+    /// The empty list. It takes no memory.
     pub fn new(alloc: Global) -> Values
         ensures { result ≡ [] }
     {
@@ -116,7 +122,7 @@ impl Values {
         Values { items }
     }
 
-    /// Adds an item at the end. Where memory runs out, the list stays as it was and the item is dropped.
+    /// Adds an item at the end. On `OutOfMemory` the list stays as it was and the item is dropped.
     pub fn push(&mut self, item: AttributeValue) -> Result<(), OutOfMemory>
         ensures { self.new ≡
             (if is_ok result then self.old ++ attribute_value_val item ∷ [] else self.old) }

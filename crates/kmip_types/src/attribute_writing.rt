@@ -1,10 +1,12 @@
-//! Attribute values written, and the members of custom structures.
+//! Writing attribute values, and the members of custom structures.
 
 ghost use Rattle.std.specs.Prelude.{◌≡◌, ◌≤◌, ◌<◌, ◌^◌, IfSome, map};
 ghost use Rattle.kmip_wire.specs.Room.{Appends};
 ghost use Rattle.kmip_shape.specs.Val.{vals_of};
 ghost use Rattle.kmip_shape.specs.Shape.{attribute_value as tag_of_children};
-ghost use Rattle.kmip_shape.specs.Writes.{maybe_form, maybe_len, maybe_size, maybe_text, plain_leaf, plains_form, plains_len, plains_size, plains_text};
+ghost use Rattle.kmip_shape.specs.Writes.{maybe_form, maybe_len, maybe_size, maybe_text};
+ghost use Rattle.kmip_shape.specs.Writes.{plain_leaf, plains_form, plains_len, plains_size};
+ghost use Rattle.kmip_shape.specs.Writes.{plains_text};
 ghost use Rattle.kmip_types.specs.AttributeValues.{attribute_values, attribute_value_val};
 
 use crate::attribute_value::{AttributeValue, InformationRows, LinkRows, NameRows};
@@ -20,7 +22,8 @@ use kmip_wire::{Buffer, Tag};
 const CHILD: u32 = ATTRIBUTE_VALUE;
 
 impl AttributeValue {
-    /// The length as a child of a custom structure, and `None` exactly where it has no form as one.
+    /// The length in bytes as a child of a custom structure, and `None` exactly without a form as
+    /// one.
     fn plain_len(&self) -> Option<u64>
         ensures { result ≡ maybe_len (plain_leaf attribute_values (attribute_value_val self.now)) }
     {
@@ -47,7 +50,7 @@ impl AttributeValue {
         }
     }
 
-    /// Appends a child of a custom structure, which has a form as one.
+    /// Appends the value as a child of a custom structure. It has a form as one.
     fn write_plain(&self, out: &mut Buffer)
         requires form { maybe_form (plain_leaf attribute_values (attribute_value_val self.now)) }
         requires room { maybe_size (plain_leaf attribute_values (attribute_value_val self.now)) ≤
@@ -82,7 +85,8 @@ impl AttributeValue {
     }
 }
 
-/// The length of the children of a custom structure, and `None` exactly where one has no form or they reach 2^32 bytes.
+/// The length of the children of a custom structure in bytes, and `None` exactly where one has no
+/// form or together they reach 2^32 bytes.
 #[tactic(auto, using(kmip_shape::proofs::Lens::plus_assoc, kmip_shape::proofs::Lens::plains_len_zero, kmip_shape::proofs::Lens::plus_end))]
 fn children_len(items: &[AttributeValue]) -> Option<u64>
     ensures len { result ≡ plains_len attribute_values

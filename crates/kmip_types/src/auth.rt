@@ -21,7 +21,7 @@ pub struct UsernameAndPasswordCredential {
 }
 
 impl UsernameAndPasswordCredential {
-    /// The credential of these two. It takes no memory.
+    /// A credential of this username and password. It takes no memory.
     pub fn new(username: Text, password: Option<Text>) -> Self
         ensures { (result.username ≡ username) × (result.password ≡ password) }
     {

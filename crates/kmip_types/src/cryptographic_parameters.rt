@@ -1,7 +1,9 @@
 //! Parameters of a cryptographic operation.
 
 ghost use Rattle.std.specs.Prelude.{◌≡◌, Some};
-ghost use Rattle.kmip_types.specs.Parameters.{cryptographic_parameters, cryptographic_parameters_val, cryptographic_parameters_same};
+ghost use Rattle.kmip_types.specs.Parameters.{cryptographic_parameters};
+ghost use Rattle.kmip_types.specs.Parameters.{cryptographic_parameters_val};
+ghost use Rattle.kmip_types.specs.Parameters.{cryptographic_parameters_same};
 
 use kmip_cryptography::{
     BlockCipherMode, CryptographicAlgorithm, DigitalSignatureAlgorithm, HashingAlgorithm,
@@ -28,19 +30,19 @@ use std::alloc::Global;
 /// How a key is used in a cryptographic operation: KMIP 1.0, 3.6, and KMIP 1.2, 3.6.
 #[derive(Clone, Copy, PartialEq, Eq, Default, Drop)]
 pub struct CryptographicParameters {
-    /// The mode of a block cipher.
+    /// The mode of a block cipher: KMIP 1.0, 9.1.3.2.13.
     pub block_cipher_mode: Option<BlockCipherMode>,
-    /// How data is filled up to whole blocks.
+    /// How a message is padded: KMIP 1.0, 9.1.3.2.14.
     pub padding_method: Option<PaddingMethod>,
-    /// What makes a digest of the data.
+    /// The algorithm that makes a digest of the data: KMIP 1.0, 9.1.3.2.15.
     pub hashing_algorithm: Option<HashingAlgorithm>,
-    /// The role of a key in payment systems: KMIP 1.0, 9.1.3.2.16.
+    /// The role of the key: KMIP 1.0, 9.1.3.2.16.
     pub key_role_type: Option<KeyRoleType>,
     /// A signing algorithm with its digest (KMIP 1.2).
     pub digital_signature_algorithm: Option<DigitalSignatureAlgorithm>,
     /// The algorithm of the key (KMIP 1.2).
     pub cryptographic_algorithm: Option<CryptographicAlgorithm>,
-    /// Whether the server makes the initialization vector (KMIP 1.2).
+    /// Whether the server is asked to make the initialization vector (KMIP 1.2).
     pub random_iv: Option<RandomIV>,
     /// The length of the initialization vector in bits (KMIP 1.2).
     pub iv_length: Option<IVLength>,
@@ -52,7 +54,7 @@ pub struct CryptographicParameters {
     pub invocation_field_length: Option<InvocationFieldLength>,
     /// The length of the counter of the initialization vector in bits (KMIP 1.2).
     pub counter_length: Option<CounterLength>,
-    /// Where the counter begins (KMIP 1.2).
+    /// The first value of the counter (KMIP 1.2).
     pub initial_counter_value: Option<InitialCounterValue>,
 }
 
@@ -117,7 +119,8 @@ impl CryptographicParameters {
         }
     }
 
-    /// With whether the server makes the initialization vector, and the other twelve fields as they are.
+    /// With whether the server is asked to make the initialization vector, and the other twelve
+    /// fields as they are.
     pub fn with_random_iv(self, value: RandomIV) -> Self
         ensures { result ≡ record self { random_iv = Some value } }
     {
@@ -147,7 +150,8 @@ impl CryptographicParameters {
         }
     }
 
-    /// With a length of the fixed field of the initialization vector in bits, and the other twelve fields as they are.
+    /// With a length of the fixed field of the initialization vector in bits, and the other twelve
+    /// fields as they are.
     pub fn with_fixed_field_length(self, value: FixedFieldLength) -> Self
         ensures { result ≡ record self { fixed_field_length = Some value } }
     {
@@ -157,7 +161,8 @@ impl CryptographicParameters {
         }
     }
 
-    /// With a length of the invocation field of the initialization vector in bits, and the other twelve fields as they are.
+    /// With a length of the invocation field of the initialization vector in bits, and the other
+    /// twelve fields as they are.
     pub fn with_invocation_field_length(self, value: InvocationFieldLength) -> Self
         ensures { result ≡ record self { invocation_field_length = Some value } }
     {
@@ -167,7 +172,8 @@ impl CryptographicParameters {
         }
     }
 
-    /// With a length of the counter of the initialization vector in bits, and the other twelve fields as they are.
+    /// With a length of the counter of the initialization vector in bits, and the other twelve
+    /// fields as they are.
     pub fn with_counter_length(self, value: CounterLength) -> Self
         ensures { result ≡ record self { counter_length = Some value } }
     {

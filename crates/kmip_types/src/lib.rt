@@ -1,5 +1,5 @@
-//! The types that requests and responses share, with those of kmip_cryptography, kmip_scalars and kmip_keys under this crate's
-//! own name.
+//! The types that requests and responses share. Those of kmip_cryptography, kmip_scalars and
+//! kmip_keys are re-exported.
 #![tactic(auto)]
 
 mod attribute_copying;

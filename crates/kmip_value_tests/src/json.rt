@@ -1,5 +1,6 @@
 use crate::support::Under::{self, Name, Nothing, Number};
 use kmip_cryptography::PaddingMethod;
+use kmip_json::{json_is_json, shown_as_json};
 use kmip_keys::KeyMaterial;
 use kmip_shape::{ReadItem, ShowItem, Timestamp};
 use kmip_types::{AttributeValue, CryptographicParameters};
@@ -152,5 +153,14 @@ fn after_other_text(rt: HostRuntime) -> Result<(), Fail> {
     let mut out = Text::of(alloc, "{\"answer\":")?;
     Blob::of(alloc, b"")?.show_json(alloc, &mut out)?;
     assert_eq!(&rt; out.as_str(), "{\"answer\":\"\"");
+    Ok(())
+}
+
+/// The laws of kmip_json hold of any value that is at hand.
+#[test]
+fn of_the_grammar(rt: HostRuntime) -> Result<(), Fail> {
+    let text = Text::of(rt.alloc(), "a\"b")?;
+    shown_as_json(&text);
+    json_is_json();
     Ok(())
 }

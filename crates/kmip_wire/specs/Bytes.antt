@@ -33,7 +33,8 @@ item_bytes tag code v = head_bytes tag code (length v) ++ (v ++ replicate (pads 
 -- a structure of the contents, where there are such and their length has a form
 abbrev pub structure_bytes : ℕ → Option (List ℕ) → Option (List ℕ)
 structure_bytes tag None = None
-structure_bytes tag (Some v) = if nat_lt (length v) (2 ^ 32) then Some (item_bytes tag 1 v) else None
+structure_bytes tag (Some v) =
+    if nat_lt (length v) (2 ^ 32) then Some (item_bytes tag 1 v) else None
 
 abbrev pub in_order : Option (List ℕ) → Option (List ℕ) → Option (List ℕ)
 in_order None b = None
@@ -44,7 +45,8 @@ in_order (Some a) (Some b) = Some (a ++ b)
 abbrev mutual
   pub bytes : Tree → Option (List ℕ)
   bytes (scalar tag s) =
-      if has_form s && nat_lt (length (value_bytes s)) (2 ^ 32) then Some (item_bytes tag (code_of (kind_of_scalar s)) (value_bytes s)) else None
+      if has_form s && nat_lt (length (value_bytes s)) (2 ^ 32)
+      then Some (item_bytes tag (code_of (kind_of_scalar s)) (value_bytes s)) else None
   bytes (structure tag ts) = structure_bytes tag (all_bytes ts)
 
   pub all_bytes : Trees → Option (List ℕ)

@@ -10,5 +10,6 @@ fitting (Some v) = if nat_lt (length v) (2 ^ 32) then Some v else None
 
 -- the bytes of the value of a tree that has bytes
 abbrev pub value_of_tree : Tree → Option (List ℕ)
-value_of_tree (scalar tag s) = if has_form s && nat_lt (length (value_bytes s)) (2 ^ 32) then Some (value_bytes s) else None
+value_of_tree (scalar tag s) =
+    if has_form s && nat_lt (length (value_bytes s)) (2 ^ 32) then Some (value_bytes s) else None
 value_of_tree (structure tag ts) = fitting (all_bytes ts)

@@ -1,4 +1,5 @@
--- The tree of some bytes, computed: the twin of the relation in Parses, by the levels that are left.
+-- The tree of some bytes, computed: the twin of the relation in Parses, by the levels that are
+-- left.
 use Rattle.std.specs.Prelude.{◌-◌, ℕ, zero, suc, ◌%◌, ◌==◌, ◌&&◌, Bool, true, false, List, [], ◌∷◌, length, take, drop, Option, Some, None, if◌then◌else◌, nat_le}
 use Rattle.std.specs.Option.{option_map, is_some}
 use Rattle.std.specs.Int.{w32, w64, from_be_bytes, cast_signed}
@@ -15,8 +16,10 @@ truth_at n = if n == 0 then Some (boolean false) else (if n == 1 then Some (bool
 -- the scalar that the bytes of a value stand for
 abbrev pub scalar_at : Kind → List ℕ → Option Scalar
 scalar_at Structure v = None
-scalar_at Integer v = if length v == 4 then Some (integer (cast_signed w32 (from_be_bytes w32 v))) else None
-scalar_at LongInteger v = if length v == 8 then Some (long_integer (cast_signed w64 (from_be_bytes w64 v))) else None
+scalar_at Integer v =
+    if length v == 4 then Some (integer (cast_signed w32 (from_be_bytes w32 v))) else None
+scalar_at LongInteger v =
+    if length v == 8 then Some (long_integer (cast_signed w64 (from_be_bytes w64 v))) else None
 scalar_at BigInteger v = if length v % 8 == 0 then Some (big_integer v) else None
 scalar_at Enumeration v = if length v == 4 then Some (enumeration (from_be_bytes w32 v)) else None
 scalar_at Boolean v = if length v == 8 then truth_at (from_be_bytes w64 v) else None
@@ -34,7 +37,8 @@ abbrev pub items_by : (List ℕ → Option Tree) → ℕ → List ℕ → Option
 items_by one fuel [] = Some none
 items_by one zero (x ∷ xs) = None
 items_by one (suc fuel) (x ∷ xs) =
-    trees_with (one (take (size_at (x ∷ xs)) (x ∷ xs))) (items_by one fuel (drop (size_at (x ∷ xs)) (x ∷ xs)))
+    trees_with (one (take (size_at (x ∷ xs)) (x ∷ xs)))
+    (items_by one fuel (drop (size_at (x ∷ xs)) (x ∷ xs)))
 
 -- whether the whole of b has the length that its head says
 abbrev pub is_whole : List ℕ → Bool
@@ -49,7 +53,8 @@ node_at items tag (Some kind) v = option_map (scalar tag) (scalar_at kind v)
 unfoldable pub item_of : ℕ → List ℕ → Option Tree
 item_of zero b = None
 item_of (suc levels) b =
-    if is_whole b then node_at (items_by (item_of levels) (length (value_of b)) (value_of b)) (head_tag b) (kind_of (head_code b)) (value_of b) else None
+    if is_whole b then node_at (items_by (item_of levels) (length (value_of b)) (value_of b))
+    (head_tag b) (kind_of (head_code b)) (value_of b) else None
 
 abbrev pub items_of : ℕ → List ℕ → Option Trees
 items_of levels b = items_by (item_of levels) (length b) b

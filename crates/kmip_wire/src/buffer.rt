@@ -1,5 +1,6 @@
 // The buffer that writers write into, seen as its bytes and its spare room.
-ghost use Rattle.std.specs.Prelude.{◌≡◌, ◌++◌, take, drop, ◌+◌, ◌≤◌, ◌<◌, ◌^◌, [], length, replicate, OnOk, OnErr};
+ghost use Rattle.std.specs.Prelude.{◌≡◌, ◌++◌, take, drop, ◌+◌, ◌≤◌, ◌<◌, ◌^◌, [], length};
+ghost use Rattle.std.specs.Prelude.{replicate, OnOk, OnErr};
 ghost use Rattle.std.specs.Int.{w32, w64, to_be_bytes};
 ghost use Rattle.kmip_wire.specs.Kinds.{code_of};
 ghost use Rattle.kmip_wire.specs.Head.{pads};

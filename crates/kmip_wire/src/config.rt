@@ -5,7 +5,8 @@ ghost use Rattle.kmip_wire.specs.Heads.{head_says};
 use crate::error::HeadError;
 use crate::front::head_length;
 
-/// How messages are read: the most bytes that one may have, its head counted, and whether the bytes read are kept for diagnostics.
+/// How messages are read: the most bytes that one may have, its head counted, and whether the bytes
+/// read are kept for diagnostics.
 #[derive(Clone, Copy)]
 pub struct Config {
     max_bytes: Option<u32>,
@@ -71,7 +72,8 @@ impl Default for Config {
 
 /// The length field of a message's head. It takes no memory.
 ///
-/// `NotStructure` comes exactly where the type is not that of a Structure, and `TooLong` exactly where it is, a limit is set and the length plus 8 is greater.
+/// `NotStructure` comes exactly where the type is not that of a Structure, and `TooLong` exactly
+/// where it is, a limit is set and the length plus 8 is greater.
 #[tactic(auto, unfolding(crate::specs::Head::head_length))]
 pub fn head(bytes: &[u8; 8], config: &Config) -> Result<u32, HeadError>
     ensures { result ≡ head_says bytes.now config.now.max_bytes }

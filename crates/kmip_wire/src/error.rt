@@ -6,7 +6,8 @@ use crate::memory::OutOfMemory as NoMemory;
 /// Why a tree was not written or read.
 #[derive(Clone, Copy, Debug, PartialEq, Eq)]
 pub enum WireError {
-    /// The tree has no bytes: the length of an item reaches 2^32, or that of a Big Integer is no multiple of 8.
+    /// The tree has no bytes: the length of an item reaches 2^32, or that of a Big Integer is no
+    /// multiple of 8.
     NoForm,
     /// No front of the bytes is a well-formed item.
     Malformed,

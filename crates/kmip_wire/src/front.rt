@@ -1,5 +1,6 @@
 // Which items stand in some bytes, by one loop over the structures that stand open.
-ghost use Rattle.std.specs.Prelude.{◌≡◌, ◌≢◌, ◌≤◌, ◌<◌, ◌^◌, ◌-◌, ◌↔◌, IsTrue, MatchOption, Some, length, take};
+ghost use Rattle.std.specs.Prelude.{◌≡◌, ◌≢◌, ◌≤◌, ◌<◌, ◌^◌, ◌-◌, ◌↔◌, IsTrue, MatchOption, Some};
+ghost use Rattle.std.specs.Prelude.{length, take};
 ghost use Rattle.std.specs.Option.{is_some};
 ghost use Rattle.kmip_wire.specs.Tree.{Tree};
 ghost use Rattle.kmip_wire.specs.Head.{head_code, head_length, size_at};
@@ -142,7 +143,8 @@ fn are_items(bytes: &[u8], levels: u32) -> bool
     }
 }
 
-// Whether the first `size` bytes are the value of an item of the type, which has at most so many levels inside.
+// Whether the first `size` bytes are the value of an item of the type, which has at most so many
+// levels inside.
 fn is_node(kind: Kind, padded: &[u8], size: usize, levels: u32) -> bool
     requires levels { levels ≤ 64 }
     requires within { size ≤ length padded.now }
@@ -175,7 +177,8 @@ pub(crate) fn front_size(bytes: &[u8], level: u32) -> Option<usize>
     }
 }
 
-/// The whole length of the item at the front that parses at the level, from 1 to 64, and `None` exactly where there is none. It takes no memory.
+/// The whole length of the item at the front that parses at the level, from 1 to 64, and `None`
+/// exactly where there is none. It takes no memory.
 pub fn front_len_at(bytes: &[u8], level: u32) -> Option<usize>
     requires { IsLevel level }
     ensures { MatchOption result (NoFront level bytes.now) (IsFront level bytes.now) }
@@ -183,7 +186,8 @@ pub fn front_len_at(bytes: &[u8], level: u32) -> Option<usize>
     front_size(bytes, level)
 }
 
-/// The whole length of the well-formed item at the front, and `None` exactly where there is none. It takes no memory.
+/// The whole length of the well-formed item at the front, and `None` exactly where there is none.
+/// It takes no memory.
 pub fn front_len(bytes: &[u8]) -> Option<usize>
     ensures { MatchOption result (NoFront 1 bytes.now) (IsFront 1 bytes.now) }
 {

@@ -30,10 +30,13 @@ impl<'a> ItemRef<'a> {
     ghost use Rattle.kmip_wire.specs.Head.{size_at, value_of};
     ghost use Rattle.kmip_wire.specs.Parses.{IsLevel, Parses};
     ghost use Rattle.kmip_wire.specs.Reading.{item_of, front_at};
-    ghost use Rattle.kmip_wire.specs.Parts.{tag_of, kind_of_tree, int_in, long_in, big_in, enumeration_in, flag_in, text_in, bytes_in, date_in, interval_in, children_in};
+    ghost use Rattle.kmip_wire.specs.Parts.{tag_of, kind_of_tree, int_in, long_in, big_in};
+    ghost use Rattle.kmip_wire.specs.Parts.{enumeration_in, flag_in, text_in, bytes_in, date_in};
+    ghost use Rattle.kmip_wire.specs.Parts.{interval_in, children_in};
     ghost use Rattle.kmip_wire.specs.Items.{item_tree, trees_left};
 
-    /// The view of bytes that are one well-formed item and nothing more, and `None` exactly where they are not.
+    /// The view of bytes that are one well-formed item and nothing more, and `None` exactly where
+    /// they are not.
     pub fn root(bytes: &'a [u8]) -> Option<ItemRef<'a>>
         ensures tree { option_map item_tree result ≡ item_of 64 bytes.now }
         ensures parses { MatchOption result ((t : Tree) → Parses t 1 bytes.now →
@@ -104,7 +107,8 @@ impl<'a> ItemRef<'a> {
         }
     }
 
-    /// The bytes of the number, a multiple of 8 of them, and `None` exactly where the item is no Big Integer.
+    /// The bytes of the number, a multiple of 8 of them, and `None` exactly where the item is no
+    /// Big Integer.
     pub fn big(self) -> Option<&'a [u8]>
         ensures { option_map (λ b. b.now) result ≡ big_in (item_tree self.entry) }
     {
@@ -158,7 +162,8 @@ impl<'a> ItemRef<'a> {
         }
     }
 
-    /// The eight bytes of the date as an unsigned number, and `None` exactly where the item is no Date-Time.
+    /// The eight bytes of the date as an unsigned number, and `None` exactly where the item is no
+    /// Date-Time.
     pub fn date(self) -> Option<u64>
         ensures { result ≡ date_in (item_tree self.entry) }
     {

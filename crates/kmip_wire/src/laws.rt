@@ -9,7 +9,8 @@ ghost use Rattle.kmip_wire.specs.Parses.{IsLevel, Parses, AreTexts, joined_texts
 ghost use Rattle.kmip_wire.specs.Reading.{item_of};
 ghost use Rattle.kmip_wire.specs.Bytes.{bytes, levels, AreBytes, HasRanges};
 
-/// A text parses as one tree at most, and no text that parses begins another that does. A list of texts that parse at a level is determined by their concatenation.
+/// A text parses as one tree at most, and no text that parses begins another that does. A list of
+/// texts that parse at a level is determined by their concatenation.
 pub fn one_tree()
     ensures tree { (t u : Tree) (level : ℕ) (b : List ℕ) → Parses t level b → Parses u level b →
         t ≡ u }

@@ -1,4 +1,5 @@
-//! The wire form of KMIP (KMIP 1.0, 9.1): items of a tag, a type, a length and a value, called TTLV.
+//! The wire form of KMIP (KMIP 1.0, 9.1): items of a tag, a type, a length and a value, called
+//! TTLV.
 //!
 //! ```rust
 //! use kmip_wire::{ItemRef, Kind, Tag};
@@ -12,8 +13,9 @@
 //! }
 //! ```
 //!
-//! [`ItemRef::root`] checks the bytes once and then lends their parts; [`read_tree`] and [`write_tree`] read and write
-//! trees that own their parts; [`check`] and [`front_len`] take no memory.
+//! [`ItemRef::root`] checks the bytes once and then lends their parts; [`read_tree`] and
+//! [`write_tree`] read and write trees that own their parts; [`check`] and [`front_len`] take no
+//! memory.
 #![tactic(auto)]
 
 mod boxed;
@@ -28,8 +30,6 @@ mod list;
 mod memory;
 mod read;
 mod tag;
-#[cfg(test)]
-mod tests;
 mod text;
 mod tree;
 mod value;

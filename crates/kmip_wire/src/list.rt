@@ -1,5 +1,6 @@
 // A list, seen as its items in order.
-ghost use Rattle.std.specs.Prelude.{◌≡◌, ◌∷◌, [], ◌++◌, length, IfOk, is_ok, if◌then◌else◌, option_copied, slice_get};
+ghost use Rattle.std.specs.Prelude.{◌≡◌, ◌∷◌, [], ◌++◌, length, IfOk, is_ok, if◌then◌else◌};
+ghost use Rattle.std.specs.Prelude.{option_copied, slice_get};
 ghost use Rattle.std.proofs.Common.{rules};
 ghost use Rattle.std.specs.Cmp.Rules.{comparing};
 ghost use Rattle.std.specs.Cmp.Lexicographic.{pointwise};
@@ -39,7 +40,8 @@ impl<T> List<T> {
         List { items }
     }
 
-    /// Adds an item at the end. Where memory runs out, the list stays as it was and the item is dropped.
+    /// Adds an item at the end. Where memory runs out, the list stays as it was and the item is
+    /// dropped.
     pub fn push(&mut self, item: T) -> Result<(), OutOfMemory>
     where
         T: Drop,

@@ -72,7 +72,8 @@ fn read_items(alloc: Global, children: Children<'_>) -> Result<Trees, OutOfMemor
     Ok(items)
 }
 
-/// The item at the front that stands at the level, from 1 to 64, and the bytes after it. `None` exactly where no front parses at the level.
+/// The item at the front that stands at the level, from 1 to 64, and the bytes after it. `None`
+/// exactly where no front parses at the level.
 pub fn split_front(bytes: &[u8], level: u32) -> Option<(ItemRef<'_>, &[u8])>
     requires { IsLevel level }
     ensures tree { option_map (λ p. item_tree p.0) result ≡ front_at level bytes.now }
@@ -81,7 +82,8 @@ pub fn split_front(bytes: &[u8], level: u32) -> Option<(ItemRef<'_>, &[u8])>
     ItemRef::front(bytes, level)
 }
 
-/// The tree of the well-formed item at the front, and its whole length. Bytes after it are not looked at.
+/// The tree of the well-formed item at the front, and its whole length. Bytes after it are not
+/// looked at.
 ///
 /// `Malformed` comes exactly where no front is a well-formed item. `NoForm` never comes.
 pub fn read_tree(alloc: Global, bytes: &[u8]) -> Result<(Tree, usize), WireError>

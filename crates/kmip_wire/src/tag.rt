@@ -40,7 +40,8 @@ impl Tag {
         Tag { number }
     }
 
-    /// The tag that the first three bytes of a word spell. A word is read at once, three bytes one by one.
+    /// The tag that the first three bytes of a word spell. A word is read at once, three bytes one
+    /// by one.
     pub(crate) fn from_word(high: u8, middle: u8, low: u8, other: u8) -> Tag
         ensures { result ≡ from_be_bytes w32 (0 ∷ high ∷ middle ∷ low ∷ []) }
     {

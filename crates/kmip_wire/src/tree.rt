@@ -3,7 +3,8 @@ ghost use Rattle.kmip_wire.specs.Sees.{tree_of_node};
 ghost use Rattle.kmip_wire.specs.Same.{same_tree, same_trees};
 ghost use Rattle.kmip_wire.specs.Tree.{trees_of};
 ghost use Rattle.kmip_wire.specs.Bytes.{AreBytes, HasRanges, HaveRanges};
-ghost use Rattle.std.specs.Prelude.{◌≡◌, ℕ, ◌<◌, ◌^◌, List, [], ◌∷◌, ◌++◌, length, MatchOption, IfOk, ◌≤◌, is_ok, if◌then◌else◌, option_copied, slice_get};
+ghost use Rattle.std.specs.Prelude.{◌≡◌, ℕ, ◌<◌, ◌^◌, List, [], ◌∷◌, ◌++◌, length, MatchOption};
+ghost use Rattle.std.specs.Prelude.{IfOk, ◌≤◌, is_ok, if◌then◌else◌, option_copied, slice_get};
 
 use crate::memory::{OutOfMemory, TryClone};
 use crate::tag::Tag;
@@ -108,7 +109,8 @@ impl Trees {
         Trees { items }
     }
 
-    /// Adds an item at the end. Where memory runs out, the list stays as it was and the item is dropped.
+    /// Adds an item at the end. Where memory runs out, the list stays as it was and the item is
+    /// dropped.
     pub fn push(&mut self, item: Tree) -> Result<(), OutOfMemory>
         ensures { self.new ≡ (if is_ok result then self.old ++ item ∷ [] else self.old) }
     {
@@ -201,7 +203,8 @@ fn items_ranges(items: &Vec<Tree>)
 }
 
 impl Tree {
-    /// Does nothing but go through the tree: its contract says that the numbers, texts and bytes are in their ranges, as the laws of canonical bytes ask. It takes no memory.
+    /// Does nothing but go through the tree: its contract says that the numbers, texts and bytes
+    /// are in their ranges, as the laws of canonical bytes ask. It takes no memory.
     pub fn ranges(&self)
         ensures { HasRanges self.now }
     {

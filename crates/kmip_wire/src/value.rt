@@ -1,5 +1,6 @@
 // Which bytes are a value of a type.
-ghost use Rattle.std.specs.Prelude.{◌≡◌, ◌≢◌, ◌-◌, ◌≤◌, ◌<◌, ◌^◌, ◌%◌, ◌↔◌, ◌==◌, IsTrue, IsUtf8, length, take};
+ghost use Rattle.std.specs.Prelude.{◌≡◌, ◌≢◌, ◌-◌, ◌≤◌, ◌<◌, ◌^◌, ◌%◌, ◌↔◌, ◌==◌, IsTrue, IsUtf8};
+ghost use Rattle.std.specs.Prelude.{length, take};
 ghost use Rattle.std.specs.Option.{is_some};
 ghost use Rattle.std.specs.Str.{IsAscii};
 ghost use Rattle.std.specs.Int.{w32, w64, from_be_bytes};
@@ -58,14 +59,16 @@ fn length_size(kind: Kind) -> u64
     LENGTH_SIZES[kind.code() as usize]
 }
 
-// Whether a value of the type may have the length: no branch on the type, since types are seldom to be foreseen.
+// Whether a value of the type may have the length: no branch on the type, since types are seldom to
+// be foreseen.
 fn has_length(kind: Kind, length: usize) -> bool
     ensures { result ≡ (length % 2 ^ length_bits kind == length_size kind) }
 {
     length as u64 & length_mask(kind) == length_size(kind)
 }
 
-// Whether each byte is below 128, asked of eight at a time. `false` where the bytes are no whole words.
+// Whether each byte is below 128, asked of eight at a time. `false` where the bytes are no whole
+// words.
 fn are_ascii_words(bytes: &[u8]) -> bool
     ensures { IsTrue result → IsAscii bytes.now }
 {
@@ -79,7 +82,8 @@ fn are_ascii_words(bytes: &[u8]) -> bool
     rest.is_empty()
 }
 
-// Whether the first `size` bytes are text. The pads behind them are mostly zero, so that words of text and pads are ASCII.
+// Whether the first `size` bytes are text. The pads behind them are mostly zero, so that words of
+// text and pads are ASCII.
 fn is_text(padded: &[u8], size: usize) -> bool
     requires { size ≤ length padded.now }
     ensures { IsTrue result ↔ IsUtf8 (take size padded.now) }

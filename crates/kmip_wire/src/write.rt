@@ -1,5 +1,6 @@
 // The canonical bytes of a tree, written into one buffer after their lengths were summed.
-ghost use Rattle.std.specs.Prelude.{◌≡◌, ◌^◌, length, nat_lt, Option, Some, None, if◌then◌else◌, option_map};
+ghost use Rattle.std.specs.Prelude.{◌≡◌, ◌^◌, length, nat_lt, Option, Some, None, if◌then◌else◌};
+ghost use Rattle.std.specs.Prelude.{option_map};
 ghost use Rattle.kmip_wire.specs.Sees.{tree_of_node};
 ghost use Rattle.kmip_wire.specs.Tree.{structure, trees_of};
 ghost use Rattle.kmip_wire.specs.Bytes.{bytes, all_bytes};
@@ -52,7 +53,8 @@ fn value_len(node: &Node) -> Option<u64>
     }
 }
 
-// The length of the items' bytes one after another, where there are such and their length has a form.
+// The length of the items' bytes one after another, where there are such and their length has a
+// form.
 #[cycle(length)]
 fn contents_len(items: &[Tree]) -> Option<u64>
     ensures { result ≡ option_map length (fitting (all_bytes (trees_of items.now))) }
@@ -108,7 +110,8 @@ fn put_structure(tag: Tag, items: &[Tree], out: &mut Buffer)
 
 /// The canonical bytes of the tree.
 ///
-/// `NoForm` comes exactly where there are none: the length of an item reaches 2^32, or that of a Big Integer is no multiple of 8. `Malformed` never comes.
+/// `NoForm` comes exactly where there are none: the length of an item reaches 2^32, or that of a
+/// Big Integer is no multiple of 8. `Malformed` never comes.
 pub fn write_tree(alloc: Global, tree: &Tree) -> Result<Blob, WireError>
     ensures { GivesBytes result (bytes tree.now) }
 {

@@ -1,4 +1,4 @@
--- What words ask for: those of a line of a script, and those that are typed.
+-- Which call words ask for: words of a line of a script, and words that are typed.
 use Rattle.std.specs.Prelude.{ℕ, ℤ, List, [], ◌∷◌, Option, Some, None, if◌then◌else◌, codes, bytes_eq}
 use Rattle.std.specs.Option.{option_map, option_and_then}
 use Rattle.std.specs.Str.{is_utf8}
@@ -17,7 +17,7 @@ abbrev pub rng_of : Option ℤ → Option Call
 rng_of (Some num_bytes) = Some (Rng num_bytes)
 rng_of None = None
 
--- the calls of a key that take its identifier alone
+-- the calls whose one argument is the identifier of a key
 abbrev pub key_call : List ℕ → List ℕ → Option Call
 key_call name id =
     if bytes_eq name (codes "activate") then Some (Activate id)
@@ -30,12 +30,13 @@ abbrev pub key_call_of : List ℕ → Option (List ℕ) → Option Call
 key_call_of name (Some id) = key_call name id
 key_call_of name None = None
 
--- the request of these bytes, where the request reader reads them
+-- the call `raw` of these bytes, where the request reader reads them as a request
 abbrev pub raw_of : Option (List ℕ) → Option Call
 raw_of (Some bytes) = option_map Raw (request_read bytes)
 raw_of None = None
 
--- the calls of two words: `rng INT`, `raw HEX`, and `activate TEXT`, `revoke TEXT`, `destroy TEXT`, `get TEXT`
+-- the calls of two words: `rng INT`, `raw HEX`, and `activate TEXT`, `revoke TEXT`, `destroy TEXT`,
+-- `get TEXT`
 abbrev pub call_of_two : List ℕ → List ℕ → Option Call
 call_of_two name word =
     if bytes_eq name (codes "rng") then rng_of (int_of word)
@@ -73,7 +74,7 @@ abbrev pub with_response : Option Call → Option (List ℕ) → Option Recorded
 with_response (Some call) (Some response) = Some (record { call = call; response = response })
 with_response call response = None
 
--- the call of these words, by how many there are; the last is the response that was recorded for it
+-- the call of these words, by how many there are; the last word is the response recorded for it
 abbrev pub call_of_words : List (List ℕ) → Option Recorded
 call_of_words (name ∷ response ∷ []) = with_response (call_of_one name) (bytes_of response)
 call_of_words (name ∷ first ∷ response ∷ []) =
@@ -100,11 +101,11 @@ call_in (name ∷ first ∷ second ∷ []) = call_of_three name first second
 call_in (name ∷ first ∷ second ∷ third ∷ []) = call_of_four name first second third
 call_in words = None
 
--- the call of a line that gives no response, where the line is of the grammar
+-- the call of a line without a response, where the line is of the grammar
 unfoldable pub call_alone : List ℕ → Option Call
 call_alone line = if is_utf8 line then option_and_then call_in (words_of line) else None
 
--- The calls that are typed, with no response: those above, and four more.
+-- ---- the calls that are typed, with no response: those above, and four more
 
 abbrev pub typed_of_one : List ℕ → Option Call
 typed_of_one name = if bytes_eq name (codes "discover") then Some Discover else call_of_one name

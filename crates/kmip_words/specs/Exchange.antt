@@ -26,7 +26,7 @@ use Rattle.kmip_words.specs.declared.call.Call.TheVariants.{Query, CreateRsa, Rn
 use Rattle.kmip_words.specs.declared.ending.Ending.{Ending}
 use Rattle.kmip_words.specs.declared.ending.Ending.TheVariants.{Answered, Refused, Lost}
 
--- what each call of a client goes by
+-- the settings of a client for its calls
 pub record Settings : Type 0 where
   pub credential : Option CredentialType
   -- the most bytes that a response may have, its head counted
@@ -47,7 +47,7 @@ abbrev pub asked_of : RequestPayload → Option CredentialType → Asked
 asked_of payload credential =
     record { message = request_bytes payload credential; operation = operation_of payload }
 
--- the request that a line gives by its bytes; the credential is the client's, not theirs
+-- what `raw` asks for; the credential is the client's, not that in the bytes
 abbrev pub raw_asked : Request → Option CredentialType → Asked
 raw_asked request credential =
     record { message = message_bytes request credential; operation = request.operation }
@@ -69,7 +69,7 @@ request_asked (Attributes id) = asked_of (attributes_request id)
 request_asked (CreateAes key_length name) = asked_of (create_aes_request key_length name)
 request_asked Discover = asked_of discover_request
 
--- two texts in round brackets, or the identifiers of the two keys of a pair as an object
+-- the identifiers of the two keys of a pair, in round brackets or as a JSON object
 abbrev pub pair_styled : List ℕ → List ℕ → Style → List ℕ
 pair_styled first second Bare =
     codes "(" ++ (text_styled first Bare ++ (codes "," ++ (text_styled second Bare ++ codes ")")))
@@ -84,7 +84,7 @@ texts_styled (Case n (Record (AndField (One (Text first)) (AndField (One (Text s
     style = pair_styled first second style
 texts_styled payload style = []
 
--- what is told of a payload of no interest
+-- what is shown where a call returns nothing but that it was done
 abbrev pub done_styled : Style → List ℕ
 done_styled Bare = codes "()"
 done_styled Json = codes "{}"
@@ -94,7 +94,7 @@ abbrev pub record_styled : Shape → Val → Style → List ℕ
 record_styled shape (Case n payload) style = shown_as shape payload style
 record_styled shape payload style = shown_as shape payload style
 
--- what is told of the payload that answers a call
+-- what is shown of the payload that a call returns
 abbrev pub value_styled : Call → Val → Style → List ℕ
 value_styled Query payload = record_styled query_payload payload
 value_styled (CreateRsa key_length private_key_name public_key_name) payload = texts_styled payload
@@ -150,19 +150,19 @@ abbrev pub is_error : {R : Type 0} → Result R Error → Bool
 is_error (Ok payload) = false
 is_error (Err error) = true
 
--- After the error the link is of no more use: it failed, ended, or gave bytes that are no message.
+-- After this error the link is to be closed: it failed, ended, or gave bytes that are no message.
 abbrev pub loses_link : Error → Bool
 loses_link (RequestWriteError text) = true
 loses_link (ResponseReadError text) = true
 loses_link (DeserializeError text) = true
 loses_link error = false
 
--- how a call ended that has this answer
+-- how a call with this answer ended
 abbrev pub ending_of : {R : Type 0} → Result R Error → Ending
 ending_of (Ok payload) = Answered
 ending_of (Err error) = cond (loses_link error) Lost Refused
 
--- The call has an error for an answer.
+-- whether the answer of the call is an error
 abbrev pub fails : Ending → Bool
 fails Answered = false
 fails Refused = true
@@ -172,13 +172,14 @@ abbrev pub or_empty : Option (List ℕ) → List ℕ
 or_empty (Some text) = text
 or_empty None = []
 
--- the lines of a call's diagnostics, where they are kept: of its request and of its response
+-- the lines of the diagnostics of a request and of its response, where they are kept
 abbrev pub told_lines : Bool → Option (List ℕ) → Option (List ℕ) → List ℕ
 told_lines true request response =
     codes ">~ " ++ (or_empty request ++ (codes "\n<~ " ++ (or_empty response ++ codes "\n")))
 told_lines false request response = []
 
--- what a call sends and takes, the lines of its diagnostics and of its answer, whether this is an error, and how it ends
+-- what a call sends and how many bytes it takes, the lines of its diagnostics and of its answer,
+-- whether the answer is an error, and how the call ends
 pub record Step : Type 0 where
   pub sent : List ℕ
   pub taken : ℕ
@@ -191,7 +192,7 @@ pub record Step : Type 0 where
 abbrev pub call_text : Step → List ℕ
 call_text s = codes "> " ++ (encode_upper s.sent ++ (codes "\n" ++ (s.told ++ s.shown)))
 
--- the diagnostics are those of the bytes that were sent and that were taken
+-- the step with this outcome; its diagnostics are those of the bytes sent and of the bytes taken
 abbrev pub step_of : (Val → List ℕ) → Style → Bool → List ℕ → Outcome → Step
 step_of value style buffered rest o = record {
   sent = o.sent;
@@ -206,7 +207,8 @@ step_of value style buffered rest o = record {
 -- the outcome of a call over these bytes left
 abbrev pub call_outcome : Settings → Call → List ℕ → Outcome
 call_outcome settings call rest =
-    outcome_of (request_asked call settings.credential).message (request_asked call settings.credential).operation
+    outcome_of (request_asked call settings.credential).message
+    (request_asked call settings.credential).operation
     settings.limit rest
 
 -- what a call comes to over these bytes left, with its answer in this style
@@ -215,11 +217,11 @@ step_in style settings call rest =
     step_of (λ payload. value_styled call payload style) style settings.buffered rest
     (call_outcome settings call rest)
 
--- the same with the line of a script's answer
+-- the same in the style of a script
 abbrev pub step : Settings → Call → List ℕ → Step
 step = step_in Bare
 
--- the line of an answer was added, which is not out of memory
+-- the line of this answer was added, and the answer is not `OutOfMemory`
 pub record Shows {R : Type 0} (value : R → List ℕ) (style : Style) (answer : Result R Error)
     (ending : Ending) (old new : List ℕ) : Type 0 where
   pub shown : new ≡ old ++ answer_line value style answer

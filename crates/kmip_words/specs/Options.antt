@@ -2,7 +2,7 @@
 use Rattle.std.specs.Prelude.{ℕ, nat_eq, List, [], ◌∷◌, length, drop, Option, Some, None, if◌then◌else◌}
 use Rattle.std.specs.List.{starts_with}
 
--- the value that a first word gives to a name, and the words that are left after it
+-- the value that the first word gives to a name, if any, and the words that are left
 pub record Given : Type 0 where
   pub value : Option (List ℕ)
   pub rest : List (List ℕ)
@@ -14,7 +14,7 @@ option_given name (word ∷ words) =
     then record { value = Some (drop (length name) word); rest = words }
     else record { value = None; rest = word ∷ words }
 
--- a value is given only after another
+-- the same, but no value where `before` is absent
 abbrev pub given_after : Option (List ℕ) → List ℕ → List (List ℕ) → Given
 given_after (Some before) name words = option_given name words
 given_after None name words = record { value = None; rest = words }

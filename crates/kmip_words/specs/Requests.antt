@@ -8,20 +8,21 @@ use Rattle.kmip_request.specs.Constructors.{attribute_of}
 use Rattle.kmip_request.specs.TheAttribute.{Attribute}
 use Rattle.kmip_request.specs.declared.payload.RequestPayload.{RequestPayload}
 
--- a name that is an uninterpreted text (KMIP 1.0, 3.2)
+-- the attribute Name, of the type Uninterpreted Text String (KMIP 1.0, 3.2)
 abbrev pub name_attribute : List ℕ → Attribute
 name_attribute name =
     attribute_of (codes "Name") (values.Name (record { 0 = name }) UninterpretedTextString)
 
--- the objects with this name (KMIP 1.0, 4.8)
+-- Locate, for the objects with this name (KMIP 1.0, 4.8)
 abbrev pub locate_request : List ℕ → RequestPayload
 locate_request name = RequestPayload.Locate (name_attribute name ∷ [])
 
--- all attributes of an object (KMIP 1.0, 4.11)
+-- Get Attributes, for all attributes of an object (KMIP 1.0, 4.11)
 abbrev pub attributes_request : List ℕ → RequestPayload
 attributes_request id = RequestPayload.GetAttributes (Some (record { 0 = id })) None
 
--- the algorithm, the length in bits, the uses Encrypt and Decrypt, and the name of an AES key (KMIP 1.0, 3)
+-- the attributes of an AES key: its algorithm, its length in bits, the uses Encrypt and Decrypt,
+-- and its name (KMIP 1.0, 3.4, 3.5, 3.14 and 3.2)
 abbrev pub aes_attributes : ℤ → List ℕ → List Attribute
 aes_attributes key_length name =
     attribute_of (codes "Cryptographic Algorithm")
@@ -31,12 +32,12 @@ aes_attributes key_length name =
     ∷ name_attribute name
     ∷ []
 
--- an AES key (KMIP 1.0, 4.1)
+-- Create, for an AES key (KMIP 1.0, 4.1)
 abbrev pub create_aes_request : ℤ → List ℕ → RequestPayload
 create_aes_request key_length name =
     RequestPayload.Create SymmetricKey
     (record { 0 = None; 1 = Some (aes_attributes key_length name) })
 
--- which versions the server speaks, whichever they are (KMIP 1.1, 4.26)
+-- Discover Versions, for all versions that the server supports (KMIP 1.1, 4.26)
 abbrev pub discover_request : RequestPayload
 discover_request = RequestPayload.DiscoverVersions []

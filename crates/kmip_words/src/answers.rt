@@ -7,7 +7,8 @@ ghost use Rattle.kmip_client.specs.Calls.{IsCall};
 ghost use Rattle.kmip_client.specs.Client.{IsOfOperation};
 ghost use Rattle.kmip_client.specs.Outcome.{seen_by};
 ghost use Rattle.kmip_words.specs.Exchange.{settings_of, step_in, Answers};
-ghost use Rattle.kmip_words.specs.declared.call.Call.TheVariants.{CreateRsa, Rng, Get, Raw, Locate, Attributes, CreateAes, Discover};
+ghost use Rattle.kmip_words.specs.declared.call.Call.TheVariants.{CreateRsa, Rng, Get, Raw, Locate};
+ghost use Rattle.kmip_words.specs.declared.call.Call.TheVariants.{Attributes, CreateAes, Discover};
 ghost use Rattle.kmip_request_read.specs.Reading.{Request};
 
 use crate::call::Call;
@@ -61,7 +62,8 @@ fn rng(
     show(alloc, style, client.rng_retrieve(alloc, num_bytes), line)
 }
 
-/// Asks for an object, and adds the line of the answer. It is apart since such a payload is large.
+/// Asks for an object, and adds the line of the answer. It is not inlined, since this payload is
+/// large.
 #[inline(never)]
 fn get(
     alloc: Global,
@@ -78,7 +80,8 @@ fn get(
     show(alloc, style, client.get_key(alloc, id.as_str()), line)
 }
 
-/// Makes the request of a line's bytes, and adds the line of the answer, which is shown as a choice.
+/// Sends the request of `raw`, and adds the line of the answer, which names the operation of its
+/// payload.
 #[inline(never)]
 fn raw(
     alloc: Global,
@@ -102,7 +105,7 @@ fn raw(
     }
 }
 
-/// Sends a request that no helper of the client makes, and returns what its response says.
+/// Sends a request that no helper of the client makes, and returns the payload of its response.
 fn request_payload(
     alloc: Global,
     client: &mut Client<MemoryLink>,
@@ -171,7 +174,7 @@ fn create_aes(
     show(alloc, style, answer, line)
 }
 
-/// Asks which versions the server speaks, and adds the line of the answer.
+/// Asks which versions of KMIP the server supports, and adds the line of the answer.
 fn discover(
     alloc: Global,
     client: &mut Client<MemoryLink>,
@@ -188,7 +191,10 @@ fn discover(
     show(alloc, style, answer, line)
 }
 
-/// Makes a call on the client. It adds the line of the answer in this style, and says how the call ended.
+/// Makes a call on the client, adds the line of its answer in this style, and returns how it ended.
+///
+/// Its only error is `OutOfMemory`: then the request may have been sent, and a part of the line
+/// added.
 pub fn answer(
     alloc: Global,
     client: &mut Client<MemoryLink>,

@@ -1,7 +1,11 @@
-//! What words ask for: those of a line of a script, and those that are typed.
+//! Which call words ask for: words of a line of a script, and words that are typed.
 ghost use Rattle.std.specs.Prelude.{◌≡◌, map, option_map, IfOk};
 ghost use Rattle.kmip_words.specs.Values.{int_of, bytes_of, word_text};
-ghost use Rattle.kmip_words.specs.Calls.{typed_of_one, locate_of, attributes_of, typed_of_two, create_aes_of, typed_of_three, typed_call, rng_of, raw_of, key_call, call_of_one, call_of_two, sign_of, rename_of, call_of_three, create_rsa_of, call_of_four, with_response, call_of_words, call_of, call_in, call_alone};
+ghost use Rattle.kmip_words.specs.Calls.{typed_of_one, locate_of, attributes_of, typed_of_two};
+ghost use Rattle.kmip_words.specs.Calls.{create_aes_of, typed_of_three, typed_call, rng_of, raw_of};
+ghost use Rattle.kmip_words.specs.Calls.{key_call, call_of_one, call_of_two, sign_of, rename_of};
+ghost use Rattle.kmip_words.specs.Calls.{call_of_three, create_rsa_of, call_of_four, with_response};
+ghost use Rattle.kmip_words.specs.Calls.{call_of_words, call_of, call_in, call_alone};
 
 use crate::raw::RawRequest;
 use crate::values::{bytes_of, int_of, word_text};
@@ -13,69 +17,73 @@ use std::str;
 /// A call of the client.
 #[derive(Drop)]
 pub enum Call {
-    /// `query`: what the server can do.
+    /// `query`: which operations and types of objects the server has (KMIP 1.0, 4.24).
     Query,
-    /// `create-rsa INT TEXT TEXT`: an RSA pair of so many bits, under the names of the private and the public key.
+    /// `create-rsa INT TEXT TEXT`: an RSA pair of this length in bits, with these names of the
+    /// private and the public key (KMIP 1.0, 4.2).
     CreateRsa {
         key_length: i32,
         private_key_name: Text,
         public_key_name: Text,
     },
-    /// `rng INT`: random bytes, so many.
+    /// `rng INT`: this many random bytes (KMIP 1.2, 4.35).
     Rng {
         num_bytes: i32,
     },
-    /// `sign TEXT HEX`: a signature of these bytes by the key with this identifier.
+    /// `sign TEXT HEX`: a signature of these bytes by the key with this identifier (KMIP 1.2,
+    /// 4.31).
     Sign {
         id: Text,
         bytes: Blob,
     },
-    /// `activate TEXT`: makes the key with this identifier active.
+    /// `activate TEXT`: makes the key with this identifier Active (KMIP 1.0, 4.18).
     Activate {
         id: Text,
     },
-    /// `revoke TEXT`: takes it out of use.
+    /// `revoke TEXT`: revokes the key with this identifier (KMIP 1.0, 4.19).
     Revoke {
         id: Text,
     },
-    /// `destroy TEXT`: destroys it.
+    /// `destroy TEXT`: destroys the key with this identifier (KMIP 1.0, 4.20).
     Destroy {
         id: Text,
     },
-    /// `rename TEXT TEXT`: gives it another name.
+    /// `rename TEXT TEXT`: gives the key with this identifier another name (KMIP 1.0, 4.14).
     Rename {
         id: Text,
         new_name: Text,
     },
-    /// `get TEXT`: asks for the key itself.
+    /// `get TEXT`: the key with this identifier itself (KMIP 1.0, 4.10).
     Get {
         id: Text,
     },
-    /// `raw HEX`: the request of these bytes. The credential in them is not used.
+    /// `raw HEX`: the request of these bytes, with the client's credential in place of theirs.
     Raw {
         request: RawRequest,
     },
-    /// `locate TEXT`: which objects have this name. No line of a script has it, nor the three below.
+    /// `locate TEXT`: which objects have this name (KMIP 1.0, 4.8). This call and the three below
+    /// are typed, and stand in no script.
     Locate {
         name: Text,
     },
-    /// `attributes TEXT`: all attributes of the object with this identifier.
+    /// `attributes TEXT`: all attributes of the object with this identifier (KMIP 1.0, 4.11).
     Attributes {
         id: Text,
     },
-    /// `create-aes INT TEXT`: an AES key of so many bits to encrypt and decrypt with, under this name.
+    /// `create-aes INT TEXT`: an AES key of this length in bits to encrypt and decrypt with, with
+    /// this name (KMIP 1.0, 4.1).
     CreateAes {
         key_length: i32,
         name: Text,
     },
-    /// `discover`: which versions of KMIP the server speaks.
+    /// `discover`: which versions of KMIP the server supports (KMIP 1.1, 4.26).
     Discover,
 }
 
 /// A call, and the response that was recorded for it.
 #[derive(Drop)]
 pub struct Recorded {
-    /// The call that was made.
+    /// The call.
     pub call: Call,
     /// The server's response, as it came.
     pub response: Blob,
@@ -99,7 +107,7 @@ fn rng_of(number: &str) -> Option<Call>
     Some(Call::Rng { num_bytes })
 }
 
-/// The call with this name of the key with this identifier, where the key is all that it is about.
+/// The call with this name whose one argument is the identifier of a key.
 fn key_call(name: &str, id: Text) -> Option<Call>
     ensures { result ≡ key_call name.now id }
 {
@@ -244,7 +252,8 @@ fn with_response(
     Ok(Some(Recorded { call, response }))
 }
 
-/// The call of these words, the last of which is its response, or none where they are not of the grammar.
+/// The call of these words, the last of which is its response; `None` where they are not of the
+/// grammar.
 fn call_of_words(alloc: Global, words: &[&str]) -> Result<Option<Recorded>, OutOfMemory>
     ensures { IfOk result
         (λ recorded. recorded ≡ call_of_words (map (λ word. word.now) words.now)) }
@@ -268,7 +277,7 @@ fn call_of_words(alloc: Global, words: &[&str]) -> Result<Option<Recorded>, OutO
     }
 }
 
-/// The call of a line, or none where the line is not of the grammar.
+/// The call of a line, with its recorded response; `None` where the line is not of the grammar.
 pub fn call_of(alloc: Global, line: &[u8]) -> Result<Option<Recorded>, OutOfMemory>
     ensures { IfOk result (λ recorded. recorded ≡ call_of line.now) }
 {
@@ -281,7 +290,7 @@ pub fn call_of(alloc: Global, line: &[u8]) -> Result<Option<Recorded>, OutOfMemo
     }
 }
 
-/// The call of these words, with no response, or none where they are not of the grammar.
+/// The call of these words, without a response; `None` where they are not of the grammar.
 fn call_in(alloc: Global, words: &[&str]) -> Result<Option<Call>, OutOfMemory>
     ensures { IfOk result (λ call. call ≡ call_in (map (λ word. word.now) words.now)) }
 {
@@ -294,7 +303,7 @@ fn call_in(alloc: Global, words: &[&str]) -> Result<Option<Call>, OutOfMemory>
     }
 }
 
-/// The call of a line that gives no response, or none where the line is not of the grammar.
+/// The call of a line without a response; `None` where the line is not of the grammar.
 pub fn call_alone(alloc: Global, line: &[u8]) -> Result<Option<Call>, OutOfMemory>
     ensures { IfOk result (λ call. call ≡ call_alone line.now) }
 {
@@ -377,8 +386,9 @@ fn typed_of_three(
     }
 }
 
-/// The call of words that are typed, with no response: those of a line of a script, `locate TEXT`, `attributes TEXT`,
-/// `create-aes INT TEXT` and `discover`. None where they are not of this grammar.
+/// The call of words that are typed, without a response: a call that a script may have, or
+/// `locate TEXT`, `attributes TEXT`, `create-aes INT TEXT` or `discover`. `None` where the words
+/// are not of this grammar.
 pub fn typed_call(alloc: Global, words: &[Text]) -> Result<Option<Call>, OutOfMemory>
     ensures { IfOk result (λ call. call ≡ typed_call words.now) }
 {

@@ -8,17 +8,18 @@ use kmip_client::Error;
 /// How a call ended.
 #[derive(Clone, Copy, Debug, PartialEq, Eq, Drop)]
 pub enum Ending {
-    /// It was answered.
+    /// It returned a payload, or that it was done.
     Answered,
-    /// It has an error for an answer, and its whole message was taken, or nothing was sent: the link is good for the
-    /// next call.
+    /// It returned an error, and its whole response was taken, or nothing was sent: the link is
+    /// good for the next call.
     Refused,
-    /// The link failed or ended, or gave bytes that are no message: no call is to be made on it any more.
+    /// The link failed or ended, or gave bytes that are no message: no further call is to be made
+    /// on it.
     Lost,
 }
 
 impl Ending {
-    /// Whether the call has an error for an answer. It takes no memory.
+    /// Whether the call returned an error. It takes no memory.
     pub fn is_failure(self) -> bool
         ensures { result ≡ fails self }
     {
@@ -28,7 +29,7 @@ impl Ending {
         }
     }
 
-    /// How a call ended that has this error for an answer. It takes no memory.
+    /// How a call that returned this error ended. It takes no memory.
     pub fn of_error(error: &Error) -> Ending
         ensures { result ≡ cond (loses_link error.now) endings.Lost endings.Refused }
     {

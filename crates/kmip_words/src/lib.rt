@@ -1,9 +1,11 @@
-//! Calls of a KMIP client by words: what words ask for, the bytes of the request, and the line of an answer.
+//! Calls of a KMIP client by words: which call words ask for, the bytes of its request, and the
+//! line of its answer.
 //!
-//! A program reads a call from the words of a line ([`call_of`]) or from words that were typed ([`typed_call`]), and
-//! makes it on a client ([`answer`]); or it has no link, and carries the bytes itself: [`request_of`] gives those that
-//! the call sends, and [`answer_of`] says what those answer that came back. [`write_out`] and [`read_up_to`] write a
-//! whole text to a sink, and read a source to its end or to a count.
+//! A program reads a call from the words of a line ([`call_of`]) or from words that were typed
+//! ([`typed_call`]), and makes it on a client ([`answer`]). Or it has no link, and carries the
+//! bytes itself: [`request_of`] returns those that the call sends, and [`answer_of`] reads those
+//! that came back. [`write_out`] writes a whole text to a sink, and [`read_up_to`] reads a source
+//! to its end or to a count.
 #![tactic(auto)]
 
 mod answers;

@@ -18,7 +18,7 @@ pub fn show_sent(alloc: Global, sent: &[u8], output: &mut Text) -> Result<(), Ou
     Ok(())
 }
 
-/// Adds a diagnostic, and nothing where there is none.
+/// Adds a diagnostic; nothing where there is none.
 fn push_diagnostic(diagnostic: Option<&str>, output: &mut Text) -> Result<(), OutOfMemory>
     ensures { OnOk result (output.new ≡ output.old ++
         or_empty (option_map (λ text. text.now) diagnostic.entry)) }

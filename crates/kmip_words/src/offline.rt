@@ -1,7 +1,8 @@
-//! Calls with no link: the bytes that a call sends, and what the bytes that come back answer.
+//! Calls with no link: the bytes that a call sends, and the answer that the bytes sent back are.
 ghost use Rattle.std.specs.Prelude.{◌≡◌, ◌++◌, [], IfOk, OnOk, false, option_map};
 ghost use Rattle.kmip_client.specs.Client.{credential_for};
-ghost use Rattle.kmip_words.specs.Exchange.{Settings as TheSettings, settings_of, request_asked, ending_of, json_line, call_outcome};
+ghost use Rattle.kmip_words.specs.Exchange.{Settings as TheSettings, settings_of, request_asked};
+ghost use Rattle.kmip_words.specs.Exchange.{ending_of, json_line, call_outcome};
 
 use crate::answers::answer;
 use crate::call::Call;
@@ -14,7 +15,7 @@ use kmip_wire::{OutOfMemory, Text, clone_optional};
 use std::alloc::Global;
 use std::marker::Model;
 
-/// What calls go by: who makes them, and how long a response may be.
+/// The settings of calls: who makes them, and how long a response may be.
 #[derive(Drop)]
 pub struct Settings {
     user: Option<Text>,
@@ -37,8 +38,8 @@ impl Model for Settings {
 }
 
 impl Settings {
-    /// Calls by a user with a password, who are named in each request where both are given; `limit` is the most bytes
-    /// that a response may have, its head counted. It takes no memory.
+    /// Calls whose requests carry the user name and the password where both are given. `limit` is
+    /// the most bytes that a response may have, its head counted. It takes no memory.
     pub fn new(user: Option<Text>, password: Option<Text>, limit: Option<u32>) -> Settings
         ensures { result ≡
             record { credential = credential_for user password; limit = limit; buffered = false } }
@@ -50,7 +51,7 @@ impl Settings {
         }
     }
 
-    /// The most bytes that a response may have. It takes no memory.
+    /// The most bytes that a response may have, its head counted. It takes no memory.
     pub fn limit(&self) -> Option<u32>
         ensures { result ≡ self.now.limit }
     {
@@ -68,7 +69,7 @@ impl Settings {
     }
 }
 
-/// A link that has these bytes to read, and to which nothing was sent.
+/// A link that has these bytes to read, and over which nothing was sent.
 fn link_over(alloc: Global, response: &[u8]) -> Result<MemoryLink, OutOfMemory>
     ensures ever { IfOk result (λ link. link.ever ≡ response.now) }
     ensures pos { IfOk result (λ link. link.pos ≡ 0) }
@@ -81,7 +82,7 @@ fn link_over(alloc: Global, response: &[u8]) -> Result<MemoryLink, OutOfMemory>
     }
 }
 
-/// What was sent to a client's link, as bytes of their own.
+/// A copy of what was sent over a client's link.
 fn sent_by(alloc: Global, client: &mut Client<MemoryLink>) -> Result<Vec<u8>, OutOfMemory>
     ensures { IfOk result (λ sent. sent.items ≡ client.old.link.sent) }
 {
@@ -90,7 +91,7 @@ fn sent_by(alloc: Global, client: &mut Client<MemoryLink>) -> Result<Vec<u8>, Ou
     Ok(sent)
 }
 
-/// The bytes that a call sends: its one canonical message, and none where it has no wire form.
+/// The bytes that a call sends: its one canonical message; `None` where it has no wire form.
 pub fn request_of(
     alloc: Global,
     settings: &Settings,
@@ -103,16 +104,17 @@ pub fn request_of(
     let mut client = settings.client(alloc, link_over(alloc, &[])?)?;
     let mut line = Text::new(alloc);
     match answer(alloc, &mut client, Style::Json, call, &mut line)? {
-        // a request that was sent found the link at its end
+        // the request was sent, and then there was no response to read
         Ending::Lost => Ok(Some(sent_by(alloc, &mut client)?)),
         Ending::Answered => Ok(None),
         Ending::Refused => Ok(None),
     }
 }
 
-/// Adds what these bytes answer to a call as a line of JSON, and says how the call ended: `{"answer":..}` with the
-/// payload, or `{"error":"ItemNotFound","text":".."}` with the name of the error's variant and its text. It is the
-/// answer that a client gives over a link that has these bytes left, and looks at no byte past the first message.
+/// Adds the answer that these bytes are to a call as a line of JSON, and returns how the call
+/// ended. The line is `{"answer":..}` with the payload, or `{"error":"ItemNotFound","text":".."}`
+/// with the name of the error's variant and its text. It is what a client returns over a link with
+/// these bytes to read, and depends on no byte after the first message.
 pub fn answer_of(
     alloc: Global,
     settings: &Settings,

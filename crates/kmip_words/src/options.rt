@@ -5,7 +5,8 @@ ghost use Rattle.kmip_words.specs.Options.{option_given, given_after};
 use kmip_wire::{OutOfMemory, Text};
 use std::alloc::Global;
 
-/// The value that the first word gives to a name, as in `name=value`, and the words that are left after it.
+/// The value that the first word gives to a name, as `V` for `user=` and the word `user=V`, and the
+/// words that are left; `None` and all words where it gives none.
 pub fn option_given<'a>(name: &str, words: &'a [Text]) -> (Option<&'a str>, &'a [Text])
     ensures value { option_map (λ value. value.now) result.0 ≡
         (option_given name.now words.now).value }
@@ -20,7 +21,7 @@ pub fn option_given<'a>(name: &str, words: &'a [Text]) -> (Option<&'a str>, &'a 
     }
 }
 
-/// The same, but only after another value.
+/// The same, but `None` and all words where `before` is absent.
 pub fn given_after<'a>(
     before: Option<&str>,
     name: &str,

@@ -1,4 +1,4 @@
-//! The payload of one operation, out of an answer that holds that of any.
+//! The payload of one operation, taken out of an answer whose payload is of that operation.
 ghost use Rattle.std.specs.Prelude.{◌≡◌, IfOk};
 ghost use Rattle.kmip_enums.specs.declared.operation.Operation.{Operation as TheOperation};
 ghost use Rattle.kmip_response.specs.Values.{response_payload_val};
@@ -12,7 +12,7 @@ use kmip_response::{
     LocateResponsePayload, ResponsePayload,
 };
 
-/// That of Locate.
+/// The payload of Locate (KMIP 1.0, 4.8), or the error.
 pub fn locate_payload(
     answer: Result<ResponsePayload, Error>,
 ) -> Result<LocateResponsePayload, Error>
@@ -28,7 +28,7 @@ pub fn locate_payload(
     }
 }
 
-/// That of Get Attributes.
+/// The payload of Get Attributes (KMIP 1.0, 4.11), or the error.
 pub fn attributes(
     answer: Result<ResponsePayload, Error>,
 ) -> Result<GetAttributesResponsePayload, Error>
@@ -44,7 +44,7 @@ pub fn attributes(
     }
 }
 
-/// That of Create.
+/// The payload of Create (KMIP 1.0, 4.1), or the error.
 pub fn create_payload(
     answer: Result<ResponsePayload, Error>,
 ) -> Result<CreateResponsePayload, Error>
@@ -60,7 +60,7 @@ pub fn create_payload(
     }
 }
 
-/// That of Discover Versions.
+/// The payload of Discover Versions (KMIP 1.1, 4.26), or the error.
 pub fn discover_payload(
     answer: Result<ResponsePayload, Error>,
 ) -> Result<DiscoverVersionsResponsePayload, Error>

@@ -12,7 +12,7 @@ use std::alloc::Global;
 /// The uses Encrypt and Decrypt: KMIP 1.0, 3.14.
 const ENCRYPT_AND_DECRYPT: u32 = 0xC;
 
-/// Asks which objects have this name.
+/// Asks which objects have this name: KMIP 1.0, 4.8.
 pub fn locate_request(alloc: Global, name: Text) -> Result<RequestPayload, OutOfMemory>
     ensures { IfOk result (λ made. made ≡ requests.locate_request name) }
 {
@@ -21,14 +21,14 @@ pub fn locate_request(alloc: Global, name: Text) -> Result<RequestPayload, OutOf
     Ok(RequestPayload::Locate(attributes))
 }
 
-/// Asks for all attributes of an object.
+/// Asks for all attributes of an object: KMIP 1.0, 4.11.
 pub fn attributes_request(id: Text) -> RequestPayload
     ensures { result ≡ requests.attributes_request id }
 {
     RequestPayload::GetAttributes(Some(UniqueIdentifier(id)), None)
 }
 
-/// The attributes of an AES key.
+/// The attributes of an AES key: KMIP 1.0, 3.
 fn aes_attributes(
     alloc: Global,
     key_length: i32,
@@ -45,7 +45,7 @@ fn aes_attributes(
     Ok(attributes)
 }
 
-/// Asks for an AES key.
+/// Asks for an AES key of this length in bits: KMIP 1.0, 4.1.
 pub fn create_aes_request(
     alloc: Global,
     key_length: i32,
@@ -60,7 +60,7 @@ pub fn create_aes_request(
     ))
 }
 
-/// Asks which versions of KMIP the server speaks.
+/// Asks which versions of KMIP the server supports: KMIP 1.1, 4.26.
 pub fn discover_request(alloc: Global) -> RequestPayload
     ensures { result ≡ requests.discover_request }
 {

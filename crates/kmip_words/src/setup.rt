@@ -1,4 +1,4 @@
-//! A client with the settings of a program's words.
+//! A client with the settings that a program was given.
 ghost use Rattle.std.specs.Prelude.{◌≡◌, None, false};
 ghost use Rattle.kmip_client.specs.Client.{credential_for};
 ghost use Rattle.kmip_words.specs.Exchange.{settings_of};
@@ -24,7 +24,8 @@ fn with_user<T>(
     }
 }
 
-/// How responses are read, without diagnostics: the most bytes that one may have, its head counted. It takes no memory.
+/// How responses are read, without diagnostics. `limit` is the most bytes that one may have, its
+/// head counted. It takes no memory.
 pub fn config_of_limit(limit: Option<u32>) -> Config
     ensures limit { result.max_bytes ≡ limit }
     ensures buffered { result.has_buf ≡ false }
@@ -44,8 +45,9 @@ fn config_of(limit: Option<u32>, diag: bool) -> Config
     if diag { config.with_read_buf() } else { config }
 }
 
-/// A client over this link. It sends a credential where there are a user and a password, takes no response of more
-/// bytes than the limit, and keeps diagnostics where `diag` says so. It takes no memory.
+/// A client over this link. It sends a credential where there are a user and a password, takes no
+/// response of more bytes than `limit`, and keeps diagnostics where `diag` is true. It takes no
+/// memory.
 pub fn client_of<T>(
     link: T,
     user: Option<Text>,

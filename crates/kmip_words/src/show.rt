@@ -2,7 +2,8 @@
 ghost use Rattle.std.specs.Prelude.{◌≡◌, ◌≢◌, ◌++◌, codes, cond, IfOk, OnOk};
 ghost use Rattle.kmip_shape.specs.Shown.{shown_as, text_styled};
 ghost use Rattle.kmip_shape.specs.declared.style.Style.TheVariants.{Bare, Json};
-ghost use Rattle.kmip_words.specs.Exchange.{pair_styled, done_styled, error_name, error_line, value_line, loses_link, Shows};
+ghost use Rattle.kmip_words.specs.Exchange.{pair_styled, done_styled, error_name, error_line};
+ghost use Rattle.kmip_words.specs.Exchange.{value_line, loses_link, Shows};
 ghost use Rattle.kmip_words.specs.declared.ending.Ending.TheVariants as endings;
 
 use crate::ending::Ending;
@@ -70,7 +71,8 @@ fn push_json_error(alloc: Global, error: &Error, line: &mut Text) -> Result<(), 
     line.push_str("}\n")
 }
 
-/// Adds the error as a line, which is not `OutOfMemory`, and says how the call ended.
+/// Adds the error as a line, and returns how the call ended. The error `OutOfMemory` is not added,
+/// but returned.
 pub fn show_error(
     alloc: Global,
     style: Style,
@@ -138,7 +140,7 @@ pub fn push_payload<P: ShowItem>(
     }
 }
 
-/// Adds the payload or the error as a line, and says how the call ended.
+/// Adds the payload or the error as a line, and returns how the call ended.
 pub fn show<P: ShowItem + Drop>(
     alloc: Global,
     style: Style,
@@ -158,7 +160,7 @@ pub fn show<P: ShowItem + Drop>(
     }
 }
 
-/// The line where there is nothing to show but that it was done.
+/// The line of a call that returns nothing but that it was done.
 fn done_line(style: Style) -> &'static str
     ensures { result.now ≡ value_line (done_styled style) style }
 {
@@ -168,7 +170,7 @@ fn done_line(style: Style) -> &'static str
     }
 }
 
-/// The same where there is nothing to show but that it was done.
+/// Adds that the call was done, or the error, as a line, and returns how the call ended.
 pub fn show_done(
     alloc: Global,
     style: Style,
@@ -242,7 +244,8 @@ pub fn push_pair(
     }
 }
 
-/// The same of the identifiers of a private and a public key.
+/// Adds the identifiers of a private and a public key, or the error, as a line, and returns how the
+/// call ended.
 pub fn show_pair(
     alloc: Global,
     style: Style,

@@ -1,15 +1,17 @@
-//! A whole script from a source, and a whole text to a sink.
-ghost use Rattle.std.specs.Prelude.{◌≡◌, ◌+◌, ◌-◌, ◌<◌, ◌≤◌, ◌++◌, ℕ, [], length, take, drop, min, IfOk, IfErr, OnErr, OnOk, IsErrOf, IsTrue, vec_len};
+//! Reading a whole source, up to a count, and writing a whole text to a sink.
+ghost use Rattle.std.specs.Prelude.{◌≡◌, ◌+◌, ◌-◌, ◌<◌, ◌≤◌, ◌++◌, ℕ, [], length, take, drop, min};
+ghost use Rattle.std.specs.Prelude.{IfOk, IfErr, OnErr, OnOk, IsErrOf, IsTrue, vec_len};
 ghost use Rattle.kmip_link.specs.State.{SourceKeeps, SinkKeeps, Rose, source_left};
 ghost use Rattle.kmip_words.specs.Streams.{Gives, GivesPart, WrotePart, WroteProperPart};
 
 use kmip_link::{LinkError, Sink, Source};
 use std::alloc::Global;
 
-/// The most room that one read is offered.
+/// The most bytes that one read is offered room for.
 const MAX_PIECE: usize = 65536;
 
-/// Writes the whole text. Each write is offered the whole rest.
+/// Writes the whole text. Each write is offered all that is left of it. Where one fails, a part of
+/// the text that is not the whole was written.
 pub fn write_out<K: Sink>(sink: &mut K, text: &[u8]) -> Result<(), LinkError>
     ensures keeps { SinkKeeps (K.state sink.old) (K.state sink.new) }
     ensures ok { OnOk result (IsTrue (K.state sink.old).tells →
@@ -28,7 +30,7 @@ pub fn write_out<K: Sink>(sink: &mut K, text: &[u8]) -> Result<(), LinkError>
     Ok(())
 }
 
-/// Reads at most `room` bytes by way of `piece`, and adds them to the end of `script`.
+/// Reads at most `room` bytes into `piece`, adds them to the end of `script`, and returns how many.
 fn read_piece<S: Source>(
     source: &mut S,
     piece: &mut [u8],
@@ -55,7 +57,8 @@ fn read_piece<S: Source>(
     Ok(got)
 }
 
-/// Reads to the end, but at most `count` bytes, to the end of `script`. Where it fails, no more than `count` was read.
+/// Reads the source to its end, but at most `count` bytes, and adds them to the end of `script`.
+/// Where it fails, at most `count` bytes were read.
 pub fn read_up_to<S: Source>(
     alloc: Global,
     source: &mut S,

@@ -1,5 +1,4 @@
-//! The payload of each operation, read by a function of its own: so each is proved with no other
-//! before it.
+//! Reading the payload of each operation, by a function of its own, so that each is proved alone.
 
 ghost use Rattle.std.specs.Prelude.{◌≡◌, Err, IfOk, Some, None};
 ghost use Rattle.std.specs.Option.{option_map};

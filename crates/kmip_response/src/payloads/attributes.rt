@@ -2,9 +2,14 @@
 
 ghost use Rattle.std.specs.Prelude.{◌≡◌};
 ghost use Rattle.kmip_tags.specs.Tags as tags;
-ghost use Rattle.kmip_response.specs.Tables.{get_attributes_payload, get_attribute_list_payload, attribute_edit_payload};
-ghost use Rattle.kmip_response.specs.Values.{get_attributes_payload_val, get_attribute_list_payload_val, attribute_edit_payload_val};
-ghost use Rattle.kmip_response.specs.Same.{get_attributes_payload_same, get_attribute_list_payload_same, attribute_edit_payload_same};
+ghost use Rattle.kmip_response.specs.Tables.{get_attributes_payload, get_attribute_list_payload};
+ghost use Rattle.kmip_response.specs.Tables.{attribute_edit_payload};
+ghost use Rattle.kmip_response.specs.Values.{get_attributes_payload_val};
+ghost use Rattle.kmip_response.specs.Values.{get_attribute_list_payload_val};
+ghost use Rattle.kmip_response.specs.Values.{attribute_edit_payload_val};
+ghost use Rattle.kmip_response.specs.Same.{get_attributes_payload_same};
+ghost use Rattle.kmip_response.specs.Same.{get_attribute_list_payload_same};
+ghost use Rattle.kmip_response.specs.Same.{attribute_edit_payload_same};
 
 use kmip_response_objects::Attribute;
 use kmip_shape::record::{End, Row};
@@ -23,7 +28,7 @@ use std::alloc::Global;
 pub struct GetAttributesResponsePayload {
     /// The identifier of the object.
     pub unique_identifier: UniqueIdentifier,
-    /// The attributes asked for that the object has.
+    /// Those of the attributes asked for that the object has.
     pub attributes: Option<List<Attribute>>,
 }
 
@@ -91,7 +96,7 @@ impl ShowItem for GetAttributesResponsePayload {
 pub struct GetAttributeListResponsePayload {
     /// The identifier of the object.
     pub unique_identifier: UniqueIdentifier,
-    /// At least one.
+    /// The names of the attributes that the object has, at least one.
     pub attributes: List<AttributeName>,
 }
 
@@ -154,12 +159,13 @@ impl ShowItem for GetAttributeListResponsePayload {
     }
 }
 
-/// The response payload of Add Attribute, Modify Attribute and Delete Attribute: KMIP 1.0, 4.13 to 4.15.
+/// The response payload of Add Attribute, Modify Attribute and Delete Attribute:
+/// KMIP 1.0, 4.13 to 4.15.
 #[derive(PartialEq, Eq, Drop)]
 pub struct AttributeEditResponsePayload {
     /// The identifier of the object.
     pub unique_identifier: UniqueIdentifier,
-    /// The attribute that was added, changed or taken away.
+    /// The attribute that was added, modified or deleted.
     pub attribute: Boxed<Attribute>,
 }
 

@@ -20,7 +20,7 @@ use std::alloc::Global;
 /// The response payload of Sign: KMIP 1.2, 4.31.
 #[derive(PartialEq, Eq, Drop)]
 pub struct SignResponsePayload {
-    /// The identifier of the object.
+    /// The identifier of the key that signed.
     pub unique_identifier: UniqueIdentifier,
     /// The bytes of the signature.
     pub signature_data: Blob,
@@ -88,7 +88,7 @@ impl ShowItem for SignResponsePayload {
 /// The response payload of RNG Retrieve: KMIP 1.2, 4.35.
 #[derive(PartialEq, Eq, Drop)]
 pub struct RNGRetrieveResponsePayload {
-    /// The random bytes; a server may give another number than was asked for.
+    /// The random bytes; a server may return more or fewer than were asked for.
     pub random_bytes: Blob,
 }
 

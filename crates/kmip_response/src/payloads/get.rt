@@ -26,7 +26,7 @@ pub struct GetResponsePayload {
     pub object_type: ObjectType,
     /// The identifier of the object.
     pub unique_identifier: UniqueIdentifier,
-    /// The object, of the type `object_type`.
+    /// The object, of the type `object_type`: KMIP 1.0, 2.2.
     pub cryptographic_object: ManagedObject,
 }
 

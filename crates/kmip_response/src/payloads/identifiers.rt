@@ -2,9 +2,15 @@
 
 ghost use Rattle.std.specs.Prelude.{◌≡◌};
 ghost use Rattle.kmip_tags.specs.Tags as tags;
-ghost use Rattle.kmip_response.specs.Tables.{create_payload, create_key_pair_payload, register_payload, locate_payload, unique_identifier_payload};
-ghost use Rattle.kmip_response.specs.Values.{create_payload_val, create_key_pair_payload_val, register_payload_val, locate_payload_val, unique_identifier_payload_val};
-ghost use Rattle.kmip_response.specs.Same.{create_payload_same, create_key_pair_payload_same, register_payload_same, locate_payload_same, unique_identifier_payload_same};
+ghost use Rattle.kmip_response.specs.Tables.{create_payload, create_key_pair_payload};
+ghost use Rattle.kmip_response.specs.Tables.{register_payload, locate_payload};
+ghost use Rattle.kmip_response.specs.Tables.{unique_identifier_payload};
+ghost use Rattle.kmip_response.specs.Values.{create_payload_val, create_key_pair_payload_val};
+ghost use Rattle.kmip_response.specs.Values.{register_payload_val, locate_payload_val};
+ghost use Rattle.kmip_response.specs.Values.{unique_identifier_payload_val};
+ghost use Rattle.kmip_response.specs.Same.{create_payload_same, create_key_pair_payload_same};
+ghost use Rattle.kmip_response.specs.Same.{register_payload_same, locate_payload_same};
+ghost use Rattle.kmip_response.specs.Same.{unique_identifier_payload_same};
 
 use kmip_enums::ObjectType;
 use kmip_response_objects::{Attribute, TemplateAttribute};
@@ -241,10 +247,10 @@ impl ShowItem for RegisterResponsePayload {
     }
 }
 
-/// The response payload of Locate: the objects that have all the attributes: KMIP 1.0, 4.8.
+/// The response payload of Locate: KMIP 1.0, 4.8.
 #[derive(PartialEq, Eq, Drop)]
 pub struct LocateResponsePayload {
-    /// The identifiers of all objects found, none where there is none.
+    /// The identifiers of the objects that have all the attributes asked for; empty where none has.
     pub unique_identifiers: List<UniqueIdentifier>,
 }
 
@@ -297,7 +303,7 @@ impl ShowItem for LocateResponsePayload {
     }
 }
 
-/// The identifier of the object that Activate, Revoke or Destroy was made on: KMIP 1.0, 4.18 to 4.20.
+/// The response payload of Activate, Revoke and Destroy: KMIP 1.0, 4.18 to 4.20.
 #[derive(PartialEq, Eq, Drop)]
 pub struct UniqueIdentifierResponsePayload {
     /// The identifier of the object.

@@ -1,4 +1,4 @@
-//! The payloads of responses, one struct for each kind of answer.
+//! The payloads of responses, one struct for each table of fields.
 
 pub mod attributes;
 pub mod cryptography;

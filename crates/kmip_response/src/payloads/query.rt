@@ -1,6 +1,6 @@
 //! The payload of Query.
 //!
-//! It stands in a file of its own, since a struct with an invariant leads to all that its file names.
+//! It has a file of its own, since a struct with an invariant depends on all that its file imports.
 
 ghost use Rattle.kmip_response.specs.Skipped.{IsSkipped, IsSkipped-prop};
 
@@ -18,7 +18,7 @@ pub struct QueryResponsePayload {
     pub operations: Option<List<Operation>>,
     /// The types of objects that the server supports, where that was asked for.
     pub object_types: Option<List<ObjectType>>,
-    /// What the vendor calls the server.
+    /// A text that identifies the server's vendor, where Server Information was asked for.
     pub vendor_identification: Option<Text>,
     /// Always `None`: Server Information is skipped.
     pub server_information: Option<ServerInformation>,

@@ -1,4 +1,5 @@
-//! What a server tells of itself: the items of the payload of Query, and the payload of Discover Versions.
+//! What a server reports of itself: the items of the payload of Query, and the payload of Discover
+//! Versions.
 
 ghost use Rattle.std.specs.Prelude.{◌≡◌};
 ghost use Rattle.kmip_tags.specs.Tags as tags;
@@ -92,7 +93,8 @@ impl ShowItem for QueryResponsePayload {
 /// The response payload of Discover Versions: KMIP 1.1, 4.26.
 #[derive(PartialEq, Eq, Drop)]
 pub struct DiscoverVersionsResponsePayload {
-    /// The versions that both sides know, the one that the server likes best first.
+    /// The versions that the server supports, of those that the request lists where it lists any:
+    /// the one that the server prefers first.
     pub supported_versions: Option<List<ProtocolVersion>>,
 }
 

@@ -1,7 +1,7 @@
 //! Lives of keys over both makers: the identifiers, the refusals and the bytes of worked examples.
 
-use crate::{Made, Maker, MakerError, MemoryMaker, PlainMaker, Store, StoreError};
 use kmip_enums::{ObjectType, State};
+use kmip_store::{Made, Maker, MakerError, MemoryMaker, PlainMaker, Store, StoreError};
 use kmip_wire::{Blob, List};
 use std::test::Fail;
 

@@ -1,5 +1,5 @@
 //! Links, sources and sinks at values that were worked out by hand.
-use crate::{
+use kmip_link::{
     Link, LinkError, MemoryLink, MemorySink, MemorySource, PlannedLink, Sink, Source, StdSink,
     StdSource, StreamLink,
 };

@@ -1,4 +1,4 @@
-use crate::{make_kmip_tag_map, name_of, tags};
+use kmip_tags::{make_kmip_tag_map, name_of, tags};
 use kmip_wire::Tag;
 
 // Some lines of the table, at its ends, at the two names with two spaces, and on both sides of it.

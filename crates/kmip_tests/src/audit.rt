@@ -1,5 +1,5 @@
 //! Streams in hex, and what is reported of them.
-use crate::{End, Report, audit};
+use kmip_audit::{End, Report, audit};
 use kmip_wire::Text;
 use std::alloc::Global;
 use std::process::Abort;

@@ -1,29 +1,13 @@
-// What no contract says: bytes made by another program, and that calls succeed where there is memory.
+// What no contract says: bytes made by another program, and that calls succeed where there is
+// memory.
 ghost use Rattle.std.specs.Prelude.{◌<◌};
 
-use crate::{
+use kmip_wire::{
     Blob, Boxed, Buffer, Kind, List, Node, OutOfMemory, Tag, Text, Tree, Trees, TryClone,
     WireError, check, clone_optional, read_tree, wipe, write_tree,
 };
 use std::alloc::Global;
-
-fn digit(byte: u8) -> u8
-    ensures { result < 16 }
-{
-    match byte {
-        b'0'..=b'9' => byte - b'0',
-        b'A'..=b'F' => byte - b'A' + 10,
-        _ => 0,
-    }
-}
-
-fn from_hex(alloc: Global, hex: &str) -> Result<Blob, OutOfMemory> {
-    let mut made = Blob::new(alloc);
-    for pair in hex.as_bytes().chunks_exact(2) {
-        made.push_slice(&[16 * digit(pair[0]) + digit(pair[1])])?;
-    }
-    Ok(made)
-}
+use std::test::Fail;
 
 // A request for the objects whose Object Type is 4, 152 bytes.
 const LOCATE: &str =
@@ -100,7 +84,7 @@ fn written(alloc: Global, number: u32, value: Value) -> Result<Blob, WireError> 
 }
 
 #[test]
-fn canonical_bytes(rt: HostRuntime) -> Result<(), WireError> {
+fn canonical_bytes(rt: HostRuntime) -> Result<(), Fail> {
     let alloc = rt.alloc();
     for (number, value, hex) in [
         (
@@ -199,15 +183,16 @@ fn canonical_bytes(rt: HostRuntime) -> Result<(), WireError> {
         ),
     ] {
         let bytes = written(alloc, number, value)?;
-        assert!(rt; bytes == from_hex(alloc, hex)?, "{hex}");
+        let want = hex::decode(alloc, hex)?;
+        assert!(rt; bytes.as_slice() == want.as_slice(), "{hex}");
     }
     Ok(())
 }
 
 #[test]
-fn reads_the_item_at_the_front(rt: HostRuntime) -> Result<(), WireError> {
+fn reads_the_item_at_the_front(rt: HostRuntime) -> Result<(), Fail> {
     let alloc = rt.alloc();
-    let bytes = from_hex(alloc, LOCATE)?;
+    let bytes = Blob::of(alloc, &hex::decode(alloc, LOCATE)?)?;
     let mut longer = bytes.try_clone(alloc)?;
     longer.push_slice(&[0])?;
     let (tree, size) = read_tree(alloc, longer.as_slice())?;
@@ -275,13 +260,13 @@ fn makes_lists(rt: HostRuntime) -> Result<(), OutOfMemory> {
 }
 
 // Whether the buffer holds these bytes.
-fn holds(alloc: Global, out: &Buffer, hex: &str) -> Result<bool, OutOfMemory> {
-    let bytes = from_hex(alloc, hex)?;
+fn holds(alloc: Global, out: &Buffer, hex: &str) -> Result<bool, Fail> {
+    let bytes = hex::decode(alloc, hex)?;
     Ok(out.as_slice() == bytes.as_slice())
 }
 
 #[test]
-fn fills_a_buffer(rt: HostRuntime) -> Result<(), OutOfMemory> {
+fn fills_a_buffer(rt: HostRuntime) -> Result<(), Fail> {
     let alloc = rt.alloc();
     let mut out = Buffer::new(alloc);
     out.reserve(16)?;

@@ -1,84 +1,77 @@
 // The tables that follow are worked rows: bytes or a text, and what is to be printed for them.
-use crate::{DiagError, PrettyPrinter};
+use kmip_diag::{DiagError, PrettyPrinter};
+use std::test::Fail;
 
 // A response of random bytes, as two servers send it: with 4 and with 43 of them.
-const RESPONSE: [u8; 152] = [
-    0x42, 0, 0x7B, 1, 0, 0, 0, 0x90, 0x42, 0, 0x7A, 1, 0, 0, 0, 0x48, 0x42, 0, 0x69, 1, 0, 0, 0,
-    0x20, 0x42, 0, 0x6A, 2, 0, 0, 0, 4, 0, 0, 0, 1, 0, 0, 0, 0, 0x42, 0, 0x6B, 2, 0, 0, 0, 4, 0, 0,
-    0, 2, 0, 0, 0, 0, 0x42, 0, 0x92, 9, 0, 0, 0, 8, 0, 0, 0, 0, 0, 0, 0, 1, 0x42, 0, 0x0D, 2, 0, 0,
-    0, 4, 0, 0, 0, 1, 0, 0, 0, 0, 0x42, 0, 0x0F, 1, 0, 0, 0, 0x38, 0x42, 0, 0x5C, 5, 0, 0, 0, 4, 0,
-    0, 0, 0x25, 0, 0, 0, 0, 0x42, 0, 0x7F, 5, 0, 0, 0, 4, 0, 0, 0, 0, 0, 0, 0, 0, 0x42, 0, 0x7C, 1,
-    0, 0, 0, 0x10, 0x42, 0, 0xC2, 8, 0, 0, 0, 4, 0xDE, 0xAD, 0xBE, 0xEF, 0, 0, 0, 0,
-];
+const RESPONSE: &str = concat!(
+    "42007B010000009042007A0100000048420069010000002042006A02000000040000000100000000",
+    "42006B020000000400000002000000004200920900000008000000000000000142000D0200000004",
+    "000000010000000042000F010000003842005C0500000004000000250000000042007F0500000004",
+    "000000000000000042007C01000000104200C20800000004DEADBEEF00000000",
+);
 
-const LONGER_RESPONSE: [u8; 192] = [
-    0x42, 0, 0x7B, 1, 0, 0, 0, 0xB8, 0x42, 0, 0x7A, 1, 0, 0, 0, 0x48, 0x42, 0, 0x69, 1, 0, 0, 0,
-    0x20, 0x42, 0, 0x6A, 2, 0, 0, 0, 4, 0, 0, 0, 1, 0, 0, 0, 0, 0x42, 0, 0x6B, 2, 0, 0, 0, 4, 0, 0,
-    0, 2, 0, 0, 0, 0, 0x42, 0, 0x92, 9, 0, 0, 0, 8, 0, 0, 0, 0, 0, 0, 0, 1, 0x42, 0, 0x0D, 2, 0, 0,
-    0, 4, 0, 0, 0, 1, 0, 0, 0, 0, 0x42, 0, 0x0F, 1, 0, 0, 0, 0x60, 0x42, 0, 0x5C, 5, 0, 0, 0, 4, 0,
-    0, 0, 0x25, 0, 0, 0, 0, 0x42, 0, 0x7F, 5, 0, 0, 0, 4, 0, 0, 0, 0, 0, 0, 0, 0, 0x42, 0, 0x7C, 1,
-    0, 0, 0, 0x38, 0x42, 0, 0xC2, 8, 0, 0, 0, 0x2B, 0xAB, 0xAB, 0xAB, 0xAB, 0xAB, 0xAB, 0xAB, 0xAB,
-    0xAB, 0xAB, 0xAB, 0xAB, 0xAB, 0xAB, 0xAB, 0xAB, 0xAB, 0xAB, 0xAB, 0xAB, 0xAB, 0xAB, 0xAB, 0xAB,
-    0xAB, 0xAB, 0xAB, 0xAB, 0xAB, 0xAB, 0xAB, 0xAB, 0xAB, 0xAB, 0xAB, 0xAB, 0xAB, 0xAB, 0xAB, 0xAB,
-    0xAB, 0xAB, 0xAB, 0, 0, 0, 0, 0,
-];
+const LONGER_RESPONSE: &str = concat!(
+    "42007B01000000B842007A0100000048420069010000002042006A02000000040000000100000000",
+    "42006B020000000400000002000000004200920900000008000000000000000142000D0200000004",
+    "000000010000000042000F010000006042005C0500000004000000250000000042007F0500000004",
+    "000000000000000042007C01000000384200C2080000002BABABABABABABABABABABABABABABABAB",
+    "ABABABABABABABABABABABABABABABABABABABABABABABABABABAB0000000000",
+);
 
 // A request with a credential, and an item with one of each type.
-const REQUEST: [u8; 224] = [
-    0x42, 0, 0x78, 1, 0, 0, 0, 0xD8, 0x42, 0, 0x77, 1, 0, 0, 0, 0x80, 0x42, 0, 0x69, 1, 0, 0, 0,
-    0x20, 0x42, 0, 0x6A, 2, 0, 0, 0, 4, 0, 0, 0, 1, 0, 0, 0, 0, 0x42, 0, 0x6B, 2, 0, 0, 0, 4, 0, 0,
-    0, 0, 0, 0, 0, 0, 0x42, 0, 0x0C, 1, 0, 0, 0, 0x40, 0x42, 0, 0x23, 1, 0, 0, 0, 0x38, 0x42, 0,
-    0x24, 5, 0, 0, 0, 4, 0, 0, 0, 1, 0, 0, 0, 0, 0x42, 0, 0x25, 1, 0, 0, 0, 0x20, 0x42, 0, 0x99, 7,
-    0, 0, 0, 5, 0x61, 0x6C, 0x69, 0x63, 0x65, 0, 0, 0, 0x42, 0, 0xA1, 7, 0, 0, 0, 6, 0x73, 0x65,
-    0x63, 0x72, 0x65, 0x74, 0, 0, 0x42, 0, 0x0D, 2, 0, 0, 0, 4, 0, 0, 0, 1, 0, 0, 0, 0, 0x42, 0,
-    0x0F, 1, 0, 0, 0, 0x48, 0x42, 0, 0x5C, 5, 0, 0, 0, 4, 0, 0, 0, 8, 0, 0, 0, 0, 0x42, 0, 0x79, 1,
-    0, 0, 0, 0x30, 0x42, 0, 8, 1, 0, 0, 0, 0x28, 0x42, 0, 0x0A, 7, 0, 0, 0, 0x0B, 0x4F, 0x62, 0x6A,
-    0x65, 0x63, 0x74, 0x20, 0x54, 0x79, 0x70, 0x65, 0, 0, 0, 0, 0, 0x42, 0, 0x0B, 5, 0, 0, 0, 4, 0,
-    0, 0, 4, 0, 0, 0, 0,
-];
+const REQUEST: &str = concat!(
+    "42007801000000D84200770100000080420069010000002042006A02000000040000000100000000",
+    "42006B0200000004000000000000000042000C010000004042002301000000384200240500000004",
+    "000000010000000042002501000000204200990700000005616C6963650000004200A10700000006",
+    "736563726574000042000D0200000004000000010000000042000F010000004842005C0500000004",
+    "00000008000000004200790100000030420008010000002842000A070000000B4F626A6563742054",
+    "797065000000000042000B05000000040000000400000000",
+);
 
-const KINDS: [u8; 160] = [
-    0x42, 0, 0x7C, 1, 0, 0, 0, 0x98, 0x54, 0, 2, 2, 0, 0, 0, 4, 0, 0, 0, 1, 0, 0, 0, 0, 0x54, 0, 3,
-    3, 0, 0, 0, 8, 0, 0, 0, 0, 0, 0, 0, 5, 0x54, 0, 4, 4, 0, 0, 0, 8, 0, 0x11, 0x22, 0x33, 0x44,
-    0x55, 0x66, 0x77, 0x54, 0, 5, 5, 0, 0, 0, 4, 0, 0, 0, 0x1F, 0, 0, 0, 0, 0x54, 0, 6, 6, 0, 0, 0,
-    8, 0, 0, 0, 0, 0, 0, 0, 1, 0x54, 0, 7, 7, 0, 0, 0, 2, 0x61, 0x62, 0, 0, 0, 0, 0, 0, 0x54, 0, 8,
-    8, 0, 0, 0, 3, 0xAA, 0xBB, 0xCC, 0, 0, 0, 0, 0, 0x54, 0, 9, 9, 0, 0, 0, 8, 0, 0, 0, 0, 0, 0, 0,
-    1, 0x54, 0, 0x0A, 0x0A, 0, 0, 0, 4, 0, 0, 0, 0x3C, 0, 0, 0, 0, 0x42, 0, 0x7C, 1, 0, 0, 0, 0,
-];
+const KINDS: &str = concat!(
+    "42007C01000000985400020200000004000000010000000054000303000000080000000000000005",
+    "5400040400000008001122334455667754000505000000040000001F000000005400060600000008",
+    "0000000000000001540007070000000261620000000000005400080800000003AABBCC0000000000",
+    "5400090900000008000000000000000154000A0A000000040000003C0000000042007C0100000000",
+);
 
-const TORN_HEAD: [u8; 16] = [0x42, 0, 0x7C, 1, 0, 0, 0, 8, 0x42, 0, 0x94, 7, 0, 0, 0, 1];
+const TORN_HEAD: &str = "42007C01000000084200940700000001";
 
 #[test]
-fn bytes_have_their_diagnostics(rt: HostRuntime) {
+fn bytes_have_their_diagnostics(rt: HostRuntime) -> Result<(), Fail> {
     let response = "7B[7A[69[6Ai6Bi]92d0Di]0F[5Ce25:7Fe0:7C[C2x]]]";
-    for (bytes, want) in [
-        (&RESPONSE[..0], ""),
-        (&RESPONSE[..7], "!"),
-        (&RESPONSE[..8], "7B[!"),
-        (&RESPONSE[..24], "7B[7A[69[!"),
-        (&RESPONSE[..], response),
-        (&LONGER_RESPONSE[..], response),
+    for (hex, size, want) in [
+        (RESPONSE, 0, ""),
+        (RESPONSE, 7, "!"),
+        (RESPONSE, 8, "7B[!"),
+        (RESPONSE, 24, "7B[7A[69[!"),
+        (RESPONSE, 152, response),
+        (LONGER_RESPONSE, 192, response),
         (
-            &REQUEST[..],
+            REQUEST,
+            224,
             "78[77[69[6Ai6Bi]0C[23[24e1:25[99tA1t]]]0Di]0F[5Ce8:79[08[0At0Be4:]]]]",
         ),
         (
-            &KINDS[..],
+            KINDS,
+            160,
             "7C[540002i540003l540004b540005e1F:540006o540007t540008x540009d54000An7C[]]",
         ),
-        (&TORN_HEAD[..], "7C[!"),
+        (TORN_HEAD, 16, "7C[!"),
     ] {
+        let bytes = hex::decode(rt.alloc(), hex)?;
         let mut printer = PrettyPrinter::new();
         printer.with_tag_prefix(0x4200);
-        let Ok(text) = printer.to_diag_string(rt.alloc(), bytes) else {
-            panic!(rt; "no memory")
-        };
+        let bytes = bytes.get(..size).ok_or("too short")?;
+        let text = printer.to_diag_string(rt.alloc(), bytes)?;
         assert_eq!(rt; text.as_str(), want);
     }
+    Ok(())
 }
 
 #[test]
-fn a_printer_has_its_prefix(rt: HostRuntime) {
+fn a_printer_has_its_prefix(rt: HostRuntime) -> Result<(), Fail> {
+    let torn = hex::decode(rt.alloc(), TORN_HEAD)?;
     for (prefix, want) in [
         (None, "42007C[!"),
         (Some(0x4200), "7C[!"),
@@ -88,13 +81,12 @@ fn a_printer_has_its_prefix(rt: HostRuntime) {
         if let Some(prefix) = prefix {
             printer.with_tag_prefix(prefix);
         }
-        let Ok(text) = printer.to_diag_string(rt.alloc(), &TORN_HEAD) else {
-            panic!(rt; "no memory")
-        };
+        let text = printer.to_diag_string(rt.alloc(), &torn)?;
         assert_eq!(rt; text.as_str(), want);
         let is_read = printer.expand(rt.alloc(), "420094t").is_ok();
         assert_eq!(rt; is_read, prefix != Some(0x4200));
     }
+    Ok(())
 }
 
 #[test]
