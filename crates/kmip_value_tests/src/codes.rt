@@ -5,6 +5,7 @@ use kmip_cryptography::{
     HashingAlgorithm, KeyCompressionType, KeyFormatType, KeyRoleType, PaddingMethod,
     WrappingMethod,
 };
+use std::process::Abort;
 use std::test::Fail;
 
 #[test]
@@ -61,6 +62,13 @@ fn names(rt: HostRuntime) -> Result<(), Fail> {
     Ok(())
 }
 
+/// The flag of the name is this bit.
+fn is_flag(rt: &impl Abort, name: &str, bit: u32) -> Result<(), Fail> {
+    let flag = CryptographicUsageMask::from_name(name).ok_or("no flag")?;
+    assert_eq!(rt; flag.bits(), bit);
+    Ok(())
+}
+
 #[test]
 fn usage_mask(rt: HostRuntime) -> Result<(), Fail> {
     let both = CryptographicUsageMask::Sign.union(CryptographicUsageMask::Verify);
@@ -74,8 +82,7 @@ fn usage_mask(rt: HostRuntime) -> Result<(), Fail> {
         "Sign Verify Encrypt Decrypt WrapKey UnwrapKey Export MacGenerate MacVerify DeriveKey ContentCommitmentNonRepudiation KeyAgreement CertificateSign CrlSign GenerateCryptogram ValidateCryptogram TranslateEncrypt TranslateDecrypt TranslateWrap TranslateUnwrap";
     let mut bit = 1u32;
     for name in names.split(' ') {
-        let flag = CryptographicUsageMask::from_name(name).ok_or("no flag")?;
-        assert_eq!(rt; flag.bits(), bit, "at {name}");
+        is_flag(&rt, name, bit)?;
         bit = bit.rotate_left(1);
     }
     assert_eq!(rt; bit, 0x100000);

@@ -1,13 +1,9 @@
-use crate::support::has_names;
+use crate::support::{children_are, has_names, is_shown, is_unread};
 use kmip_enums::{
     CertificateType, CredentialType, Enumeration, LinkType, NameType, ObjectType, Operation,
     QueryFunction, ResultReason, ResultStatus, RevocationReasonCode, State,
 };
-use kmip_shape::ShowItem;
-use kmip_shape::children::{read_list, read_one, read_opt};
-use kmip_shape::read::{Outer, ReadError, ReadItem};
 use kmip_tags::tags::{OBJECT_TYPE, OPERATION};
-use kmip_wire::{ItemRef, Tag, Text};
 use std::test::Fail;
 
 #[test]
@@ -89,31 +85,20 @@ const ONE: &str = "42007C010000001042005C05000000040000000100000000";
 #[test]
 fn readers(rt: HostRuntime) -> Result<(), Fail> {
     let alloc = rt.alloc();
-    let outer = Outer::none();
-    for hex in [INTEGER, NO_OPERATION] {
-        let bytes = hex::decode(alloc, hex)?;
-        let item = ItemRef::root(bytes.as_slice()).ok_or("no item")?;
-        assert!(rt; Operation::read(alloc, outer, item) == Err(ReadError::Unread));
-    }
-    let operation = Tag::of(OPERATION);
-    let bytes = hex::decode(alloc, TWO)?;
-    let two = ItemRef::root(bytes.as_slice()).ok_or("no item")?;
-    assert!(rt; read_one::<Operation>(alloc, outer, two, operation) == Err(ReadError::Unread));
-    assert!(rt; read_opt::<Operation>(alloc, outer, two, operation) == Err(ReadError::Unread));
-    let both = read_list::<Operation>(alloc, outer, two, operation)?;
-    assert!(rt; both.as_slice() == [Operation::Create, Operation::Query].as_slice());
-
-    let bytes = hex::decode(alloc, ONE)?;
-    let one = ItemRef::root(bytes.as_slice()).ok_or("no item")?;
-    assert!(rt; read_one::<Operation>(alloc, outer, one, operation)? == Operation::Create);
-    assert!(rt; read_opt::<Operation>(alloc, outer, one, operation)? == Some(Operation::Create));
-    let mut shown = Text::new(alloc);
-    Operation::Create.show(alloc, &mut shown)?;
-    assert_eq!(rt; shown.as_str(), "Create");
-
-    let object_type = Tag::of(OBJECT_TYPE);
-    assert!(rt; read_one::<ObjectType>(alloc, outer, one, object_type) == Err(ReadError::Unread));
-    assert!(rt; read_opt::<ObjectType>(alloc, outer, one, object_type)?.is_none());
-    assert!(rt; read_list::<ObjectType>(alloc, outer, one, object_type)?.len() == 0);
-    Ok(())
+    is_unread::<Operation>(&rt, alloc, INTEGER)?;
+    is_unread::<Operation>(&rt, alloc, NO_OPERATION)?;
+    let both = [Operation::Create, Operation::Query];
+    children_are::<Operation>(&rt, alloc, TWO, OPERATION, None, None, Some(&both))?;
+    let first = Some(Operation::Create);
+    children_are::<Operation>(
+        &rt,
+        alloc,
+        ONE,
+        OPERATION,
+        first,
+        Some(first),
+        Some(&both[..1]),
+    )?;
+    children_are::<ObjectType>(&rt, alloc, ONE, OBJECT_TYPE, None, Some(None), Some(&[]))?;
+    is_shown(&rt, alloc, &Operation::Create, "Create")
 }

@@ -27,9 +27,7 @@ fn are_json<T: ReadItem + ShowItem>(
         let bytes = hex::decode(alloc, case.hex)?;
         let item = ItemRef::root(bytes.as_slice()).ok_or("no item")?;
         let value = T::read(alloc, case.under.outer(), item)?;
-        let mut text = Text::new(alloc);
-        value.show_json(alloc, &mut text)?;
-        assert_eq!(rt; text.as_str(), case.json);
+        is_json(rt, alloc, &value, case.json)?;
     }
     Ok(())
 }
@@ -116,35 +114,26 @@ fn materials(rt: HostRuntime) -> Result<(), Fail> {
     are_json::<KeyMaterial>(&rt, rt.alloc(), &MATERIALS)
 }
 
-/// The JSON of a value.
-fn json_of<T: ShowItem>(alloc: Global, value: &T) -> Result<Text, Fail> {
-    let mut out = Text::new(alloc);
-    value.show_json(alloc, &mut out)?;
-    Ok(out)
+/// The JSON of the value is this.
+fn is_json<T: ShowItem>(rt: &impl Abort, alloc: Global, value: &T, json: &str) -> Result<(), Fail> {
+    let mut text = Text::new(alloc);
+    value.show_json(alloc, &mut text)?;
+    assert_eq!(rt; text.as_str(), json);
+    Ok(())
 }
 
 #[test]
 fn plain(rt: HostRuntime) -> Result<(), Fail> {
     let alloc = rt.alloc();
+    let none = CryptographicParameters::default();
+    is_json(&rt, alloc, &none, "{}")?;
+    let padded = none.with_padding_method(PaddingMethod::OAEP);
+    is_json(&rt, alloc, &padded, "{\"padding_method\":\"OAEP\"}")?;
+    is_json(&rt, alloc, &Timestamp(-1), "18446744073709551615")?;
+    is_json(&rt, alloc, &Blob::of(alloc, &[0x0A, 0xFF])?, "\"0AFF\"")?;
     let text = Text::of(alloc, "\0\"b\\c\n\u{1f}\u{7f}\u{e9}")?;
     let expected = "\"\\u0000\\\"b\\\\c\\u000A\\u001F\\u007F\u{e9}\"";
-    assert_eq!(&rt; json_of(alloc, &text)?.as_str(), expected);
-    let bytes = Blob::of(alloc, &[0x0A, 0xFF])?;
-    assert_eq!(&rt; json_of(alloc, &bytes)?.as_str(), "\"0AFF\"");
-    let padded = CryptographicParameters::default().with_padding_method(PaddingMethod::OAEP);
-    assert_eq!(&rt;
-        json_of(alloc, &padded)?.as_str(),
-        "{\"padding_method\":\"OAEP\"}"
-    );
-    assert_eq!(&rt;
-        json_of(alloc, &CryptographicParameters::default())?.as_str(),
-        "{}"
-    );
-    assert_eq!(&rt;
-        json_of(alloc, &Timestamp(-1))?.as_str(),
-        "18446744073709551615"
-    );
-    Ok(())
+    is_json(&rt, alloc, &text, expected)
 }
 
 #[test]

@@ -1,58 +1,50 @@
-use crate::support::{are_read, comes_back, plain};
+use crate::support::{comes_back, comes_back_copied, is_printed, is_unread};
 use kmip_scalars::{
     ApplicationData, ApplicationNamespace, AttributeIndex, AttributeName, CompromiseOccurrenceDate,
     CounterLength, CryptographicLength, Data, DataLength, FixedFieldLength, IVLength,
     InitialCounterValue, InvocationFieldLength, LinkedObjectIdentifier, NameValue, RandomIV,
     RevocationMessage, TagLength, UniqueBatchItemID, UniqueIdentifier,
 };
-use kmip_shape::read::{Outer, ReadError, ReadItem};
-use kmip_wire::{Blob, ItemRef, Text};
+use kmip_wire::{Blob, Text};
+use std::process::Abort;
 use std::test::Fail;
 
 #[test]
 fn items(rt: HostRuntime) -> Result<(), Fail> {
     let alloc = rt.alloc();
     // 02 "k1"
-    are_read::<ApplicationData>(
-        &rt,
-        alloc,
-        &[plain("42000207000000026B31000000000000", "\"k1\"")],
-    )?;
+    comes_back_copied::<ApplicationData>(&rt, alloc, "42000207000000026B31000000000000", "\"k1\"")?;
     // 03 "k1"
-    are_read::<ApplicationNamespace>(
+    comes_back_copied::<ApplicationNamespace>(
         &rt,
         alloc,
-        &[plain("42000307000000026B31000000000000", "\"k1\"")],
+        "42000307000000026B31000000000000",
+        "\"k1\"",
     )?;
     // 0A "k1"
-    are_read::<AttributeName>(
-        &rt,
-        alloc,
-        &[plain("42000A07000000026B31000000000000", "\"k1\"")],
-    )?;
+    comes_back_copied::<AttributeName>(&rt, alloc, "42000A07000000026B31000000000000", "\"k1\"")?;
     // 4C "k1"
-    are_read::<LinkedObjectIdentifier>(
+    comes_back_copied::<LinkedObjectIdentifier>(
         &rt,
         alloc,
-        &[plain("42004C07000000026B31000000000000", "\"k1\"")],
+        "42004C07000000026B31000000000000",
+        "\"k1\"",
     )?;
     // 55 "k1"
-    are_read::<NameValue>(
-        &rt,
-        alloc,
-        &[plain("42005507000000026B31000000000000", "\"k1\"")],
-    )?;
+    comes_back_copied::<NameValue>(&rt, alloc, "42005507000000026B31000000000000", "\"k1\"")?;
     // 80 "k1"
-    are_read::<RevocationMessage>(
+    comes_back_copied::<RevocationMessage>(
         &rt,
         alloc,
-        &[plain("42008007000000026B31000000000000", "\"k1\"")],
+        "42008007000000026B31000000000000",
+        "\"k1\"",
     )?;
     // 94 "k1"
-    are_read::<UniqueIdentifier>(
+    comes_back_copied::<UniqueIdentifier>(
         &rt,
         alloc,
-        &[plain("42009407000000026B31000000000000", "\"k1\"")],
+        "42009407000000026B31000000000000",
+        "\"k1\"",
     )?;
     // tag 420009, Integer -5
     comes_back::<AttributeIndex>(&rt, alloc, "4200090200000004FFFFFFFB00000000", "-5")?;
@@ -75,16 +67,18 @@ fn items(rt: HostRuntime) -> Result<(), Fail> {
     // C5 o1
     comes_back::<RandomIV>(&rt, alloc, "4200C506000000080000000000000001", "true")?;
     // C2 xDEADBEEF
-    are_read::<Data>(
+    comes_back_copied::<Data>(
         &rt,
         alloc,
-        &[plain("4200C20800000004DEADBEEF00000000", "x\"DEADBEEF\"")],
+        "4200C20800000004DEADBEEF00000000",
+        "x\"DEADBEEF\"",
     )?;
     // 93 xDEADBEEF
-    are_read::<UniqueBatchItemID>(
+    comes_back_copied::<UniqueBatchItemID>(
         &rt,
         alloc,
-        &[plain("4200930800000004DEADBEEF00000000", "x\"DEADBEEF\"")],
+        "4200930800000004DEADBEEF00000000",
+        "x\"DEADBEEF\"",
     )?;
     // 21 d1700000000
     comes_back::<CompromiseOccurrenceDate>(
@@ -94,24 +88,34 @@ fn items(rt: HostRuntime) -> Result<(), Fail> {
         "1700000000",
     )?;
     // 94 xDEADBEEF
-    let bytes = hex::decode(alloc, "4200940800000004DEADBEEF00000000")?;
-    let item = ItemRef::root(bytes.as_slice()).ok_or("no item")?;
-    assert!(rt; UniqueIdentifier::read(alloc, Outer::none(), item) == Err(ReadError::Unread));
-    Ok(())
+    is_unread::<UniqueIdentifier>(&rt, alloc, "4200940800000004DEADBEEF00000000")
+}
+
+fn is_identifier(rt: &impl Abort, identifier: &UniqueIdentifier) {
+    assert_eq!(rt; identifier.as_str(), "k1");
+    assert!(rt; identifier.is("k1"));
+    assert!(rt; !identifier.is("k12"));
+    assert!(rt; !identifier.is(""));
+}
+
+fn is_name(rt: &impl Abort, name: &AttributeName) {
+    assert!(rt; name.is("State"));
+    assert!(rt; !name.is("state"));
+}
+
+fn is_batch_item(rt: &impl Abort, batch_item: &UniqueBatchItemID) {
+    assert!(rt; batch_item.is(&[1, 2]));
+    assert!(rt; !batch_item.is(&[1]));
 }
 
 #[test]
 fn parts(rt: HostRuntime) -> Result<(), Fail> {
     let alloc = rt.alloc();
-    let identifier = UniqueIdentifier(Text::of(alloc, "k1")?);
-    assert_eq!(rt; identifier.as_str(), "k1");
-    assert!(rt; identifier.is("k1") && !identifier.is("k12") && !identifier.is(""));
-    let name = AttributeName(Text::of(alloc, "State")?);
-    assert!(rt; name.is("State") && !name.is("state"));
-    assert!(rt; AttributeIndex(-1).is(-1) && !AttributeIndex(-1).is(1));
-    let batch_item = UniqueBatchItemID(Blob::of(alloc, &[1, 2])?);
-    assert!(rt; batch_item.is(&[1, 2]) && !batch_item.is(&[1]));
+    is_identifier(&rt, &UniqueIdentifier(Text::of(alloc, "k1")?));
+    is_name(&rt, &AttributeName(Text::of(alloc, "State")?));
+    is_batch_item(&rt, &UniqueBatchItemID(Blob::of(alloc, &[1, 2])?));
+    assert!(rt; AttributeIndex(-1).is(-1));
+    assert!(rt; !AttributeIndex(-1).is(1));
     let name_value = NameValue(Text::of(alloc, "disk \"1\"")?);
-    assert_eq!(rt; format!(in alloc; "{name_value}")?.as_str(), "disk \"1\"");
-    Ok(())
+    is_printed(&rt, alloc, &name_value, "disk \"1\"")
 }

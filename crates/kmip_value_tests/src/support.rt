@@ -1,8 +1,14 @@
-//! What several tables share.
+//! What several tests share. A value of many variants is taken by a generic function, which lets it go: where its type stands, each
+//! exit would be proved for each variant.
 
-use kmip_shape::{Outer, ReadError, ReadItem, ShowItem, WriteItem, to_blob};
-use kmip_wire::{ItemRef, Text, TryClone};
+use kmip_shape::{
+    Enumeration, Outer, ReadError, ReadItem, ShowItem, WriteItem, item_len, read_list, read_one,
+    read_opt, to_blob,
+};
+use kmip_wire::{ItemRef, Tag, Text, TryClone};
 use std::alloc::Global;
+use std::fmt::Display;
+use std::ops::Range;
 use std::process::Abort;
 use std::test::Fail;
 
@@ -44,70 +50,194 @@ pub struct Case {
     pub shown: Option<&'static str>,
 }
 
-/// An item that no chooser stands above.
-pub fn plain(hex: &'static str, shown: &'static str) -> Case {
-    Case {
-        under: Under::Nothing,
-        hex,
-        shown: Some(shown),
-    }
-}
-
-/// Each item is read exactly where it shows something, is written as the same bytes, and has a copy that equals it.
-pub fn are_read<T: ReadItem + WriteItem + ShowItem + TryClone + PartialEq>(
-    rt: &impl Abort,
-    alloc: Global,
-    cases: &[Case],
-) -> Result<(), Fail> {
-    for case in cases {
-        let bytes = hex::decode(alloc, case.hex)?;
-        let item = ItemRef::root(bytes.as_slice()).ok_or("no item")?;
-        match (T::read(alloc, case.under.outer(), item), case.shown) {
-            (Ok(value), Some(shown)) => {
-                let mut text = Text::new(alloc);
-                value.show(alloc, &mut text)?;
-                assert_eq!(rt; text.as_str(), shown);
-                assert!(rt; to_blob(alloc, &value, item.tag())?.as_slice() == bytes.as_slice());
-                assert!(rt; value.try_clone(alloc)? == value);
-            }
-            (Err(ReadError::Unread), None) => {}
-            _ => return Err(Fail::from("read otherwise")),
-        }
-    }
-    Ok(())
-}
-
-/// The item reads as a value that is written as the same bytes and shown as the text.
-pub fn comes_back<T: ReadItem + WriteItem + ShowItem>(
-    rt: &impl Abort,
-    alloc: Global,
-    hex: &str,
-    shown: &str,
-) -> Result<(), Fail> {
+/// The value of an item, and none where it is not read.
+fn read<T: ReadItem>(alloc: Global, under: Under, hex: &str) -> Result<Option<T>, Fail> {
     let bytes = hex::decode(alloc, hex)?;
     let item = ItemRef::root(bytes.as_slice()).ok_or("no item")?;
-    let value = T::read(alloc, Outer::none(), item)?;
-    assert!(rt; to_blob(alloc, &value, item.tag())?.as_slice() == bytes.as_slice());
+    match T::read(alloc, under.outer(), item) {
+        Ok(value) => Ok(Some(value)),
+        Err(ReadError::Unread) => Ok(None),
+        Err(ReadError::OutOfMemory) => Err(Fail::from("out of memory")),
+    }
+}
+
+/// The value is shown as this text.
+pub fn is_shown<T: ShowItem>(
+    rt: &impl Abort,
+    alloc: Global,
+    value: &T,
+    shown: &str,
+) -> Result<(), Fail> {
     let mut text = Text::new(alloc);
     value.show(alloc, &mut text)?;
     assert_eq!(rt; text.as_str(), shown);
     Ok(())
 }
 
-/// The variants of the numbers print the words, and the number after them has no variant.
-pub fn has_names<T: kmip_shape::Enumeration + std::fmt::Display>(
+/// The value is written as this item.
+pub fn is_written<T: WriteItem>(
     rt: &impl Abort,
     alloc: Global,
-    numbers: std::ops::Range<u32>,
+    value: &T,
+    hex: &str,
+) -> Result<(), Fail> {
+    let bytes = hex::decode(alloc, hex)?;
+    let item = ItemRef::root(bytes.as_slice()).ok_or("no item")?;
+    let written = to_blob(alloc, value, item.tag())?;
+    assert!(rt; written.as_slice() == bytes.as_slice());
+    Ok(())
+}
+
+/// The value has a copy that equals it.
+pub fn is_copied<T: TryClone + PartialEq + Drop>(
+    rt: &impl Abort,
+    alloc: Global,
+    value: &T,
+) -> Result<(), Fail> {
+    let copy = value.try_clone(alloc)?;
+    assert!(rt; copy == *value);
+    Ok(())
+}
+
+/// The item is read as a value that is shown as the text and written as the same bytes.
+pub fn comes_back<T: ReadItem + WriteItem + ShowItem>(
+    rt: &impl Abort,
+    alloc: Global,
+    hex: &str,
+    shown: &str,
+) -> Result<(), Fail> {
+    let value: T = read(alloc, Under::Nothing, hex)?.ok_or("not read")?;
+    is_shown(rt, alloc, &value, shown)?;
+    is_written(rt, alloc, &value, hex)
+}
+
+/// The item is not read, where no chooser stands above it.
+pub fn is_unread<T: ReadItem>(rt: &impl Abort, alloc: Global, hex: &str) -> Result<(), Fail> {
+    let value: Option<T> = read(alloc, Under::Nothing, hex)?;
+    assert!(rt; value.is_none());
+    Ok(())
+}
+
+/// The item comes back, and its value has a copy.
+pub fn comes_back_copied<T: ReadItem + WriteItem + ShowItem + TryClone + PartialEq>(
+    rt: &impl Abort,
+    alloc: Global,
+    hex: &str,
+    shown: &str,
+) -> Result<(), Fail> {
+    is_case::<T>(rt, alloc, Under::Nothing, hex, Some(shown))
+}
+
+/// The item is read exactly where it shows something, is written as the same bytes, and has a copy that equals it.
+fn is_case<T: ReadItem + WriteItem + ShowItem + TryClone + PartialEq>(
+    rt: &impl Abort,
+    alloc: Global,
+    under: Under,
+    hex: &str,
+    shown: Option<&str>,
+) -> Result<(), Fail> {
+    let Some(value) = read::<T>(alloc, under, hex)? else {
+        assert!(rt; shown.is_none());
+        return Ok(());
+    };
+    is_shown(rt, alloc, &value, shown.ok_or("read")?)?;
+    is_written(rt, alloc, &value, hex)?;
+    is_copied(rt, alloc, &value)
+}
+
+/// Each item is as its case says.
+pub fn are_read<T: ReadItem + WriteItem + ShowItem + TryClone + PartialEq>(
+    rt: &impl Abort,
+    alloc: Global,
+    cases: &[Case],
+) -> Result<(), Fail> {
+    for case in cases {
+        is_case::<T>(rt, alloc, case.under, case.hex, case.shown)?;
+    }
+    Ok(())
+}
+
+/// The item is read as this value.
+pub fn reads_as<T: ReadItem + PartialEq>(
+    rt: &impl Abort,
+    alloc: Global,
+    under: Under,
+    hex: &str,
+    expected: T,
+) -> Result<(), Fail> {
+    let value: T = read(alloc, under, hex)?.ok_or("not read")?;
+    assert!(rt; value == expected);
+    Ok(())
+}
+
+/// What children of the tag are read as: as one, as one that may be absent, and as a list.
+pub fn children_are<T: ReadItem + PartialEq>(
+    rt: &impl Abort,
+    alloc: Global,
+    hex: &str,
+    tag: u32,
+    one: Option<T>,
+    optional: Option<Option<T>>,
+    list: Option<&[T]>,
+) -> Result<(), Fail> {
+    let (tag, outer) = (Tag::of(tag), Outer::none());
+    let bytes = hex::decode(alloc, hex)?;
+    let parent = ItemRef::root(bytes.as_slice()).ok_or("no item")?;
+    assert!(rt; read_one::<T>(alloc, outer, parent, tag) == one.ok_or(ReadError::Unread));
+    assert!(rt; read_opt::<T>(alloc, outer, parent, tag) == optional.ok_or(ReadError::Unread));
+    match read_list::<T>(alloc, outer, parent, tag) {
+        Ok(read) => assert!(rt; list == Some(read.as_slice())),
+        Err(error) => assert!(rt; list.is_none() && error == ReadError::Unread),
+    }
+    Ok(())
+}
+
+pub fn are_equal<T: PartialEq + Drop>(value: T, expected: T) -> bool {
+    value == expected
+}
+
+/// The length of the value as an item.
+pub fn len_of<T: WriteItem + Drop>(value: T, tag: Tag) -> Option<u64> {
+    item_len(&value, tag)
+}
+
+/// The value prints this text.
+pub fn is_printed<T: Display>(
+    rt: &impl Abort,
+    alloc: Global,
+    value: &T,
+    text: &str,
+) -> Result<(), Fail> {
+    let printed = format!(in alloc; "{value}")?;
+    assert_eq!(rt; printed.as_str(), text);
+    Ok(())
+}
+
+/// The variant of the number prints the name.
+fn is_named<T: Enumeration + Display>(
+    rt: &impl Abort,
+    alloc: Global,
+    number: u32,
+    name: &str,
+) -> Result<(), Fail> {
+    let variant = T::from_number(number).ok_or("no variant")?;
+    assert_eq!(rt; variant.number(), number);
+    is_printed(rt, alloc, &variant, name)
+}
+
+/// The variants of the numbers print the words, and the number after them has no variant.
+pub fn has_names<T: Enumeration + Display>(
+    rt: &impl Abort,
+    alloc: Global,
+    numbers: Range<u32>,
     names: &str,
 ) -> Result<(), Fail> {
-    let names: Vec<&str> = names.split(' ').collect(alloc)?;
-    assert_eq!(rt; numbers.len(), names.len());
-    assert!(rt; T::from_number(numbers.end).is_none());
-    for (number, name) in numbers.zip(names.iter()) {
-        let variant = T::from_number(number).ok_or("no variant")?;
-        assert_eq!(rt; variant.number(), number);
-        assert_eq!(rt; format!(in alloc; "{variant}")?.as_str(), *name);
+    let mut left = numbers;
+    for name in names.split(' ') {
+        let number = left.next().ok_or("more names")?;
+        is_named::<T>(rt, alloc, number, name)?;
     }
+    assert!(rt; left.is_empty());
+    assert!(rt; T::from_number(left.end).is_none());
     Ok(())
 }

@@ -1,10 +1,9 @@
 use crate::support::Under::{Name, Nothing};
-use crate::support::{Case, are_read};
+use crate::support::{Case, are_equal, are_read, is_written, len_of, reads_as};
 use kmip_cryptography::{HashingAlgorithm, PaddingMethod};
-use kmip_shape::{Outer, ReadItem, item_len, to_blob};
-use kmip_tags::tags::{ATTRIBUTE_VALUE, CRYPTOGRAPHIC_PARAMETERS};
+use kmip_tags::tags::ATTRIBUTE_VALUE;
 use kmip_types::{AttributeValue, CryptographicParameters, Values};
-use kmip_wire::{Blob, ItemRef, Tag, TryClone};
+use kmip_wire::{Blob, Tag, TryClone};
 use std::alloc::Global;
 use std::test::Fail;
 
@@ -175,27 +174,21 @@ const DIGEST: &str =
 
 /// The custom structure of a digest: an enumeration and bytes.
 fn digest(alloc: Global) -> Result<Values, Fail> {
+    let bytes = Blob::of(alloc, b"\xAA\xBB")?;
     let mut members = Values::new(alloc);
     members.push(AttributeValue::Enumeration(6))?;
-    members.push(AttributeValue::ByteString(Blob::of(alloc, b"\xAA\xBB")?))?;
+    members.push(AttributeValue::ByteString(bytes))?;
     Ok(members)
-}
-
-/// Whether the item is read as this value.
-fn reads_as(alloc: Global, hex: &str, expected: &AttributeValue) -> Result<bool, Fail> {
-    let bytes = hex::decode(alloc, hex)?;
-    let item = ItemRef::root(bytes.as_slice()).ok_or("no item")?;
-    Ok(AttributeValue::read(alloc, Name("Digest").outer(), item)? == *expected)
 }
 
 #[test]
 fn children_of_any_tag(rt: HostRuntime) -> Result<(), Fail> {
     let members = digest(rt.alloc())?;
     assert!(&rt; members.len() == 2);
-    assert!(&rt; members.get(0) == Some(&AttributeValue::Enumeration(6)));
+    assert!(&rt; matches!(members.get(0), Some(AttributeValue::Enumeration(6))));
     assert!(&rt; members.get(2).is_none());
-    assert!(&rt; reads_as(rt.alloc(), DIGEST, &AttributeValue::Structure(members))?);
-    Ok(())
+    let expected = AttributeValue::Structure(members);
+    reads_as(&rt, rt.alloc(), Name("Digest"), DIGEST, expected)
 }
 
 #[test]
@@ -208,29 +201,26 @@ fn members_are_copied_and_compared(rt: HostRuntime) -> Result<(), Fail> {
     Ok(())
 }
 
-/// The length of a value as an item.
-fn len_of(value: &AttributeValue) -> Option<u64> {
-    item_len(value, Tag::of(ATTRIBUTE_VALUE))
-}
-
-/// That of a structure with this one member.
-fn len_around(alloc: Global, member: AttributeValue) -> Result<Option<u64>, Fail> {
+/// The structure of this one member.
+fn structure_of(alloc: Global, member: AttributeValue) -> Result<AttributeValue, Fail> {
     let mut members = Values::new(alloc);
     members.push(member)?;
-    Ok(len_of(&AttributeValue::Structure(members)))
+    Ok(AttributeValue::Structure(members))
 }
 
 #[test]
 fn without_a_form(rt: HostRuntime) -> Result<(), Fail> {
     let alloc = rt.alloc();
+    let tag = Tag::of(ATTRIBUTE_VALUE);
     let seven = Blob::of(alloc, &[0; 7])?;
+    assert!(&rt; len_of(AttributeValue::BigInteger(seven), tag).is_none());
     let eight = Blob::of(alloc, &[0; 8])?;
-    assert!(&rt; len_of(&AttributeValue::BigInteger(seven)).is_none());
-    assert!(&rt; len_of(&AttributeValue::BigInteger(eight)) == Some(16));
-    let empty = AttributeValue::Structure(Values::new(alloc));
-    assert!(&rt; len_around(alloc, empty)?.is_none());
-    let default = AttributeValue::from(CryptographicParameters::default());
-    assert!(&rt; len_around(alloc, default)?.is_none());
+    assert!(&rt; len_of(AttributeValue::BigInteger(eight), tag) == Some(16));
+    let empty = structure_of(alloc, AttributeValue::Structure(Values::new(alloc)))?;
+    assert!(&rt; len_of(empty, tag).is_none());
+    let parameters = AttributeValue::from(CryptographicParameters::default());
+    let structure = structure_of(alloc, parameters)?;
+    assert!(&rt; len_of(structure, tag).is_none());
     Ok(())
 }
 
@@ -244,17 +234,13 @@ const HASHED: &str =
 #[test]
 fn cryptographic_parameters(rt: HostRuntime) -> Result<(), Fail> {
     let alloc = rt.alloc();
-    let tag = Tag::of(CRYPTOGRAPHIC_PARAMETERS);
     let padded = CryptographicParameters::default().with_padding_method(PaddingMethod::PKCS1_v1_5);
-    assert!(&rt;
-        to_blob(alloc, &padded, tag)?.as_slice() == hex::decode(alloc, PADDED)?.as_slice()
-    );
+    is_written(&rt, alloc, &padded, PADDED)?;
     let hashed = padded.with_hashing_algorithm(HashingAlgorithm::SHA256);
-    let bytes = hex::decode(alloc, HASHED)?;
-    assert!(&rt; to_blob(alloc, &hashed, tag)?.as_slice() == bytes.as_slice());
-    let item = ItemRef::root(bytes.as_slice()).ok_or("no item")?;
-    assert!(&rt; CryptographicParameters::read(alloc, Outer::none(), item)? == hashed);
+    is_written(&rt, alloc, &hashed, HASHED)?;
+    reads_as(&rt, alloc, Nothing, HASHED, hashed)?;
     assert!(&rt; hashed != padded);
-    assert!(&rt; AttributeValue::from(hashed) == AttributeValue::CryptographicParameters(hashed));
+    let expected = AttributeValue::CryptographicParameters(hashed);
+    assert!(&rt; are_equal(AttributeValue::from(hashed), expected));
     Ok(())
 }
