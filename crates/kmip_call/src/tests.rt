@@ -1,6 +1,6 @@
 //! The program over sinks and sources in memory. The bytes of the rows were written by an encoder of their own, after
 //! KMIP 1.0, 9.1, and the lines by hand.
-use crate::command::{Command, Order, command_of};
+use crate::command::{Command, command_of};
 use crate::program::run;
 use kmip_client::Error;
 use kmip_link::{MemoryLink, MemorySink, MemorySource};
@@ -433,6 +433,10 @@ fn is_hex(
     Ok(())
 }
 
+fn is_text(rt: &impl Abort, bytes: &[u8], text: &str, shows: &str) {
+    assert_eq!(rt; bytes, text.as_bytes(), "{shows}");
+}
+
 /// That the program ended with this status, and did what the row says.
 fn is_as_told(
     rt: &impl Abort,
@@ -441,39 +445,40 @@ fn is_as_told(
     ends: &mut Ends,
     row: &Row,
 ) -> Result<(), Fail> {
-    assert_eq!(rt; ends.told.written(), row.line.as_bytes(), "{}", row.shows);
-    assert_eq!(rt; status, row.status, "{}", row.shows);
-    assert_eq!(rt; ends.kept.written(), row.record.as_bytes(), "{}", row.shows);
-    is_hex(rt, alloc, ends.wire.written(), row.sent, row.shows)?;
+    let left = left_in(alloc, &mut ends.source)?;
+    is_text(rt, ends.told.written(), row.line, row.shows);
     assert_eq!(rt;
-        left_in(alloc, &mut ends.source)?,
-        row.left,
+        [status as usize, left],
+        [row.status as usize, row.left],
         "{}",
         row.shows
     );
-    Ok(())
+    is_text(rt, ends.kept.written(), row.record, row.shows);
+    is_hex(rt, alloc, ends.wire.written(), row.sent, row.shows)
+}
+
+/// Runs the program on a command, where that is a call.
+fn ordered(alloc: Global, command: &Option<Command>, ends: &mut Ends) -> u8 {
+    match command {
+        Some(Command::Make(order)) => run(
+            alloc,
+            order,
+            &mut ends.wire,
+            &mut ends.source,
+            &mut ends.kept,
+            &mut ends.told,
+        ),
+        _ => 2,
+    }
 }
 
 /// That the program does what the row says.
 fn is_made(rt: &impl Abort, alloc: Global, row: &Row) -> Result<(), Fail> {
     let mut ends = ends_of(alloc, row)?;
-    let status = match commanded(alloc, row.words, row.password)? {
-        Some(Command::Make(order)) => ordered(alloc, &order, &mut ends),
-        _ => 2,
-    };
+    let command = commanded(alloc, row.words, row.password)?;
+    let status = ordered(alloc, &command, &mut ends);
+    drop(command);
     is_as_told(rt, alloc, status, &mut ends, row)
-}
-
-/// Runs the program on an order.
-fn ordered(alloc: Global, order: &Order, ends: &mut Ends) -> u8 {
-    run(
-        alloc,
-        order,
-        &mut ends.wire,
-        &mut ends.source,
-        &mut ends.kept,
-        &mut ends.told,
-    )
 }
 
 #[test]
@@ -486,14 +491,25 @@ fn calls_are_made(rt: HostRuntime) -> Result<(), Fail> {
     Ok(())
 }
 
+/// What these words ask for.
+fn asked(alloc: Global, words: &[&str]) -> Result<&'static str, Fail> {
+    let command = commanded(alloc, words, None)?;
+    let name = match &command {
+        Some(Command::Help) => "help",
+        Some(Command::Version) => "version",
+        Some(Command::Make(_)) => "a call",
+        None => "nothing",
+    };
+    drop(command);
+    Ok(name)
+}
+
 #[test]
 fn help_and_version_are_words_alone(rt: HostRuntime) -> Result<(), Fail> {
-    let help = commanded(rt.alloc(), &["--help"], None)?;
-    assert!(rt; matches!(help, Some(Command::Help)));
-    let version = commanded(rt.alloc(), &["--version"], None)?;
-    assert!(rt; matches!(version, Some(Command::Version)));
-    let more = commanded(rt.alloc(), &["--version", "query"], None)?;
-    assert!(rt; matches!(more, Some(Command::Make(_))));
+    let help = asked(rt.alloc(), &["--help"])?;
+    let version = asked(rt.alloc(), &["--version"])?;
+    let more = asked(rt.alloc(), &["--version", "query"])?;
+    assert_eq!(rt; [help, version, more], ["help", "version", "a call"]);
     Ok(())
 }
 
@@ -508,25 +524,32 @@ fn typed(alloc: Global) -> Result<Call, Fail> {
 
 /// Whether a script holds this line.
 fn is_call(alloc: Global, line: &[u8]) -> Result<bool, Fail> {
-    Ok(call_of(alloc, line)?.is_some())
+    let call = call_of(alloc, line)?;
+    let is_call = call.is_some();
+    drop(call);
+    Ok(is_call)
 }
 
 #[test]
 fn words_are_read(rt: HostRuntime) -> Result<(), Fail> {
     let alloc = rt.alloc();
-    assert!(rt; matches!(words_of(alloc, "rng 16")?, Some(words) if words.len() == 2));
-    assert!(rt; is_call(alloc, b"rng 16 -".as_slice())?);
-    assert!(rt; !is_call(alloc, b"rng 16".as_slice())?);
-    assert!(rt; matches!(copy_text(alloc, Some("a"))?, Some(copy) if copy.as_str() == "a"));
+    let scripted = is_call(alloc, b"rng 16 -".as_slice())?;
+    let typed = is_call(alloc, b"rng 16".as_slice())?;
+    assert!(rt; scripted);
+    assert!(rt; !typed);
+    let words = words_of(alloc, "rng 16")?.ok_or("no words")?;
+    assert_eq!(rt; words.len(), 2);
+    let copy = copy_text(alloc, Some("a"))?.ok_or("no copy")?;
+    assert_eq!(rt; copy.as_str(), "a");
     Ok(())
 }
 
 #[test]
 fn digits_are_bytes(rt: HostRuntime) -> Result<(), Fail> {
+    let none = bytes_of(rt.alloc(), "00f")?;
+    assert!(rt; none.is_none());
     let bytes = bytes_of(rt.alloc(), "00fF")?.ok_or("no bytes")?;
-    is_hex(&rt, rt.alloc(), bytes.as_slice(), "00FF", "digits")?;
-    assert!(rt; bytes_of(rt.alloc(), "00f")?.is_none());
-    Ok(())
+    is_hex(&rt, rt.alloc(), bytes.as_slice(), "00FF", "digits")
 }
 
 /// The request of that call, without a credential.
@@ -579,11 +602,18 @@ fn a_response_is_a_line(rt: HostRuntime) -> Result<(), Fail> {
     Ok(())
 }
 
+/// The ending of a call with this error.
+fn shown(alloc: Global, error: Error, line: &mut Text) -> Result<Ending, Fail> {
+    let ending = show_error(alloc, Style::Bare, &error, line);
+    drop(error);
+    Ok(ending?)
+}
+
 #[test]
 fn an_error_is_a_line(rt: HostRuntime) -> Result<(), Fail> {
     let mut line = Text::new(rt.alloc());
-    let error = Error::ServerError(Text::of(rt.alloc(), "no")?);
-    let ending = show_error(rt.alloc(), Style::Bare, &error, &mut line)?;
+    let text = Text::of(rt.alloc(), "no")?;
+    let ending = shown(rt.alloc(), Error::ServerError(text), &mut line)?;
     assert!(rt; matches!(ending, Ending::Refused));
     assert_eq!(rt; line.as_str(), "- Server error: no\n");
     Ok(())
