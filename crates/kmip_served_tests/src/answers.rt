@@ -6,7 +6,7 @@ use crate::helpers::Told::{Denied, Shown};
 use crate::helpers::{Row, alice, answers, call_of, request, server, tells};
 use kmip_enums::Operation;
 use kmip_enums::ResultReason::{ItemNotFound, PermissionDenied};
-use kmip_served::{Call, call_known, is_request_of};
+use kmip_served::{call_known, is_request_of};
 use kmip_store::PlainMaker;
 use kmip_wire::Blob;
 use std::alloc::Global;
@@ -94,7 +94,7 @@ fn a_life(rt: HostRuntime) -> Result<(), Fail> {
 /// The bytes of the request of a call, with the credential of alice.
 fn by_alice(alloc: Global, ask: Ask, password: Option<&str>) -> Result<Blob, Fail> {
     let credential = alice(alloc, password)?;
-    request(alloc, &call_of(alloc, ask)?, Some(credential))
+    request(alloc, ask, Some(credential))
 }
 
 /// A credential changes nothing.
@@ -115,9 +115,13 @@ fn with_a_credential(rt: HostRuntime) -> Result<(), Fail> {
 }
 
 /// Whether these bytes are the request of the call, which is known to fit its table.
-fn is_of(alloc: Global, call: &Call, bytes: &[u8]) -> Result<bool, Fail> {
-    call_known(alloc, call)?;
-    Ok(is_request_of(alloc, call, bytes)?)
+fn is_of(alloc: Global, ask: Ask, bytes: &[u8]) -> Result<bool, Fail> {
+    let call = call_of(alloc, ask)?;
+    let known = call_known(alloc, &call);
+    let is_of = is_request_of(alloc, &call, bytes);
+    drop(call);
+    known?;
+    Ok(is_of?)
 }
 
 /// Bytes are the request of one call, whatever its credential.
@@ -131,7 +135,7 @@ fn the_call_of_a_request(rt: HostRuntime) -> Result<(), Fail> {
         ("1", b"\x42\x00\x78", false),
     ];
     for (id, bytes, expected) in rows {
-        assert!(rt; is_of(alloc, &call_of(alloc, Sign(id))?, bytes)? == expected);
+        assert!(rt; is_of(alloc, Sign(id), bytes)? == expected);
     }
     Ok(())
 }

@@ -85,12 +85,11 @@ pub fn written(
 }
 
 /// The bytes of the request of a helper's call.
-pub fn request(
-    alloc: Global,
-    call: &Call,
-    credential: Option<CredentialType>,
-) -> Result<Blob, Fail> {
-    written(alloc, request_of(alloc, call)?, credential)
+pub fn request(alloc: Global, ask: Ask, credential: Option<CredentialType>) -> Result<Blob, Fail> {
+    let call = call_of(alloc, ask)?;
+    let payload = request_of(alloc, &call);
+    drop(call);
+    written(alloc, payload?, credential)
 }
 
 /// The payload is shown as this text.
@@ -168,7 +167,7 @@ pub fn tells<M: Maker>(
     rows: &[Row],
 ) -> Result<(), Fail> {
     for (ask, minor, told) in rows {
-        let bytes = request(alloc, &call_of(alloc, *ask)?, None)?;
+        let bytes = request(alloc, *ask, None)?;
         answers(rt, alloc, server, bytes.as_slice(), *minor, *told)?;
     }
     Ok(())

@@ -1,6 +1,6 @@
 //! Calls over a server that was just made.
 use crate::helpers::Ask::{Activate, Destroy, Get, Pair, Query, Random, Rename, Revoke, Sign};
-use crate::helpers::{First, Row, blob, client_over, joined, plain_link, tells};
+use crate::helpers::{Row, blob, client_over, joined, plain_link, tells};
 use kmip_client::Client;
 use kmip_server::ServerLink;
 use kmip_store::{Made, Maker, MemoryMaker};
@@ -59,13 +59,11 @@ const OTHERS: &[Row<'static>] = &[
 #[test]
 fn other_calls(rt: HostRuntime) -> Result<(), Fail> {
     let alloc = rt.alloc();
-    let first = First {
-        sent: 120,
-        diagnostics: Some([
-            "78[77[69[6Ai6Bi]0Di]0F[5Ce25:79[C4i]]]",
-            "7B[7A[69[6Ai6Bi]92d0Di]0F[5Ce25:7Fe0:7C[C2x]]]",
-        ]),
-    };
+    let first = (
+        120,
+        "78[77[69[6Ai6Bi]0Di]0F[5Ce25:79[C4i]]]",
+        "7B[7A[69[6Ai6Bi]92d0Di]0F[5Ce25:7Fe0:7C[C2x]]]",
+    );
     tells(
         &rt,
         alloc,

@@ -1,6 +1,6 @@
 //! Many calls, and long ones.
 use crate::helpers::Ask::{Activate, Pair};
-use crate::helpers::{First, add, asked, joined, plain_link, tells, text};
+use crate::helpers::{add, asked, joined, plain_link, tells, text};
 use kmip_client::Client;
 use kmip_server::{Call, ServerLink};
 use kmip_store::Maker;
@@ -54,10 +54,11 @@ fn doubled(alloc: Global, first: &str, times: usize) -> Result<Text, Fail> {
 fn a_long_identifier(rt: HostRuntime) -> Result<(), Fail> {
     let alloc = rt.alloc();
     let id = doubled(alloc, "0123456789abcdef", 20)?;
-    let first = First {
-        sent: 16_777_216 + 112,
-        diagnostics: None,
-    };
+    let first = (
+        16_777_216 + 112,
+        "78[77[69[6Ai6Bi]0Di]0F[5Ce12:79[94t]]]",
+        "7B[7A[69[6Ai6Bi]92d0Di]0F[5Ce12:7Fe1:7Ee1:7Dt]]",
+    );
     let rows = [(Activate(id.as_str()), NO_OBJECT)];
     tells(
         &rt,
