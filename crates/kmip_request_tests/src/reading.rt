@@ -179,31 +179,31 @@ fn is_not_canonical(rt: &impl Abort, alloc: Global, hex: &str) -> Result<(), Fai
 #[test]
 fn locate_by_object_type(rt: HostRuntime) -> Result<(), Fail> {
     let alloc = rt.alloc();
+    let bytes = hex::decode(alloc, LOCATE)?;
     let attribute = Attribute::ObjectType(alloc, ObjectType::PrivateKey)?;
     let expected = locate(alloc, attribute)?;
-    let bytes = hex::decode(alloc, LOCATE)?;
     is_read(&rt, from_slice(alloc, &bytes), expected)
 }
 
 #[test]
 fn attribute_of_a_name_in_the_table(rt: HostRuntime) -> Result<(), Fail> {
     let alloc = rt.alloc();
+    let bytes = hex::decode(alloc, GROUP)?;
     let name = AttributeName(Text::of(alloc, "Object Group")?);
     let value = AttributeValue::ObjectGroup(Text::of(alloc, "g")?);
     let attribute = Attribute(name, None, value);
     let expected = locate(alloc, attribute)?;
-    let bytes = hex::decode(alloc, GROUP)?;
     is_read(&rt, from_slice(alloc, &bytes), expected)
 }
 
 #[test]
 fn big_integer_of_eight_bytes(rt: HostRuntime) -> Result<(), Fail> {
     let alloc = rt.alloc();
+    let bytes = hex::decode(alloc, BIG_INTEGER)?;
     let name = AttributeName(Text::of(alloc, "x-a")?);
     let value = AttributeValue::BigInteger(Blob::of(alloc, b"\0\x01\x02\x03\x04\x05\x06\x07")?);
     let attribute = Attribute(name, None, value);
     let expected = locate(alloc, attribute)?;
-    let bytes = hex::decode(alloc, BIG_INTEGER)?;
     is_read(&rt, from_slice(alloc, &bytes), expected)
 }
 

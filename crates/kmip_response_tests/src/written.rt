@@ -392,10 +392,10 @@ fn message_of(
 #[test]
 fn made(rt: HostRuntime) -> Result<(), Fail> {
     let alloc = rt.alloc();
+    let activated = hex::decode(alloc, ACTIVATED)?;
     let payload = ResponsePayload::Activate(UniqueIdentifierResponsePayload {
         unique_identifier: UniqueIdentifier(Text::of(alloc, "k1")?),
     });
-    let activated = hex::decode(alloc, ACTIVATED)?;
     let message = message_of(alloc, Operation::Activate, payload)?;
     let Ok(bytes) = to_vec(alloc, &message) else {
         return Err(Fail::from("not written"));

@@ -1,9 +1,9 @@
 //! Streams in hex, and what is reported of them.
+use crate::helpers::bytes_of;
 use kmip_audit::{End, Report, audit};
 use kmip_wire::Text;
-use std::alloc::Global;
+use std::alloc::{AllocError, Global};
 use std::process::Abort;
-use std::test::Fail;
 
 /// Two streams in hex, and what is told of their frames and their ends.
 struct Row {
@@ -184,7 +184,7 @@ fn shown(text: &Option<Text>) -> &str {
 }
 
 /// The entries of a report, one a line, and its ends.
-fn lines(alloc: Global, report: &Report) -> Result<String, Fail> {
+fn lines(alloc: Global, report: &Report) -> Result<String, AllocError> {
     let mut text = String::new(alloc);
     for entry in report.entries.as_slice() {
         let request = shown(&entry.request);
@@ -200,61 +200,60 @@ fn lines(alloc: Global, report: &Report) -> Result<String, Fail> {
     Ok(text)
 }
 
+/// What is reported of two streams in hex.
+fn reported(rt: &impl Abort, alloc: Global, sent: &str, received: &str) -> String {
+    let (sent, received) = (bytes_of(rt, alloc, sent), bytes_of(rt, alloc, received));
+    let report = audit(alloc, &sent, &received).expect(rt, "a report");
+    let lines = lines(alloc, &report);
+    drop(report);
+    lines.expect(rt, "memory")
+}
+
 /// Each pair of streams is reported as its row says.
-fn rows_hold(rt: &impl Abort, alloc: Global, rows: &[Row]) -> Result<(), Fail> {
+fn rows_hold(rt: &impl Abort, alloc: Global, rows: &[Row]) {
     for row in rows {
-        let sent = hex::decode(alloc, row.sent)?;
-        let received = hex::decode(alloc, row.received)?;
-        let report = audit(alloc, &sent, &received)?;
-        assert_eq!(rt; lines(alloc, &report)?.as_str(), row.told, "{}", row.shows);
+        let told = reported(rt, alloc, row.sent, row.received);
+        assert_eq!(rt; told.as_str(), row.told, "{}", row.shows);
     }
-    Ok(())
 }
 
 #[test]
-fn each_outcome_is_told(rt: HostRuntime) -> Result<(), Fail> {
-    rows_hold(&rt, rt.alloc(), OUTCOMES)
+fn each_outcome_is_told(rt: HostRuntime) {
+    rows_hold(&rt, rt.alloc(), OUTCOMES);
 }
 
 #[test]
-fn streams_are_cut_into_frames(rt: HostRuntime) -> Result<(), Fail> {
-    rows_hold(&rt, rt.alloc(), STREAMS)
+fn streams_are_cut_into_frames(rt: HostRuntime) {
+    rows_hold(&rt, rt.alloc(), STREAMS);
 }
 
 /// A frame, and as many bytes of the same frame as are said to be there.
-fn torn(alloc: Global, frame: &[u8], there: usize) -> Result<Vec<u8>, Fail> {
+fn torn(rt: &impl Abort, alloc: Global, frame: &[u8], there: usize) -> Vec<u8> {
     let mut stream = Vec::new(alloc);
-    stream.extend_from_slice(frame)?;
+    stream.extend_from_slice(frame).expect(rt, "memory");
     for byte in frame.iter().take(there) {
-        stream.push(*byte)?;
+        stream.push(*byte).expect(rt, "memory");
     }
-    Ok(stream)
+    stream
 }
 
 /// Both streams end within a second frame, of which so many bytes are there.
-fn ends_are_torn(
-    rt: &impl Abort,
-    alloc: Global,
-    sent: &[u8],
-    received: &[u8],
-    there: usize,
-) -> Result<(), Fail> {
-    let asked = torn(alloc, sent, there)?;
-    let told = torn(alloc, received, there)?;
-    let report = audit(alloc, &asked, &told)?;
+fn ends_are_torn(rt: &impl Abort, alloc: Global, sent: &[u8], received: &[u8], there: usize) {
+    let asked = torn(rt, alloc, sent, there);
+    let told = torn(rt, alloc, received, there);
+    let report = audit(alloc, &asked, &told).expect(rt, "a report");
     assert_eq!(rt; report.entries.len(), 1, "{there}");
     assert_eq!(rt; report.sent_end, End::Torn(120), "{there}");
     assert_eq!(rt; report.received_end, End::Torn(152), "{there}");
-    Ok(())
+    drop(report);
 }
 
 #[test]
-fn torn_ends_are_told(rt: HostRuntime) -> Result<(), Fail> {
+fn torn_ends_are_told(rt: HostRuntime) {
     let alloc = rt.alloc();
-    let sent = hex::decode(alloc, REQUEST)?;
-    let received = hex::decode(alloc, RESPONSE)?;
+    let sent = bytes_of(&rt, alloc, REQUEST);
+    let received = bytes_of(&rt, alloc, RESPONSE);
     for there in [1, 2, 3, 4, 5, 6, 7, 8, 9, 119] {
-        ends_are_torn(&rt, alloc, &sent, &received, there)?;
+        ends_are_torn(&rt, alloc, &sent, &received, there);
     }
-    Ok(())
 }

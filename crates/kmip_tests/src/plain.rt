@@ -177,5 +177,6 @@ fn a_request(rt: HostRuntime) {
     let written = write_request(rt.alloc(), &payload, &authentication).expect(&rt, "a request");
     let bytes = bytes_of(&rt, rt.alloc(), hex);
     assert!(&rt; written.as_slice() == bytes.as_slice());
+    drop(payload);
     drop(authentication);
 }
