@@ -7,8 +7,8 @@ end. A call takes memory where it answers `OutOfMemory` or an error that may be 
 - a public function, which a test calls by its name;
 - a public method of a type, which a test calls as `.name(` or `Type::name(`;
 - `try_clone`, `read` and `show` of each type that has the trait. Such a call counts where its type is written: as
-  `helper::<Type>(`, where the helper is generic and makes that call on a value of its type parameter, as
-  `Type::read(`, or as `from_slice::<Type>(` and its like.
+  `helper::<Type>(`, where the helper is generic and makes that call on a value of its type parameter, itself or by
+  another such helper of its crate, as `Type::read(`, or as `from_slice::<Type>(` and its like.
 
 A function or method that no test names may be made by a function that a test makes: it is printed as
 `TEST, through NAME`. Tests count in the crate that has the call and in the crates above it: a function where the file
@@ -131,13 +131,20 @@ def test_files():
 
 
 def helpers(files):
-    """The generic functions of each crate's test files, with the calls that each makes on its type parameter."""
-    made = {}
+    """The generic functions of each crate's test files, with the calls that each makes on its type parameter, itself or
+    by another of them."""
+    made, bodies = {}, {}
     for where, text, _ in files:
         for found in re.finditer(r"fn (\w+)<(\w+): [^>(]*", text):
             body = re.sub(r"\b%s\b" % found.group(2), "T", body_at(text, found.end()))
             calls = {name for name, form in MAKES.items() if re.search(form, body)}
             made.setdefault(where.split("/")[0], {})[found.group(1)] = calls
+            bodies[where.split("/")[0], found.group(1)] = body
+    for _ in range(3):
+        for (crate, name), body in bodies.items():
+            for other, calls in made[crate].items():
+                if re.search(r"(?<![\w.:])%s(?:::<T>)?\(" % other, body):
+                    made[crate][name] = made[crate][name] | calls
     return made
 
 
