@@ -35,11 +35,24 @@ pub fn is_shown<T: ShowItem>(rt: &impl Abort, alloc: Global, value: &T, expected
     assert_eq!(rt; shown.as_str(), expected);
 }
 
-/// The value of one item.
-pub fn is_read_alone<T: ReadItem>(rt: &impl Abort, alloc: Global, hex: &str) -> T {
+/// The value is written as this item.
+fn is_item<T: WriteItem>(rt: &impl Abort, alloc: Global, value: &T, hex: &str) {
     let bytes = bytes_of(rt, alloc, hex);
     let item = ItemRef::root(&bytes).expect(rt, "an item");
-    T::read(alloc, Outer::none(), item).expect(rt, "a value")
+    let written = to_blob(alloc, value, item.tag()).expect(rt, "a blob");
+    assert!(rt; written.as_slice() == bytes.as_slice());
+}
+
+/// The value of one item, whose shape is chosen by a number or not.
+fn value_of<T: ReadItem>(rt: &impl Abort, alloc: Global, number: Option<u32>, hex: &str) -> T {
+    let bytes = bytes_of(rt, alloc, hex);
+    let item = ItemRef::root(&bytes).expect(rt, "an item");
+    T::read(alloc, Outer { number, name: None }, item).expect(rt, "a value")
+}
+
+/// The value of one item.
+pub fn is_read_alone<T: ReadItem>(rt: &impl Abort, alloc: Global, hex: &str) -> T {
+    value_of::<T>(rt, alloc, None, hex)
 }
 
 /// The value of one item, which has a copy that equals it.
@@ -49,10 +62,8 @@ pub fn is_read<T: ReadItem + TryClone + PartialEq>(
     number: Option<u32>,
     hex: &str,
 ) -> T {
-    let bytes = bytes_of(rt, alloc, hex);
-    let item = ItemRef::root(&bytes).expect(rt, "an item");
-    let value = T::read(alloc, Outer { number, name: None }, item).expect(rt, "a value");
-    assert!(rt; value.try_clone(alloc).expect(rt, "memory") == value);
+    let value = value_of::<T>(rt, alloc, number, hex);
+    is_copied::<T>(rt, alloc, &value);
     value
 }
 
@@ -64,13 +75,8 @@ pub fn shows<T: ReadItem + ShowItem + TryClone + PartialEq>(
     hex: &str,
     expected: &str,
 ) {
-    let bytes = bytes_of(rt, alloc, hex);
-    let item = ItemRef::root(&bytes).expect(rt, "an item");
-    let value = T::read(alloc, Outer { number, name: None }, item).expect(rt, "a value");
-    assert!(rt; value.try_clone(alloc).expect(rt, "memory") == value);
-    let mut shown = Text::new(alloc);
-    value.show(alloc, &mut shown).expect(rt, "memory");
-    assert_eq!(rt; shown.as_str(), expected);
+    let value = is_read::<T>(rt, alloc, number, hex);
+    is_shown::<T>(rt, alloc, &value, expected);
 }
 
 /// The item is read as a value that is written as the same bytes and has a copy that equals it.
@@ -80,12 +86,8 @@ pub fn is_written<T: ReadItem + WriteItem + TryClone + PartialEq>(
     number: Option<u32>,
     hex: &str,
 ) {
-    let bytes = bytes_of(rt, alloc, hex);
-    let item = ItemRef::root(&bytes).expect(rt, "an item");
-    let value = T::read(alloc, Outer { number, name: None }, item).expect(rt, "a value");
-    assert!(rt; value.try_clone(alloc).expect(rt, "memory") == value);
-    let written = to_blob(alloc, &value, item.tag()).expect(rt, "a blob");
-    assert!(rt; written.as_slice() == bytes.as_slice());
+    let value = is_read::<T>(rt, alloc, number, hex);
+    is_item::<T>(rt, alloc, &value, hex);
 }
 
 /// The item is read as a value that is shown as this text, is written as the same bytes and has a copy that equals it.
@@ -95,24 +97,15 @@ pub fn shows_what_is_written<T: ReadItem + ShowItem + WriteItem + TryClone + Par
     hex: &str,
     expected: &str,
 ) {
-    let bytes = bytes_of(rt, alloc, hex);
-    let item = ItemRef::root(&bytes).expect(rt, "an item");
-    let value = T::read(alloc, Outer::none(), item).expect(rt, "a value");
-    assert!(rt; value.try_clone(alloc).expect(rt, "memory") == value);
-    let written = to_blob(alloc, &value, item.tag()).expect(rt, "a blob");
-    assert!(rt; written.as_slice() == bytes.as_slice());
-    let mut shown = Text::new(alloc);
-    value.show(alloc, &mut shown).expect(rt, "memory");
-    assert_eq!(rt; shown.as_str(), expected);
+    let value = is_read::<T>(rt, alloc, None, hex);
+    is_item::<T>(rt, alloc, &value, hex);
+    is_shown::<T>(rt, alloc, &value, expected);
 }
 
 /// The item is read as a value, copied without memory, that is written as the same bytes.
 pub fn is_written_alone<T: ReadItem + WriteItem>(rt: &impl Abort, alloc: Global, hex: &str) {
-    let bytes = bytes_of(rt, alloc, hex);
-    let item = ItemRef::root(&bytes).expect(rt, "an item");
-    let value = T::read(alloc, Outer::none(), item).expect(rt, "a value");
-    let written = to_blob(alloc, &value, item.tag()).expect(rt, "a blob");
-    assert!(rt; written.as_slice() == bytes.as_slice());
+    let value = value_of::<T>(rt, alloc, None, hex);
+    is_item::<T>(rt, alloc, &value, hex);
 }
 
 /// The same, with what it is shown as.
@@ -122,14 +115,9 @@ pub fn is_plain<T: ReadItem + WriteItem + ShowItem>(
     hex: &str,
     expected: &str,
 ) {
-    let bytes = bytes_of(rt, alloc, hex);
-    let item = ItemRef::root(&bytes).expect(rt, "an item");
-    let value = T::read(alloc, Outer::none(), item).expect(rt, "a value");
-    let written = to_blob(alloc, &value, item.tag()).expect(rt, "a blob");
-    assert!(rt; written.as_slice() == bytes.as_slice());
-    let mut shown = Text::new(alloc);
-    value.show(alloc, &mut shown).expect(rt, "memory");
-    assert_eq!(rt; shown.as_str(), expected);
+    let value = value_of::<T>(rt, alloc, None, hex);
+    is_item::<T>(rt, alloc, &value, hex);
+    is_shown::<T>(rt, alloc, &value, expected);
 }
 
 /// A client over a link that holds these bytes.

@@ -192,15 +192,11 @@ fn each_exchange_has_its_own_diagnostics(rt: HostRuntime) {
     }
 }
 
-/// Whether these bytes are a first part of the request, sent again and again.
+/// Whether these bytes are a first part of three requests.
 fn is_first_part(rt: &impl Abort, alloc: Global, sent: &[u8]) -> bool {
-    let request = bytes_of(rt, alloc, REQUEST);
-    for part in sent.chunks(120) {
-        if !request.starts_with(part) {
-            return false;
-        }
-    }
-    true
+    let requests = joined(rt, alloc, &[REQUEST, REQUEST, REQUEST]);
+    let bytes = bytes_of(rt, alloc, requests.as_str());
+    bytes.starts_with(sent)
 }
 
 /// Whether there are answers.
