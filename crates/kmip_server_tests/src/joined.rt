@@ -83,9 +83,10 @@ fn pair_and_byte(alloc: Global) -> Result<List<Made>, Fail> {
     Ok(given)
 }
 
-/// A maker that makes a pair, refuses, and makes a byte.
-fn refusing_maker(alloc: Global) -> Result<MemoryMaker, Fail> {
-    Ok(MemoryMaker::new(alloc, pair_and_byte(alloc)?, &[1])?)
+/// A link round a server whose maker makes a pair, refuses, and makes a byte.
+fn refusing_link(alloc: Global) -> Result<ServerLink<MemoryMaker>, Fail> {
+    let maker = MemoryMaker::new(alloc, pair_and_byte(alloc)?, &[1])?;
+    Ok(ServerLink::new(alloc, maker, 0))
 }
 
 /// What the maker makes, and that it refuses its second answer.
@@ -103,8 +104,13 @@ const REFUSED: &[Row<'static>] = &[
 #[test]
 fn a_maker_that_refuses(rt: HostRuntime) -> Result<(), Fail> {
     let alloc = rt.alloc();
-    let link = ServerLink::new(alloc, refusing_maker(alloc)?, 0);
-    tells(&rt, alloc, &mut joined(link), REFUSED, None)
+    tells(
+        &rt,
+        alloc,
+        &mut joined(refusing_link(alloc)?),
+        REFUSED,
+        None,
+    )
 }
 
 /// Whether the link is neither faulted nor starved.

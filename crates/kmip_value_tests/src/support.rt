@@ -180,7 +180,7 @@ pub fn children_are<T: ReadItem + PartialEq>(
     optional: Option<Option<T>>,
     list: Option<&[T]>,
 ) -> Result<(), Fail> {
-    let (tag, outer) = (Tag::of(tag), Outer::none());
+    let (tag, outer) = (Tag::new(tag).ok_or("no tag")?, Outer::none());
     let bytes = hex::decode(alloc, hex)?;
     let parent = ItemRef::root(bytes.as_slice()).ok_or("no item")?;
     assert!(rt; read_one::<T>(alloc, outer, parent, tag) == one.ok_or(ReadError::Unread));
