@@ -1,85 +1,83 @@
 //! The command `make` over sources, sinks and links in memory.
-use crate::tests::{Row, ran, rows_hold};
-use kmip_link::MemoryLink;
+use crate::program::run;
+use crate::tests::list_of;
+use kmip_link::{MemoryLink, MemorySink, MemorySource};
 use std::alloc::Global;
 use std::process::Abort;
 use std::test::Fail;
+
+/// What the program writes for these words, and with which status it ends.
+struct Row {
+    shows: &'static str,
+    words: &'static [&'static str],
+    written: &'static str,
+    status: u8,
+}
 
 const ROWS: &[Row] = &[
     Row {
         shows: "no exchange",
         words: &["make", "0"],
-        script: b"",
         written: "exchanges 0\nok 0\nerrors 0\nsent 0\ntaken 0\n",
         status: 0,
     },
     Row {
         shows: "random bytes",
         words: &["make", "1"],
-        script: b"",
         written: "exchanges 1\nok 1\nerrors 0\nsent 120\ntaken 192\n",
         status: 0,
     },
     Row {
         shows: "random bytes, a key not found, two keys activated",
         words: &["make", "4"],
-        script: b"",
         written: "exchanges 4\nok 3\nerrors 1\nsent 480\ntaken 656\n",
         status: 0,
     },
     Row {
         shows: "the first eight, with a query",
         words: &["make", "8"],
-        script: b"",
         written: "exchanges 8\nok 7\nerrors 1\nsent 992\ntaken 1328\n",
         status: 0,
     },
     Row {
         shows: "more than the most",
         words: &["make", "100001"],
-        script: b"",
         written: "! words\n",
         status: 2,
     },
     Row {
         shows: "a number of more than 32 bits",
         words: &["make", "4294967296"],
-        script: b"",
         written: "! words\n",
         status: 2,
     },
     Row {
         shows: "a leading zero",
         words: &["make", "01"],
-        script: b"",
         written: "! words\n",
         status: 2,
     },
     Row {
         shows: "a sign",
         words: &["make", "+1"],
-        script: b"",
         written: "! words\n",
         status: 2,
     },
     Row {
         shows: "no number",
         words: &["make"],
-        script: b"",
         written: "! words\n",
         status: 2,
     },
     Row {
         shows: "an empty number",
         words: &["make", ""],
-        script: b"",
         written: "! words\n",
         status: 2,
     },
     Row {
         shows: "a word after the number",
         words: &["make", "1", "1"],
-        script: b"",
         written: "! words\n",
         status: 2,
     },
@@ -90,18 +88,30 @@ const MANY: &[Row] = &[
     Row {
         shows: "a thousand exchanges",
         words: &["make", "1000"],
-        script: b"",
         written: "exchanges 1000\nok 742\nerrors 258\nsent 128704\ntaken 165296\n",
         status: 0,
     },
     Row {
         shows: "the same again",
         words: &["make", "1000"],
-        script: b"",
         written: "exchanges 1000\nok 742\nerrors 258\nsent 128704\ntaken 165296\n",
         status: 0,
     },
 ];
+
+/// The program writes for each row what the row says, and ends with its status.
+fn rows_hold(rt: &impl Abort, alloc: Global, rows: &[Row]) -> Result<(), Fail> {
+    for row in rows {
+        let words = list_of(alloc, row.words)?;
+        let mut source = MemorySource::new(alloc, b"", &[])?;
+        let mut sink = MemorySink::new(alloc, &[])?;
+        let mut link = MemoryLink::new(alloc);
+        let status = run(alloc, &words, &mut source, &mut sink, &mut link);
+        assert_eq!(rt; sink.written(), row.written.as_bytes(), "{}", row.shows);
+        assert_eq!(rt; status, row.status, "{}", row.shows);
+    }
+    Ok(())
+}
 
 #[test]
 fn exchanges_are_made(rt: HostRuntime) -> Result<(), Fail> {
@@ -123,11 +133,14 @@ const REQUEST: &[u8] =
 
 /// Runs `make 1` on a link of these pieces, and looks at what it was sent and what is left to read.
 fn one_is_made(rt: &impl Abort, alloc: Global, pieces: &[usize]) -> Result<(), Fail> {
+    let words = list_of(alloc, &["make", "1"])?;
+    let mut source = MemorySource::new(alloc, b"", &[])?;
+    let mut sink = MemorySink::new(alloc, &[])?;
     let mut link = MemoryLink::new(alloc);
     link.plan_pieces(pieces)?;
-    let (status, written) = ran(alloc, &["make", "1"], b"", &mut link, &[], &[])?;
+    let status = run(alloc, &words, &mut source, &mut sink, &mut link);
     assert_eq!(rt;
-        written.as_slice(),
+        sink.written(),
         b"exchanges 1\nok 1\nerrors 0\nsent 120\ntaken 192\n".as_slice()
     );
     assert_eq!(rt; status, 0);
@@ -149,9 +162,12 @@ fn pieces_of_seven_give_the_same(rt: HostRuntime) -> Result<(), Fail> {
 /// Runs the program on `make 4`, where the source fails at its first read and these writes fail:
 /// its status, and how many bytes it wrote.
 fn made_over_faults(alloc: Global, writes: &[u64]) -> Result<(u8, usize), Fail> {
+    let words = list_of(alloc, &["make", "4"])?;
+    let mut source = MemorySource::new(alloc, b"query -\n", &[0])?;
+    let mut sink = MemorySink::new(alloc, writes)?;
     let mut link = MemoryLink::new(alloc);
-    let (status, written) = ran(alloc, &["make", "4"], b"query -\n", &mut link, &[0], writes)?;
-    Ok((status, written.len()))
+    let status = run(alloc, &words, &mut source, &mut sink, &mut link);
+    Ok((status, sink.written().len()))
 }
 
 #[test]

@@ -12,12 +12,12 @@ mod joined;
 mod raw;
 
 /// What the program writes for these words over this script, and with which status it ends.
-pub(crate) struct Row {
-    pub shows: &'static str,
-    pub words: &'static [&'static str],
-    pub script: &'static [u8],
-    pub written: &'static str,
-    pub status: u8,
+struct Row {
+    shows: &'static str,
+    words: &'static [&'static str],
+    script: &'static [u8],
+    written: &'static str,
+    status: u8,
 }
 
 /// The first path, and words and lines out of the grammar.
@@ -631,7 +631,7 @@ const MORE_GRAMMAR: &[Row] = &[
 ];
 
 /// The list of these words.
-fn list_of(alloc: Global, words: &[&str]) -> Result<List<Text>, Fail> {
+pub(crate) fn list_of(alloc: Global, words: &[&str]) -> Result<List<Text>, Fail> {
     let mut list = List::new(alloc);
     for word in words {
         list.push(Text::of(alloc, word)?)?;
@@ -639,37 +639,16 @@ fn list_of(alloc: Global, words: &[&str]) -> Result<List<Text>, Fail> {
     Ok(list)
 }
 
-/// Runs the program on these words and this script, where these reads and writes fail: its status, and what it wrote.
-pub(crate) fn ran(
-    alloc: Global,
-    words: &[&str],
-    script: &[u8],
-    link: &mut MemoryLink,
-    reads: &[u64],
-    writes: &[u64],
-) -> Result<(u8, Vec<u8>), Fail> {
-    let words = list_of(alloc, words)?;
-    let mut written = Vec::new(alloc);
-    let mut source = MemorySource::new(alloc, script, reads)?;
-    let mut sink = MemorySink::new(alloc, writes)?;
-    let status = run(alloc, &words, &mut source, &mut sink, link);
-    written.extend_from_slice(sink.written())?;
-    Ok((status, written))
-}
-
-/// The program writes what the row says, and ends with its status.
-fn row_holds(rt: &impl Abort, alloc: Global, row: &Row) -> Result<(), Fail> {
-    let mut link = MemoryLink::new(alloc);
-    let (status, written) = ran(alloc, row.words, row.script, &mut link, &[], &[])?;
-    assert_eq!(rt; written.as_slice(), row.written.as_bytes(), "{}", row.shows);
-    assert_eq!(rt; status, row.status, "{}", row.shows);
-    Ok(())
-}
-
-/// The same of each row.
-pub(crate) fn rows_hold(rt: &impl Abort, alloc: Global, rows: &[Row]) -> Result<(), Fail> {
+/// The program writes for each row what the row says, and ends with its status.
+fn rows_hold(rt: &impl Abort, alloc: Global, rows: &[Row]) -> Result<(), Fail> {
     for row in rows {
-        row_holds(rt, alloc, row)?;
+        let words = list_of(alloc, row.words)?;
+        let mut source = MemorySource::new(alloc, row.script, &[])?;
+        let mut sink = MemorySink::new(alloc, &[])?;
+        let mut link = MemoryLink::new(alloc);
+        let status = run(alloc, &words, &mut source, &mut sink, &mut link);
+        assert_eq!(rt; sink.written(), row.written.as_bytes(), "{}", row.shows);
+        assert_eq!(rt; status, row.status, "{}", row.shows);
     }
     Ok(())
 }
@@ -719,10 +698,13 @@ fn is_cut(rt: &impl Abort, alloc: Global, response: &[u8]) -> Result<(), Fail> {
     let mut script = Vec::new(alloc);
     script.extend_from_slice(b"rng 16 ")?;
     script.extend_from_slice(response)?;
+    let words = list_of(alloc, &["replay"])?;
+    let mut source = MemorySource::new(alloc, &script, &[])?;
+    let mut sink = MemorySink::new(alloc, &[])?;
     let mut link = MemoryLink::new(alloc);
-    let (status, written) = ran(alloc, &["replay"], &script, &mut link, &[], &[])?;
+    let status = run(alloc, &words, &mut source, &mut sink, &mut link);
     assert_eq!(rt; status, 1);
-    assert_eq!(rt; written.as_slice(), hostile::CUT_WRITTEN.as_bytes());
+    assert_eq!(rt; sink.written(), hostile::CUT_WRITTEN.as_bytes());
     assert!(rt; link.rest().is_empty());
     Ok(())
 }
@@ -777,9 +759,12 @@ fn replayed(
     reads: &[u64],
     writes: &[u64],
 ) -> Result<(u8, usize), Fail> {
+    let words = list_of(alloc, &["replay"])?;
+    let mut source = MemorySource::new(alloc, script, reads)?;
+    let mut sink = MemorySink::new(alloc, writes)?;
     let mut link = MemoryLink::new(alloc);
-    let (status, written) = ran(alloc, &["replay"], script, &mut link, reads, writes)?;
-    Ok((status, written.len()))
+    let status = run(alloc, &words, &mut source, &mut sink, &mut link);
+    Ok((status, sink.written().len()))
 }
 
 #[test]
