@@ -6,7 +6,7 @@ use Rattle.std.proofs.lemmas.List.{length-take-le, take-take}
 use Rattle.std.proofs.Math.Seq.{take-length}
 use Rattle.kmip_wire.specs.Heads.{head_says}
 use Rattle.kmip_wire.specs.declared.error.HeadError.{HeadError}
-use Rattle.kmip_link.specs.State.{SourceState, SinkState, Rose, source_left}
+use Rattle.kmip_link.specs.State.{SourceState, SinkState, FaultCountRose, source_left}
 use Rattle.kmip_client.specs.Message.{Message, message_at, taken_for}
 use Rattle.kmip_client.specs.Outcome.{Answer, Outcome, outcome_of, answer_of}
 use Rattle.kmip_client.specs.declared.error.Error.{Error}
@@ -128,7 +128,7 @@ sent settings words call w0 w1 s0 s1 by request response old new ending call_is 
 
 -- the sink failed
 pub write_fault : (settings : Settings) (words : List (List ℕ)) (call : Call) (w0 w1 : SinkState) (s0 s1 : SourceState) (by : Bool) (request response old new error_text : List ℕ) (ending : Ending) → typed_call words ≡ Some call → Some request ≡ (request_asked call settings.credential).message → by ≡ false → error_text ≡ codes "link failed" →
-    Rose w0.faults w1.faults → (IsTrue w0.tells → WroteProperPart w0 w1 request) → s1 ≡ s0 →
+    FaultCountRose w0.faults w1.faults → (IsTrue w0.tells → WroteProperPart w0 w1 request) → s1 ≡ s0 →
     new ≡ old ++ json_line call (answer_err (RequestWriteError error_text)) → ending ≡ Lost →
     Exchanges settings words w0 w1 s0 s1 (response_if by response) old new ending
 write_fault settings words call w0 w1 s0 s1 by request response old new error_text ending call_is some false_is text_is rose part still text ends = record {
@@ -143,7 +143,7 @@ write_fault settings words call w0 w1 s0 s1 by request response old new error_te
 
 -- the source failed
 pub read_fault : (settings : Settings) (words : List (List ℕ)) (call : Call) (w0 w1 : SinkState) (s0 s1 : SourceState) (by : Bool) (request response old new error_text : List ℕ) (ending : Ending) → typed_call words ≡ Some call → Some request ≡ (request_asked call settings.credential).message → by ≡ false → error_text ≡ codes "link failed" →
-    Rose s0.faults s1.faults → (IsTrue w0.tells → w1.sent ≡ w0.sent ++ request) → (IsTrue s0.tells → GivesPart s0 s1 (taken_at (source_left s0) settings.limit)) →
+    FaultCountRose s0.faults s1.faults → (IsTrue w0.tells → w1.sent ≡ w0.sent ++ request) → (IsTrue s0.tells → GivesPart s0 s1 (taken_at (source_left s0) settings.limit)) →
     new ≡ old ++ json_line call (answer_err (ResponseReadError error_text)) → ending ≡ Lost →
     Exchanges settings words w0 w1 s0 s1 (response_if by response) old new ending
 read_fault settings words call w0 w1 s0 s1 by request response old new error_text ending call_is some false_is text_is rose writes part text ends =
@@ -180,7 +180,7 @@ sent_or settings words w0 w1 s0 s1 request response old new (Ok end) asks writes
 sent_or settings words w0 w1 s0 s1 request response old new (Err error) asks writes one reads text ends by = tt
 
 pub write_fault_or : {E : Type 0} (settings : Settings) (words : List (List ℕ)) (w0 w1 : SinkState) (s0 s1 : SourceState) (request response old new error_text : List ℕ) (result : Result CallEnd E) → Requests settings words (Some request) → error_text ≡ codes "link failed" →
-    Rose w0.faults w1.faults × (IsTrue w0.tells → WroteProperPart w0 w1 request) × (s1 ≡ s0) →
+    FaultCountRose w0.faults w1.faults × (IsTrue w0.tells → WroteProperPart w0 w1 request) × (s1 ≡ s0) →
     OnOk result ((call : Call) → new ≡ old ++ json_line call (answer_err (RequestWriteError error_text))) →
     IfOk result (λ end. end.ending ≡ cond (loses_link (RequestWriteError error_text)) Lost Refused) → IfOk result (λ end. end.by_response ≡ false) →
     IfOk result (λ end. Exchanges settings words w0 w1 s0 s1 (response_if end.by_response response) old new end.ending)
@@ -189,7 +189,7 @@ write_fault_or settings words w0 w1 s0 s1 request response old new error_text (O
 write_fault_or settings words w0 w1 s0 s1 request response old new error_text (Err error) asks text_is fault text ends by = tt
 
 pub read_fault_or : {E : Type 0} (settings : Settings) (words : List (List ℕ)) (w0 w1 : SinkState) (s0 s1 : SourceState) (request response old new error_text : List ℕ) (result : Result CallEnd E) → Requests settings words (Some request) → error_text ≡ codes "link failed" →
-    Rose s0.faults s1.faults × (IsTrue w0.tells → w1.sent ≡ w0.sent ++ request) × (IsTrue s0.tells → GivesPart s0 s1 (taken_at (source_left s0) settings.limit)) →
+    FaultCountRose s0.faults s1.faults × (IsTrue w0.tells → w1.sent ≡ w0.sent ++ request) × (IsTrue s0.tells → GivesPart s0 s1 (taken_at (source_left s0) settings.limit)) →
     OnOk result ((call : Call) → new ≡ old ++ json_line call (answer_err (ResponseReadError error_text))) →
     IfOk result (λ end. end.ending ≡ cond (loses_link (ResponseReadError error_text)) Lost Refused) → IfOk result (λ end. end.by_response ≡ false) →
     IfOk result (λ end. Exchanges settings words w0 w1 s0 s1 (response_if end.by_response response) old new end.ending)

@@ -1,6 +1,6 @@
 -- What a call does to its sink and its source, and its answer.
 use Rattle.std.specs.Prelude.{◌≡◌, ℕ, List, ◌++◌, take, Bool, true, false, Option, Some, None, Err, codes, IsTrue}
-use Rattle.kmip_link.specs.State.{SourceState, SinkState, Rose, source_left}
+use Rattle.kmip_link.specs.State.{SourceState, SinkState, FaultCountRose, source_left}
 use Rattle.kmip_client.specs.Outcome.{Answer}
 use Rattle.kmip_client.specs.declared.error.Error.{Error}
 use Rattle.kmip_client.specs.declared.error.Error.TheVariants.{RequestWriteError, ResponseReadError}
@@ -42,12 +42,12 @@ pub data Carried (settings : Settings) (call : Call) (w0 w1 : SinkState) (s0 s1 
       Carried settings call w0 w1 s0 s1 response answer
   -- the sink failed: a proper part of the request was sent, and nothing was read
   write_failed : response ≡ None → answer ≡ Err (RequestWriteError (codes "link failed")) →
-      Rose w0.faults w1.faults →
+      FaultCountRose w0.faults w1.faults →
       (IsTrue w0.tells → WroteProperPart w0 w1 (request_bytes settings call)) → s1 ≡ s0 →
       Carried settings call w0 w1 s0 s1 response answer
   -- the source failed: the request was sent, and a part of the message was read
   read_failed : response ≡ None → answer ≡ Err (ResponseReadError (codes "link failed")) →
-      Rose s0.faults s1.faults →
+      FaultCountRose s0.faults s1.faults →
       (IsTrue w0.tells → w1.sent ≡ w0.sent ++ request_bytes settings call) →
       (IsTrue s0.tells → GivesPart s0 s1 (taken_by settings call (source_left s0))) →
       Carried settings call w0 w1 s0 s1 response answer

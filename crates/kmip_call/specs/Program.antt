@@ -1,6 +1,6 @@
 -- What the program does with a call.
 use Rattle.std.specs.Prelude.{◌≡◌, ◌≢◌, ◌⊎◌, ℕ, List, ◌++◌, Bool, true, Option, Some, None, IsTrue, if◌then◌else◌}
-use Rattle.kmip_link.specs.State.{SourceState, SinkState, Rose}
+use Rattle.kmip_link.specs.State.{SourceState, SinkState, FaultCountRose}
 use Rattle.kmip_client.specs.Outcome.{Answer}
 use Rattle.kmip_words.specs.Calls.{typed_call}
 use Rattle.kmip_words.specs.Streams.{WrotePart}
@@ -51,4 +51,4 @@ pub record Ran (order : Order) (w0 w1 : SinkState) (s0 s1 : SourceState) (f0 f1 
   pub told : status ≢ 4 → IsTrue k0.tells → k1.sent ≡ k0.sent ++ json_line call answer
   pub part : IsTrue k0.tells → WrotePart k0 k1 (json_line call answer)
   pub status_is : status ≢ 4 → status ≡ status_of (ending_of answer)
-  pub cause : status ≡ 4 → Rose f0.faults f1.faults ⊎ Rose k0.faults k1.faults
+  pub cause : status ≡ 4 → FaultCountRose f0.faults f1.faults ⊎ FaultCountRose k0.faults k1.faults

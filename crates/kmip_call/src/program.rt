@@ -1,7 +1,7 @@
 //! The program.
 ghost use Rattle.std.specs.Prelude.{◌≡◌, ◌≢◌, ◌≤◌, ◌++◌, ◌⊎◌, [], option_map, true, None, IfOk};
 ghost use Rattle.std.specs.Prelude.{OnOk, IsErrOf, IsTrue, MatchOption};
-ghost use Rattle.kmip_link.specs.State.{Rose};
+ghost use Rattle.kmip_link.specs.State.{FaultCountRose};
 ghost use Rattle.kmip_words.specs.Streams.{WrotePart};
 ghost use Rattle.kmip_call.specs.Exchange.{response_if, Requests};
 ghost use Rattle.kmip_call.specs.Record.{record_of};
@@ -103,7 +103,7 @@ fn keep<F: Sink>(
         (F.state kept.new).sent ≡ (F.state kept.old).sent
         ++ record_of order.now.file order.now.words (response_if by_response response.now)) }
     ensures cause { IsErrOf result LinkError.Fault →
-        Rose (F.state kept.old).faults (F.state kept.new).faults }
+        FaultCountRose (F.state kept.old).faults (F.state kept.new).faults }
 {
     match &order.file {
         Some(_) if by_response => write_record(alloc, order.words.as_slice(), response, kept),
@@ -129,8 +129,8 @@ fn report<F: Sink, K: Sink>(
         (K.state told.new).sent ≡ (K.state told.old).sent ++ line.now }
     ensures part { IsTrue (K.state told.old).tells →
         WrotePart (K.state told.old) (K.state told.new) line.now }
-    ensures cause { result ≡ 4 → Rose (F.state kept.old).faults (F.state kept.new).faults
-        ⊎ Rose (K.state told.old).faults (K.state told.new).faults }
+    ensures cause { result ≡ 4 → FaultCountRose (F.state kept.old).faults (F.state kept.new).faults
+        ⊎ FaultCountRose (K.state told.old).faults (K.state told.new).faults }
 {
     match keep(alloc, order, end.by_response, response, kept) {
         Ok(()) => {}

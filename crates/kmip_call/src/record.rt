@@ -1,6 +1,6 @@
 //! The line that records a call and its response, as `kmip_run replay` reads it.
 ghost use Rattle.std.specs.Prelude.{◌≡◌, ◌++◌, [], codes, IfOk, OnOk, IsErrOf, IsTrue};
-ghost use Rattle.kmip_link.specs.State.{Rose};
+ghost use Rattle.kmip_link.specs.State.{FaultCountRose};
 ghost use Rattle.kmip_call.specs.Exchange.{response_if};
 ghost use Rattle.kmip_call.specs.Record.{with_spaces, response_word, record_line, is_recordable};
 ghost use Rattle.kmip_call.specs.Record.{record_text, record_of};
@@ -64,7 +64,7 @@ pub fn write_record<F: Sink>(
     ensures ok { OnOk result (IsTrue (F.state kept.old).tells →
         (F.state kept.new).sent ≡ (F.state kept.old).sent ++ record_text words.now response.now) }
     ensures cause { IsErrOf result LinkError.Fault →
-        Rose (F.state kept.old).faults (F.state kept.new).faults }
+        FaultCountRose (F.state kept.old).faults (F.state kept.new).faults }
 {
     let Ok(mut line) = record_line(alloc, words, response) else {
         return Err(LinkError::OutOfMemory);

@@ -1,6 +1,6 @@
 //! A request to a sink, and one message from a source.
 ghost use Rattle.std.specs.Prelude.{◌≡◌, ◌++◌, ◌≤◌, [], length, take, IfOk, OnOk, IsErrOf, IsTrue};
-ghost use Rattle.kmip_link.specs.State.{SourceKeeps, SinkKeeps, Rose, source_left};
+ghost use Rattle.kmip_link.specs.State.{SourceKeeps, SinkKeeps, FaultCountRose, source_left};
 ghost use Rattle.kmip_words.specs.Streams.{Gives, GivesPart, WroteProperPart};
 ghost use Rattle.kmip_call.specs.Wire.{taken_at, contents_of, IsOneAtMost};
 
@@ -54,7 +54,7 @@ fn read_message<S: Source>(
         GivesPart (S.state source.old) (S.state source.new)
         (taken_at (source_left (S.state source.old)) limit) }
     ensures cause { IsErrOf result LinkError.Fault →
-        Rose (S.state source.old).faults (S.state source.new).faults }
+        FaultCountRose (S.state source.old).faults (S.state source.new).faults }
 {
     read_up_to(alloc, source, 8, response)?;
     match contents_of(response, limit) {
@@ -83,12 +83,12 @@ pub fn transfer<W: Sink, S: Source>(
         take (taken_at (source_left (S.state source.old)) limit)
         (source_left (S.state source.old)))) }
     ensures write_fault { IsErrOf result TransferStop.WriteFault →
-        Rose (W.state wire.old).faults (W.state wire.new).faults
+        FaultCountRose (W.state wire.old).faults (W.state wire.new).faults
         × (IsTrue (W.state wire.old).tells →
         WroteProperPart (W.state wire.old) (W.state wire.new) request.now)
         × (S.state source.new ≡ S.state source.old) }
     ensures read_fault { IsErrOf result TransferStop.ReadFault →
-        Rose (S.state source.old).faults (S.state source.new).faults
+        FaultCountRose (S.state source.old).faults (S.state source.new).faults
         × (IsTrue (W.state wire.old).tells →
         (W.state wire.new).sent ≡ (W.state wire.old).sent ++ request.now)
         × (IsTrue (S.state source.old).tells →

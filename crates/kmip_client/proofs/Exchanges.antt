@@ -1,7 +1,7 @@
 -- How an exchange ended, at each of its ends.
 use Rattle.std.proofs.Common.{◌≡◌, ℕ, ◌+◌, ◌-◌, ◌≤◌, List, [], ◌++◌, take, refl, ◌∙◌, ap, sym, arith, subst, true, false, Option, Some, None, Result, Ok, Err, IsErrOf, codes, ◌⊎◌, inl, inr}
 use Rattle.std.proofs.lemmas.Grind.{common_steps}
-use Rattle.kmip_link.specs.State.{LinkState, left, Keeps, Writes, Rose}
+use Rattle.kmip_link.specs.State.{LinkState, left, Keeps, Writes, FaultCountRose}
 use Rattle.kmip_shape.specs.Val.{Val}
 use Rattle.kmip_enums.specs.declared.operation.Operation.{Operation}
 use Rattle.kmip_client.specs.declared.error.Error.{Error}
@@ -34,13 +34,13 @@ moves_part request n writes = record { sent_is = writes.sent; pos = omega (arith
 
 -- the writing stopped
 pub send_stopped : {before after : LinkState} (request : List ℕ) (operation : Operation) (limit : Option ℕ) (rest : List ℕ) (error : Error) → WritesPart before after request →
-    ((error ≡ RequestWriteError (codes "link failed")) × Rose before.faults after.faults) ⊎ (error ≡ OutOfMemory) →
+    ((error ≡ RequestWriteError (codes "link failed")) × FaultCountRose before.faults after.faults) ⊎ (error ≡ OutOfMemory) →
     Exchanged (outcome_of (Some request) operation limit rest) before after (Err error)
 send_stopped request operation limit rest error part (inl failed) = write_failed (ap (λ e. Err e) failed.0) failed.1 part.0 part.1 (moves_part request part.0 part.2)
 send_stopped request operation limit rest error part (inr short) = sending_cut (ap (λ e. Err e) short) part.0 (omega (arith, part.1)) (moves_part request part.0 part.2)
 
 pub send_caused : {before after : ℕ} (request : List ℕ) (operation : Operation) (limit : Option ℕ) (error : Error) →
-    ((error ≡ RequestWriteError (codes "link failed")) × Rose before after) ⊎ (error ≡ OutOfMemory) →
+    ((error ≡ RequestWriteError (codes "link failed")) × FaultCountRose before after) ⊎ (error ≡ OutOfMemory) →
     Caused (Some request) operation limit before after (Err error)
 send_caused request operation limit error (inl failed) = Caused.write_failed refl (ap (λ e. Err e) failed.0) failed.1
 send_caused request operation limit error (inr short) = no_memory (ap (λ e. Err e) short)
@@ -89,7 +89,7 @@ came_to {before = before} {between = between} {after = after} request operation 
 
 -- the reading ended
 pub read_ended : {before between after : LinkState} (request : List ℕ) (operation : Operation) (limit : Option ℕ) (taken : List ℕ) (read : Result (Unit {0}) MessageStop) (answer : Answer) →
-    Keeps before between → Writes before between request → ReadsMessage between after limit taken read → (IsErrOf read MessageStop.Fault → Rose between.faults after.faults) →
+    Keeps before between → Writes before between request → ReadsMessage between after limit taken read → (IsErrOf read MessageStop.Fault → FaultCountRose between.faults after.faults) →
     Gives (reading_answer operation taken read) answer →
     Exchanged (outcome_of (Some request) operation limit (left_for before after)) before after answer
 read_ended request operation limit taken (Ok u) answer keeps writes reads rose gives =
@@ -117,7 +117,7 @@ bytes_given : (before after : ℕ) (request : List ℕ) (operation : Operation) 
 bytes_given before after request operation limit rest here answer front (inl is) = given refl rest (is ∙ ap (λ m. answer_of operation m) (sym front))
 bytes_given before after request operation limit rest here answer front (inr is) = no_memory is
 
-fault_caused : (before after : ℕ) (request : List ℕ) (operation : Operation) (limit : Option ℕ) (answer : Answer) → Rose before after →
+fault_caused : (before after : ℕ) (request : List ℕ) (operation : Operation) (limit : Option ℕ) (answer : Answer) → FaultCountRose before after →
     (answer ≡ Err (ResponseReadError (codes "link failed"))) ⊎ (answer ≡ Err OutOfMemory) → Caused (Some request) operation limit before after answer
 fault_caused before after request operation limit answer rose (inl is) = Caused.read_failed refl is rose
 fault_caused before after request operation limit answer rose (inr is) = no_memory is
@@ -129,7 +129,7 @@ memory_caused before after request operation limit answer (inr is) = no_memory i
 
 -- why the reading ended so, over any link
 pub read_caused : (before after : ℕ) (request : List ℕ) (operation : Operation) (limit : Option ℕ) (taken : List ℕ) (read : Result (Unit {0}) MessageStop) (answer : Answer) →
-    IsRead limit taken read → (IsErrOf read MessageStop.Fault → Rose before after) → Gives (reading_answer operation taken read) answer → Caused (Some request) operation limit before after answer
+    IsRead limit taken read → (IsErrOf read MessageStop.Fault → FaultCountRose before after) → Gives (reading_answer operation taken read) answer → Caused (Some request) operation limit before after answer
 read_caused before after request operation limit taken (Ok u) answer front rose gives = bytes_given before after request operation limit taken (Message.Whole taken) answer front (gives_cases _ answer gives)
 read_caused before after request operation limit taken (Err MessageStop.Ended) answer front rose gives = bytes_given before after request operation limit [] Message.Ended answer (message_short [] limit (omega arith)) (gives_cases _ answer gives)
 read_caused before after request operation limit taken (Err (MessageStop.Refused error)) answer front rose gives = bytes_given before after request operation limit taken (Message.Refused error) answer front (gives_cases _ answer gives)
@@ -245,7 +245,7 @@ gives_not_reading expected answer not gives =
 
 -- a reading that answers so failed
 pub fails_reading : {T : Type 0} (state : T → LinkState) (before between after : T) (request : List ℕ) (operation : Operation) (taken : List ℕ) (read : Result (Unit {0}) MessageStop) (answer : Answer) →
-    Writes (state before) (state between) request → (IsErrOf read MessageStop.Fault → Rose (state between).faults (state after).faults) → Gives (reading_answer operation taken read) answer →
+    Writes (state before) (state between) request → (IsErrOf read MessageStop.Fault → FaultCountRose (state between).faults (state after).faults) → Gives (reading_answer operation taken read) answer →
     answer ≡ reading_failed → FailsReading state (Some request) before after
 fails_reading state before between after request operation taken (Ok u) answer writes rose gives is =
     absurd (gives_not_reading (read_answer operation taken) answer (message_says messages_not_reading operation taken) gives is)

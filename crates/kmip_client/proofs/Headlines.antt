@@ -8,7 +8,7 @@ use Rattle.kmip_shape.specs.Val.{Val}
 use Rattle.kmip_shape.specs.Reads.{root_read}
 use Rattle.kmip_enums.specs.declared.operation.Operation.{Operation}
 use Rattle.kmip_response.specs.Tables.{response_message}
-use Rattle.kmip_link.specs.State.{LinkState, Rose}
+use Rattle.kmip_link.specs.State.{LinkState, FaultCountRose}
 use Rattle.kmip_client.specs.declared.error.Error.{Error}
 use Rattle.kmip_client.specs.declared.error.Error.TheVariants.{OutOfMemory}
 use Rattle.kmip_client.specs.declared.message.MessageStop.{MessageStop}
@@ -61,7 +61,7 @@ to_message {operation = operation} {limit = limit} {rest = rest} {m = m} {payloa
     ∙ ap (λ value. value_answer operation value) it.reads
     ∙ it.checks
 
-not_rose : {before after : LinkState} {G : Type 0} → IsSound before after → Rose before.faults after.faults → G
+not_rose : {before after : LinkState} {G : Type 0} → IsSound before after → FaultCountRose before.faults after.faults → G
 not_rose sound rose = absurd (omega (arith, sound.same, sound.below, rose))
 
 pub headline_of : {before after : LinkState} (bytes : List ℕ) (operation : Operation) (limit : Option ℕ) (answer : Answer) →

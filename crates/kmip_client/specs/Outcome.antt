@@ -15,7 +15,7 @@ use Rattle.kmip_request.specs.declared.payload.RequestPayload.{RequestPayload}
 use Rattle.kmip_response.specs.Tables.{response_message}
 use Rattle.kmip_response.specs.Values.{response_payload_val}
 use Rattle.kmip_response.specs.declared.payload.ResponsePayload.{ResponsePayload}
-use Rattle.kmip_link.specs.State.{LinkState, Rose, Writes}
+use Rattle.kmip_link.specs.State.{LinkState, FaultCountRose, Writes}
 use Rattle.kmip_client.specs.Transfer.{Grows}
 use Rattle.kmip_client.specs.declared.error.Error.{Error}
 use Rattle.kmip_client.specs.declared.error.Error.TheVariants.{SerializeError, RequestWriteError, ResponseReadError, DeserializeError, InternalError, OutOfMemory}
@@ -109,12 +109,12 @@ pub data Exchanged (o : Outcome) (before after : LinkState) (answer : Answer) : 
       Exchanged o before after answer
   -- the link failed before it took the whole request
   write_failed : answer ≡ Err (RequestWriteError (codes "link failed")) →
-      Rose before.faults after.faults →
+      FaultCountRose before.faults after.faults →
       (n : ℕ) → n < length o.sent → Moves before after (take n o.sent) 0 →
       Exchanged o before after answer
   -- it failed while the response was read
   read_failed : answer ≡ Err (ResponseReadError (codes "link failed")) →
-      Rose before.faults after.faults →
+      FaultCountRose before.faults after.faults →
       (n : ℕ) → n ≤ o.taken → Moves before after o.sent n → Exchanged o before after answer
   -- memory ran out before the whole request was sent
   sending_cut : answer ≡ Err OutOfMemory →
@@ -132,7 +132,7 @@ pub record FailsReading {T : Type 0} (state : T → LinkState) (request : Option
   pub request_is : request ≡ Some message
   pub between : T
   pub writes : Writes (state before) (state between) message
-  pub rose : Rose (state between).faults (state after).faults
+  pub rose : FaultCountRose (state between).faults (state after).faults
 
 -- the answer after such a failure
 abbrev pub reading_failed : Answer
@@ -160,9 +160,9 @@ pub data Caused (request : Option (List ℕ)) (operation : Operation) (limit : O
   not_valid : request ≡ None → answer ≡ Err (SerializeError (codes "request has no wire form")) →
       Caused request operation limit before after answer
   write_failed : IsSome request → answer ≡ Err (RequestWriteError (codes "link failed")) →
-      Rose before after → Caused request operation limit before after answer
+      FaultCountRose before after → Caused request operation limit before after answer
   read_failed : IsSome request → answer ≡ Err (ResponseReadError (codes "link failed")) →
-      Rose before after → Caused request operation limit before after answer
+      FaultCountRose before after → Caused request operation limit before after answer
   -- the link gave bytes that have this answer
   given : IsSome request → (rest : List ℕ) → answer ≡ answer_of operation (message_at rest limit) →
       Caused request operation limit before after answer

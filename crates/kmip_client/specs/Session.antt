@@ -6,7 +6,7 @@ use Rattle.kmip_shape.specs.Val.{Val}
 use Rattle.kmip_types.specs.declared.auth.CredentialType.{CredentialType}
 use Rattle.kmip_request.specs.Message.{request_bytes}
 use Rattle.kmip_request.specs.declared.payload.RequestPayload.{RequestPayload}
-use Rattle.kmip_link.specs.State.{LinkState, Rose, left}
+use Rattle.kmip_link.specs.State.{LinkState, FaultCountRose, left}
 use Rattle.kmip_client.specs.declared.error.Error.{Error}
 use Rattle.kmip_client.specs.declared.error.Error.TheVariants.{SerializeError}
 use Rattle.kmip_client.specs.declared.error.Error.TheVariants.{RequestWriteError, ResponseReadError}
@@ -101,7 +101,7 @@ pub data Ran (buffered : Bool) (turns : List Turn) (before after : LinkState)
       (taken : ℕ) → turns ≡ done ++ turn ∷ more →
       exchanges ≡ map (turn_told buffered) done ++
       told_of buffered turn.request last (take taken turn.rest) ∷ [] →
-      BrokenOff turn.outcome last sent taken → Rose before.faults after.faults →
+      BrokenOff turn.outcome last sent taken → FaultCountRose before.faults after.faults →
       Moves before after (all_sent done ++ sent) (all_taken done + taken) →
       Ran buffered turns before after exchanges
 

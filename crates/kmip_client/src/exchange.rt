@@ -3,7 +3,7 @@ ghost use Rattle.std.specs.Prelude.{◌≡◌, ◌+◌, ◌-◌, take, false, �
 ghost use Rattle.std.specs.Prelude.{Err, Ok, List, ℕ, IfOk, IfErr, OnOk, OnErr, IsErrOf, IsTrue};
 ghost use Rattle.std.specs.Prelude.{codes};
 ghost use Rattle.std.specs.Option.{option_map};
-ghost use Rattle.kmip_link.specs.State.{Keeps, Rose, Writes, left};
+ghost use Rattle.kmip_link.specs.State.{Keeps, FaultCountRose, Writes, left};
 ghost use Rattle.kmip_request.specs.Message.{request_bytes, credential_of, operation_of};
 ghost use Rattle.kmip_client.specs.Transfer.{WritesPart};
 ghost use Rattle.kmip_client.specs.Outcome.{Exchanged, Caused, FailsReading, reading_failed};
@@ -52,7 +52,7 @@ pub fn send<L: Link>(alloc: Global, link: &mut L, request: &[u8]) -> Result<(), 
     ensures part { OnErr result (IsTrue (L.state link.old).tells →
         WritesPart (L.state link.old) (L.state link.new) request.now) }
     ensures err { IfErr result (λ e. ((e ≡ RequestWriteError (codes "link failed")) ×
-        Rose (L.state link.old).faults (L.state link.new).faults) ⊎ (e ≡ OutOfMemory)) }
+        FaultCountRose (L.state link.old).faults (L.state link.new).faults) ⊎ (e ≡ OutOfMemory)) }
 {
     match write_all(link, request) {
         Ok(()) => Ok(()),

@@ -2,7 +2,7 @@
 ghost use Rattle.std.specs.Prelude.{◌≡◌, ◌+◌, ◌*◌, ◌<◌, ◌≤◌, ◌++◌, ◌^◌, ℕ, [], length, take, drop};
 ghost use Rattle.std.specs.Prelude.{IfOk, OnErr, OnOk, IsErrOf, IsTrue, vec_len};
 ghost use Rattle.kmip_wire.specs.Heads.{head_says};
-ghost use Rattle.kmip_link.specs.State.{Keeps, Rose, left};
+ghost use Rattle.kmip_link.specs.State.{Keeps, FaultCountRose, left};
 ghost use Rattle.kmip_client.specs.Message.{ReadsMessage, IsRead};
 ghost use Rattle.kmip_client.specs.MessageStop.{head_stop_of};
 
@@ -66,7 +66,7 @@ pub fn read_message<L: Link>(
         result }
     ensures read { IsRead config.now.max_bytes taken.new.items result }
     ensures fault { IsErrOf result MessageStop.Fault →
-        Rose (L.state link.old).faults (L.state link.new).faults }
+        FaultCountRose (L.state link.old).faults (L.state link.new).faults }
 {
     read_more(link, 8, taken)?;
     let len = contents_len(taken, config)?;

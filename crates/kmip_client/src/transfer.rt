@@ -1,7 +1,7 @@
 //! Loops over the calls of a link: all of a request, and so many bytes of a response.
 ghost use Rattle.std.specs.Prelude.{◌≡◌, ◌+◌, ◌-◌, ◌<◌, ◌≤◌, ◌++◌, [], ℕ, length, take, drop, min};
 ghost use Rattle.std.specs.Prelude.{IfOk, IfErr, OnErr, OnOk, IsErrOf, IsTrue, vec_len};
-ghost use Rattle.kmip_link.specs.State.{Keeps, Writes, Rose, left};
+ghost use Rattle.kmip_link.specs.State.{Keeps, Writes, FaultCountRose, left};
 ghost use Rattle.kmip_client.specs.Transfer.{WritesPart, Takes, TakesPart};
 
 use kmip_link::{Link, LinkError};
@@ -52,7 +52,7 @@ pub fn write_all<L: Link>(link: &mut L, bytes: &[u8]) -> Result<(), LinkError>
     ensures err { OnErr result (IsTrue (L.state link.old).tells →
         WritesPart (L.state link.old) (L.state link.new) bytes.now) }
     ensures cause { IsErrOf result LinkError.Fault →
-        Rose (L.state link.old).faults (L.state link.new).faults }
+        FaultCountRose (L.state link.old).faults (L.state link.new).faults }
 {
     let mut done = 0;
     while done < bytes.len() {
@@ -74,7 +74,7 @@ fn read_piece<L: Link>(link: &mut L, room: usize, taken: &mut Vec<u8>) -> Result
     ensures ended { IsErrOf result ReadStop.Ended → IsTrue (L.state link.old).tells →
         (left (L.state link.old) ≡ []) × Takes (L.state link.old) (L.state link.new) 0 }
     ensures fault { IsErrOf result ReadStop.Fault →
-        Rose (L.state link.old).faults (L.state link.new).faults }
+        FaultCountRose (L.state link.old).faults (L.state link.new).faults }
     ensures idle { IsErrOf result ReadStop.Fault → IsTrue (L.state link.old).tells →
         Takes (L.state link.old) (L.state link.new) 0 }
     ensures err { OnErr result (taken.new.items ≡ taken.old.items) }
@@ -113,7 +113,7 @@ pub fn read_more<L: Link>(link: &mut L, count: usize, taken: &mut Vec<u8>) -> Re
         × Takes (L.state link.old) (L.state link.new) (length (left (L.state link.old)))
         × (taken.new.items ≡ taken.old.items ++ left (L.state link.old)) }
     ensures fault { IsErrOf result ReadStop.Fault →
-        Rose (L.state link.old).faults (L.state link.new).faults }
+        FaultCountRose (L.state link.old).faults (L.state link.new).faults }
     ensures broken { IsErrOf result ReadStop.Fault → IsTrue (L.state link.old).tells →
         (n : ℕ) × (n < count) × Takes (L.state link.old) (L.state link.new) n
         × (taken.new.items ≡ taken.old.items ++ take n (left (L.state link.old))) }

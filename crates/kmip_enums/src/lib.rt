@@ -1,5 +1,5 @@
 //! The enumerations of KMIP in requests, responses and attributes. Those of algorithms and keys are
-//! in kmip_cryptography.
+//! in kmip_codes.
 #![tactic(auto)]
 
 mod certificate_type;

@@ -12,9 +12,9 @@ use Rattle.kmip_store.specs.declared.call.Call.TheVariants.{Query, CreateRsaKeyP
 use Rattle.kmip_store.specs.declared.maker.Asked.{Asked}
 use Rattle.kmip_store.specs.declared.maker.Made.{Made}
 use Rattle.kmip_store.proofs.Plains.{as_many}
-use Rattle.kmip_served.specs.Answering.{list_of_option}
-use Rattle.kmip_served.specs.Requests.{request_of, call_operation}
-use Rattle.kmip_served.specs.Served.{served, asks}
+use Rattle.kmip_server_core.specs.Answering.{list_of_option}
+use Rattle.kmip_server_core.specs.Requests.{request_of, call_operation}
+use Rattle.kmip_server_core.specs.Served.{served, asks}
 use Rattle.kmip_server.specs.Calls.{call_told, settings_of, before_all, expected_of, finish_of}
 use Rattle.kmip_server.specs.Came.{standing}
 use Rattle.kmip_server.specs.Joined.{Settings, Between, Expected, AsTold, Unsent, CallTold, Next, turn_with, turn_call_told, answered_with, sent_with, next, expected_calls, finish, has_unsent, Meet}

@@ -6,8 +6,8 @@ use Rattle.kmip_store.specs.Plain.{plain_answer, plain_answers}
 use Rattle.kmip_store.specs.declared.maker.Asked.{Asked}
 use Rattle.kmip_store.specs.declared.maker.Made.{Made}
 use Rattle.kmip_store.specs.declared.object.Object.{Object}
-use Rattle.kmip_served.specs.Answering.{list_of_option}
-use Rattle.kmip_served.specs.Served.{served, asks}
+use Rattle.kmip_server_core.specs.Answering.{list_of_option}
+use Rattle.kmip_server_core.specs.Served.{served, asks}
 use Rattle.kmip_server.specs.Machine.{Run, first_for, rest_for, serve}
 use Rattle.kmip_server.proofs.Frames.{serve_objects, serve_given, serve_asked}
 

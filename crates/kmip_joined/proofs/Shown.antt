@@ -11,7 +11,7 @@ use Rattle.kmip_client.specs.declared.error.Error.{Error}
 use Rattle.kmip_store.specs.declared.call.Call.{Call}
 use Rattle.kmip_store.specs.declared.call.Call.TheVariants.{Query, CreateRsaKeyPair, RngRetrieve, Sign, ActivateKey, RevokeKey, DestroyKey, RenameKey, GetKey}
 use Rattle.kmip_response.specs.Tables.{query_payload, rng_retrieve_payload, sign_payload, attribute_edit_payload, get_payload}
-use Rattle.kmip_served.specs.Requests.{call_operation}
+use Rattle.kmip_server_core.specs.Requests.{call_operation}
 use Rattle.kmip_server.specs.Joined.{helper_answer, part_for, no_val}
 use Rattle.kmip_server.specs.Calls.{answered_val, answered_seen}
 use Rattle.kmip_server.specs.declared.answers.Answered.{Answered}

@@ -12,7 +12,7 @@ use Rattle.kmip_client.specs.declared.error.Error.TheVariants.{SerializeError, R
 use Rattle.kmip_client.proofs.Headlines.{seen_variant}
 use Rattle.kmip_client.proofs.Said.{OfMessages, message_says}
 use Rattle.kmip_store.specs.declared.call.Call.{Call}
-use Rattle.kmip_served.specs.Requests.{call_operation}
+use Rattle.kmip_server_core.specs.Requests.{call_operation}
 use Rattle.kmip_server.specs.Calls.{call_told}
 use Rattle.kmip_server.specs.Joined.{Settings, turn_with, turn_call_told}
 use Rattle.kmip_server.specs.declared.answers.CallAnswer.{CallAnswer}

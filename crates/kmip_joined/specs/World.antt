@@ -8,8 +8,8 @@ use Rattle.kmip_store.specs.Plain.{PlainMemory, plain_answer, plain_state}
 use Rattle.kmip_store.specs.declared.maker.Asked.{Asked}
 use Rattle.kmip_store.specs.declared.maker.Made.{Made}
 use Rattle.kmip_store.specs.declared.object.Object.{Object}
-use Rattle.kmip_served.specs.Answering.{list_of_option}
-use Rattle.kmip_served.specs.Served.{served, asks}
+use Rattle.kmip_server_core.specs.Answering.{list_of_option}
+use Rattle.kmip_server_core.specs.Served.{served, asks}
 use Rattle.kmip_server.specs.Link.{ServerLinkState, server_link_state}
 use Rattle.kmip_words.specs.Exchange.{Settings, Step, step, request_asked, or_empty}
 use Rattle.kmip_words.specs.declared.call.Call.{Call}

@@ -91,7 +91,7 @@ impl Item for KeyMaterial {
         }
     }
 
-    ghost same = { key_material_same };
+    ghost faithful = { key_material_same };
 }
 
 impl WriteItem for KeyMaterial {

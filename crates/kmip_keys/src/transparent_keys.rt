@@ -30,7 +30,7 @@ use kmip_shape::record::{End, Row};
 use kmip_shape::row_readers::One;
 use kmip_shape::{
     BigOne, BigOpt, Item, Outer, ReadError, ReadItem, ShowItem, TextWriter, WriteItem, fields,
-    known_record, read_record, record_len, show_record, write_record,
+    fits_record, read_record, record_len, show_record, write_record,
 };
 use kmip_tags::tags::{
     CRT_COEFFICIENT, G, J, KEY, MODULUS, P, PRIME_EXPONENT_P, PRIME_EXPONENT_Q, PRIVATE_EXPONENT,
@@ -62,10 +62,10 @@ impl Item for TransparentSymmetricKey {
     ghost val = { transparent_symmetric_key_val };
 
     fn known(&self) {
-        known_record::<TransparentSymmetricKeyRows>(fields![&self.key]);
+        fits_record::<TransparentSymmetricKeyRows>(fields![&self.key]);
     }
 
-    ghost same = { transparent_symmetric_key_same };
+    ghost faithful = { transparent_symmetric_key_same };
 }
 
 impl WriteItem for TransparentSymmetricKey {
@@ -126,10 +126,10 @@ impl Item for TransparentDSAPrivateKey {
     ghost val = { transparent_dsa_private_key_val };
 
     fn known(&self) {
-        known_record::<TransparentDSAPrivateKeyRows>(fields![&self.p, &self.q, &self.g, &self.x]);
+        fits_record::<TransparentDSAPrivateKeyRows>(fields![&self.p, &self.q, &self.g, &self.x]);
     }
 
-    ghost same = { transparent_dsa_private_key_same };
+    ghost faithful = { transparent_dsa_private_key_same };
 }
 
 impl WriteItem for TransparentDSAPrivateKey {
@@ -198,10 +198,10 @@ impl Item for TransparentDSAPublicKey {
     ghost val = { transparent_dsa_public_key_val };
 
     fn known(&self) {
-        known_record::<TransparentDSAPublicKeyRows>(fields![&self.p, &self.q, &self.g, &self.y]);
+        fits_record::<TransparentDSAPublicKeyRows>(fields![&self.p, &self.q, &self.g, &self.y]);
     }
 
-    ghost same = { transparent_dsa_public_key_same };
+    ghost faithful = { transparent_dsa_public_key_same };
 }
 
 impl WriteItem for TransparentDSAPublicKey {
@@ -297,7 +297,7 @@ impl Item for TransparentRSAPrivateKey {
     ghost val = { transparent_rsa_private_key_val };
 
     fn known(&self) {
-        known_record::<TransparentRSAPrivateKeyRows>(fields![
+        fits_record::<TransparentRSAPrivateKeyRows>(fields![
             &self.modulus,
             &self.private_exponent,
             &self.public_exponent,
@@ -309,7 +309,7 @@ impl Item for TransparentRSAPrivateKey {
         ]);
     }
 
-    ghost same = { transparent_rsa_private_key_same };
+    ghost faithful = { transparent_rsa_private_key_same };
 }
 
 impl WriteItem for TransparentRSAPrivateKey {
@@ -423,10 +423,10 @@ impl Item for TransparentRSAPublicKey {
     ghost val = { transparent_rsa_public_key_val };
 
     fn known(&self) {
-        known_record::<TransparentRSAPublicKeyRows>(fields![&self.modulus, &self.public_exponent]);
+        fits_record::<TransparentRSAPublicKeyRows>(fields![&self.modulus, &self.public_exponent]);
     }
 
-    ghost same = { transparent_rsa_public_key_same };
+    ghost faithful = { transparent_rsa_public_key_same };
 }
 
 impl WriteItem for TransparentRSAPublicKey {
@@ -503,12 +503,12 @@ impl Item for TransparentDHPrivateKey {
     ghost val = { transparent_dh_private_key_val };
 
     fn known(&self) {
-        known_record::<TransparentDHPrivateKeyRows>(fields![
+        fits_record::<TransparentDHPrivateKeyRows>(fields![
             &self.p, &self.q, &self.g, &self.j, &self.x
         ]);
     }
 
-    ghost same = { transparent_dh_private_key_same };
+    ghost faithful = { transparent_dh_private_key_same };
 }
 
 impl WriteItem for TransparentDHPrivateKey {
@@ -584,12 +584,12 @@ impl Item for TransparentDHPublicKey {
     ghost val = { transparent_dh_public_key_val };
 
     fn known(&self) {
-        known_record::<TransparentDHPublicKeyRows>(fields![
+        fits_record::<TransparentDHPublicKeyRows>(fields![
             &self.p, &self.q, &self.g, &self.j, &self.y
         ]);
     }
 
-    ghost same = { transparent_dh_public_key_same };
+    ghost faithful = { transparent_dh_public_key_same };
 }
 
 impl WriteItem for TransparentDHPublicKey {

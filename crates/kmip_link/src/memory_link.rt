@@ -1,7 +1,7 @@
 //! A link in memory, which cuts what it moves into planned pieces.
 ghost use Rattle.std.specs.Prelude.{◌≡◌, ◌⊎◌, ◌+◌, ◌-◌, ◌<◌, ◌≤◌, ◌++◌, [], ℕ, length, take, drop};
 ghost use Rattle.std.specs.Prelude.{min, IsOk, IfOk, IfErr, OnErr, OnOk, IsErrOf, IsTrue};
-ghost use Rattle.kmip_link.specs.State.{Keeps, IsIdle, Reads, Writes, Rose, left};
+ghost use Rattle.kmip_link.specs.State.{Keeps, IsIdle, Reads, Writes, FaultCountRose, left};
 ghost use Rattle.kmip_link.specs.Plan.{MemoryState, HasSize, CountsCall, IsCallNumber};
 ghost use Rattle.kmip_link.specs.Plan.{planned_size, place_of, memory_state};
 
@@ -141,7 +141,7 @@ impl Link for MemoryLink {
         ensures idle { OnErr result (IsTrue (memory_state self.old).tells →
             IsIdle (memory_state self.old) (memory_state self.new)) }
         ensures cause { IsErrOf result LinkError.Fault →
-            Rose (memory_state self.old).faults (memory_state self.new).faults }
+            FaultCountRose (memory_state self.old).faults (memory_state self.new).faults }
         ensures succeeds { IsOk result }
         ensures size { IfOk result
             (λ n. HasSize self.old (min (length into.old) (length (left (memory_state self.old))))

@@ -3,7 +3,7 @@ ghost use Rattle.std.specs.Prelude.{◌≡◌, ◌⊎◌, ◌↔◌, ◌+◌, �
 ghost use Rattle.std.specs.Prelude.{drop, min, Ok, IfOk, IfErr, OnErr, OnOk, IsErrOf, IsTrue};
 ghost use Rattle.std.specs.Prelude.{Contains};
 ghost use Rattle.kmip_link.specs.State.{source_left, SourceKeeps, SourceIsIdle, SourceReads};
-ghost use Rattle.kmip_link.specs.State.{SinkKeeps, Rose};
+ghost use Rattle.kmip_link.specs.State.{SinkKeeps, FaultCountRose};
 ghost use Rattle.kmip_link.specs.Plan.{SourceMemory, SinkMemory, source_state, sink_state};
 ghost use Rattle.kmip_link.specs.Plan.{next_count};
 
@@ -70,7 +70,7 @@ impl Source for MemorySource {
         ensures moved { IfOk result
             (λ n. SourceReads (source_state self.old) (source_state self.new) into.new n) }
         ensures idle { OnErr result (SourceIsIdle (source_state self.old) (source_state self.new)) }
-        ensures cause { IsErrOf result LinkError.Fault → Rose self.old.faults self.new.faults }
+        ensures cause { IsErrOf result LinkError.Fault → FaultCountRose self.old.faults self.new.faults }
         ensures fails { IsErrOf result LinkError.Fault ↔ Contains self.old.failing self.old.number }
         ensures other { IfErr result (λ e. e ≡ LinkError.Fault) }
         ensures size { IfOk result (λ n. n ≡
@@ -151,7 +151,7 @@ impl Sink for MemorySink {
         ensures some { IfOk result (λ n. 0 < length bytes.now → 0 < n) }
         ensures moved { IfOk result (λ n. self.new.sent ≡ self.old.sent ++ take n bytes.now) }
         ensures idle { OnErr result (self.new.sent ≡ self.old.sent) }
-        ensures cause { IsErrOf result LinkError.Fault → Rose self.old.faults self.new.faults }
+        ensures cause { IsErrOf result LinkError.Fault → FaultCountRose self.old.faults self.new.faults }
         ensures fails { IsErrOf result LinkError.Fault ↔ Contains self.old.failing self.old.number }
         ensures number { self.new.number ≡ next_count self.old.number }
         ensures size { IfOk result (λ n. n ≡ length bytes.now) }

@@ -2,7 +2,7 @@
 ghost use Rattle.std.specs.Prelude.{◌≡◌, ◌⊎◌, ◌↔◌, ◌+◌, ◌-◌, ◌<◌, ◌≤◌, ◌++◌, [], ℕ, length, take};
 ghost use Rattle.std.specs.Prelude.{drop, min, Ok, IfOk, IfErr, OnErr, OnOk, IsErrOf, IsTrue};
 ghost use Rattle.std.specs.Prelude.{Contains};
-ghost use Rattle.kmip_link.specs.State.{Keeps, IsIdle, Reads, Writes, Rose, left};
+ghost use Rattle.kmip_link.specs.State.{Keeps, IsIdle, Reads, Writes, FaultCountRose, left};
 ghost use Rattle.kmip_link.specs.Plan.{PlannedState, HasSize, CountsCall, planned_state};
 ghost use Rattle.kmip_link.specs.Plan.{memory_state, next_count};
 
@@ -95,7 +95,7 @@ impl Link for PlannedLink {
         ensures moved { IfOk result (λ n. Reads (planned_state self.old) (planned_state self.new)
             into.new n) }
         ensures idle { OnErr result (IsIdle (planned_state self.old) (planned_state self.new)) }
-        ensures cause { IsErrOf result LinkError.Fault → Rose self.old.faults self.new.faults }
+        ensures cause { IsErrOf result LinkError.Fault → FaultCountRose self.old.faults self.new.faults }
         ensures fails { IsErrOf result LinkError.Fault ↔ Contains self.old.failing self.old.number }
         ensures other { IfErr result (λ e. e ≡ LinkError.Fault) }
         ensures below { OnErr result (self.new.link ≡ self.old.link) }
@@ -120,7 +120,7 @@ impl Link for PlannedLink {
         ensures moved { IfOk result (λ n. Writes (planned_state self.old) (planned_state self.new)
             (take n bytes.now)) }
         ensures idle { OnErr result (IsIdle (planned_state self.old) (planned_state self.new)) }
-        ensures cause { IsErrOf result LinkError.Fault → Rose self.old.faults self.new.faults }
+        ensures cause { IsErrOf result LinkError.Fault → FaultCountRose self.old.faults self.new.faults }
         ensures fails { IsErrOf result LinkError.Fault ↔ Contains self.old.failing self.old.number }
         ensures below { OnErr result (self.new.link ≡ self.old.link) }
         ensures size { IfOk result (λ n. HasSize self.old.link (length bytes.now) n) }

@@ -14,7 +14,7 @@ use kmip_enums::CredentialType;
 use kmip_shape::record::{Choosing, End, Row};
 use kmip_shape::row_readers::{ChosenOne, One, Opt};
 use kmip_shape::{
-    Item, Outer, ReadError, ReadItem, WriteItem, fields, known_record, read_record, record_len,
+    Item, Outer, ReadError, ReadItem, WriteItem, fields, fits_record, read_record, record_len,
     write_record,
 };
 use kmip_tags::tags::{CREDENTIAL, CREDENTIAL_TYPE, CREDENTIAL_VALUE, PASSWORD, USERNAME};
@@ -41,7 +41,7 @@ impl Item for Username {
         self.0.known();
     }
 
-    ghost same = { username_same };
+    ghost faithful = { username_same };
 }
 
 impl WriteItem for Username {
@@ -79,7 +79,7 @@ impl Item for Password {
         self.0.known();
     }
 
-    ghost same = { password_same };
+    ghost faithful = { password_same };
 }
 
 impl WriteItem for Password {
@@ -128,12 +128,12 @@ impl Item for CredentialValue {
     fn known(&self) {
         match self {
             CredentialValue::UsernameAndPassword(username, password) => {
-                known_record::<UsernameAndPasswordRows>(fields![username, password]);
+                fits_record::<UsernameAndPasswordRows>(fields![username, password]);
             }
         }
     }
 
-    ghost same = { credential_value_same };
+    ghost faithful = { credential_value_same };
 }
 
 impl WriteItem for CredentialValue {
@@ -189,10 +189,10 @@ impl Item for Credential {
     ghost val = { credential_val };
 
     fn known(&self) {
-        known_record::<CredentialRows<'_>>(fields![&self.0, &self.1]);
+        fits_record::<CredentialRows<'_>>(fields![&self.0, &self.1]);
     }
 
-    ghost same = { credential_same };
+    ghost faithful = { credential_same };
 }
 
 impl WriteItem for Credential {
@@ -250,10 +250,10 @@ impl Item for Authentication {
     ghost val = { authentication_val };
 
     fn known(&self) {
-        known_record::<AuthenticationRows>(fields![&self.0]);
+        fits_record::<AuthenticationRows>(fields![&self.0]);
     }
 
-    ghost same = { authentication_same };
+    ghost faithful = { authentication_same };
 }
 
 impl WriteItem for Authentication {

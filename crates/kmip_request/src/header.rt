@@ -10,7 +10,7 @@ use crate::numbers::{BatchCount, MaximumResponseSize, ProtocolVersionMajor, Prot
 use kmip_shape::record::{End, Row};
 use kmip_shape::row_readers::{One, Opt};
 use kmip_shape::{
-    Item, Outer, ReadError, ReadItem, WriteItem, fields, known_record, read_record, record_len,
+    Item, Outer, ReadError, ReadItem, WriteItem, fields, fits_record, read_record, record_len,
     write_record,
 };
 use kmip_tags::tags::{
@@ -35,10 +35,10 @@ impl Item for ProtocolVersion {
     ghost val = { protocol_version_val };
 
     fn known(&self) {
-        known_record::<ProtocolVersionRows>(fields![&self.0, &self.1]);
+        fits_record::<ProtocolVersionRows>(fields![&self.0, &self.1]);
     }
 
-    ghost same = { protocol_version_same };
+    ghost faithful = { protocol_version_same };
 }
 
 impl WriteItem for ProtocolVersion {
@@ -87,10 +87,10 @@ impl Item for RequestHeader {
     ghost val = { request_header_val };
 
     fn known(&self) {
-        known_record::<RequestHeaderRows>(fields![&self.0, &self.1, &self.2, &self.3]);
+        fits_record::<RequestHeaderRows>(fields![&self.0, &self.1, &self.2, &self.3]);
     }
 
-    ghost same = { request_header_same };
+    ghost faithful = { request_header_same };
 }
 
 impl WriteItem for RequestHeader {

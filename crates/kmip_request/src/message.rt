@@ -12,7 +12,7 @@ use kmip_enums::Operation;
 use kmip_shape::record::{Choosing, End, Row};
 use kmip_shape::row_readers::{ChosenOne, Many, One, Opt};
 use kmip_shape::{
-    Item, Outer, ReadError, ReadItem, ReadRoot, WriteItem, fields, known_record, read_record,
+    Item, Outer, ReadError, ReadItem, ReadRoot, WriteItem, fields, fits_record, read_record,
     record_len, write_record,
 };
 use kmip_tags::tags::{
@@ -51,10 +51,10 @@ impl Item for BatchItem {
     ghost val = { batch_item_val };
 
     fn known(&self) {
-        known_record::<BatchItemRows<'_, RequestPayload>>(fields![&self.0, &self.1, &self.2]);
+        fits_record::<BatchItemRows<'_, RequestPayload>>(fields![&self.0, &self.1, &self.2]);
     }
 
-    ghost same = { batch_item_same };
+    ghost faithful = { batch_item_same };
 }
 
 impl WriteItem for BatchItem {
@@ -101,10 +101,10 @@ impl Item for RequestMessage {
     ghost val = { request_message_val };
 
     fn known(&self) {
-        known_record::<RequestMessageRows>(fields![&self.0, &self.1]);
+        fits_record::<RequestMessageRows>(fields![&self.0, &self.1]);
     }
 
-    ghost same = { request_message_same };
+    ghost faithful = { request_message_same };
 }
 
 impl WriteItem for RequestMessage {

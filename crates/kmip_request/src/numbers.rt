@@ -23,7 +23,7 @@ impl Item for ProtocolVersionMajor {
         self.0.known();
     }
 
-    ghost same = { major_same };
+    ghost faithful = { major_same };
 }
 
 impl WriteItem for ProtocolVersionMajor {
@@ -55,7 +55,7 @@ impl Item for ProtocolVersionMinor {
         self.0.known();
     }
 
-    ghost same = { minor_same };
+    ghost faithful = { minor_same };
 }
 
 impl WriteItem for ProtocolVersionMinor {
@@ -87,7 +87,7 @@ impl Item for MaximumResponseSize {
         self.0.known();
     }
 
-    ghost same = { size_same };
+    ghost faithful = { size_same };
 }
 
 impl WriteItem for MaximumResponseSize {
@@ -119,7 +119,7 @@ impl Item for BatchCount {
         self.0.known();
     }
 
-    ghost same = { count_same };
+    ghost faithful = { count_same };
 }
 
 impl WriteItem for BatchCount {

@@ -30,7 +30,7 @@ use kmip_request_objects::{
     PrivateKeyTemplateAttribute, PublicKeyTemplateAttribute, RevocationReason, TemplateAttribute,
 };
 use kmip_shape::{
-    Item, Outer, ReadError, ReadItem, WriteItem, copy_list, fields, known_record, record_len,
+    Item, Outer, ReadError, ReadItem, WriteItem, copy_list, fields, fits_record, record_len,
     write_record,
 };
 use kmip_types::{
@@ -193,10 +193,10 @@ impl Item for RequestPayload {
     ghost val = { request_payload_val };
 
     fn known(&self) {
-        by_rows!(self, known_record)
+        by_rows!(self, fits_record)
     }
 
-    ghost same = { request_payload_same };
+    ghost faithful = { request_payload_same };
 }
 
 impl WriteItem for RequestPayload {

@@ -8,7 +8,7 @@ ghost use Rattle.kmip_request_objects.specs.Same.{attribute_same};
 use kmip_shape::record::{Choosing, End, Row};
 use kmip_shape::row_readers::{ChosenOne, One, Opt};
 use kmip_shape::{
-    Item, Outer, ReadError, ReadItem, WriteItem, fields, known_record, read_record, record_len,
+    Item, Outer, ReadError, ReadItem, WriteItem, fields, fits_record, read_record, record_len,
     write_record,
 };
 use kmip_tags::tags::{ATTRIBUTE_INDEX, ATTRIBUTE_NAME, ATTRIBUTE_VALUE};
@@ -46,10 +46,10 @@ impl Item for Attribute {
     ghost val = { attribute_val };
 
     fn known(&self) {
-        known_record::<AttributeRows<'_>>(fields![&self.0, &self.1, &self.2]);
+        fits_record::<AttributeRows<'_>>(fields![&self.0, &self.1, &self.2]);
     }
 
-    ghost same = { attribute_same };
+    ghost faithful = { attribute_same };
 }
 
 #[tactic(auto, unfolding(crate::specs::Tables::attribute))]

@@ -40,7 +40,7 @@ impl Item for MACOrSignature {
         self.0.known();
     }
 
-    ghost same = { mac_or_signature_same };
+    ghost faithful = { mac_or_signature_same };
 }
 
 impl WriteItem for MACOrSignature {
@@ -87,7 +87,7 @@ impl Item for IVOrCounterOrNonce {
         self.0.known();
     }
 
-    ghost same = { iv_or_counter_or_nonce_same };
+    ghost faithful = { iv_or_counter_or_nonce_same };
 }
 
 impl WriteItem for IVOrCounterOrNonce {

@@ -10,7 +10,7 @@ use crate::key_wrapping::KeyWrappingData;
 use kmip_shape::record::{Choosing, End, Row};
 use kmip_shape::row_readers::{ChosenOpt, One, Opt, OptMany};
 use kmip_shape::{
-    Item, Outer, ReadError, ReadItem, WriteItem, fields, known_record, read_record, record_len,
+    Item, Outer, ReadError, ReadItem, WriteItem, fields, fits_record, read_record, record_len,
     write_record,
 };
 use kmip_tags::tags::{
@@ -42,10 +42,10 @@ impl Item for KeyValue {
     ghost val = { key_value_val };
 
     fn known(&self) {
-        known_record::<KeyValueRows>(fields![&self.0, &self.1]);
+        fits_record::<KeyValueRows>(fields![&self.0, &self.1]);
     }
 
-    ghost same = { key_value_same };
+    ghost faithful = { key_value_same };
 }
 
 #[tactic(auto, unfolding(crate::specs::Tables::key_value))]
@@ -116,12 +116,12 @@ impl Item for KeyBlock {
     ghost val = { key_block_val };
 
     fn known(&self) {
-        known_record::<KeyBlockRows<'_>>(fields![
+        fits_record::<KeyBlockRows<'_>>(fields![
             &self.0, &self.1, &self.2, &self.3, &self.4, &self.5
         ]);
     }
 
-    ghost same = { key_block_same };
+    ghost faithful = { key_block_same };
 }
 
 #[tactic(auto, unfolding(crate::specs::Tables::key_block))]

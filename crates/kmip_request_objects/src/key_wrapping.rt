@@ -18,7 +18,7 @@ use crate::byte_strings::{IVOrCounterOrNonce, MACOrSignature};
 use kmip_shape::record::{End, Row};
 use kmip_shape::row_readers::{One, Opt, OptMany};
 use kmip_shape::{
-    Item, Outer, ReadError, ReadItem, WriteItem, fields, known_record, read_record, record_len,
+    Item, Outer, ReadError, ReadItem, WriteItem, fields, fits_record, read_record, record_len,
     write_record,
 };
 use kmip_tags::tags::{
@@ -51,10 +51,10 @@ impl Item for EncryptionKeyInformation {
     ghost val = { encryption_key_information_val };
 
     fn known(&self) {
-        known_record::<EncryptionKeyInformationRows>(fields![&self.0, &self.1]);
+        fits_record::<EncryptionKeyInformationRows>(fields![&self.0, &self.1]);
     }
 
-    ghost same = { encryption_key_information_same };
+    ghost faithful = { encryption_key_information_same };
 }
 
 #[tactic(auto, unfolding(crate::specs::Tables::encryption_key_information))]
@@ -100,10 +100,10 @@ impl Item for MACOrSignatureKeyInformation {
     ghost val = { mac_or_signature_key_information_val };
 
     fn known(&self) {
-        known_record::<MACOrSignatureKeyInformationRows>(fields![&self.0, &self.1]);
+        fits_record::<MACOrSignatureKeyInformationRows>(fields![&self.0, &self.1]);
     }
 
-    ghost same = { mac_or_signature_key_information_same };
+    ghost faithful = { mac_or_signature_key_information_same };
 }
 
 #[tactic(auto, unfolding(crate::specs::Tables::mac_or_signature_key_information))]
@@ -175,12 +175,12 @@ impl Item for KeyWrappingData {
     ghost val = { key_wrapping_data_val };
 
     fn known(&self) {
-        known_record::<KeyWrappingDataRows>(fields![
+        fits_record::<KeyWrappingDataRows>(fields![
             &self.0, &self.1, &self.2, &self.3, &self.4, &self.5
         ]);
     }
 
-    ghost same = { key_wrapping_data_same };
+    ghost faithful = { key_wrapping_data_same };
 }
 
 #[tactic(auto, unfolding(crate::specs::Tables::key_wrapping_data))]
@@ -249,10 +249,10 @@ impl Item for KeyWrappingSpecification {
     ghost val = { key_wrapping_specification_val };
 
     fn known(&self) {
-        known_record::<KeyWrappingSpecificationRows>(fields![&self.0, &self.1, &self.2, &self.3]);
+        fits_record::<KeyWrappingSpecificationRows>(fields![&self.0, &self.1, &self.2, &self.3]);
     }
 
-    ghost same = { key_wrapping_specification_same };
+    ghost faithful = { key_wrapping_specification_same };
 }
 
 #[tactic(auto, unfolding(crate::specs::Tables::key_wrapping_specification))]

@@ -17,7 +17,7 @@ use crate::key_block::KeyBlock;
 use kmip_shape::record::{End, Row};
 use kmip_shape::row_readers::{Many, One};
 use kmip_shape::{
-    Item, OfTag, Outer, ReadError, ReadItem, WriteItem, fields, known_record, read_record,
+    Item, OfTag, Outer, ReadError, ReadItem, WriteItem, fields, fits_record, read_record,
     record_len, write_record,
 };
 use kmip_tags::tags::{ATTRIBUTE, KEY_BLOCK, PRIVATE_KEY, PUBLIC_KEY, SYMMETRIC_KEY, TEMPLATE};
@@ -42,10 +42,10 @@ impl Item for SymmetricKey {
     ghost val = { symmetric_key_val };
 
     fn known(&self) {
-        known_record::<SymmetricKeyRows>(fields![&self.0]);
+        fits_record::<SymmetricKeyRows>(fields![&self.0]);
     }
 
-    ghost same = { symmetric_key_same };
+    ghost faithful = { symmetric_key_same };
 }
 
 impl WriteItem for SymmetricKey {
@@ -83,10 +83,10 @@ impl Item for PublicKey {
     ghost val = { public_key_val };
 
     fn known(&self) {
-        known_record::<PublicKeyRows>(fields![&self.0]);
+        fits_record::<PublicKeyRows>(fields![&self.0]);
     }
 
-    ghost same = { public_key_same };
+    ghost faithful = { public_key_same };
 }
 
 impl WriteItem for PublicKey {
@@ -124,10 +124,10 @@ impl Item for PrivateKey {
     ghost val = { private_key_val };
 
     fn known(&self) {
-        known_record::<PrivateKeyRows>(fields![&self.0]);
+        fits_record::<PrivateKeyRows>(fields![&self.0]);
     }
 
-    ghost same = { private_key_same };
+    ghost faithful = { private_key_same };
 }
 
 impl WriteItem for PrivateKey {
@@ -165,10 +165,10 @@ impl Item for Template {
     ghost val = { template_val };
 
     fn known(&self) {
-        known_record::<TemplateRows>(fields![&self.0]);
+        fits_record::<TemplateRows>(fields![&self.0]);
     }
 
-    ghost same = { template_same };
+    ghost faithful = { template_same };
 }
 
 impl WriteItem for Template {
@@ -234,7 +234,7 @@ impl Item for ManagedObject {
         }
     }
 
-    ghost same = { managed_object_same };
+    ghost faithful = { managed_object_same };
 }
 
 impl WriteItem for ManagedObject {

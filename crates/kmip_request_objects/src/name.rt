@@ -10,7 +10,7 @@ use kmip_enums::NameType;
 use kmip_shape::record::{End, Row};
 use kmip_shape::row_readers::One;
 use kmip_shape::{
-    Item, Outer, ReadError, ReadItem, WriteItem, fields, known_record, read_record, record_len,
+    Item, Outer, ReadError, ReadItem, WriteItem, fields, fits_record, read_record, record_len,
     write_record,
 };
 use kmip_tags::tags::{NAME_TYPE, NAME_VALUE};
@@ -46,10 +46,10 @@ impl Item for Name {
     ghost val = { name_val };
 
     fn known(&self) {
-        known_record::<NameRows>(fields![&self.0, &self.1]);
+        fits_record::<NameRows>(fields![&self.0, &self.1]);
     }
 
-    ghost same = { name_same };
+    ghost faithful = { name_same };
 }
 
 #[tactic(auto, unfolding(crate::specs::Tables::name))]

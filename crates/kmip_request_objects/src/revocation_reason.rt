@@ -9,7 +9,7 @@ use kmip_enums::RevocationReasonCode;
 use kmip_shape::record::{End, Row};
 use kmip_shape::row_readers::{One, Opt};
 use kmip_shape::{
-    Item, Outer, ReadError, ReadItem, WriteItem, fields, known_record, read_record, record_len,
+    Item, Outer, ReadError, ReadItem, WriteItem, fields, fits_record, read_record, record_len,
     write_record,
 };
 use kmip_tags::tags::{REVOCATION_MESSAGE, REVOCATION_REASON_CODE};
@@ -39,10 +39,10 @@ impl Item for RevocationReason {
     ghost val = { revocation_reason_val };
 
     fn known(&self) {
-        known_record::<RevocationReasonRows>(fields![&self.0, &self.1]);
+        fits_record::<RevocationReasonRows>(fields![&self.0, &self.1]);
     }
 
-    ghost same = { revocation_reason_same };
+    ghost faithful = { revocation_reason_same };
 }
 
 #[tactic(auto, unfolding(crate::specs::Tables::revocation_reason))]

@@ -19,7 +19,7 @@ use kmip_enums::NameType;
 use kmip_shape::record::{End, Row};
 use kmip_shape::row_readers::OptMany;
 use kmip_shape::{
-    Item, Outer, ReadError, ReadItem, WriteItem, fields, known_record, read_record, record_len,
+    Item, Outer, ReadError, ReadItem, WriteItem, fields, fits_record, read_record, record_len,
     write_record,
 };
 use kmip_tags::tags::{ATTRIBUTE, NAME};
@@ -80,10 +80,10 @@ impl Item for TemplateAttribute {
     ghost val = { template_attribute_val };
 
     fn known(&self) {
-        known_record::<TemplateAttributeRows>(fields![&self.0, &self.1]);
+        fits_record::<TemplateAttributeRows>(fields![&self.0, &self.1]);
     }
 
-    ghost same = { template_attribute_same };
+    ghost faithful = { template_attribute_same };
 }
 
 #[tactic(auto, unfolding(crate::specs::Tables::template_attribute))]
@@ -152,10 +152,10 @@ impl Item for CommonTemplateAttribute {
     ghost val = { common_template_attribute_val };
 
     fn known(&self) {
-        known_record::<CommonTemplateAttributeRows>(fields![&self.0, &self.1]);
+        fits_record::<CommonTemplateAttributeRows>(fields![&self.0, &self.1]);
     }
 
-    ghost same = { common_template_attribute_same };
+    ghost faithful = { common_template_attribute_same };
 }
 
 #[tactic(auto, unfolding(crate::specs::Tables::template_attribute))]
@@ -226,10 +226,10 @@ impl Item for PrivateKeyTemplateAttribute {
     ghost val = { private_key_template_attribute_val };
 
     fn known(&self) {
-        known_record::<PrivateKeyTemplateAttributeRows>(fields![&self.0, &self.1]);
+        fits_record::<PrivateKeyTemplateAttributeRows>(fields![&self.0, &self.1]);
     }
 
-    ghost same = { private_key_template_attribute_same };
+    ghost faithful = { private_key_template_attribute_same };
 }
 
 #[tactic(auto, unfolding(crate::specs::Tables::template_attribute))]
@@ -300,10 +300,10 @@ impl Item for PublicKeyTemplateAttribute {
     ghost val = { public_key_template_attribute_val };
 
     fn known(&self) {
-        known_record::<PublicKeyTemplateAttributeRows>(fields![&self.0, &self.1]);
+        fits_record::<PublicKeyTemplateAttributeRows>(fields![&self.0, &self.1]);
     }
 
-    ghost same = { public_key_template_attribute_same };
+    ghost faithful = { public_key_template_attribute_same };
 }
 
 #[tactic(auto, unfolding(crate::specs::Tables::template_attribute))]

@@ -11,7 +11,7 @@ use crate::payload::ResponsePayload;
 use kmip_enums::{Operation, ResultReason, ResultStatus};
 use kmip_shape::record::{Choosing, End, Row};
 use kmip_shape::row_readers::{ChosenOpt, One, Opt};
-use kmip_shape::{Item, Outer, ReadError, ReadItem, ReadRoot, fields, known_record, read_record};
+use kmip_shape::{Item, Outer, ReadError, ReadItem, ReadRoot, fields, fits_record, read_record};
 use kmip_tags::tags::{
     BATCH_ITEM, MESSAGE_EXTENSION, OPERATION, RESPONSE_PAYLOAD, RESULT_MESSAGE, RESULT_REASON,
     RESULT_STATUS, UNIQUE_BATCH_ITEM_ID,
@@ -66,7 +66,7 @@ impl Item for BatchItem {
     ghost val = { batch_item_val };
 
     fn known(&self) {
-        known_record::<BatchItemRows<'_>>(fields![
+        fits_record::<BatchItemRows<'_>>(fields![
             &self.operation,
             &self.unique_batch_item_id,
             &self.result_status,
@@ -77,7 +77,7 @@ impl Item for BatchItem {
         ]);
     }
 
-    ghost same = { batch_item_same };
+    ghost faithful = { batch_item_same };
 }
 
 type BatchItemRows<'a> = Choosing<

@@ -8,7 +8,7 @@ ghost use Rattle.kmip_response.specs.Same.{message_extension_same};
 
 use kmip_shape::record::{End, Row};
 use kmip_shape::row_readers::One;
-use kmip_shape::{Item, Outer, ReadError, ReadItem, ReadRoot, fields, known_record, read_record};
+use kmip_shape::{Item, Outer, ReadError, ReadItem, ReadRoot, fields, fits_record, read_record};
 use kmip_tags::tags::{CRITICALITY_INDICATOR, MESSAGE_EXTENSION, VENDOR_IDENTIFICATION};
 use kmip_wire::{ItemRef, OutOfMemory, Tag, Text, TryClone};
 use std::alloc::Global;
@@ -44,13 +44,13 @@ impl Item for MessageExtension {
     ghost val = { message_extension_val };
 
     fn known(&self) {
-        known_record::<MessageExtensionRows>(fields![
+        fits_record::<MessageExtensionRows>(fields![
             &self.vendor_identification,
             &self.criticality_indicator,
         ]);
     }
 
-    ghost same = { message_extension_same };
+    ghost faithful = { message_extension_same };
 }
 
 type MessageExtensionRows = Row<

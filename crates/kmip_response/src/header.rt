@@ -10,7 +10,7 @@ use kmip_shape::record::{End, Row};
 use kmip_shape::row_readers::One;
 use kmip_shape::{
     Item, Outer, ReadError, ReadItem, ReadRoot, ShowItem, TextWriter, Timestamp, fields,
-    known_record, read_record, show_record,
+    fits_record, read_record, show_record,
 };
 use kmip_tags::tags::{
     BATCH_COUNT, PROTOCOL_VERSION, PROTOCOL_VERSION_MAJOR, PROTOCOL_VERSION_MINOR, RESPONSE_HEADER,
@@ -39,10 +39,10 @@ impl Item for ProtocolVersion {
     ghost val = { protocol_version_val };
 
     fn known(&self) {
-        known_record::<ProtocolVersionRows>(fields![&self.major, &self.minor]);
+        fits_record::<ProtocolVersionRows>(fields![&self.major, &self.minor]);
     }
 
-    ghost same = { protocol_version_same };
+    ghost faithful = { protocol_version_same };
 }
 
 impl ReadItem for ProtocolVersion {
@@ -93,14 +93,14 @@ impl Item for ResponseHeader {
 
     fn known(&self) {
         let timestamp = Timestamp(self.timestamp);
-        known_record::<ResponseHeaderRows>(fields![
+        fits_record::<ResponseHeaderRows>(fields![
             &self.protocol_version,
             &timestamp,
             &self.batch_count,
         ]);
     }
 
-    ghost same = { response_header_same };
+    ghost faithful = { response_header_same };
 }
 
 impl ReadItem for ResponseHeader {

@@ -10,7 +10,7 @@ use crate::batch_item::BatchItem;
 use crate::header::ResponseHeader;
 use kmip_shape::record::{End, Row};
 use kmip_shape::row_readers::{NonEmpty, One};
-use kmip_shape::{Item, Outer, ReadError, ReadItem, ReadRoot, fields, known_record, read_record};
+use kmip_shape::{Item, Outer, ReadError, ReadItem, ReadRoot, fields, fits_record, read_record};
 use kmip_tags::tags::{BATCH_ITEM, RESPONSE_HEADER, RESPONSE_MESSAGE};
 use kmip_wire::{ItemRef, List, OutOfMemory, Tag, TryClone};
 use std::alloc::Global;
@@ -39,10 +39,10 @@ impl Item for ResponseMessage {
     ghost val = { response_message_val };
 
     fn known(&self) {
-        known_record::<ResponseMessageRows>(fields![&self.header, &self.batch_items]);
+        fits_record::<ResponseMessageRows>(fields![&self.header, &self.batch_items]);
     }
 
-    ghost same = { response_message_same };
+    ghost faithful = { response_message_same };
 }
 
 type ResponseMessageRows = Row<

@@ -140,7 +140,7 @@ impl Item for ResponsePayload {
         }
     }
 
-    ghost same = { response_payload_same };
+    ghost faithful = { response_payload_same };
 }
 
 impl ReadItem for ResponsePayload {

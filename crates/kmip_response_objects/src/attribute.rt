@@ -9,7 +9,7 @@ ghost use Rattle.kmip_response_objects.specs.Same.{attribute_same};
 use kmip_shape::record::{Choosing, End, Row};
 use kmip_shape::row_readers::{ChosenOne, One, Opt};
 use kmip_shape::{
-    Item, Outer, ReadError, ReadItem, ReadRoot, ShowItem, TextWriter, fields, known_record,
+    Item, Outer, ReadError, ReadItem, ReadRoot, ShowItem, TextWriter, fields, fits_record,
     read_record, show_record,
 };
 use kmip_tags::tags::{ATTRIBUTE, ATTRIBUTE_INDEX, ATTRIBUTE_NAME, ATTRIBUTE_VALUE};
@@ -53,10 +53,10 @@ impl Item for Attribute {
     ghost val = { attribute_val };
 
     fn known(&self) {
-        known_record::<AttributeRows<'_>>(fields![&self.name, &self.index, &self.value]);
+        fits_record::<AttributeRows<'_>>(fields![&self.name, &self.index, &self.value]);
     }
 
-    ghost same = { attribute_same };
+    ghost faithful = { attribute_same };
 }
 
 impl ReadItem for Attribute {

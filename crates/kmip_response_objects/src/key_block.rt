@@ -11,7 +11,7 @@ use crate::key_wrapping::KeyWrappingData;
 use kmip_shape::record::{Choosing, End, Row};
 use kmip_shape::row_readers::{ChosenOne, One, Opt, OptMany};
 use kmip_shape::{
-    Item, Outer, ReadError, ReadItem, ReadRoot, ShowItem, TextWriter, fields, known_record,
+    Item, Outer, ReadError, ReadItem, ReadRoot, ShowItem, TextWriter, fields, fits_record,
     read_record, show_record,
 };
 use kmip_tags::tags::{
@@ -49,10 +49,10 @@ impl Item for KeyValue {
     ghost val = { key_value_val };
 
     fn known(&self) {
-        known_record::<KeyValueRows>(fields![&self.key_material, &self.attributes]);
+        fits_record::<KeyValueRows>(fields![&self.key_material, &self.attributes]);
     }
 
-    ghost same = { key_value_same };
+    ghost faithful = { key_value_same };
 }
 
 impl ReadItem for KeyValue {
@@ -134,7 +134,7 @@ impl Item for KeyBlock {
     ghost val = { key_block_val };
 
     fn known(&self) {
-        known_record::<KeyBlockRows<'_>>(fields![
+        fits_record::<KeyBlockRows<'_>>(fields![
             &self.key_format_type,
             &self.key_compression_type,
             &self.key_value,
@@ -144,7 +144,7 @@ impl Item for KeyBlock {
         ]);
     }
 
-    ghost same = { key_block_same };
+    ghost faithful = { key_block_same };
 }
 
 impl ReadItem for KeyBlock {

@@ -15,7 +15,7 @@ ghost use Rattle.kmip_response_objects.specs.Same.{key_wrapping_data_same};
 use kmip_shape::record::{End, Row};
 use kmip_shape::row_readers::{One, Opt};
 use kmip_shape::{
-    Item, Outer, ReadError, ReadItem, ReadRoot, ShowItem, TextWriter, fields, known_record,
+    Item, Outer, ReadError, ReadItem, ReadRoot, ShowItem, TextWriter, fields, fits_record,
     read_record, show_record,
 };
 use kmip_tags::tags::{
@@ -55,13 +55,13 @@ impl Item for EncryptionKeyInformation {
     ghost val = { encryption_key_information_val };
 
     fn known(&self) {
-        known_record::<EncryptionKeyInformationRows>(fields![
+        fits_record::<EncryptionKeyInformationRows>(fields![
             &self.unique_identifier,
             &self.cryptographic_parameters
         ]);
     }
 
-    ghost same = { encryption_key_information_same };
+    ghost faithful = { encryption_key_information_same };
 }
 
 impl ReadItem for EncryptionKeyInformation {
@@ -123,13 +123,13 @@ impl Item for MACOrSignatureKeyInformation {
     ghost val = { mac_or_signature_key_information_val };
 
     fn known(&self) {
-        known_record::<MACOrSignatureKeyInformationRows>(fields![
+        fits_record::<MACOrSignatureKeyInformationRows>(fields![
             &self.unique_identifier,
             &self.cryptographic_parameters
         ]);
     }
 
-    ghost same = { mac_or_signature_key_information_same };
+    ghost faithful = { mac_or_signature_key_information_same };
 }
 
 impl ReadItem for MACOrSignatureKeyInformation {
@@ -209,7 +209,7 @@ impl Item for KeyWrappingData {
     ghost val = { key_wrapping_data_val };
 
     fn known(&self) {
-        known_record::<KeyWrappingDataRows>(fields![
+        fits_record::<KeyWrappingDataRows>(fields![
             &self.wrapping_method,
             &self.encryption_key_information,
             &self.mac_or_signature_key_information,
@@ -218,7 +218,7 @@ impl Item for KeyWrappingData {
         ]);
     }
 
-    ghost same = { key_wrapping_data_same };
+    ghost faithful = { key_wrapping_data_same };
 }
 
 impl ReadItem for KeyWrappingData {

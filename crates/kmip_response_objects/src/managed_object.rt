@@ -17,7 +17,7 @@ use kmip_enums::CertificateType;
 use kmip_shape::record::{End, Row};
 use kmip_shape::row_readers::One;
 use kmip_shape::{
-    Item, Outer, ReadError, ReadItem, ReadRoot, ShowItem, TextWriter, fields, known_record,
+    Item, Outer, ReadError, ReadItem, ReadRoot, ShowItem, TextWriter, fields, fits_record,
     read_record, show_case, show_record,
 };
 use kmip_tags::tags::{
@@ -56,10 +56,10 @@ impl Item for Certificate {
     ghost val = { certificate_val };
 
     fn known(&self) {
-        known_record::<CertificateRows>(fields![&self.certificate_type, &self.certificate_value]);
+        fits_record::<CertificateRows>(fields![&self.certificate_type, &self.certificate_value]);
     }
 
-    ghost same = { certificate_same };
+    ghost faithful = { certificate_same };
 }
 
 impl ReadItem for Certificate {
@@ -115,10 +115,10 @@ impl Item for SymmetricKey {
     ghost val = { symmetric_key_val };
 
     fn known(&self) {
-        known_record::<SymmetricKeyRows>(fields![&self.key_block]);
+        fits_record::<SymmetricKeyRows>(fields![&self.key_block]);
     }
 
-    ghost same = { symmetric_key_same };
+    ghost faithful = { symmetric_key_same };
 }
 
 impl ReadItem for SymmetricKey {
@@ -165,10 +165,10 @@ impl Item for PublicKey {
     ghost val = { public_key_val };
 
     fn known(&self) {
-        known_record::<PublicKeyRows>(fields![&self.key_block]);
+        fits_record::<PublicKeyRows>(fields![&self.key_block]);
     }
 
-    ghost same = { public_key_same };
+    ghost faithful = { public_key_same };
 }
 
 impl ReadItem for PublicKey {
@@ -215,10 +215,10 @@ impl Item for PrivateKey {
     ghost val = { private_key_val };
 
     fn known(&self) {
-        known_record::<PrivateKeyRows>(fields![&self.key_block]);
+        fits_record::<PrivateKeyRows>(fields![&self.key_block]);
     }
 
-    ghost same = { private_key_same };
+    ghost faithful = { private_key_same };
 }
 
 impl ReadItem for PrivateKey {
@@ -288,7 +288,7 @@ impl Item for ManagedObject {
         }
     }
 
-    ghost same = { managed_object_same };
+    ghost faithful = { managed_object_same };
 }
 
 impl ShowItem for ManagedObject {

@@ -10,7 +10,7 @@ use kmip_enums::NameType;
 use kmip_shape::record::{End, Row};
 use kmip_shape::row_readers::One;
 use kmip_shape::{
-    Item, Outer, ReadError, ReadItem, ReadRoot, ShowItem, TextWriter, fields, known_record,
+    Item, Outer, ReadError, ReadItem, ReadRoot, ShowItem, TextWriter, fields, fits_record,
     read_record, show_record,
 };
 use kmip_tags::tags::{NAME, NAME_TYPE, NAME_VALUE};
@@ -44,10 +44,10 @@ impl Item for Name {
     ghost val = { name_val };
 
     fn known(&self) {
-        known_record::<NameRows>(fields![&self.name, &self.name_type]);
+        fits_record::<NameRows>(fields![&self.name, &self.name_type]);
     }
 
-    ghost same = { name_same };
+    ghost faithful = { name_same };
 }
 
 impl ReadItem for Name {

@@ -11,7 +11,7 @@ use crate::name::Name;
 use kmip_shape::record::{End, Row};
 use kmip_shape::row_readers::OptMany;
 use kmip_shape::{
-    Item, Outer, ReadError, ReadItem, ReadRoot, ShowItem, TextWriter, fields, known_record,
+    Item, Outer, ReadError, ReadItem, ReadRoot, ShowItem, TextWriter, fields, fits_record,
     read_record, show_record,
 };
 use kmip_tags::tags::{ATTRIBUTE, NAME, TEMPLATE_ATTRIBUTE};
@@ -44,10 +44,10 @@ impl Item for TemplateAttribute {
     ghost val = { template_attribute_val };
 
     fn known(&self) {
-        known_record::<TemplateAttributeRows>(fields![&self.name, &self.attributes]);
+        fits_record::<TemplateAttributeRows>(fields![&self.name, &self.attributes]);
     }
 
-    ghost same = { template_attribute_same };
+    ghost faithful = { template_attribute_same };
 }
 
 impl ReadItem for TemplateAttribute {

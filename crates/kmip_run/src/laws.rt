@@ -21,7 +21,7 @@ use kmip_audit::{Report, audit, sessions_are_reported};
 use kmip_client::diagnostics_of_sessions;
 use kmip_request::RequestPayload;
 use kmip_request_read::{RequestReadError, from_slice, request_parses};
-use kmip_shape::{Item, known_items};
+use kmip_shape::{Item, fits_items};
 use kmip_types::auth::CredentialType;
 use kmip_wire::{OutOfMemory, one_tree, parsed_ranges, tree_computed};
 use std::alloc::Global;
@@ -84,7 +84,7 @@ fn known_credential(credential: &Option<CredentialType>)
 fn know_held(payloads: &[RequestPayload], credential: &Option<CredentialType>)
     ensures { AreHeld payloads.now credential.now }
 {
-    known_items(payloads);
+    fits_items(payloads);
     known_credential(credential);
 }
 

@@ -1,7 +1,7 @@
 //! The program.
 ghost use Rattle.std.specs.Prelude.{◌≡◌, ◌≢◌, ◌+◌, ◌<◌, ◌≤◌, ◌++◌, ◌⊎◌, [], length, drop, codes};
 ghost use Rattle.std.specs.Prelude.{false, true, None, Some, IsTrue, IfOk};
-ghost use Rattle.kmip_link.specs.State.{SourceKeeps, SinkKeeps, Rose, source_left};
+ghost use Rattle.kmip_link.specs.State.{SourceKeeps, SinkKeeps, FaultCountRose, source_left};
 ghost use Rattle.kmip_run.specs.Script.{lines_of};
 ghost use Rattle.kmip_run.specs.Commands.{command_of};
 ghost use Rattle.kmip_run.specs.Setup.{settings_for};
@@ -33,7 +33,7 @@ const MAX_SCRIPT: usize = 16_777_216;
 fn finish<K: Sink>(sink: &mut K, text: &str, status: u8) -> u8
     requires { status < 3 }
     ensures keeps { SinkKeeps (K.state sink.old) (K.state sink.new) }
-    ensures fault { result ≡ 4 → Rose (K.state sink.old).faults (K.state sink.new).faults }
+    ensures fault { result ≡ 4 → FaultCountRose (K.state sink.old).faults (K.state sink.new).faults }
     ensures status { (result ≡ status) ⊎ ((result ≡ 4) ⊎ (result ≡ 5)) }
     ensures written { IsTrue (K.state sink.old).tells → result ≢ 4 → result ≢ 5 →
         (K.state sink.new).sent ≡ (K.state sink.old).sent ++ text.now }
@@ -149,7 +149,7 @@ fn run_alone<K: Sink>(alloc: Global, command: Command, sink: &mut K, link: &mut 
         (K.state sink.new).sent }
     ensures part { IsTrue (K.state sink.old).tells → (result ≡ 4) ⊎ (result ≡ 5) →
         WrotePart (K.state sink.old) (K.state sink.new) (script_transcript command []).text }
-    ensures fault { result ≡ 4 → Rose (K.state sink.old).faults (K.state sink.new).faults }
+    ensures fault { result ≡ 4 → FaultCountRose (K.state sink.old).faults (K.state sink.new).faults }
     ensures kept { makes_calls (Some command) ≡ false → link.new ≡ link.old }
 {
     let mut output = Text::new(alloc);
@@ -180,8 +180,8 @@ fn run_script<S: Source, K: Sink>(
         (result ≡ 4) ⊎ (result ≡ 5) →
         WrotePart (K.state sink.old) (K.state sink.new)
         (script_transcript command (source_left (S.state source.old))).text }
-    ensures read_fault { result ≡ 3 → Rose (S.state source.old).faults (S.state source.new).faults }
-    ensures write_fault { result ≡ 4 → Rose (K.state sink.old).faults (K.state sink.new).faults }
+    ensures read_fault { result ≡ 3 → FaultCountRose (S.state source.old).faults (S.state source.new).faults }
+    ensures write_fault { result ≡ 4 → FaultCountRose (K.state sink.old).faults (K.state sink.new).faults }
     ensures kept { (makes_calls (Some command) ≡ false) ⊎ ((result ≡ 3) ⊎ (result ≡ 6)) →
         link.new ≡ link.old }
     ensures silent { (result ≡ 3) ⊎ (result ≡ 6) → K.state sink.new ≡ K.state sink.old }
@@ -245,8 +245,8 @@ pub fn run<S: Source, K: Sink>(
         (result ≡ 4) ⊎ (result ≡ 5) →
         WrotePart (K.state sink.old) (K.state sink.new)
         (transcript words.now (source_left (S.state source.old))).text }
-    ensures read_fault { result ≡ 3 → Rose (S.state source.old).faults (S.state source.new).faults }
-    ensures write_fault { result ≡ 4 → Rose (K.state sink.old).faults (K.state sink.new).faults }
+    ensures read_fault { result ≡ 3 → FaultCountRose (S.state source.old).faults (S.state source.new).faults }
+    ensures write_fault { result ≡ 4 → FaultCountRose (K.state sink.old).faults (K.state sink.new).faults }
     ensures words { command_of words.now ≡ None → (result ≡ 2) ⊎ ((result ≡ 4) ⊎ (result ≡ 5)) }
     ensures words_text { command_of words.now ≡ None → IsTrue (K.state sink.old).tells →
         result ≡ 2 → (K.state sink.new).sent ≡ (K.state sink.old).sent ++ codes "! words\n" }
@@ -278,8 +278,8 @@ pub fn run<S: Source, K: Sink>(
         (S.state source.old).pos + read_by (command_of words.now)
         (length (source_left (S.state source.old))) }
     ensures complete { IsTrue (S.state source.old).tells → IsTrue (K.state sink.old).tells →
-        (Rose (S.state source.old).faults (S.state source.new).faults → ⊥) →
-        (Rose (K.state sink.old).faults (K.state sink.new).faults → ⊥) →
+        (FaultCountRose (S.state source.old).faults (S.state source.new).faults → ⊥) →
+        (FaultCountRose (K.state sink.old).faults (K.state sink.new).faults → ⊥) →
         IsOfGrammar words.now (source_left (S.state source.old)) →
         (result ≡ 0) ⊎ ((result ≡ 1) ⊎ (result ≡ 5)) }
 {

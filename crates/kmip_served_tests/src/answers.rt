@@ -6,7 +6,7 @@ use crate::helpers::Told::{Denied, Shown};
 use crate::helpers::{Row, alice, answers, call_of, request, server, tells};
 use kmip_enums::Operation;
 use kmip_enums::ResultReason::{ItemNotFound, PermissionDenied};
-use kmip_served::{call_known, is_request_of};
+use kmip_server_core::{call_known, is_request_of};
 use kmip_store::PlainMaker;
 use kmip_wire::Blob;
 use std::alloc::Global;

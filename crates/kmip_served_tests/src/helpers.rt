@@ -2,7 +2,7 @@
 use kmip_enums::{Operation, ResultReason, ResultStatus};
 use kmip_request::{RequestPayload, to_vec};
 use kmip_response::{BatchItem, ResponseMessage, ResponsePayload, from_slice};
-use kmip_served::{Call, Server, request_of};
+use kmip_server_core::{Call, Server, request_of};
 use kmip_shape::ShowItem;
 use kmip_store::Maker;
 use kmip_types::auth::{CredentialType, UsernameAndPasswordCredential};

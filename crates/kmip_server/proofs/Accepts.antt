@@ -11,13 +11,13 @@ use Rattle.kmip_store.specs.declared.object.Object.{Object}
 use Rattle.kmip_store.specs.declared.maker.Made.{Made}
 use Rattle.kmip_store.specs.declared.maker.Asked.{Asked}
 use Rattle.kmip_store.specs.Makers.{MakerState}
-use Rattle.kmip_served.specs.Answering.{list_of_option, Took, AnswersBy, answered, no_form, no_memory}
+use Rattle.kmip_server_core.specs.Answering.{list_of_option, Took, AnswersBy, answered, no_form, no_memory}
 use Rattle.kmip_store.specs.Answers.{suits}
-use Rattle.kmip_served.specs.Served.{Served, served, asks}
+use Rattle.kmip_server_core.specs.Served.{Served, served, asks}
 use Rattle.kmip_server.specs.Split.{Split, is_message, took, nothing_sent, messages_in, Takes}
 use Rattle.kmip_server.specs.Machine.{Run, first_for, rest_for, then_bytes, serve, fresh, run_of}
 use Rattle.kmip_server.specs.Serving.{IsHeldTo, AreHeld}
-use Rattle.kmip_served.specs.State.{ServerState, Answers}
+use Rattle.kmip_server_core.specs.State.{ServerState, Answers}
 use Rattle.kmip_server.specs.declared.link.Refusal.{Refusal}
 use Rattle.kmip_link.specs.declared.link.LinkError.TheVariants.{Fault}
 use Rattle.kmip_server.specs.Link.{ServerLinkState, WritesTo, Did, kept_in, is_memory, Accepted, IsServed, Serves, IsCut, Holds}

@@ -9,7 +9,7 @@ use Rattle.kmip_client.specs.Client.{ClientState}
 use Rattle.kmip_client.specs.Outcome.{Answer, seen_by}
 use Rattle.kmip_client.specs.declared.error.Error.{Error}
 use Rattle.kmip_store.specs.declared.call.Call.{Call}
-use Rattle.kmip_served.specs.Requests.{request_of}
+use Rattle.kmip_server_core.specs.Requests.{request_of}
 use Rattle.kmip_server.specs.Joined.{helper_answer, part_for}
 use Rattle.kmip_server.specs.Calls.{IsAsked, answered_val, answered_seen}
 use Rattle.kmip_server.specs.declared.answers.Answered.{Answered}

@@ -23,13 +23,13 @@ use Rattle.kmip_store.specs.declared.call.Call.TheVariants.{Query, CreateRsaKeyP
 use Rattle.kmip_store.specs.declared.object.Object.{Object}
 use Rattle.kmip_store.specs.declared.maker.Made.{Made}
 use Rattle.kmip_store.specs.declared.maker.Asked.{Asked}
-use Rattle.kmip_served.specs.Answering.{list_of_option}
+use Rattle.kmip_server_core.specs.Answering.{list_of_option}
 use Rattle.kmip_store.specs.Steps.{Answer as Reply, NotFound, Denied, Failed, Done, Supports, Created, Random, Signed, Got, question, step}
-use Rattle.kmip_served.specs.Served.{Served, served_call, served_request, asks_request, served, asks}
-use Rattle.kmip_served.specs.Requests.{request_of, call_of, is_served, call_operation}
+use Rattle.kmip_server_core.specs.Served.{Served, served_call, served_request, asks_request, served, asks}
+use Rattle.kmip_server_core.specs.Requests.{request_of, call_of, is_served, call_operation}
 use Rattle.kmip_response.specs.declared.batch_item.BatchItem.{BatchItem}
 use Rattle.kmip_response.specs.declared.payload.ResponsePayload.{ResponsePayload}
-use Rattle.kmip_served.specs.Items.{payload_for, done_item, item_for, message_with}
+use Rattle.kmip_server_core.specs.Items.{payload_for, done_item, item_for, message_with}
 use Rattle.kmip_server.specs.Machine.{first_for, rest_for}
 use Rattle.kmip_server.specs.Joined.{Settings, Between, CallTold, Expected, AsTold, Next, IsHeldNext, Unless, AreHeldNext, helper_answer, turn_call_told, turn_with, next_with, next, expected_calls, Meets, Meet, finish, has_unsent}
 use Rattle.kmip_server.specs.Direct.{done_answer, reply_answer, direct, IsWithin, OneFits, AllFit, answers_of}

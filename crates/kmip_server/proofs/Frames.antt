@@ -9,8 +9,8 @@ use Rattle.kmip_server.specs.Split.{IsMessage}
 use Rattle.kmip_response_write.specs.Settled.{response_bytes}
 use Rattle.kmip_response.specs.declared.message.ResponseMessage.{ResponseMessage}
 use Rattle.kmip_store.specs.declared.maker.Made.{Made}
-use Rattle.kmip_served.specs.Answering.{list_of_option}
-use Rattle.kmip_served.specs.Served.{Served, served, asks}
+use Rattle.kmip_server_core.specs.Answering.{list_of_option}
+use Rattle.kmip_server_core.specs.Served.{Served, served, asks}
 use Rattle.kmip_server.specs.Machine.{Run, first_for, rest_for, then_bytes, serve, fresh, run_of}
 use Rattle.kmip_server.proofs.Splits.{head_same}
 

@@ -10,7 +10,7 @@ use Rattle.kmip_client.specs.declared.error.Error.{Error}
 use Rattle.kmip_client.specs.declared.error.Error.TheVariants.{OutOfMemory}
 use Rattle.kmip_store.specs.declared.call.Call.{Call}
 use Rattle.kmip_store.specs.Makers.{MakerState}
-use Rattle.kmip_served.specs.Requests.{request_of}
+use Rattle.kmip_server_core.specs.Requests.{request_of}
 use Rattle.kmip_server.specs.Joined.{Settings, CallTold, IsReadBack, helper_answer}
 use Rattle.kmip_server.specs.Link.{ServerLinkState, server_link_state, IsKnown, IsOpen}
 use Rattle.kmip_server.specs.Came.{IsCalled, IsSettledBy, IsRequestOf, fails_writing}

@@ -6,7 +6,7 @@ use Rattle.kmip_server.specs.Split.{IsMessage, Split, messages_in}
 use Rattle.kmip_request.specs.Message.{request_bytes, operation_of}
 use Rattle.kmip_types.specs.declared.auth.CredentialType.{CredentialType}
 use Rattle.kmip_request.specs.declared.payload.RequestPayload.{RequestPayload}
-use Rattle.kmip_link.specs.State.{LinkState, left, Rose}
+use Rattle.kmip_link.specs.State.{LinkState, left, FaultCountRose}
 use Rattle.kmip_client.specs.Calls.{IsCall}
 use Rattle.kmip_client.specs.Client.{ClientState, loses_connection, lacks_memory}
 use Rattle.kmip_client.specs.Diagnostics.{IsRequestText, IsResponseText, diagnostic_of}
@@ -17,11 +17,11 @@ use Rattle.kmip_client.specs.declared.error.Error.TheVariants.{ConfigurationErro
 use Rattle.kmip_store.specs.declared.call.Call.{Call}
 use Rattle.kmip_store.specs.declared.object.Object.{Object}
 use Rattle.kmip_store.specs.Makers.{MakerState}
-use Rattle.kmip_served.specs.Requests.{request_of}
+use Rattle.kmip_server_core.specs.Requests.{request_of}
 use Rattle.kmip_server.specs.Machine.{Run, fresh, run_of}
 use Rattle.kmip_server.specs.Serving.{AreHeld}
 use Rattle.kmip_server.specs.Joined.{Settings, CallTold, IsReadBack, helper_answer, turn_with, turn_call_told}
-use Rattle.kmip_served.specs.State.{ServerState}
+use Rattle.kmip_server_core.specs.State.{ServerState}
 use Rattle.kmip_server.specs.Link.{ServerLinkState, time_number, bit_of, server_link_state, IsServed, Serves, IsKnown, IsOpen}
 use Rattle.kmip_server.specs.Came.{Agrees, CameAll, IsCalled}
 use Rattle.kmip_server.specs.Calls.{settings_of}
@@ -126,7 +126,7 @@ came_with responses requests settings call before after None answer a b valid re
     append_none [] = refl
     append_none (x ∷ xs) = ap (λ l. x ∷ l) (append_none xs)
 
-no_rise : (m n : ℕ) → m ≡ 0 → n ≡ 0 → Rose m n → ⊥
+no_rise : (m n : ℕ) → m ≡ 0 → n ≡ 0 → FaultCountRose m n → ⊥
 no_rise m n e f r = omega arith
 
 pub came_by : AreMessages → AreRequests → (settings : Settings) (call : Call) (before after : LinkState) (answer : Answer) (a b : Option (List ℕ)) →

@@ -10,7 +10,7 @@ use Rattle.kmip_request.specs.Values.{request_payload_val}
 use Rattle.kmip_request_read.specs.Matched.{IsMatched}
 use Rattle.kmip_request_read.specs.Reading.{request_for, request_read}
 use Rattle.kmip_store.specs.declared.call.Call.{Call}
-use Rattle.kmip_served.specs.Requests.{request_of}
+use Rattle.kmip_server_core.specs.Requests.{request_of}
 use Rattle.kmip_server.specs.Joined.{IsReadBack}
 
 pub reads_of : {E : Type 0} (call : Call) (credential : Option CredentialType) (result : Result (Unit {0}) E) →

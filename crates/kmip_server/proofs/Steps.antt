@@ -15,9 +15,9 @@ use Rattle.kmip_store.specs.declared.call.Call.{Call}
 use Rattle.kmip_store.specs.declared.object.Object.{Object}
 use Rattle.kmip_store.specs.declared.maker.Asked.{Asked}
 use Rattle.kmip_store.specs.declared.maker.Made.{Made}
-use Rattle.kmip_served.specs.Answering.{list_of_option}
-use Rattle.kmip_served.specs.Served.{Served, served, asks}
-use Rattle.kmip_served.specs.Requests.{request_of}
+use Rattle.kmip_server_core.specs.Answering.{list_of_option}
+use Rattle.kmip_server_core.specs.Served.{Served, served, asks}
+use Rattle.kmip_server_core.specs.Requests.{request_of}
 use Rattle.kmip_server.specs.Machine.{Run, first_for, rest_for, serve, fresh, run_of}
 use Rattle.kmip_server.specs.Serving.{IsHeldTo, AreHeld}
 use Rattle.kmip_server.specs.Joined.{Settings, Between, CallTold, Expected, AsTold, Next, IsReadBack, IsHeldNext, turn_call_told, turn_with, next_with, answered_with, sent_with, next, expected_calls}

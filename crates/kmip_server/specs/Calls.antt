@@ -10,7 +10,7 @@ use Rattle.kmip_client.specs.Outcome.{Answer, seen_by}
 use Rattle.kmip_client.specs.declared.error.Error.{Error}
 use Rattle.kmip_client.specs.declared.error.Error.TheVariants.{OutOfMemory}
 use Rattle.kmip_store.specs.declared.call.Call.{Call}
-use Rattle.kmip_served.specs.Requests.{request_of}
+use Rattle.kmip_server_core.specs.Requests.{request_of}
 use Rattle.kmip_store.specs.Makers.{MakerState}
 use Rattle.kmip_server.specs.Joined.{Settings, Between, Expected, no_val, helper_answer, CallTold, expected_calls, finish}
 use Rattle.kmip_server.specs.Came.{between}

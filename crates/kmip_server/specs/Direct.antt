@@ -11,9 +11,9 @@ use Rattle.kmip_store.specs.declared.call.Call.{Call}
 use Rattle.kmip_store.specs.declared.object.Object.{Object}
 use Rattle.kmip_store.specs.declared.maker.Made.{Made}
 use Rattle.kmip_store.specs.Steps.{Answer as Reply, NotFound, Denied, Failed, question, step}
-use Rattle.kmip_served.specs.Requests.{request_of, call_operation}
-use Rattle.kmip_served.specs.Items.{payload_for}
-use Rattle.kmip_served.specs.Served.{served_call}
+use Rattle.kmip_server_core.specs.Requests.{request_of, call_operation}
+use Rattle.kmip_server_core.specs.Items.{payload_for}
+use Rattle.kmip_server_core.specs.Served.{served_call}
 use Rattle.kmip_server.specs.Machine.{first_for, rest_for}
 use Rattle.kmip_server.specs.Joined.{Settings, part_for, CallTold}
 

@@ -16,9 +16,9 @@ use Rattle.kmip_store.specs.declared.call.Call.TheVariants.{CreateRsaKeyPair, Ac
 use Rattle.kmip_store.specs.declared.object.Object.{Object}
 use Rattle.kmip_store.specs.declared.maker.Asked.{Asked}
 use Rattle.kmip_store.specs.declared.maker.Made.{Made}
-use Rattle.kmip_served.specs.Answering.{list_of_option}
-use Rattle.kmip_served.specs.Served.{Served, served, asks}
-use Rattle.kmip_served.specs.Requests.{request_of}
+use Rattle.kmip_server_core.specs.Answering.{list_of_option}
+use Rattle.kmip_server_core.specs.Served.{Served, served, asks}
+use Rattle.kmip_server_core.specs.Requests.{request_of}
 use Rattle.kmip_server.specs.Machine.{first_for, rest_for}
 
 -- the settings of a client, and the time stamp of its server

@@ -7,7 +7,7 @@ use Rattle.kmip_wire.specs.declared.error.WireError.TheVariants.{NoForm}
 use Rattle.kmip_store.specs.declared.object.Object.{Object}
 use Rattle.kmip_store.specs.declared.maker.Made.{Made}
 use Rattle.kmip_store.specs.Makers.{MakerState}
-use Rattle.kmip_served.specs.State.{ServerState, Answers}
+use Rattle.kmip_server_core.specs.State.{ServerState, Answers}
 use Rattle.kmip_server.specs.Split.{is_message, messages_in}
 use Rattle.kmip_server.specs.Machine.{Run, fresh, serve, run_of}
 use Rattle.kmip_server.specs.Serving.{AreHeld}

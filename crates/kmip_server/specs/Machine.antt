@@ -4,8 +4,8 @@ use Rattle.kmip_response_write.specs.Settled.{response_bytes}
 use Rattle.kmip_store.specs.declared.object.Object.{Object}
 use Rattle.kmip_store.specs.declared.maker.Asked.{Asked}
 use Rattle.kmip_store.specs.declared.maker.Made.{Made}
-use Rattle.kmip_served.specs.Answering.{list_of_option}
-use Rattle.kmip_served.specs.Served.{Served, served, asks}
+use Rattle.kmip_server_core.specs.Answering.{list_of_option}
+use Rattle.kmip_server_core.specs.Served.{Served, served, asks}
 
 -- what serving messages came to
 pub record Run : Type 0 where

@@ -2,7 +2,7 @@
 use Rattle.std.specs.Prelude.{◌≡◌, ℕ, ℤ, List, [], ◌∷◌, Some}
 use Rattle.kmip_response_write.specs.Settled.{response_bytes, IsHeld as IsHeldResponse}
 use Rattle.kmip_response.specs.declared.message.ResponseMessage.{ResponseMessage}
-use Rattle.kmip_served.specs.Served.{served, asks}
+use Rattle.kmip_server_core.specs.Served.{served, asks}
 use Rattle.kmip_server.specs.Machine.{Run, first_for, serve}
 
 -- the response to a message, where the server stands so

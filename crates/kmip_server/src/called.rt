@@ -15,7 +15,7 @@ use crate::ask::ask;
 use crate::link::ServerLink;
 use kmip_client::{Client, Error, Result};
 use kmip_request_read::{request_is_message, request_is_read};
-use kmip_served::{call_known, helper_is_matched, is_request_of};
+use kmip_server_core::{call_known, helper_is_matched, is_request_of};
 use kmip_store::{Call, Maker};
 use kmip_wire::{Blob, OutOfMemory};
 use std::alloc::Global;

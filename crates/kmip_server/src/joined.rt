@@ -14,7 +14,7 @@ use crate::called::{look, make_call};
 use crate::link::ServerLink;
 use kmip_client::{Client, Result};
 use kmip_response_write::settled_is_read;
-use kmip_served::{own_call, served_is_settled};
+use kmip_server_core::{own_call, served_is_settled};
 use kmip_store::{Call, Maker};
 use kmip_wire::List;
 use std::alloc::Global;

@@ -15,6 +15,6 @@ mod take;
 
 pub use answers::{Answered, CallAnswer, CallAnswers};
 pub use joined::call_all;
-pub use kmip_served::Server;
+pub use kmip_server_core::Server;
 pub use kmip_store::Call;
 pub use link::ServerLink;

@@ -2,7 +2,7 @@
 ghost use Rattle.std.specs.Prelude.{◌≡◌, ◌<◌, ◌≤◌, ◌++◌, [], true, false, IsTrue, length, take};
 ghost use Rattle.std.specs.Prelude.{◌≢◌, IfOk, IfErr, OnErr, IsErrOf, ℕ, List};
 ghost use Rattle.kmip_link.specs.declared.link.LinkError.{LinkError};
-ghost use Rattle.kmip_link.specs.State.{Keeps, IsIdle, Reads, Writes, Rose};
+ghost use Rattle.kmip_link.specs.State.{Keeps, IsIdle, Reads, Writes, FaultCountRose};
 ghost use Rattle.kmip_store.specs.Makers.{MakerKeeps};
 ghost use Rattle.kmip_server.specs.Link.{ServerLinkState, server_link_state, IsKept, IsKnown};
 ghost use Rattle.kmip_server.specs.Link.{Holds, Accepted, IsRefused, IsUnused, Did, WritesTo};
@@ -10,7 +10,7 @@ ghost use Rattle.kmip_server.specs.Split.{messages_in};
 
 use crate::take::{grow_both, take_bytes};
 use kmip_link::{Link, LinkError};
-use kmip_served::Server;
+use kmip_server_core::Server;
 use kmip_store::Maker;
 use kmip_wire::WireError;
 use std::alloc::{AllocError, Global};
@@ -203,7 +203,7 @@ impl<M: Maker> Link for ServerLink<M> {
             (server_link_state M.state self.new) into.new n) }
         ensures idle { OnErr result (IsIdle (server_link_state M.state self.old)
             (server_link_state M.state self.new)) }
-        ensures cause { IsErrOf result LinkError.Fault → Rose self.old.faults self.new.faults }
+        ensures cause { IsErrOf result LinkError.Fault → FaultCountRose self.old.faults self.new.faults }
         ensures never { IfErr result (λ e. ⊥) }
         ensures rest { self.new ≡ record self.old { pos = self.new.pos } }
     {
@@ -227,7 +227,7 @@ impl<M: Maker> Link for ServerLink<M> {
             (server_link_state M.state self.new) (take n bytes.now)) }
         ensures idle { OnErr result (IsIdle (server_link_state M.state self.old)
             (server_link_state M.state self.new)) }
-        ensures cause { IsErrOf result LinkError.Fault → Rose self.old.faults self.new.faults }
+        ensures cause { IsErrOf result LinkError.Fault → FaultCountRose self.old.faults self.new.faults }
         ensures answers { WritesTo M.state self.old self.new bytes.now result }
     {
         if self.faults > 0 {

@@ -12,7 +12,7 @@ ghost use Rattle.kmip_shape.specs.Resume.{outer_of, resume_single};
 ghost use Rattle.std.specs.Prelude.{refl};
 
 use crate::item::{Item, WriteItem};
-use crate::item_lists::known_bytes;
+use crate::item_lists::fits_bytes;
 use crate::read::{Outer, ReadError, ReadItem};
 use crate::row_readers::{ReadRow, takes};
 use crate::row_writers::{FieldRow, ShowRow, WriteRow};
@@ -82,7 +82,7 @@ impl<'b, const TAG: u32> FieldRow<'b> for BigOne<TAG> {
     ghost field = { λ x. one (bytes x.now) };
 
     fn known(lent: &'b Blob) {
-        known_bytes(lent.as_slice());
+        fits_bytes(lent.as_slice());
     }
 }
 
@@ -166,7 +166,7 @@ impl<'b, const TAG: u32> FieldRow<'b> for BigOpt<TAG> {
 
     fn known(lent: &'b Option<Blob>) {
         if let Some(lent) = lent {
-            known_bytes(lent.as_slice());
+            fits_bytes(lent.as_slice());
         }
     }
 }

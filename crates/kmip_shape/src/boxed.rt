@@ -16,7 +16,7 @@ impl<T: Item> Item for Boxed<T> {
         self.get().known();
     }
 
-    ghost same = { T.same };
+    ghost faithful = { T.faithful };
 }
 
 impl<T: WriteItem> WriteItem for Boxed<T> {

@@ -14,7 +14,7 @@ ghost use Rattle.kmip_shape.specs.Writes.{optional};
 ghost use Rattle.kmip_shape.specs.Resume.{resume_single};
 
 use crate::item::{Item, WriteItem};
-use crate::item_lists::{known_optional, optional_len, write_optional};
+use crate::item_lists::{fits_optional, optional_len, write_optional};
 use crate::read::{Outer, ReadError, ReadItem};
 use crate::row_readers::{ReadRow, takes};
 use crate::row_writers::{FieldRow, ShowRow, WriteRow};
@@ -99,7 +99,7 @@ impl<'b, T: Item + 'b> FieldRow<'b> for TagOpt<T> {
     ghost field = { λ x. optional T.val x.now };
 
     fn known(lent: &'b Option<T>) {
-        known_optional(lent);
+        fits_optional(lent);
     }
 }
 

@@ -49,7 +49,7 @@ impl<T: Enumeration> Item for T {
         let _variant = *self;
     }
 
-    ghost same = { same_variant T.line T.variants T.found };
+    ghost faithful = { same_variant T.line T.variants T.found };
 }
 
 impl<T: Enumeration> WriteItem for T {

@@ -22,7 +22,7 @@ pub trait Item {
         ensures { Fits shape (val self.now) };
 
     /// Two values that contracts see as one are equal.
-    ghost same: { (x y : Self) → val x ≡ val y → x ≡ y };
+    ghost faithful: { (x y : Self) → val x ≡ val y → x ≡ y };
 }
 
 /// An item that is written. By `laws::written` its clauses say what `bytes_of` is.

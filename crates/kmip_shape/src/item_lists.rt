@@ -34,10 +34,10 @@ pub fn write_list<T: WriteItem>(items: &List<T>, tag: Tag, out: &mut Buffer)
 }
 
 /// The items of a list fit their shape. It does nothing.
-pub(crate) fn known_list<T: Item>(items: &List<T>)
+pub(crate) fn fits_list<T: Item>(items: &List<T>)
     ensures { vals_fit (vals T.val items.now) NoCase T.shape }
 {
-    known_items(items.as_slice());
+    fits_items(items.as_slice());
 }
 
 /// The length of an item that may be absent.
@@ -134,7 +134,7 @@ pub fn begin_structure<T: Item>(item: &T, len: Option<u64>, tag: Tag, out: &mut 
 }
 
 /// An item that may be absent fits an optional row. It does nothing.
-pub(crate) fn known_optional<T: Item>(item: &Option<T>)
+pub(crate) fn fits_optional<T: Item>(item: &Option<T>)
     ensures mark { mark_fits Optional (optional T.val item.now) }
     ensures field { field_fits (optional T.val item.now) NoCase T.shape }
 {
@@ -144,7 +144,7 @@ pub(crate) fn known_optional<T: Item>(item: &Option<T>)
 }
 
 /// The items of a list fit. It does nothing.
-pub fn known_items<T: Item>(items: &[T])
+pub fn fits_items<T: Item>(items: &[T])
     ensures { vals_fit (vals T.val items.now) NoCase T.shape }
 {
     let mut rest = items;
@@ -177,17 +177,17 @@ pub(crate) fn write_optional_list<T: WriteItem>(items: &Option<List<T>>, tag: Ta
 }
 
 /// The items of a list that may be absent fit. It does nothing.
-pub(crate) fn known_optional_list<T: Item>(items: &Option<List<T>>)
+pub(crate) fn fits_optional_list<T: Item>(items: &Option<List<T>>)
     ensures mark { mark_fits OptionalList (optional_list T.val items.now) }
     ensures field { field_fits (optional_list T.val items.now) NoCase T.shape }
 {
     if let Some(items) = items {
-        known_list(items);
+        fits_list(items);
     }
 }
 
 /// The bytes of a slice are below 256. It does nothing.
-pub(crate) fn known_bytes(bytes: &[u8])
+pub(crate) fn fits_bytes(bytes: &[u8])
     ensures { AreBytes bytes.now }
 {
     let mut rest = bytes;

@@ -15,7 +15,7 @@ ghost use Rattle.kmip_shape.specs.Same.{same_text, same_bytes, same_number, same
 ghost use Rattle.kmip_shape.specs.Same.{same_unsigned};
 
 use crate::item::{Item, WriteItem};
-use crate::item_lists::known_bytes;
+use crate::item_lists::fits_bytes;
 use crate::read::{Outer, ReadError, ReadItem};
 use crate::scalars::{
     SCALAR_LEN, bytes_len, put_boolean, put_bytes, put_date, put_integer, put_interval,
@@ -35,7 +35,7 @@ impl Item for Text {
         let _text = self.as_str();
     }
 
-    ghost same = { λ x y h. same_text h };
+    ghost faithful = { λ x y h. same_text h };
 }
 
 impl WriteItem for Text {
@@ -69,10 +69,10 @@ impl Item for Blob {
     ghost val = { λ x. bytes x };
 
     fn known(&self) {
-        known_bytes(self.as_slice());
+        fits_bytes(self.as_slice());
     }
 
-    ghost same = { λ x y h. same_bytes h };
+    ghost faithful = { λ x y h. same_bytes h };
 }
 
 impl WriteItem for Blob {
@@ -109,7 +109,7 @@ impl Item for i32 {
         let _value = *self;
     }
 
-    ghost same = { λ x y h. same_number h };
+    ghost faithful = { λ x y h. same_number h };
 }
 
 impl WriteItem for i32 {
@@ -146,7 +146,7 @@ impl Item for i64 {
         let _value = *self;
     }
 
-    ghost same = { λ x y h. same_number h };
+    ghost faithful = { λ x y h. same_number h };
 }
 
 impl WriteItem for i64 {
@@ -183,7 +183,7 @@ impl Item for bool {
         let _value = *self;
     }
 
-    ghost same = { λ x y h. same_truth h };
+    ghost faithful = { λ x y h. same_truth h };
 }
 
 impl WriteItem for bool {
@@ -220,7 +220,7 @@ impl Item for u64 {
         let _value = *self;
     }
 
-    ghost same = { λ x y h. same_unsigned h };
+    ghost faithful = { λ x y h. same_unsigned h };
 }
 
 impl WriteItem for u64 {
@@ -257,7 +257,7 @@ impl Item for u32 {
         let _value = *self;
     }
 
-    ghost same = { λ x y h. same_unsigned h };
+    ghost faithful = { λ x y h. same_unsigned h };
 }
 
 impl WriteItem for u32 {

@@ -26,7 +26,7 @@ ghost use Rattle.kmip_shape.specs.Shown.{Grows, row_styled, fields_styled, recor
 
 use crate::item::{Item, WriteItem};
 use crate::item_lists::{
-    known_list, known_optional, known_optional_list, list_len, optional_len, optional_list_len,
+    fits_list, fits_optional, fits_optional_list, list_len, optional_len, optional_list_len,
     plus_len, write_list, write_optional, write_optional_list,
 };
 use crate::record::{Choosing, End, Row};
@@ -220,7 +220,7 @@ impl<'b, T: Item + 'b, const TAG: u32> FieldRow<'b> for Opt<T, TAG> {
     ghost field = { λ x. optional T.val x.now };
 
     fn known(lent: &'b Option<T>) {
-        known_optional(lent);
+        fits_optional(lent);
     }
 }
 
@@ -252,7 +252,7 @@ impl<'b, T: Item + 'b, const TAG: u32> FieldRow<'b> for ChosenOpt<'b, T, TAG> {
     ghost field = { λ x. optional T.val x.now };
 
     fn known(lent: &'b Option<T>) {
-        known_optional(lent);
+        fits_optional(lent);
     }
 }
 
@@ -284,7 +284,7 @@ impl<'b, T: Item + 'b, const TAG: u32> FieldRow<'b> for Many<T, TAG> {
     ghost field = { λ x. many (vals T.val x.now) };
 
     fn known(lent: &'b List<T>) {
-        known_list(lent);
+        fits_list(lent);
     }
 }
 
@@ -316,7 +316,7 @@ impl<'b, T: Item + 'b, const TAG: u32> FieldRow<'b> for NonEmpty<T, TAG> {
     ghost field = { λ x. many (vals T.val x.now) };
 
     fn known(lent: &'b List<T>) {
-        known_list(lent);
+        fits_list(lent);
     }
 }
 
@@ -348,7 +348,7 @@ impl<'b, T: Item + 'b, const TAG: u32> FieldRow<'b> for OptMany<T, TAG> {
     ghost field = { λ x. optional_list T.val x.now };
 
     fn known(lent: &'b Option<List<T>>) {
-        known_optional_list(lent);
+        fits_optional_list(lent);
     }
 }
 
@@ -527,7 +527,7 @@ impl<'b, A: ShowRow<'b>, B: ShowRows<'b>> ShowRows<'b> for Choosing<A, B> {
 }
 
 /// A record's fields fit its rows. It does nothing.
-pub fn known_record<'b, R: FieldRows<'b>>(lent: R::Lent)
+pub fn fits_record<'b, R: FieldRows<'b>>(lent: R::Lent)
     ensures { fields_fit (R.fields lent) NoCase R.row_list }
 {
     R::known(lent);

@@ -10,7 +10,7 @@ ghost use Rattle.kmip_shape.specs.Same.{same_bytes};
 ghost use Rattle.kmip_shape.specs.Dates.{date_val, date_same};
 
 use crate::item::{Item, WriteItem};
-use crate::item_lists::known_bytes;
+use crate::item_lists::fits_bytes;
 use crate::read::{Outer, ReadError, ReadItem};
 use crate::scalars::{SCALAR_LEN, big_integer_len, put_big_integer, put_date};
 use crate::show::ShowItem;
@@ -35,10 +35,10 @@ impl Item for BigInteger {
     ghost val = { λ x. bytes x.0 };
 
     fn known(&self) {
-        known_bytes(self.0.as_slice());
+        fits_bytes(self.0.as_slice());
     }
 
-    ghost same = { λ x y h. ap (λ (b : List ℕ). record { 0 = b }) (same_bytes h) };
+    ghost faithful = { λ x y h. ap (λ (b : List ℕ). record { 0 = b }) (same_bytes h) };
 }
 
 impl WriteItem for BigInteger {
@@ -81,7 +81,7 @@ impl Item for Timestamp {
         let _seconds = self.0;
     }
 
-    ghost same = { λ x y h. ap (λ (z : ℤ). record { 0 = z }) (date_same x.0 y.0 h) };
+    ghost faithful = { λ x y h. ap (λ (z : ℤ). record { 0 = z }) (date_same x.0 y.0 h) };
 }
 
 #[tactic(auto, using(crate::proofs::Dated::dated))]

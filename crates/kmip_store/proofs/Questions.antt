@@ -11,7 +11,7 @@ use Rattle.kmip_store.specs.declared.error.StoreError.{StoreError}
 use Rattle.kmip_store.specs.declared.error.StoreError.TheVariants.{ItemNotFound, PermissionDenied, CryptographicFailure, OutOfMemory}
 use Rattle.kmip_store.specs.declared.maker.MakerError.{MakerError}
 use Rattle.kmip_store.specs.declared.maker.MakerError.TheVariants.{Fault}
-use Rattle.kmip_store.specs.Makers.{MakerState, Answered, Rose, Makes, is_answer}
+use Rattle.kmip_store.specs.Makers.{MakerState, Answered, MakerFaultsRose, Makes, is_answer}
 use Rattle.kmip_store.specs.Objects.{find_in, identifier}
 use Rattle.kmip_store.specs.declared.call.Call.{Call}
 use Rattle.kmip_store.specs.declared.call.Call.TheVariants.{CreateRsaKeyPair, Sign}
@@ -19,7 +19,7 @@ use Rattle.kmip_store.specs.Steps.{Answer, Signed, Created, Failed, stay, step, 
 use Rattle.kmip_store.specs.Answers.{Grew, suits, IsStep, Asks, Gets}
 
 -- what a call of a maker that refused did
-pub refusal : {T : Type 0} (made : T → Made) (question : Asked) (before after : MakerState) (e : MakerError) → e ≡ Fault → Makes made question before after (Err e) → (IsTrue before.tells → Answered before after question Refused) × Rose before.faults after.faults
+pub refusal : {T : Type 0} (made : T → Made) (question : Asked) (before after : MakerState) (e : MakerError) → e ≡ Fault → Makes made question before after (Err e) → (IsTrue before.tells → Answered before after question Refused) × MakerFaultsRose before.faults after.faults
 refusal made question before after e f h = subst (λ (x : MakerError). Makes made question before after (Err x)) f h
 
 -- a call that asked the maker this and got that answer

@@ -6,7 +6,7 @@ use Rattle.kmip_store.specs.declared.error.StoreError.TheVariants.{ItemNotFound,
 use Rattle.kmip_store.specs.declared.maker.Asked.{Asked}
 use Rattle.kmip_store.specs.declared.maker.Made.{Made}
 use Rattle.kmip_store.specs.declared.maker.MakerError.TheVariants as maker
-use Rattle.kmip_store.specs.Makers.{MakerState, Answered, IsSilent, Rose, Makes, is_answer}
+use Rattle.kmip_store.specs.Makers.{MakerState, Answered, IsSilent, MakerFaultsRose, Makes, is_answer}
 use Rattle.kmip_store.specs.declared.call.Call.{Call}
 use Rattle.kmip_store.specs.Steps.{Answer, NotFound, Denied, Failed, stay, step, question}
 
@@ -61,6 +61,6 @@ Asks answer before call after asked answered (Err ItemNotFound) =
 Asks answer before call after asked answered (Err PermissionDenied) =
     IsStep before call after Denied asked answered
 Asks answer before call after asked answered (Err CryptographicFailure) =
-    IsStep before call after Failed asked answered × Rose asked.faults answered.faults
+    IsStep before call after Failed asked answered × MakerFaultsRose asked.faults answered.faults
 Asks answer before call after asked answered (Err OutOfMemory) =
     (after ≡ before) × (IsTrue asked.tells → IsSilent asked answered)

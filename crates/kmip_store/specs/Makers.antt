@@ -29,8 +29,8 @@ is_answer asked answers.Refused = true
 is_answer asked made = is_of_kind asked made
 
 -- The count of faults rose, or it stands at its last value, 2^64 - 1.
-abbrev pub Rose : ℕ → ℕ → Type 0
-Rose before now = min (before + 1) (2 ^ 64 - 1) ≤ now
+abbrev pub MakerFaultsRose : ℕ → ℕ → Type 0
+MakerFaultsRose before now = min (before + 1) (2 ^ 64 - 1) ≤ now
 
 -- what no call changes, and the count, which never falls
 pub record MakerKeeps (before after : MakerState) : Type 0 where
@@ -55,5 +55,5 @@ Makes made question before after (Ok x) =
     IsTrue before.tells → Answered before after question (made x)
 Makes made question before after (Err Fault) =
     (IsTrue before.tells → Answered before after question answers.Refused)
-    × Rose before.faults after.faults
+    × MakerFaultsRose before.faults after.faults
 Makes made question before after (Err OutOfMemory) = IsTrue before.tells → IsSilent before after

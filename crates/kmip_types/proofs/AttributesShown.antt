@@ -11,13 +11,13 @@ use Rattle.kmip_shape.proofs.Growth.{grown, nothing, brackets_grown}
 use Rattle.kmip_shape.proofs.Variants.{found_styled}
 use Rattle.kmip_enums.specs.ObjectTypes.{object_type_line, object_type_variants, object_type_found}
 use Rattle.kmip_enums.specs.States.{state_line, state_variants, state_found}
-use Rattle.kmip_cryptography.specs.CryptographicAlgorithms.{cryptographic_algorithm_line, cryptographic_algorithm_variants, cryptographic_algorithm_found}
+use Rattle.kmip_codes.specs.CryptographicAlgorithms.{cryptographic_algorithm_line, cryptographic_algorithm_variants, cryptographic_algorithm_found}
 use Rattle.kmip_enums.specs.declared.name_type.NameType.{NameType}
 use Rattle.kmip_enums.specs.declared.link_type.LinkType.{LinkType}
-use Rattle.kmip_scalars.specs.declared.texts.NameValue.{NameValue}
-use Rattle.kmip_scalars.specs.declared.texts.LinkedObjectIdentifier.{LinkedObjectIdentifier}
-use Rattle.kmip_scalars.specs.declared.texts.ApplicationNamespace.{ApplicationNamespace}
-use Rattle.kmip_scalars.specs.declared.texts.ApplicationData.{ApplicationData}
+use Rattle.kmip_names.specs.declared.texts.NameValue.{NameValue}
+use Rattle.kmip_names.specs.declared.texts.LinkedObjectIdentifier.{LinkedObjectIdentifier}
+use Rattle.kmip_names.specs.declared.texts.ApplicationNamespace.{ApplicationNamespace}
+use Rattle.kmip_names.specs.declared.texts.ApplicationData.{ApplicationData}
 use Rattle.kmip_types.specs.declared.cryptographic_parameters.CryptographicParameters as parameters
 use Rattle.kmip_types.specs.declared.attribute_value.AttributeValue.{AttributeValue}
 use Rattle.kmip_types.specs.declared.attribute_value.AttributeValue.TheVariants.{Name, ObjectType, CryptographicAlgorithm, CryptographicParameters, State, ObjectGroup, Link, ApplicationSpecificInformation, ContactInformation, Structure, Integer, LongInteger, BigInteger, Enumeration, Boolean, TextString, ByteString, DateTime, Interval}

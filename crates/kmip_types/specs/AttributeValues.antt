@@ -12,12 +12,12 @@ use Rattle.kmip_enums.specs.States.{states, state_val, state_same}
 use Rattle.kmip_enums.specs.LinkTypes.{link_types, link_type_val, link_type_same}
 use Rattle.kmip_enums.specs.declared.name_type.NameType.{NameType}
 use Rattle.kmip_enums.specs.declared.link_type.LinkType.{LinkType}
-use Rattle.kmip_cryptography.specs.CryptographicAlgorithms.{cryptographic_algorithms, cryptographic_algorithm_val, cryptographic_algorithm_same}
-use Rattle.kmip_scalars.specs.Texts.{name_value_val, name_value_same, linked_object_identifier_val, linked_object_identifier_same, application_namespace_val, application_namespace_same, application_data_val, application_data_same}
-use Rattle.kmip_scalars.specs.declared.texts.NameValue.{NameValue}
-use Rattle.kmip_scalars.specs.declared.texts.LinkedObjectIdentifier.{LinkedObjectIdentifier}
-use Rattle.kmip_scalars.specs.declared.texts.ApplicationNamespace.{ApplicationNamespace}
-use Rattle.kmip_scalars.specs.declared.texts.ApplicationData.{ApplicationData}
+use Rattle.kmip_codes.specs.CryptographicAlgorithms.{cryptographic_algorithms, cryptographic_algorithm_val, cryptographic_algorithm_same}
+use Rattle.kmip_names.specs.Texts.{name_value_val, name_value_same, linked_object_identifier_val, linked_object_identifier_same, application_namespace_val, application_namespace_same, application_data_val, application_data_same}
+use Rattle.kmip_names.specs.declared.texts.NameValue.{NameValue}
+use Rattle.kmip_names.specs.declared.texts.LinkedObjectIdentifier.{LinkedObjectIdentifier}
+use Rattle.kmip_names.specs.declared.texts.ApplicationNamespace.{ApplicationNamespace}
+use Rattle.kmip_names.specs.declared.texts.ApplicationData.{ApplicationData}
 use Rattle.kmip_types.specs.Parameters.{cryptographic_parameters, cryptographic_parameters_val, cryptographic_parameters_same}
 use Rattle.kmip_types.specs.declared.attribute_value.AttributeValue.{AttributeValue}
 use Rattle.kmip_types.specs.declared.attribute_value.AttributeValue.TheVariants.{Name, ObjectType, CryptographicAlgorithm, CryptographicParameters, State, ObjectGroup, Link, ApplicationSpecificInformation, ContactInformation, Structure, Integer, LongInteger, BigInteger, Enumeration, Boolean, TextString, ByteString, DateTime, Interval}

@@ -5,7 +5,7 @@ use Rattle.kmip_shape.specs.declared.style.Style.{Style}
 use Rattle.kmip_shape.specs.Shown.{always, word, text_styled, bytes_styled, truth_shown}
 use Rattle.kmip_enums.specs.ObjectTypes.{object_type_line}
 use Rattle.kmip_enums.specs.States.{state_line}
-use Rattle.kmip_cryptography.specs.CryptographicAlgorithms.{cryptographic_algorithm_line}
+use Rattle.kmip_codes.specs.CryptographicAlgorithms.{cryptographic_algorithm_line}
 use Rattle.kmip_types.specs.declared.attribute_value.AttributeValue.{AttributeValue}
 use Rattle.kmip_types.specs.declared.attribute_value.AttributeValue.TheVariants.{Name, ObjectType, CryptographicAlgorithm, CryptographicParameters, State, ObjectGroup, Link, ApplicationSpecificInformation, ContactInformation, Structure, Integer, LongInteger, BigInteger, Enumeration, Boolean, TextString, ByteString, DateTime, Interval}
 use Rattle.kmip_types.specs.declared.attribute_showing.Piece.{Piece}

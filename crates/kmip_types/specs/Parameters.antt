@@ -3,30 +3,30 @@ use Rattle.std.specs.Prelude.{codes, Option}
 use Rattle.kmip_tags.specs.Tags.{BLOCK_CIPHER_MODE, COUNTER_LENGTH, CRYPTOGRAPHIC_ALGORITHM, DIGITAL_SIGNATURE_ALGORITHM, FIXED_FIELD_LENGTH, HASHING_ALGORITHM, INITIAL_COUNTER_VALUE, INVOCATION_FIELD_LENGTH, IV_LENGTH, KEY_ROLE_TYPE, PADDING_METHOD, RANDOM_IV, TAG_LENGTH}
 use Rattle.kmip_wire.specs.declared.kind.Kind.TheVariants.{Boolean, Integer}
 use Rattle.kmip_shape.specs.Shape.{Shape, RowList, Scalar, OneOf, Rows, NoRow, AndRow, Optional, Plain, Under}
-use Rattle.kmip_cryptography.specs.BlockCipherModes.{block_cipher_modes, block_cipher_mode_val, block_cipher_mode_same}
-use Rattle.kmip_cryptography.specs.PaddingMethods.{padding_methods, padding_method_val, padding_method_same}
-use Rattle.kmip_cryptography.specs.HashingAlgorithms.{hashing_algorithms, hashing_algorithm_val, hashing_algorithm_same}
-use Rattle.kmip_cryptography.specs.KeyRoleTypes.{key_role_types, key_role_type_val, key_role_type_same}
-use Rattle.kmip_cryptography.specs.DigitalSignatureAlgorithms.{digital_signature_algorithms, digital_signature_algorithm_val, digital_signature_algorithm_same}
-use Rattle.kmip_cryptography.specs.CryptographicAlgorithms.{cryptographic_algorithms, cryptographic_algorithm_val, cryptographic_algorithm_same}
+use Rattle.kmip_codes.specs.BlockCipherModes.{block_cipher_modes, block_cipher_mode_val, block_cipher_mode_same}
+use Rattle.kmip_codes.specs.PaddingMethods.{padding_methods, padding_method_val, padding_method_same}
+use Rattle.kmip_codes.specs.HashingAlgorithms.{hashing_algorithms, hashing_algorithm_val, hashing_algorithm_same}
+use Rattle.kmip_codes.specs.KeyRoleTypes.{key_role_types, key_role_type_val, key_role_type_same}
+use Rattle.kmip_codes.specs.DigitalSignatureAlgorithms.{digital_signature_algorithms, digital_signature_algorithm_val, digital_signature_algorithm_same}
+use Rattle.kmip_codes.specs.CryptographicAlgorithms.{cryptographic_algorithms, cryptographic_algorithm_val, cryptographic_algorithm_same}
 use Rattle.kmip_shape.specs.Val.{Val, Fields, Record, AndField, NoField}
 use Rattle.kmip_shape.specs.Writes.{optional}
-use Rattle.kmip_scalars.specs.Parameters.{random_iv_val, iv_length_val, tag_length_val, fixed_field_length_val, invocation_field_length_val, counter_length_val, initial_counter_value_val, random_iv_same, iv_length_same, tag_length_same, fixed_field_length_same, invocation_field_length_same, counter_length_same, initial_counter_value_same}
+use Rattle.kmip_names.specs.Parameters.{random_iv_val, iv_length_val, tag_length_val, fixed_field_length_val, invocation_field_length_val, counter_length_val, initial_counter_value_val, random_iv_same, iv_length_same, tag_length_same, fixed_field_length_same, invocation_field_length_same, counter_length_same, initial_counter_value_same}
 use Rattle.std.proofs.Common.{ap}
 use Rattle.kmip_shape.specs.Same.{IsFaithful, same_record, optional_row, and_row, no_row}
-use Rattle.kmip_cryptography.specs.declared.block_cipher_mode.BlockCipherMode.{BlockCipherMode}
-use Rattle.kmip_cryptography.specs.declared.padding_method.PaddingMethod.{PaddingMethod}
-use Rattle.kmip_cryptography.specs.declared.hashing_algorithm.HashingAlgorithm.{HashingAlgorithm}
-use Rattle.kmip_cryptography.specs.declared.key_role_type.KeyRoleType.{KeyRoleType}
-use Rattle.kmip_cryptography.specs.declared.digital_signature_algorithm.DigitalSignatureAlgorithm.{DigitalSignatureAlgorithm}
-use Rattle.kmip_cryptography.specs.declared.cryptographic_algorithm.CryptographicAlgorithm.{CryptographicAlgorithm}
-use Rattle.kmip_scalars.specs.declared.parameters.RandomIV.{RandomIV}
-use Rattle.kmip_scalars.specs.declared.parameters.IVLength.{IVLength}
-use Rattle.kmip_scalars.specs.declared.parameters.TagLength.{TagLength}
-use Rattle.kmip_scalars.specs.declared.parameters.FixedFieldLength.{FixedFieldLength}
-use Rattle.kmip_scalars.specs.declared.parameters.InvocationFieldLength.{InvocationFieldLength}
-use Rattle.kmip_scalars.specs.declared.parameters.CounterLength.{CounterLength}
-use Rattle.kmip_scalars.specs.declared.parameters.InitialCounterValue.{InitialCounterValue}
+use Rattle.kmip_codes.specs.declared.block_cipher_mode.BlockCipherMode.{BlockCipherMode}
+use Rattle.kmip_codes.specs.declared.padding_method.PaddingMethod.{PaddingMethod}
+use Rattle.kmip_codes.specs.declared.hashing_algorithm.HashingAlgorithm.{HashingAlgorithm}
+use Rattle.kmip_codes.specs.declared.key_role_type.KeyRoleType.{KeyRoleType}
+use Rattle.kmip_codes.specs.declared.digital_signature_algorithm.DigitalSignatureAlgorithm.{DigitalSignatureAlgorithm}
+use Rattle.kmip_codes.specs.declared.cryptographic_algorithm.CryptographicAlgorithm.{CryptographicAlgorithm}
+use Rattle.kmip_names.specs.declared.parameters.RandomIV.{RandomIV}
+use Rattle.kmip_names.specs.declared.parameters.IVLength.{IVLength}
+use Rattle.kmip_names.specs.declared.parameters.TagLength.{TagLength}
+use Rattle.kmip_names.specs.declared.parameters.FixedFieldLength.{FixedFieldLength}
+use Rattle.kmip_names.specs.declared.parameters.InvocationFieldLength.{InvocationFieldLength}
+use Rattle.kmip_names.specs.declared.parameters.CounterLength.{CounterLength}
+use Rattle.kmip_names.specs.declared.parameters.InitialCounterValue.{InitialCounterValue}
 use Rattle.kmip_types.specs.declared.cryptographic_parameters.CryptographicParameters.{CryptographicParameters}
 
 -- Cryptographic Parameters (KMIP 1.0, 3.6; KMIP 1.2, 3.6)

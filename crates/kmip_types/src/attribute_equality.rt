@@ -4,15 +4,15 @@ ghost use Rattle.std.specs.Prelude.{◌≡◌};
 ghost use Rattle.kmip_types.specs.Parameters.{cryptographic_parameters_val};
 ghost use Rattle.kmip_shape.specs.Enumerations.{enumeration_val};
 ghost use Rattle.kmip_shape.specs.Writes.{optional};
-ghost use Rattle.kmip_scalars.specs.Parameters.{random_iv_val, iv_length_val, tag_length_val};
-ghost use Rattle.kmip_scalars.specs.Parameters.{fixed_field_length_val};
-ghost use Rattle.kmip_scalars.specs.Parameters.{invocation_field_length_val, counter_length_val};
-ghost use Rattle.kmip_scalars.specs.Parameters.{initial_counter_value_val};
+ghost use Rattle.kmip_names.specs.Parameters.{random_iv_val, iv_length_val, tag_length_val};
+ghost use Rattle.kmip_names.specs.Parameters.{fixed_field_length_val};
+ghost use Rattle.kmip_names.specs.Parameters.{invocation_field_length_val, counter_length_val};
+ghost use Rattle.kmip_names.specs.Parameters.{initial_counter_value_val};
 ghost use Rattle.kmip_types.specs.SameValues.{same_val, same_field, same_value, same_members};
 
 use crate::attribute_value::{AttributeValue, Values};
 use crate::cryptographic_parameters::CryptographicParameters;
-use kmip_scalars::{
+use kmip_names::{
     CounterLength, FixedFieldLength, IVLength, InitialCounterValue, InvocationFieldLength,
     RandomIV, TagLength,
 };

@@ -13,7 +13,7 @@ ghost use Rattle.kmip_types.specs.AttributeValues.{link, application_specific_in
 
 use crate::attribute_value::{AttributeValue, InformationRows, LinkRows, NameRows, Values};
 use crate::cryptographic_parameters::CryptographicParameters;
-use kmip_cryptography::CryptographicAlgorithm;
+use kmip_codes::CryptographicAlgorithm;
 use kmip_enums::{ObjectType, State};
 use kmip_shape::{BigInteger, Outer, ReadError, ReadItem, fields, read_record};
 use kmip_wire::{Blob, ItemRef, Kind, Text};

@@ -14,7 +14,7 @@ ghost use Rattle.kmip_types.specs.declared.attribute_value.AttributeValue.TheVar
 use crate::attribute_value::{AttributeValue, InformationRows, LinkRows, NameRows, Values};
 use crate::cryptographic_parameters::CryptographicParameters;
 use kmip_enums::{LinkType, NameType};
-use kmip_scalars::{ApplicationData, ApplicationNamespace, LinkedObjectIdentifier, NameValue};
+use kmip_names::{ApplicationData, ApplicationNamespace, LinkedObjectIdentifier, NameValue};
 use kmip_shape::{Enumeration, ShowItem, TextWriter, fields, show_record};
 
 /// Appends the members, with a comma after each but the last.

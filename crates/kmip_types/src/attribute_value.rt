@@ -10,12 +10,12 @@ ghost use Rattle.kmip_types.specs.AttributeValues.{attribute_value, attribute_va
 ghost use Rattle.kmip_types.specs.AttributeValues.{attribute_value_same};
 
 use crate::cryptographic_parameters::CryptographicParameters;
-use kmip_cryptography::CryptographicAlgorithm;
+use kmip_codes::CryptographicAlgorithm;
 use kmip_enums::{LinkType, NameType, ObjectType, State};
-use kmip_scalars::{ApplicationData, ApplicationNamespace, LinkedObjectIdentifier, NameValue};
+use kmip_names::{ApplicationData, ApplicationNamespace, LinkedObjectIdentifier, NameValue};
 use kmip_shape::record::{End, Row};
 use kmip_shape::row_readers::One;
-use kmip_shape::{Item, fields, known_record};
+use kmip_shape::{Item, fields, fits_record};
 use kmip_tags::tags::{
     APPLICATION_DATA, APPLICATION_NAMESPACE, LINK_TYPE, LINKED_OBJECT_IDENTIFIER, NAME_TYPE,
     NAME_VALUE,
@@ -197,17 +197,17 @@ impl Item for AttributeValue {
     #[cycle(known_attribute)]
     fn known(&self) {
         match self {
-            AttributeValue::Name(value, kind) => known_record::<NameRows>(fields![value, kind]),
+            AttributeValue::Name(value, kind) => fits_record::<NameRows>(fields![value, kind]),
             AttributeValue::ObjectType(object_type) => object_type.known(),
             AttributeValue::CryptographicAlgorithm(algorithm) => algorithm.known(),
             AttributeValue::CryptographicParameters(parameters) => parameters.known(),
             AttributeValue::State(state) => state.known(),
             AttributeValue::ObjectGroup(text) => text.known(),
             AttributeValue::Link(kind, identifier) => {
-                known_record::<LinkRows>(fields![kind, identifier]);
+                fits_record::<LinkRows>(fields![kind, identifier]);
             }
             AttributeValue::ApplicationSpecificInformation(namespace, data) => {
-                known_record::<InformationRows>(fields![namespace, data]);
+                fits_record::<InformationRows>(fields![namespace, data]);
             }
             AttributeValue::ContactInformation(text) => text.known(),
             AttributeValue::Structure(values) => values.known(),
@@ -225,7 +225,7 @@ impl Item for AttributeValue {
         }
     }
 
-    ghost same = { attribute_value_same };
+    ghost faithful = { attribute_value_same };
 }
 
 /// The conversion keeps the thirteen fields in order.

@@ -5,18 +5,18 @@ ghost use Rattle.kmip_types.specs.Parameters.{cryptographic_parameters};
 ghost use Rattle.kmip_types.specs.Parameters.{cryptographic_parameters_val};
 ghost use Rattle.kmip_types.specs.Parameters.{cryptographic_parameters_same};
 
-use kmip_cryptography::{
+use kmip_codes::{
     BlockCipherMode, CryptographicAlgorithm, DigitalSignatureAlgorithm, HashingAlgorithm,
     KeyRoleType, PaddingMethod,
 };
-use kmip_scalars::{
+use kmip_names::{
     CounterLength, FixedFieldLength, IVLength, InitialCounterValue, InvocationFieldLength,
     RandomIV, TagLength,
 };
 use kmip_shape::record::{End, Row};
 use kmip_shape::row_readers::Opt;
 use kmip_shape::{
-    Item, Outer, ReadError, ReadItem, ShowItem, TextWriter, WriteItem, fields, known_record,
+    Item, Outer, ReadError, ReadItem, ShowItem, TextWriter, WriteItem, fields, fits_record,
     read_record, record_len, show_record, write_record,
 };
 use kmip_tags::tags::{
@@ -241,7 +241,7 @@ impl Item for CryptographicParameters {
     ghost val = { cryptographic_parameters_val };
 
     fn known(&self) {
-        known_record::<CryptographicParametersRows>(fields![
+        fits_record::<CryptographicParametersRows>(fields![
             &self.block_cipher_mode,
             &self.padding_method,
             &self.hashing_algorithm,
@@ -258,7 +258,7 @@ impl Item for CryptographicParameters {
         ]);
     }
 
-    ghost same = { cryptographic_parameters_same };
+    ghost faithful = { cryptographic_parameters_same };
 }
 
 impl WriteItem for CryptographicParameters {

@@ -1,4 +1,4 @@
-//! The types that requests and responses share. Those of kmip_cryptography, kmip_scalars and
+//! The types that requests and responses share. Those of kmip_codes, kmip_names and
 //! kmip_keys are re-exported.
 #![tactic(auto)]
 
@@ -13,7 +13,7 @@ mod cryptographic_parameters;
 
 pub use attribute_value::{AttributeValue, Values};
 pub use cryptographic_parameters::CryptographicParameters;
-pub use kmip_cryptography::{
+pub use kmip_codes::{
     BlockCipherMode, CryptographicAlgorithm, CryptographicUsageMask, DigitalSignatureAlgorithm,
     HashingAlgorithm, KeyCompressionType, KeyFormatType, KeyRoleType, PaddingMethod,
     WrappingMethod,
@@ -23,7 +23,7 @@ pub use kmip_keys::{
     TransparentDSAPublicKey, TransparentRSAPrivateKey, TransparentRSAPublicKey,
     TransparentSymmetricKey,
 };
-pub use kmip_scalars::{
+pub use kmip_names::{
     ApplicationData, ApplicationNamespace, AttributeIndex, AttributeName, CompromiseOccurrenceDate,
     CounterLength, CryptographicLength, Data, DataLength, FixedFieldLength, IVLength,
     InitialCounterValue, InvocationFieldLength, LinkedObjectIdentifier, NameValue, RandomIV,

@@ -1,6 +1,6 @@
 use crate::support::has_names;
 use bitflags::Flags;
-use kmip_cryptography::{
+use kmip_codes::{
     BlockCipherMode, CryptographicAlgorithm, CryptographicUsageMask, DigitalSignatureAlgorithm,
     HashingAlgorithm, KeyCompressionType, KeyFormatType, KeyRoleType, PaddingMethod,
     WrappingMethod,

@@ -1,5 +1,5 @@
 use crate::support::Under::{self, Name, Nothing, Number};
-use kmip_cryptography::PaddingMethod;
+use kmip_codes::PaddingMethod;
 use kmip_json::{json_is_json, shown_as_json};
 use kmip_keys::KeyMaterial;
 use kmip_shape::{ReadItem, ShowItem, Timestamp};

@@ -1,5 +1,5 @@
 use crate::support::{comes_back, comes_back_copied, is_printed, is_unread};
-use kmip_scalars::{
+use kmip_names::{
     ApplicationData, ApplicationNamespace, AttributeIndex, AttributeName, CompromiseOccurrenceDate,
     CounterLength, CryptographicLength, Data, DataLength, FixedFieldLength, IVLength,
     InitialCounterValue, InvocationFieldLength, LinkedObjectIdentifier, NameValue, RandomIV,

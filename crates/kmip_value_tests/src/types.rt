@@ -1,6 +1,6 @@
 use crate::support::Under::{Name, Nothing};
 use crate::support::{Case, are_equal, are_read, is_written, len_of, reads_as};
-use kmip_cryptography::{HashingAlgorithm, PaddingMethod};
+use kmip_codes::{HashingAlgorithm, PaddingMethod};
 use kmip_tags::tags::ATTRIBUTE_VALUE;
 use kmip_types::{AttributeValue, CryptographicParameters, Values};
 use kmip_wire::{Blob, Tag, TryClone};

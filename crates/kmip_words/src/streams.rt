@@ -1,7 +1,7 @@
 //! Reading a whole source, up to a count, and writing a whole text to a sink.
 ghost use Rattle.std.specs.Prelude.{◌≡◌, ◌+◌, ◌-◌, ◌<◌, ◌≤◌, ◌++◌, ℕ, [], length, take, drop, min};
 ghost use Rattle.std.specs.Prelude.{IfOk, IfErr, OnErr, OnOk, IsErrOf, IsTrue, vec_len};
-ghost use Rattle.kmip_link.specs.State.{SourceKeeps, SinkKeeps, Rose, source_left};
+ghost use Rattle.kmip_link.specs.State.{SourceKeeps, SinkKeeps, FaultCountRose, source_left};
 ghost use Rattle.kmip_words.specs.Streams.{Gives, GivesPart, WrotePart, WroteProperPart};
 
 use kmip_link::{LinkError, Sink, Source};
@@ -21,7 +21,7 @@ pub fn write_out<K: Sink>(sink: &mut K, text: &[u8]) -> Result<(), LinkError>
     ensures cut { OnErr result (IsTrue (K.state sink.old).tells →
         WroteProperPart (K.state sink.old) (K.state sink.new) text.now) }
     ensures cause { IsErrOf result LinkError.Fault →
-        Rose (K.state sink.old).faults (K.state sink.new).faults }
+        FaultCountRose (K.state sink.old).faults (K.state sink.new).faults }
 {
     let mut done = 0;
     while done < text.len() {
@@ -50,7 +50,7 @@ fn read_piece<S: Source>(
         × (script.new.items ≡ script.old.items ++ take n (source_left (S.state source.old)))
         × (n ≡ 0 → source_left (S.state source.old) ≡ [])) }
     ensures cause { IsErrOf result LinkError.Fault →
-        Rose (S.state source.old).faults (S.state source.new).faults }
+        FaultCountRose (S.state source.old).faults (S.state source.new).faults }
 {
     let got = source.read(&mut piece[..room])?;
     script.extend_from_slice(&piece[..got])?;
@@ -75,7 +75,7 @@ pub fn read_up_to<S: Source>(
         (min count (length (source_left (S.state source.old))))
         × (script.new.items ≡ script.old.items ++ take count (source_left (S.state source.old)))) }
     ensures cause { IsErrOf result LinkError.Fault →
-        Rose (S.state source.old).faults (S.state source.new).faults }
+        FaultCountRose (S.state source.old).faults (S.state source.new).faults }
 {
     let mut piece = vec![in alloc; 0u8; count.min(MAX_PIECE)]?;
     let mut done = 0;

@@ -15,7 +15,7 @@ use kmip_response_objects::Attribute;
 use kmip_shape::record::{End, Row};
 use kmip_shape::row_readers::{NonEmpty, One, OptMany};
 use kmip_shape::{
-    Item, Outer, ReadError, ReadItem, ReadRoot, ShowItem, TextWriter, fields, known_record,
+    Item, Outer, ReadError, ReadItem, ReadRoot, ShowItem, TextWriter, fields, fits_record,
     read_record, show_record,
 };
 use kmip_tags::tags::{ATTRIBUTE, ATTRIBUTE_NAME, RESPONSE_PAYLOAD, UNIQUE_IDENTIFIER};
@@ -52,13 +52,13 @@ impl Item for GetAttributesResponsePayload {
     ghost val = { get_attributes_payload_val };
 
     fn known(&self) {
-        known_record::<GetAttributesResponsePayloadRows>(fields![
+        fits_record::<GetAttributesResponsePayloadRows>(fields![
             &self.unique_identifier,
             &self.attributes
         ]);
     }
 
-    ghost same = { get_attributes_payload_same };
+    ghost faithful = { get_attributes_payload_same };
 }
 
 impl ReadItem for GetAttributesResponsePayload {
@@ -120,13 +120,13 @@ impl Item for GetAttributeListResponsePayload {
     ghost val = { get_attribute_list_payload_val };
 
     fn known(&self) {
-        known_record::<GetAttributeListResponsePayloadRows>(fields![
+        fits_record::<GetAttributeListResponsePayloadRows>(fields![
             &self.unique_identifier,
             &self.attributes
         ]);
     }
 
-    ghost same = { get_attribute_list_payload_same };
+    ghost faithful = { get_attribute_list_payload_same };
 }
 
 impl ReadItem for GetAttributeListResponsePayload {
@@ -189,13 +189,13 @@ impl Item for AttributeEditResponsePayload {
     ghost val = { attribute_edit_payload_val };
 
     fn known(&self) {
-        known_record::<AttributeEditResponsePayloadRows>(fields![
+        fits_record::<AttributeEditResponsePayloadRows>(fields![
             &self.unique_identifier,
             &self.attribute
         ]);
     }
 
-    ghost same = { attribute_edit_payload_same };
+    ghost faithful = { attribute_edit_payload_same };
 }
 
 impl ReadItem for AttributeEditResponsePayload {

@@ -9,7 +9,7 @@ ghost use Rattle.kmip_response.specs.Same.{sign_payload_same, rng_retrieve_paylo
 use kmip_shape::record::{End, Row};
 use kmip_shape::row_readers::One;
 use kmip_shape::{
-    Item, Outer, ReadError, ReadItem, ReadRoot, ShowItem, TextWriter, fields, known_record,
+    Item, Outer, ReadError, ReadItem, ReadRoot, ShowItem, TextWriter, fields, fits_record,
     read_record, show_record,
 };
 use kmip_tags::tags::{DATA, RESPONSE_PAYLOAD, SIGNATURE_DATA, UNIQUE_IDENTIFIER};
@@ -46,13 +46,13 @@ impl Item for SignResponsePayload {
     ghost val = { sign_payload_val };
 
     fn known(&self) {
-        known_record::<SignResponsePayloadRows>(fields![
+        fits_record::<SignResponsePayloadRows>(fields![
             &self.unique_identifier,
             &self.signature_data
         ]);
     }
 
-    ghost same = { sign_payload_same };
+    ghost faithful = { sign_payload_same };
 }
 
 impl ReadItem for SignResponsePayload {
@@ -108,10 +108,10 @@ impl Item for RNGRetrieveResponsePayload {
     ghost val = { rng_retrieve_payload_val };
 
     fn known(&self) {
-        known_record::<RNGRetrieveResponsePayloadRows>(fields![&self.random_bytes]);
+        fits_record::<RNGRetrieveResponsePayloadRows>(fields![&self.random_bytes]);
     }
 
-    ghost same = { rng_retrieve_payload_same };
+    ghost faithful = { rng_retrieve_payload_same };
 }
 
 impl ReadItem for RNGRetrieveResponsePayload {

@@ -11,7 +11,7 @@ use kmip_response_objects::{ManagedObject, ManagedObjects};
 use kmip_shape::record::{Choosing, End, Row};
 use kmip_shape::row_readers::One;
 use kmip_shape::{
-    Item, Outer, ReadError, ReadItem, ReadRoot, ShowItem, TextWriter, fields, known_record,
+    Item, Outer, ReadError, ReadItem, ReadRoot, ShowItem, TextWriter, fields, fits_record,
     read_record, show_record,
 };
 use kmip_tags::tags::{OBJECT_TYPE, RESPONSE_PAYLOAD, UNIQUE_IDENTIFIER};
@@ -51,14 +51,14 @@ impl Item for GetResponsePayload {
     ghost val = { get_payload_val };
 
     fn known(&self) {
-        known_record::<GetResponsePayloadRows<'_>>(fields![
+        fits_record::<GetResponsePayloadRows<'_>>(fields![
             &self.object_type,
             &self.unique_identifier,
             &self.cryptographic_object
         ]);
     }
 
-    ghost same = { get_payload_same };
+    ghost faithful = { get_payload_same };
 }
 
 impl ReadItem for GetResponsePayload {

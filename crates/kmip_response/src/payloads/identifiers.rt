@@ -17,7 +17,7 @@ use kmip_response_objects::{Attribute, TemplateAttribute};
 use kmip_shape::record::{End, Row};
 use kmip_shape::row_readers::{Many, One, OptMany};
 use kmip_shape::{
-    Item, Outer, ReadError, ReadItem, ReadRoot, ShowItem, TextWriter, fields, known_record,
+    Item, Outer, ReadError, ReadItem, ReadRoot, ShowItem, TextWriter, fields, fits_record,
     read_record, show_record,
 };
 use kmip_tags::tags::{
@@ -60,14 +60,14 @@ impl Item for CreateResponsePayload {
     ghost val = { create_payload_val };
 
     fn known(&self) {
-        known_record::<CreateResponsePayloadRows>(fields![
+        fits_record::<CreateResponsePayloadRows>(fields![
             &self.object_type,
             &self.unique_identifier,
             &self.object_attributes
         ]);
     }
 
-    ghost same = { create_payload_same };
+    ghost faithful = { create_payload_same };
 }
 
 impl ReadItem for CreateResponsePayload {
@@ -134,13 +134,13 @@ impl Item for CreateKeyPairResponsePayload {
     ghost val = { create_key_pair_payload_val };
 
     fn known(&self) {
-        known_record::<CreateKeyPairResponsePayloadRows>(fields![
+        fits_record::<CreateKeyPairResponsePayloadRows>(fields![
             &self.private_key_unique_identifier,
             &self.public_key_unique_identifier
         ]);
     }
 
-    ghost same = { create_key_pair_payload_same };
+    ghost faithful = { create_key_pair_payload_same };
 }
 
 impl ReadItem for CreateKeyPairResponsePayload {
@@ -208,13 +208,13 @@ impl Item for RegisterResponsePayload {
     ghost val = { register_payload_val };
 
     fn known(&self) {
-        known_record::<RegisterResponsePayloadRows>(fields![
+        fits_record::<RegisterResponsePayloadRows>(fields![
             &self.unique_identifier,
             &self.template_attributes
         ]);
     }
 
-    ghost same = { register_payload_same };
+    ghost faithful = { register_payload_same };
 }
 
 impl ReadItem for RegisterResponsePayload {
@@ -270,10 +270,10 @@ impl Item for LocateResponsePayload {
     ghost val = { locate_payload_val };
 
     fn known(&self) {
-        known_record::<LocateResponsePayloadRows>(fields![&self.unique_identifiers]);
+        fits_record::<LocateResponsePayloadRows>(fields![&self.unique_identifiers]);
     }
 
-    ghost same = { locate_payload_same };
+    ghost faithful = { locate_payload_same };
 }
 
 impl ReadItem for LocateResponsePayload {
@@ -326,10 +326,10 @@ impl Item for UniqueIdentifierResponsePayload {
     ghost val = { unique_identifier_payload_val };
 
     fn known(&self) {
-        known_record::<UniqueIdentifierResponsePayloadRows>(fields![&self.unique_identifier]);
+        fits_record::<UniqueIdentifierResponsePayloadRows>(fields![&self.unique_identifier]);
     }
 
-    ghost same = { unique_identifier_payload_same };
+    ghost faithful = { unique_identifier_payload_same };
 }
 
 impl ReadItem for UniqueIdentifierResponsePayload {

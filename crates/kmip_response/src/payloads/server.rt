@@ -14,7 +14,7 @@ use kmip_shape::record::{End, Row};
 use kmip_shape::row_readers::{Opt, OptMany};
 use kmip_shape::{
     Item, Outer, ReadError, ReadItem, ReadRoot, ShowItem, TextWriter, copy_optional_list, fields,
-    known_record, read_record, show_record,
+    fits_record, read_record, show_record,
 };
 use kmip_tags::tags::{
     OBJECT_TYPE, OPERATION, PROTOCOL_VERSION, RESPONSE_PAYLOAD, VENDOR_IDENTIFICATION,
@@ -44,14 +44,14 @@ impl Item for QueryResponsePayload {
     ghost val = { query_payload_val };
 
     fn known(&self) {
-        known_record::<QueryResponsePayloadRows>(fields![
+        fits_record::<QueryResponsePayloadRows>(fields![
             &self.operations,
             &self.object_types,
             &self.vendor_identification
         ]);
     }
 
-    ghost same = { query_payload_same };
+    ghost faithful = { query_payload_same };
 }
 
 impl ReadItem for QueryResponsePayload {
@@ -114,10 +114,10 @@ impl Item for DiscoverVersionsResponsePayload {
     ghost val = { discover_versions_payload_val };
 
     fn known(&self) {
-        known_record::<DiscoverVersionsResponsePayloadRows>(fields![&self.supported_versions]);
+        fits_record::<DiscoverVersionsResponsePayloadRows>(fields![&self.supported_versions]);
     }
 
-    ghost same = { discover_versions_payload_same };
+    ghost faithful = { discover_versions_payload_same };
 }
 
 impl ReadItem for DiscoverVersionsResponsePayload {

@@ -2,7 +2,7 @@ use Rattle.std.proofs.Common.{◌≡◌, ◌++◌, ◌-◌, length, take, ap, sy
 use Rattle.std.proofs.lemmas.Grind.{common_steps}
 use Rattle.kmip_server.specs.Split.{Split, Takes}
 use Rattle.kmip_server.proofs.Accepts.{not_whole, is_whole, held_not_whole, held_whole, given_of, accepted_as, cut_whole, formless_of, did_not_whole, did_whole, did_formless}
-use Rattle.kmip_served.specs.State.{Answers}
+use Rattle.kmip_server_core.specs.State.{Answers}
 use Rattle.kmip_server.specs.declared.link.Refusal.{Refusal}
 use Rattle.kmip_server.proofs.Splits.{append_none}
 use Rattle.kmip_server.proofs.link.accept.Goals as goal

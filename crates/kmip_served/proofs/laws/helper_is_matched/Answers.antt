@@ -1,5 +1,0 @@
-use Rattle.kmip_served.proofs.Matched as laws
-use Rattle.kmip_served.proofs.laws.helper_is_matched.Goals as goal
-
-pub returns : goal.returns
-returns c = laws.helper_is_matched

@@ -1,5 +1,0 @@
-use Rattle.kmip_served.proofs.Settled as laws
-use Rattle.kmip_served.proofs.laws.served_is_settled.Goals as goal
-
-pub returns : goal.returns
-returns c = laws.served_is_settled
