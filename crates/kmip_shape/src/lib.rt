@@ -36,7 +36,7 @@ pub use enumeration::{Enumeration, distinct};
 pub use item::{Item, WriteItem};
 pub use item_lists::{begin_structure, fits_items, plus_len, structure_len, write_list};
 pub use kmip_wire::{Blob, Boxed, Buffer, List, OutOfMemory, Text, TryClone};
-pub use laws::{read_back, read_selected, written};
+pub use laws::{json_is_json, read_back, read_selected, shown_as_json, written};
 pub use read::{Outer, ReadError, ReadItem, ReadRoot, read_root};
 pub use record::read_record;
 pub use row_writers::{fits_record, record_len, show_record, write_record};

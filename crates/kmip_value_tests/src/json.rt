@@ -1,8 +1,7 @@
 use crate::support::Under::{self, Name, Nothing, Number};
 use kmip_codes::PaddingMethod;
-use kmip_json::{json_is_json, shown_as_json};
 use kmip_keys::KeyMaterial;
-use kmip_shape::{ReadItem, ShowItem, Timestamp};
+use kmip_shape::{ReadItem, ShowItem, Timestamp, json_is_json, shown_as_json};
 use kmip_types::{AttributeValue, CryptographicParameters};
 use kmip_wire::{Blob, ItemRef, Text};
 use std::alloc::Global;
@@ -145,7 +144,7 @@ fn after_other_text(rt: HostRuntime) -> Result<(), Fail> {
     Ok(())
 }
 
-/// The laws of kmip_json hold of any value that is at hand.
+/// The laws of JSON hold of any value that is at hand.
 #[test]
 fn of_the_grammar(rt: HostRuntime) -> Result<(), Fail> {
     let text = Text::of(rt.alloc(), "a\"b")?;

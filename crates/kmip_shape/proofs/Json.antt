@@ -10,7 +10,7 @@ use Rattle.kmip_shape.specs.Val.{Val, Vals, Field, Fields, Number, Text, Bytes, 
 use Rattle.kmip_shape.specs.Shape.{Shape, RowList, Cases, Entry, Found, Scalar, OneOf, Rows, RowsOrBytes, Choice, Custom, NoRow, AndRow, NoCase, OfName, case_at}
 use Rattle.kmip_shape.specs.Fits.{AreBytes, kind_fits, leaf_fits, fits_in, fields_fit, field_fits, vals_fit}
 use Rattle.kmip_shape.specs.Shown.{hex_digit, hex_byte, control_mark, escape, text_styled, bytes_styled, truth_shown, word, name_mark, entry_styled, leaf_styled, comma, case_styled, styled_in, fields_styled, row_styled, list_styled, members_styled}
-use Rattle.kmip_json.specs.JsonTexts.{IsHexDigit, AreCharacters, NoCharacter, AsItIs, Quote, Backslash, Coded, IsJson, AString, ANumber, True, False, NoMember, AnObject, NoElement, AnArray, AreMembers, AMember, AndMembers, AreElements, AnElement, AndElements}
+use Rattle.kmip_shape.specs.Json.{IsHexDigit, AreCharacters, NoCharacter, AsItIs, Quote, Backslash, Coded, IsJson, AString, ANumber, True, False, NoMember, AnObject, NoElement, AnArray, AreMembers, AMember, AndMembers, AreElements, AnElement, AndElements}
 
 digit_is_hex : (m : ℕ) → m < 16 → IsHexDigit (hex_digit m)
 digit_is_hex m h = go (nat_lt m 10) refl
