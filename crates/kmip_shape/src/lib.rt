@@ -1,5 +1,5 @@
-//! Typed values as items: what a value of a type means, how the type stands in a tree, and the
-//! traits by which types of items are written, read and shown.
+//! Typed values as items: what a value of a type means, how it is encoded as a tree of items, and
+//! the traits by which types of items are written, read and shown.
 //!
 //! A type implements `Item`, and then what it needs of `WriteItem`, `ReadItem` and `ShowItem`. The
 //! rows of a record are one type, as `Row<One<AttributeName, ATTRIBUTE_NAME>,
