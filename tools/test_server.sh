@@ -101,17 +101,24 @@ say_next() {
     printf '\n'
 }
 
+# Whether the server has ended within a second.
+has_ended() {
+    local try
+    for ((try = 0; try < 10; try++)); do
+        process_of >/dev/null || return 0
+        sleep 0.1
+    done
+    return 1
+}
+
 stop() {
-    local process try
+    local process
     if process=$(process_of); then
-        kill "$process" 2>/dev/null || :
         # PyKMIP takes up to 10 seconds to end; nothing that it has is to be kept.
-        for ((try = 0; try < 10; try++)); do
-            process_of >/dev/null || break
-            sleep 0.1
-        done
-        kill -KILL "$process" 2>/dev/null || :
-        echo "PyKMIP has ended."
+        kill "$process" 2>/dev/null || :
+        has_ended || kill -KILL "$process" 2>/dev/null || :
+        has_ended || give_up "process $process does not end"
+        echo 'PyKMIP has ended.'
     else
         echo 'It does not run.'
     fi

@@ -206,28 +206,28 @@ kmip_lose() { # ERROR TEXT
     return 3
 }
 
-# Locks the connection for a call, by the descriptor KMIP_MINE, and takes the time off the call's KMIP_DEADLINE.
+# Locks the connection for a call, by the descriptor KMIP_MINE, and leaves in KMIP_SECONDS what is left of its deadline.
 kmip_lock() {
-    local from=${EPOCHREALTIME/[^0-9]/}
+    local from=${EPOCHREALTIME/[^0-9]/} left=$KMIP_DEADLINE
     exec {KMIP_MINE}<>"/proc/self/fd/$KMIP_STATE" || return
-    if flock -n "$KMIP_MINE"; then return 0; fi
-    if ((KMIP_DEADLINE == 0)); then
+    kmip_seconds "$left"
+    if ((left == 0)); then
         flock "$KMIP_MINE"
         return
     fi
-    flock -w "$(kmip_seconds)" "$KMIP_MINE" || return
-    KMIP_DEADLINE=$((KMIP_DEADLINE + from - ${EPOCHREALTIME/[^0-9]/}))
-    ((KMIP_DEADLINE > 0)) || KMIP_DEADLINE=1
+    flock -w "$KMIP_SECONDS" "$KMIP_MINE" || return
+    left=$((left + from - ${EPOCHREALTIME/[^0-9]/}))
+    kmip_seconds $((left > 0 ? left : 1))
 }
 
-# KMIP_DEADLINE, microseconds, as seconds.
-kmip_seconds() {
-    printf '%d.%06d\n' $((KMIP_DEADLINE / 1000000)) $((KMIP_DEADLINE % 1000000))
+# Leaves in KMIP_SECONDS so many microseconds, as seconds.
+kmip_seconds() { # MICROSECONDS
+    printf -v KMIP_SECONDS '%d.%06d' $(($1 / 1000000)) $(($1 % 1000000))
 }
 
 # Makes one call, in a shell of its own, whose end unlocks the connection.
 kmip_make() { # WORD..
-    local status KMIP_MINE
+    local status KMIP_MINE KMIP_SECONDS
     if ! kmip_lock; then
         kmip_fails RequestWriteError 'another call is made on the connection; nothing was sent'
         return 3
@@ -243,7 +243,7 @@ kmip_make() { # WORD..
     fi
     trap 'kmip_end; trap - INT; kill -INT "$BASHPID"' INT
     trap '' PIPE
-    timeout --foreground -k 1 "$(kmip_seconds)" "$@" 2>&1 <&"$KMIP_IN" >&"$KMIP_OUT"
+    timeout --foreground -k 1 "$KMIP_SECONDS" "$@" 2>&1 <&"$KMIP_IN" >&"$KMIP_OUT"
     status=$?
     case $status in
     0 | 1 | 2) : >|"/proc/self/fd/$KMIP_MINE" ;;

@@ -33,8 +33,8 @@ script_is 'a trap of the script on EXIT and ERR is its own' 0 'set -E; trap "ech
 (($(grep -c '^leaving$' "$said") == 1)) && ! grep -q wrong "$said"
 verdict 'and is run once'
 script_is 'a coprocess of the script' 0 'coproc MINE { cat; }; open; kmip query; echo hi >&"${MINE[1]}"; read -r -u "${MINE[0]}" back; kmip_close; [[ $back == hi ]]'
-patience=60 script_is 'thirty connections leave no descriptor and no file' 0 '
+patience=60 script_is 'ten connections leave no descriptor and no file' 0 '
     TMPDIR=$work/tmp; export TMPDIR; mkdir -p "$TMPDIR"
     open; kmip_close; before=$(ls /proc/$$/fd | wc -l)
-    for ((i = 0; i < 30; i++)); do open; kmip_close; done
+    for ((i = 0; i < 10; i++)); do open; kmip_close; done
     (($(ls /proc/$$/fd | wc -l) == before)) && [[ -z $(ls "$TMPDIR") ]]'
