@@ -75,16 +75,16 @@ impl<'a> ReadRow<'a> for ManagedObjects<'a> {
         }
     }
 
-    fn take(
+    fn offer_child(
         &mut self,
         _alloc: Global,
         _outer: Outer<'_>,
         child: ItemRef<'a>,
     ) -> Result<(), ReadError> {
-        self.certificate.take(child);
-        self.symmetric_key.take(child);
-        self.public_key.take(child);
-        self.private_key.take(child);
+        self.certificate.offer_child(child);
+        self.symmetric_key.offer_child(child);
+        self.public_key.offer_child(child);
+        self.private_key.offer_child(child);
         Ok(())
     }
 

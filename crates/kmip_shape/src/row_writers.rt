@@ -1,12 +1,9 @@
-//! The fields of a record by its rows: known, written and shown, each in one call.
+//! The fields of a record by its rows: that they fit the rows, how long they are, and how they are
+//! written and shown.
 //!
 //! A record's rows are one type, for reading as for these calls, as `Row<One<AttributeName,
-//! ATTRIBUTE_NAME>, ..>`. Its fields are lent as nested pairs in the order of the rows:
+//! ATTRIBUTE_NAME>, ..>`. Its fields are borrowed as nested pairs in the order of the rows:
 //! `(&self.name, (&self.index, ()))`.
-//!
-//! `FieldRows`, `WriteRows` and `ShowRows` each name what lends the fields and what they are, with
-//! no trait above them and no bound on what lends: either is looked up anew at every row, more
-//! often with each row more, so that a check of thirteen rows would take minutes.
 
 ghost use Rattle.std.specs.Prelude.{◌≡◌, ◌≤◌, ◌<◌, ◌+◌, ◌^◌, ◌++◌, ◌||◌, ◌∷◌, ℕ, Bool, false};
 ghost use Rattle.std.specs.Prelude.{IfSome, [], true};
@@ -22,50 +19,50 @@ ghost use Rattle.kmip_shape.specs.Writes.{structure_head, optional, optional_lis
 ghost use Rattle.kmip_shape.specs.Writes.{field_form, field_len, field_size, field_text};
 ghost use Rattle.kmip_shape.specs.Writes.{fields_form, fields_len, fields_size, fields_text};
 ghost use Rattle.kmip_shape.specs.Writes.{structure_len as len_of_structure};
-ghost use Rattle.kmip_shape.specs.Shown.{Grows, row_styled, fields_styled, record_styled, stands};
+ghost use Rattle.kmip_shape.specs.Shown.{Grows, row_in_style, fields_in_style, record_in_style, stands};
 
 use crate::item::{Item, WriteItem};
 use crate::item_lists::{
     fits_list, fits_optional, fits_optional_list, list_len, optional_len, optional_list_len,
     plus_len, write_list, write_optional, write_optional_list,
 };
-use crate::record::{Choosing, End, Row};
+use crate::record::{End, RowOf};
 use crate::row_readers::{ChosenOne, ChosenOpt, Many, NonEmpty, One, Opt, OptMany};
 use crate::scalars::put_structure;
 use crate::show::{ShowItem, show_list, show_one, show_optional, show_optional_list};
 use crate::text_writer::TextWriter;
 use kmip_wire::{Buffer, List, Tag};
 
-/// A row, and the field that it stands for.
+/// A row of a record, and the field that it describes.
 pub trait FieldRow<'b> {
-    /// What lends the field.
+    /// The field as it is borrowed.
     type Lent: Copy + Drop;
 
-    /// The tag of its items, their shape, and how many there may be.
+    /// The tag of the row's items, their shape, and how many there may be.
     ghost tag: { ℕ };
 
     ghost shape: { Shape };
 
     ghost mark: { Mark };
 
-    /// The field as contracts see it.
+    /// The meaning of the field.
     ghost field: { Self.Lent → Field };
 
-    /// The field fits the row. It does nothing.
+    /// Lemma: the field fits the row. The call does nothing.
     fn known(lent: Self::Lent)
         ensures mark { mark_fits mark (field lent) }
         ensures field { field_fits (field lent) NoCase shape };
 }
 
-/// A row whose field is written.
+/// A row whose field can be written.
 pub trait WriteRow<'b>: FieldRow<'b> {
-    /// The length of its items, and `None` exactly where one has no canonical bytes or they reach
-    /// 2^32 bytes.
+    /// The length of the field's items, and `None` exactly where one has no canonical bytes or they
+    /// reach 2^32 bytes.
     fn len(lent: Self::Lent) -> Option<u64>
         requires { Self.tag < 2 ^ 24 }
         ensures { result ≡ field_len (Self.field lent) Self.shape };
 
-    /// Appends its items.
+    /// Appends the canonical bytes of the field's items.
     fn write(lent: Self::Lent, out: &mut Buffer)
         requires tag { Self.tag < 2 ^ 24 }
         requires form { field_form (Self.field lent) Self.shape }
@@ -74,48 +71,51 @@ pub trait WriteRow<'b>: FieldRow<'b> {
             (field_size (Self.field lent) Self.shape) };
 }
 
-/// A row whose field is shown.
+/// A row whose field can be shown.
 pub trait ShowRow<'b>: FieldRow<'b> {
-    /// Appends the name and what the field shows, after others or not; says whether a field stands
-    /// now.
+    /// Appends the field under this name, with a comma before it where a field was shown already
+    /// (`after`), and nothing where the field is absent. Returns whether a field was shown by now.
     fn show(lent: Self::Lent, name: &str, after: bool, out: &mut TextWriter) -> bool
         ensures after { (a : Bool) → after ≡ a → result ≡ (a || stands (Self.field lent)) }
         ensures text { (a : Bool) → after ≡ a →
-            Grows out.old out.new (row_styled (Self.field lent) NoCase name.now Self.shape a) };
+            Grows out.old out.new (row_in_style (Self.field lent) NoCase name.now Self.shape a) };
 }
 
-/// The rows of a record, and its fields.
+/// The rows of a record, and the fields that they describe.
 pub trait FieldRows<'b> {
-    /// What lends the fields.
+    /// The fields as they are borrowed.
     type Lent;
 
+    /// The table of the rows, without the names.
     ghost row_list: { RowList };
 
-    /// The fields as contracts see them.
+    /// The meaning of the fields.
     ghost fields: { Self.Lent → Fields };
 
-    /// The fields fit the rows. It does nothing.
+    /// Lemma: the fields fit the rows. The call does nothing.
     fn known(lent: Self::Lent)
         ensures { fields_fit (fields lent) NoCase row_list };
 }
 
-/// Rows whose fields are written.
+/// Rows whose fields can be written.
 pub trait WriteRows<'b> {
-    /// What lends the fields.
+    /// The fields as they are borrowed.
     type Lent;
 
+    /// The table of the rows, without the names.
     ghost row_list: { RowList };
 
-    /// The fields as contracts see them.
+    /// The meaning of the fields.
     ghost fields: { Self.Lent → Fields };
 
-    /// The length of all items.
+    /// The length of the items of all fields, and `None` exactly where one has no canonical bytes
+    /// or they reach 2^32 bytes.
     fn len(lent: Self::Lent) -> Option<u64>
         requires { are_tags Self.row_list ≡ true }
         ensures len { result ≡ fields_len (Self.fields lent) Self.row_list }
         ensures below { IfSome result (λ n. n < 2 ^ 32) };
 
-    /// Appends all items.
+    /// Appends the canonical bytes of the items of all fields.
     fn write(lent: Self::Lent, out: &mut Buffer)
         requires tags { are_tags Self.row_list ≡ true }
         requires form { fields_form (Self.fields lent) Self.row_list }
@@ -124,24 +124,25 @@ pub trait WriteRows<'b> {
             (fields_size (Self.fields lent) Self.row_list) };
 }
 
-/// Rows whose fields are shown, each under a name.
+/// Rows whose fields can be shown, each under a name.
 pub trait ShowRows<'b> {
-    /// What lends the fields.
+    /// The fields as they are borrowed.
     type Lent;
 
-    /// What names them.
+    /// The names, as nested pairs in the order of the rows.
     type Names;
 
-    /// The fields as contracts see them.
+    /// The meaning of the fields.
     ghost fields: { Self.Lent → Fields };
 
-    /// The rows with these names.
+    /// The table of the rows with these names.
     ghost named: { Self.Names → RowList };
 
-    /// Appends what the fields show, after others or not.
+    /// Appends the fields that stand, with a comma before the first where a field was shown already
+    /// (`after`).
     fn show(lent: Self::Lent, names: Self::Names, after: bool, out: &mut TextWriter)
         ensures { (a : Bool) → after ≡ a →
-            Grows out.old out.new (fields_styled (Self.fields lent) NoCase (named names) a) };
+            Grows out.old out.new (fields_in_style (Self.fields lent) NoCase (named names) a) };
 }
 
 impl<'b, T: Item + 'b, const TAG: u32> FieldRow<'b> for One<T, TAG> {
@@ -406,7 +407,8 @@ impl<'b> ShowRows<'b> for End {
     fn show(_lent: (), _names: (), _after: bool, _out: &mut TextWriter) {}
 }
 
-impl<'b, A: FieldRow<'b>, B: FieldRows<'b>> FieldRows<'b> for Row<A, B> {
+impl<'b, A: FieldRow<'b>, B: FieldRows<'b>, const CHOOSES: bool> FieldRows<'b>
+    for RowOf<A, B, CHOOSES> {
     type Lent = (A::Lent, B::Lent);
 
     ghost row_list = { AndRow [] (Under A.tag) A.mark Plain A.shape B.row_list };
@@ -420,7 +422,8 @@ impl<'b, A: FieldRow<'b>, B: FieldRows<'b>> FieldRows<'b> for Row<A, B> {
     }
 }
 
-impl<'b, A: WriteRow<'b>, B: WriteRows<'b>> WriteRows<'b> for Row<A, B> {
+impl<'b, A: WriteRow<'b>, B: WriteRows<'b>, const CHOOSES: bool> WriteRows<'b>
+    for RowOf<A, B, CHOOSES> {
     type Lent = (A::Lent, B::Lent);
 
     ghost row_list = { AndRow [] (Under A.tag) A.mark Plain A.shape B.row_list };
@@ -443,7 +446,8 @@ impl<'b, A: WriteRow<'b>, B: WriteRows<'b>> WriteRows<'b> for Row<A, B> {
     }
 }
 
-impl<'b, A: ShowRow<'b>, B: ShowRows<'b>> ShowRows<'b> for Row<A, B> {
+impl<'b, A: ShowRow<'b>, B: ShowRows<'b>, const CHOOSES: bool> ShowRows<'b>
+    for RowOf<A, B, CHOOSES> {
     type Lent = (A::Lent, B::Lent);
 
     type Names = (&'b str, B::Names);
@@ -466,74 +470,15 @@ impl<'b, A: ShowRow<'b>, B: ShowRows<'b>> ShowRows<'b> for Row<A, B> {
     }
 }
 
-impl<'b, A: FieldRow<'b>, B: FieldRows<'b>> FieldRows<'b> for Choosing<A, B> {
-    type Lent = (A::Lent, B::Lent);
-
-    ghost row_list = { AndRow [] (Under A.tag) A.mark Plain A.shape B.row_list };
-
-    ghost fields = { λ lent. and_field (A.field lent.0) (B.fields lent.1) };
-
-    fn known(lent: (A::Lent, B::Lent)) {
-        let (field, rest) = lent;
-        A::known(field);
-        B::known(rest);
-    }
-}
-
-impl<'b, A: WriteRow<'b>, B: WriteRows<'b>> WriteRows<'b> for Choosing<A, B> {
-    type Lent = (A::Lent, B::Lent);
-
-    ghost row_list = { AndRow [] (Under A.tag) A.mark Plain A.shape B.row_list };
-
-    ghost fields = { λ lent. and_field (A.field lent.0) (B.fields lent.1) };
-
-    #[tactic(auto, using(crate::proofs::Lists::tag_first, crate::proofs::Lists::tags_rest))]
-    #[inline(always)]
-    fn len(lent: (A::Lent, B::Lent)) -> Option<u64> {
-        let (field, rest) = lent;
-        plus_len(A::len(field), B::len(rest))
-    }
-
-    #[tactic(auto, using(crate::proofs::Appended::appended, crate::proofs::Lists::tag_first, crate::proofs::Lists::tags_rest))]
-    #[inline(always)]
-    fn write(lent: (A::Lent, B::Lent), out: &mut Buffer) {
-        let (field, rest) = lent;
-        A::write(field, out);
-        B::write(rest, out);
-    }
-}
-
-impl<'b, A: ShowRow<'b>, B: ShowRows<'b>> ShowRows<'b> for Choosing<A, B> {
-    type Lent = (A::Lent, B::Lent);
-
-    type Names = (&'b str, B::Names);
-
-    ghost fields = { λ lent. and_field (A.field lent.0) (B.fields lent.1) };
-
-    ghost named = { λ names. AndRow names.0.now (Under A.tag) A.mark Plain A.shape
-        (B.named names.1) };
-
-    fn show(
-        lent: (A::Lent, B::Lent),
-        names: (&'b str, B::Names),
-        after: bool,
-        out: &mut TextWriter,
-    ) {
-        let (field, rest) = lent;
-        let (name, names) = names;
-        let after = A::show(field, name, after, out);
-        B::show(rest, names, after, out);
-    }
-}
-
-/// A record's fields fit its rows. It does nothing.
+/// Lemma: a record's fields fit its rows. The call does nothing.
 pub fn fits_record<'b, R: FieldRows<'b>>(lent: R::Lent)
     ensures { fields_fit (R.fields lent) NoCase R.row_list }
 {
     R::known(lent);
 }
 
-/// The whole length of a record's structure, and `None` exactly where it has no canonical bytes.
+/// The length of a record's structure with its head, and `None` exactly where it has no canonical
+/// bytes.
 #[inline(always)]
 pub fn record_len<'b, R: WriteRows<'b>>(lent: R::Lent) -> Option<u64>
     requires { are_tags R.row_list ≡ true }
@@ -564,10 +509,10 @@ where
     }
 }
 
-/// Appends the text of a record, its fields under their names.
+/// Appends the text of a record: its fields under their names, in braces.
 pub fn show_record<'b, R: ShowRows<'b>>(lent: R::Lent, names: R::Names, out: &mut TextWriter)
     ensures { Grows out.old out.new
-        (record_styled (R.fields lent) (R.named names)) }
+        (record_in_style (R.fields lent) (R.named names)) }
 {
     out.put("{");
     R::show(lent, names, false, out);

@@ -14,7 +14,7 @@ use Rattle.kmip_client.specs.declared.error.Error.TheVariants.{OutOfMemory}
 use Rattle.kmip_client.specs.Outcome.{Answer, Outcome, outcome, outcome_of, answer_with_payload, seen_by, Moves, Exchanged}
 use Rattle.kmip_client.specs.Calls.{IsCall, Helped, called, not_made, part_of}
 use Rattle.kmip_client.specs.Client.{ClientState}
-use Rattle.kmip_words.specs.Exchange.{Asked, request_asked, asked_of, value_styled, value_line, answer_line, is_error, loses_link, ending_of, fails, settings_of, step_in, step_of, told_lines, Shows, Answers}
+use Rattle.kmip_words.specs.Exchange.{Asked, request_asked, asked_of, value_in_style, value_line, answer_line, is_error, loses_link, ending_of, fails, settings_of, step_in, step_of, told_lines, Shows, Answers}
 use Rattle.kmip_words.specs.declared.ending.Ending.{Ending}
 use Rattle.kmip_words.specs.declared.ending.Ending.TheVariants.{Lost, Refused}
 use Rattle.kmip_request_read.specs.Reading.{Request, request_for, message_bytes}
@@ -43,7 +43,7 @@ fails_is (Err error) = fails_by (loses_link error)
 
 -- the text of a call's payload in a style
 abbrev told_in : Style → Call → Val → List ℕ
-told_in style call payload = value_styled call payload style
+told_in style call payload = value_in_style call payload style
 
 -- so a call that makes this request did what its step says
 answered : {before after : ClientState MemoryState} (style : Style) (call : Call) (payload : RequestPayload) (answer : Answer) (ending : Ending) (old new : List ℕ) → ((c : Option CredentialType) → asked_of payload c ≡ request_asked call c) →
@@ -93,7 +93,7 @@ same_some val part (Ok payload) is = cc
 same_some val part (Err error) is = cc
 
 helped : {P R : Type 0} {before after : ClientState MemoryState} (style : Style) (call : Call) (request : RequestPayload) (variant : P → ResponsePayload) (part : P → R) (text : R → List ℕ) (result : Result R Error) (ending : Ending) (old new : List ℕ) →
-    ((c : Option CredentialType) → asked_of request c ≡ request_asked call c) → ((payload : P) → value_styled call (response_payload_val (variant payload)) style ≡ text (part payload)) →
+    ((c : Option CredentialType) → asked_of request c ≡ request_asked call c) → ((payload : P) → value_in_style call (response_payload_val (variant payload)) style ≡ text (part payload)) →
     Helped memory_state request variant part before after result → Shows text style result ending old new →
     Answers (step_in style (settings_of before) call (drop before.link.pos before.link.ever)) before after ending old new
 helped style call request variant part text result ending old new makes same (called answer is_call is) shows =
@@ -105,7 +105,7 @@ helped style call request variant part text result ending old new makes same (no
 
 -- a helper's result was shown, unless memory ran out
 pub helper_shown : {P R E : Type 0} {before after : ClientState MemoryState} (style : Style) (call : Call) (request : RequestPayload) (variant : P → ResponsePayload) (part : P → R) (text : R → List ℕ) (result : Result R Error) (shown : Result Ending E) (old new : List ℕ) →
-    ((c : Option CredentialType) → asked_of request c ≡ request_asked call c) → ((payload : P) → value_styled call (response_payload_val (variant payload)) style ≡ text (part payload)) →
+    ((c : Option CredentialType) → asked_of request c ≡ request_asked call c) → ((payload : P) → value_in_style call (response_payload_val (variant payload)) style ≡ text (part payload)) →
     Helped memory_state request variant part before after result → IfOk shown (λ ending. Shows text style result ending old new) →
     IfOk shown (λ ending. Answers (step_in style (settings_of before) call (drop before.link.pos before.link.ever)) before after ending old new)
 helper_shown style call request variant part text result (Ok ending) old new makes same did shows = helped style call request variant part text result ending old new makes same did shows
@@ -123,17 +123,17 @@ all_helped request variant result is_call = called result is_call (same_result r
 -- a call of any request, whose payload is shown as it is
 pub request_shown : {E : Type 0} {before after : ClientState MemoryState} (style : Style) (request : Request) (payload : RequestPayload) (result : Result ResponsePayload Error) (shown : Result Ending E) (old new : List ℕ) →
     request_for payload ≡ request → ((p : RequestPayload) (c : Option CredentialType) → request_bytes p c ≡ message_bytes (request_for p) c) →
-    IsCall memory_state payload before after (seen_by response_payload_val result) → IfOk shown (λ ending. Shows (λ p. value_styled (Raw request) (response_payload_val p) style) style result ending old new) →
+    IsCall memory_state payload before after (seen_by response_payload_val result) → IfOk shown (λ ending. Shows (λ p. value_in_style (Raw request) (response_payload_val p) style) style result ending old new) →
     IfOk shown (λ ending. Answers (step_in style (settings_of before) (Raw request) (drop before.link.pos before.link.ever)) before after ending old new)
 request_shown style request payload result (Err error) old new is same did shows = tt
 request_shown style request payload result (Ok ending) old new is same did shows =
     let makes : (c : Option CredentialType) → asked_of payload c ≡ request_asked (Raw request) c =
     λ c. subst (λ (r : Request). asked_of payload c ≡ request_asked (Raw r) c) is (ap (λ (m : Option (List ℕ)). record { message = m; operation = operation_of payload }) (same payload c)) in
-    helped style (Raw request) payload (λ p. p) (λ p. p) (λ p. value_styled (Raw request) (response_payload_val p) style) result ending old new makes (λ p. refl) (called result did (same_result result)) shows
+    helped style (Raw request) payload (λ p. p) (λ p. p) (λ p. value_in_style (Raw request) (response_payload_val p) style) result ending old new makes (λ p. refl) (called result did (same_result result)) shows
 
 -- a call of a request that no helper makes, whose payload was taken out of that of any operation
 pub part_shown : {P E : Type 0} {before after : ClientState MemoryState} (style : Style) (call : Call) (request made : RequestPayload) (variant : P → ResponsePayload) (text : P → List ℕ) (whole : Result ResponsePayload Error) (result : Result P Error) (shown : Result Ending E) (old new : List ℕ) →
-    ((c : Option CredentialType) → asked_of request c ≡ request_asked call c) → ((payload : P) → value_styled call (response_payload_val (variant payload)) style ≡ text payload) →
+    ((c : Option CredentialType) → asked_of request c ≡ request_asked call c) → ((payload : P) → value_in_style call (response_payload_val (variant payload)) style ≡ text payload) →
     made ≡ request → IsCall memory_state made before after (seen_by response_payload_val whole) → seen_by (λ payload. response_payload_val (variant payload)) result ≡ answer_with_payload whole →
     IfOk shown (λ ending. Shows text style result ending old new) →
     IfOk shown (λ ending. Answers (step_in style (settings_of before) call (drop before.link.pos before.link.ever)) before after ending old new)

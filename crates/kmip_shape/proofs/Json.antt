@@ -1,16 +1,15 @@
 -- The JSON of a value that fits its shape is a text of the grammar.
 use Rattle.std.proofs.Common.{◌≡◌, ℕ, ◌+◌, ◌/◌, ◌%◌, ◌≤◌, ◌<◌, ℤ, pos, negsuc, Bool, true, false, cond, ◌||◌, nat_eq, nat_lt, List, [], ◌∷◌, ◌++◌, flat_map, Option, Some, None, ◌⊎◌, inl, inr, refl, sym, ap, ◌∙◌, subst, append_assoc, append-nil, arith}
 use Rattle.std.proofs.lemmas.Bool.Decides.{nat_tests}
-use Rattle.std.specs.Fmt.{decimal, signed_decimal}
-use Rattle.kmip_wire.specs.declared.kind.Kind.{Kind}
+use Rattle.std.specs.Int.{cast_signed, w64}
 use Rattle.kmip_wire.specs.declared.kind.Kind.TheVariants as kind
 use Rattle.kmip_shape.specs.declared.style.Style.{Style}
-use Rattle.kmip_shape.specs.declared.style.Style.TheVariants.{Bare, Json}
-use Rattle.kmip_shape.specs.Val.{Val, Vals, Field, Fields, Number, Text, Bytes, Truth, Record, Case, Absent, One, Many, NoField, AndField, NoVal, AndVal}
+use Rattle.kmip_shape.specs.declared.style.Style.TheVariants.{Json}
+use Rattle.kmip_shape.specs.Val.{Val, Vals, Fields, Number, Text, Bytes, Truth, Record, Case, Absent, One, Many, NoField, AndField, NoVal, AndVal}
 use Rattle.kmip_shape.specs.Shape.{Shape, RowList, Cases, Entry, Found, Scalar, OneOf, Rows, RowsOrBytes, Choice, Custom, NoRow, AndRow, NoCase, OfName, case_at}
-use Rattle.kmip_shape.specs.Fits.{AreBytes, kind_fits, leaf_fits, fits_in, fields_fit, field_fits, vals_fit}
-use Rattle.kmip_shape.specs.Shown.{hex_digit, hex_byte, control_mark, escape, text_styled, bytes_styled, truth_shown, word, name_mark, entry_styled, leaf_styled, comma, case_styled, styled_in, fields_styled, row_styled, list_styled, members_styled}
-use Rattle.kmip_json.specs.JsonTexts.{IsHexDigit, AreCharacters, NoCharacter, AsItIs, Quote, Backslash, Coded, IsJson, AString, ANumber, True, False, NoMember, AnObject, NoElement, AnArray, AreMembers, AMember, AndMembers, AreElements, AnElement, AndElements}
+use Rattle.kmip_shape.specs.Fits.{AreBytes, leaf_fits, fits_in, fields_fit, vals_fit}
+use Rattle.kmip_shape.specs.Shown.{hex_digit, hex_byte, control_mark, escape, text_in_style, truth_shown, word, name_mark, entry_in_style, leaf_in_style, comma, case_in_style, val_in_style, fields_in_style, list_in_style}
+use Rattle.kmip_shape.specs.Json.{IsHexDigit, AreCharacters, NoCharacter, AsItIs, Quote, Backslash, Coded, IsJson, AString, ANumber, True, False, NoMember, AnObject, NoElement, AnArray, AreMembers, AMember, AndMembers, AreElements, AnElement, AndElements}
 
 digit_is_hex : (m : ℕ) → m < 16 → IsHexDigit (hex_digit m)
 digit_is_hex m h = go (nat_lt m 10) refl
@@ -74,17 +73,18 @@ truth_is : (b : Bool) → IsJson (truth_shown b)
 truth_is true = True
 truth_is false = False
 
-entry_is : (entries : List Entry) (n : ℕ) → IsJson (entry_styled entries n Json)
+entry_is : (entries : List Entry) (n : ℕ) → IsJson (entry_in_style entries n Json)
 entry_is [] n = ANumber (pos n)
 entry_is (entry ∷ entries) n = go (nat_eq entry.number n) (entry_is entries n)
   where
-    go : (t : Bool) → IsJson (entry_styled entries n Json) → IsJson (cond t (word entry.name Json) (entry_styled entries n Json))
+    go : (t : Bool) → IsJson (entry_in_style entries n Json) → IsJson (cond t (word entry.name Json) (entry_in_style entries n Json))
     go true h = AString _ (text_is entry.name)
     go false h = h
 
-leaf_is : (shape : Shape) (z : ℤ) → IsJson (leaf_styled shape z Json)
+leaf_is : (shape : Shape) (z : ℤ) → IsJson (leaf_in_style shape z Json)
 leaf_is (OneOf entries) (pos n) = entry_is entries n
 leaf_is (OneOf entries) (negsuc n) = ANumber (negsuc n)
+leaf_is (Scalar kind.DateTime) (pos n) = ANumber (cast_signed w64 n)
 leaf_is (Scalar k) z = ANumber z
 leaf_is (Rows rows) z = ANumber z
 leaf_is (RowsOrBytes m rows) z = ANumber z
@@ -96,13 +96,13 @@ member_is : (name value : List ℕ) → IsJson value → AreMembers (word name J
 member_is name value h =
     subst AreMembers (ap (λ z. 34 ∷ z) (sym (append_assoc (flat_map (escape Json) name) (34 ∷ []) (58 ∷ value)))) (AMember _ value (text_is name) h)
 
-case_is : (val : Val) (name : List ℕ) (text : Style → List ℕ) → IsJson (text Json) → IsJson (case_styled val name text Json)
+case_is : (val : Val) (name : List ℕ) (text : Style → List ℕ) → IsJson (text Json) → IsJson (case_in_style val name text Json)
 case_is val name text h = go val
   where
-    one : IsJson (123 ∷ (text_styled name Json ++ 58 ∷ (text Json ++ 125 ∷ [])))
-    one = subst (λ (z : List ℕ). IsJson (123 ∷ z)) (append_assoc (text_styled name Json) (58 ∷ text Json) (125 ∷ [])) (AnObject _ (member_is name (text Json) h))
+    one : IsJson (123 ∷ (text_in_style name Json ++ 58 ∷ (text Json ++ 125 ∷ [])))
+    one = subst (λ (z : List ℕ). IsJson (123 ∷ z)) (append_assoc (text_in_style name Json) (58 ∷ text Json) (125 ∷ [])) (AnObject _ (member_is name (text Json) h))
 
-    go : (v : Val) → IsJson (case_styled v name text Json)
+    go : (v : Val) → IsJson (case_in_style v name text Json)
     go (Number z) = one
     go (Text s) = one
     go (Bytes b) = one
@@ -145,17 +145,17 @@ field_continues : (after : Bool) (s t : List ℕ) → AreMembers s → Follows A
 field_continues after s t h k = subst (Continues AreMembers after) (sym (append_assoc (comma after) s t)) (continued AreMembers AndMembers after s t h k)
 
 chosen_is : (cases : Cases) (n : ℕ) (val : Val) → elim (case_at cases n) as (λ _. Type 0) [ None ↦ ⊥ | Some c ↦ fits_in val cases c.shape ]
-    → ((c : Found) → fits_in val cases c.shape → IsJson (styled_in val cases c.shape Json))
-    → IsJson (elim (case_at cases n) as (λ _. List ℕ) [ None ↦ [] | Some c ↦ case_styled val c.name (styled_in val cases c.shape) Json ])
+    → ((c : Found) → fits_in val cases c.shape → IsJson (val_in_style val cases c.shape Json))
+    → IsJson (elim (case_at cases n) as (λ _. List ℕ) [ None ↦ [] | Some c ↦ case_in_style val c.name (val_in_style val cases c.shape) Json ])
 chosen_is cases n val h ih = go (case_at cases n) h
   where
     go : (o : Option Found) → elim o as (λ _. Type 0) [ None ↦ ⊥ | Some c ↦ fits_in val cases c.shape ]
-        → IsJson (elim o as (λ _. List ℕ) [ None ↦ [] | Some c ↦ case_styled val c.name (styled_in val cases c.shape) Json ])
+        → IsJson (elim o as (λ _. List ℕ) [ None ↦ [] | Some c ↦ case_in_style val c.name (val_in_style val cases c.shape) Json ])
     go None k = absurd k
-    go (Some c) k = case_is val c.name (styled_in val cases c.shape) (ih c k)
+    go (Some c) k = case_is val c.name (val_in_style val cases c.shape) (ih c k)
 
 mutual
-  pub value_is : (val : Val) (around : Cases) (shape : Shape) → fits_in val around shape → IsJson (styled_in val around shape Json)
+  pub value_is : (val : Val) (around : Cases) (shape : Shape) → fits_in val around shape → IsJson (val_in_style val around shape Json)
   value_is (Number z) around shape h = leaf_is shape z
   value_is (Text s) around shape h = AString _ (text_is s)
   value_is (Bytes b) around shape h = AString _ (bytes_are b (bytes_below shape b h))
@@ -176,7 +176,7 @@ mutual
   value_is (Case n val) around (RowsOrBytes m rows) h = absurd h
   value_is (Case n val) around Custom h = absurd h
 
-  fields_are : (fields : Fields) (around : Cases) (rows : RowList) (after : Bool) → fields_fit fields around rows → Continues AreMembers after (fields_styled fields around rows after Json)
+  fields_are : (fields : Fields) (around : Cases) (rows : RowList) (after : Bool) → fields_fit fields around rows → Continues AreMembers after (fields_in_style fields around rows after Json)
   fields_are NoField around rows after h = ends AreMembers after
   fields_are (AndField field fields) around NoRow after h = absurd h
   fields_are (AndField Absent fields) around (AndRow name place mark role shape rows) true h = fields_are fields around rows true h.2
@@ -190,7 +190,7 @@ mutual
   fields_are (AndField (Many vals) fields) around (AndRow name place mark role shape rows) false h =
       field_continues false _ _ (member_is name _ (array_is _ (vals_are vals around shape false h.1))) (fields_are fields around rows true h.2)
 
-  vals_are : (vals : Vals) (around : Cases) (shape : Shape) (after : Bool) → vals_fit vals around shape → Continues AreElements after (list_styled vals around shape after Json)
+  vals_are : (vals : Vals) (around : Cases) (shape : Shape) (after : Bool) → vals_fit vals around shape → Continues AreElements after (list_in_style vals around shape after Json)
   vals_are NoVal around shape after h = ends AreElements after
   vals_are (AndVal val vals) around shape after h =
       continued AreElements AndElements after _ _ (AnElement _ (value_is val around shape h.0)) (vals_are vals around shape true h.1)

@@ -1,6 +1,5 @@
 -- The texts of JSON by the grammar of RFC 8259, byte for byte and with no white space. Bytes from
--- 128 on,
--- of which longer characters are made, are taken as they are.
+-- 128 on, of which longer characters are made, stand for themselves.
 use Rattle.std.specs.Prelude.{ℕ, ℤ, ◌≤◌, ◌≡◌, ◌⊎◌, List, [], ◌∷◌, ◌++◌, codes}
 use Rattle.std.specs.Fmt.{signed_decimal}
 
@@ -8,8 +7,8 @@ use Rattle.std.specs.Fmt.{signed_decimal}
 abbrev pub IsHexDigit : ℕ → Type 0
 IsHexDigit n = ((48 ≤ n) × (n ≤ 57)) ⊎ ((65 ≤ n) × (n ≤ 70))
 
--- the characters of a string: `"` and `\` after a backslash, `\u` with four digits, and no control
--- character as it is
+-- the characters of a string: `"` and `\` after a backslash, any character as `\u` and four hex
+-- digits, and all but these and control characters as they are
 pub data AreCharacters : List ℕ → Type 0 where
   NoCharacter : AreCharacters []
   AsItIs : (n : ℕ) (s : List ℕ) → 32 ≤ n → (n ≡ 34 → ⊥) → (n ≡ 92 → ⊥) → AreCharacters s →
