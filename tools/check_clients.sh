@@ -6,7 +6,7 @@
 # It needs no proof. What the clients stand on is taken from DIR, which clients/build.sh made before; without it, from the
 # proved builds in crates/*/out where those are newer than the sources, and the rest is compiled with no proof, where the
 # toolchain is there. A check whose tool is missing is skipped, and it says so with the name of the Debian package. Nothing
-# is begun after N seconds (240), so that it ends within five minutes. The last line is `N passed, M failed`; the status is 1
+# is begun after N seconds (200), and a build is given up then, so that it ends within five minutes. The last line is `N passed, M failed`; the status is 1
 # where one failed.
 # shellcheck disable=SC1090,SC1091,SC2030,SC2031,SC2034,SC2154 # harness.sh sets and uses them
 set -u
@@ -17,7 +17,7 @@ usage() {
     sed -n '4s/^# */usage: /p' "$0" >&2
     exit 2
 }
-built='' chosen=() until=240
+built='' chosen=() until=200
 while (($#)); do
     case $1 in
     --help) sed -n '2,/^# shellcheck/{/shellcheck/d;s/^# \{0,1\}//p}' "$0" && exit ;;
@@ -75,7 +75,7 @@ proved_build() { # FILE
 
 # Leaves in $built the folder of what the clients stand on.
 build() {
-    local words=(--unproved) program library
+    local words=(--unproved) program library status
     if [[ -n $built ]]; then return 0; fi
     if ! type -P rt >/dev/null; then
         echo 'skipped the clients: there is no toolchain (rt) to build with; --built DIR takes a build'
@@ -84,7 +84,14 @@ build() {
     program=$(proved_build "$top/crates/kmip_call/out/kmip_call") && words+=(--program "$program")
     library=$(proved_build "$top/crates/kmip_c/out/libkmip_c.a") && words+=(--library "$library")
     built=$run/kmip
-    "$top/clients/build.sh" "${words[@]}" "$built" >"$run/build" 2>&1 && return 0
+    mkdir "$run/tmp"
+    TMPDIR=$run/tmp timeout $((until > SECONDS ? until - SECONDS : 1)) "$top/clients/build.sh" "${words[@]}" "$built" >"$run/build" 2>&1
+    status=$?
+    ((status != 0)) || return 0
+    if ((status == 124)); then
+        echo 'skipped the clients: no time is left after the build; --built DIR takes a build'
+        return 1
+    fi
     echo 'FAILED  build: clients/build.sh'
     tail -20 "$run/build" | sed 's/^/        /'
     return 1
