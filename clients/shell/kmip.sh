@@ -215,7 +215,8 @@ kmip_lock() {
         flock "$KMIP_MINE"
         return
     fi
-    flock -w "$KMIP_SECONDS" "$KMIP_MINE" || return
+    # In C's locale, since flock reads a number by the locale's rules.
+    LC_ALL=C flock -w "$KMIP_SECONDS" "$KMIP_MINE" || return
     left=$((left + from - ${EPOCHREALTIME/[^0-9]/}))
     kmip_seconds $((left > 0 ? left : 1))
 }
@@ -297,6 +298,9 @@ kmip() { # CALL WORD..
         if [[ -n ${KMIP_PASSWORD+set} ]]; then export KMIP_PASSWORD; fi
         kmip_make "${KMIP_WORDS[@]}" "${words[@]}"
     ) || status=$?
+    if ((status > 5)); then
+        kmip_lose ResponseReadError 'the call was interrupted' || status=$?
+    fi
     return $status
 }
 

@@ -17,9 +17,9 @@ client_program() { # NAME
 export top here built run work certs python host port certificate key authority
 
 # A bash script: kmip.sh is sourced, `open` opens a connection to the server that is set, and `ended PROCESS` says whether
-# a process has ended. Its output is in $said.
+# a process has ended. Its output is in $said. Where `apart` is set, it is in a process group of its own.
 script() { # TEXT
-    timeout -k 2 "${patience:-20}" bash -c '. "$top/clients/shell/kmip.sh"
+    timeout -k 2 "${patience:-20}" ${apart:+setsid -w} bash -c '. "$top/clients/shell/kmip.sh"
         open() { kmip_open "$host:$port" "$certificate" "$key" "$authority"; }
         ended() { ! grep -qs "^State:[[:space:]]*[^Z[:space:]]" "/proc/$1/status"; }
         '"$1" >"$said" 2>&1 </dev/null

@@ -28,6 +28,13 @@ for signal in INT TERM KILL; do
     says "SIG$signal to kmip_call: after kmip_open all is well" '^fourth: 0$'
 done
 
+# Ctrl-C in a script that goes on after it: all processes of the call get the signal.
+apart=1 script 'trap "echo caught >&2" INT; (sleep 1; kill -INT 0) & '"open; $after"
+says 'Ctrl-C: a script that catches it goes on' '^caught$'
+says 'Ctrl-C: status 3' '^first: 3$'
+says 'Ctrl-C: the next call does not take the late answer' '^second: 3$'
+says 'Ctrl-C: after kmip_open all is well' '^fourth: 0$'
+
 # The whole of the call is ended, as by `kill -9`: the next call finds that one was begun.
 script 'open; kmip sign slow 4141 >/dev/null & sleep 1; kill -KILL $!; wait
     pkill -KILL -f "^[^ ]*kmip_call .*sign slow 4141"; sleep 3; kmip sign other 4242; echo "second: $?"; kmip_close'
