@@ -238,8 +238,12 @@ kmip_make() { # WORD..
         return
     fi
     printf 'a call is made\n' >&"$KMIP_MINE"
-    if ! kmip_lives || read -r -t 0 -u "$KMIP_IN"; then
-        kmip_lose RequestWriteError 'the connection ended, or brought bytes that no call had asked for; nothing was sent; kmip_open opens a new one'
+    if ! kmip_lives; then
+        kmip_lose RequestWriteError 'there is no connection; nothing was sent; kmip_open opens a new one'
+        return
+    fi
+    if read -r -t 0 -u "$KMIP_IN"; then
+        kmip_lose RequestWriteError 'the connection ended, or bytes came that no call had asked for; nothing was sent; kmip_open opens a new one'
         return
     fi
     trap 'kmip_end; trap - INT; kill -INT "$BASHPID"' INT
