@@ -2,7 +2,8 @@
 use Rattle.std.proofs.Common.{◌≡◌, ◌≤◌, true, refl, arith}
 use Rattle.kmip_shape.specs.Fits.{tags_once}
 use Rattle.kmip_shape.proofs.Ranges.{tags_in_range, depth}
-use Rattle.kmip_request_objects.specs.Tables.{name, attribute, template_attribute, encryption_key_information, mac_or_signature_key_information, key_wrapping_data, key_wrapping_specification, key_value, key_block, revocation_reason, object_tables}
+use Rattle.kmip_request_objects.specs.Tables.{name, attribute, template_attribute, encryption_key_information, mac_or_signature_key_information, key_wrapping_data, key_wrapping_specification, key_value, key_block, revocation_reason}
+use Rattle.kmip_request_objects.specs.Roots.{object_tables}
 use Rattle.kmip_request.specs.Tables.{request_payload, request_message, root_tables, all_stand}
 
 pub all_tables_stand : all_stand root_tables ≡ true

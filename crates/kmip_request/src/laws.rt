@@ -6,7 +6,7 @@ ghost use Rattle.kmip_request.specs.declared.payload.RequestPayload.{RequestPayl
 ghost use Rattle.kmip_request.specs.Message.{request_tree, request_bytes};
 ghost use Rattle.kmip_request.specs.Held.{IsHeld};
 ghost use Rattle.kmip_request.specs.Tables.{root_tables, all_stand};
-ghost use Rattle.kmip_request_objects.specs.Tables.{object_tables};
+ghost use Rattle.kmip_request_objects.specs.Roots.{object_tables};
 
 /// Two valid requests whose trees differ have different bytes, and neither's bytes are a proper
 /// prefix of the other's. The premises `IsHeld` hold of every payload and credential that Rust can

@@ -1,7 +1,7 @@
 -- The tables of the objects in requests: each type's fields in order, with tags, marks and types.
 -- A table that a field names is unfolded only where a proof looks into it, so a proof over one
 -- table does not see the others.
-use Rattle.std.specs.Prelude.{List, [], ◌∷◌, Some, codes}
+use Rattle.std.specs.Prelude.{Some, codes}
 use Rattle.kmip_tags.specs.Tags.{ATTRIBUTE, ATTRIBUTE_INDEX, ATTRIBUTE_NAME, ATTRIBUTE_VALUE, CRYPTOGRAPHIC_ALGORITHM, CRYPTOGRAPHIC_LENGTH, CRYPTOGRAPHIC_PARAMETERS, ENCRYPTION_KEY_INFORMATION, IV_COUNTER_NONCE, KEY_BLOCK, KEY_COMPRESSION_TYPE, KEY_FORMAT_TYPE, KEY_MATERIAL, KEY_VALUE, KEY_WRAPPING_DATA, MAC_SIGNATURE, MAC_SIGNATURE_KEY_INFORMATION, NAME, NAME_TYPE, NAME_VALUE, PRIVATE_KEY, PUBLIC_KEY, REVOCATION_MESSAGE, REVOCATION_REASON_CODE, SYMMETRIC_KEY, TEMPLATE, UNIQUE_IDENTIFIER, WRAPPING_METHOD}
 use Rattle.kmip_wire.specs.declared.kind.Kind.TheVariants.{Integer, TextString, ByteString}
 use Rattle.kmip_shape.specs.Shape.{Shape, Scalar, OneOf, Rows, NoRow, AndRow, Required, Optional, AnyNumber, OptionalList, Plain, Chooser, Chosen, Under, Cases, NoCase, AndCase, ByTag}
@@ -144,10 +144,3 @@ revocation_reason = Rows
     (AndRow (codes "revocation_message") (Under REVOCATION_MESSAGE) Optional Plain
     (Scalar TextString)
     NoRow))
-
--- the tables above, without the choice of an object
-abbrev pub object_tables : List Shape
-object_tables =
-    name ∷ attribute ∷ template_attribute ∷ encryption_key_information ∷
-    mac_or_signature_key_information ∷ key_wrapping_data ∷ key_wrapping_specification ∷ key_value ∷
-    key_block ∷ symmetric_key ∷ public_key ∷ private_key ∷ template ∷ revocation_reason ∷ []

@@ -203,14 +203,14 @@ pub(crate) fn discover_versions(
 pub(crate) fn sign(
     id: &Option<UniqueIdentifier>,
     parameters: &Option<CryptographicParameters>,
-    data: &Data,
+    contents: &Data,
     alloc: Global,
 ) -> Result<RequestPayload, OutOfMemory>
-    ensures { IfOk result (λ made. made ≡ payloads.Sign id.now parameters.now data.now) }
+    ensures { IfOk result (λ made. made ≡ payloads.Sign id.now parameters.now contents.now) }
 {
     Ok(RequestPayload::Sign(
         clone_optional(id, alloc)?,
         *parameters,
-        data.try_clone(alloc)?,
+        contents.try_clone(alloc)?,
     ))
 }

@@ -131,11 +131,11 @@ pub(crate) fn discover_versions(versions: &List<ProtocolVersion>)
 pub(crate) fn sign(
     id: &Option<UniqueIdentifier>,
     parameters: &Option<CryptographicParameters>,
-    data: &Data,
+    contents: &Data,
 )
-    ensures { FitsPayload (payloads.Sign id.now parameters.now data.now) }
+    ensures { FitsPayload (payloads.Sign id.now parameters.now contents.now) }
 {
-    fits_record::<SignRows>(fields![id, parameters, data]);
+    fits_record::<SignRows>(fields![id, parameters, contents]);
 }
 
 /// The fields of RNG Retrieve.

@@ -137,11 +137,11 @@ pub(crate) fn discover_versions(versions: &List<ProtocolVersion>) -> Option<u64>
 pub(crate) fn sign(
     id: &Option<UniqueIdentifier>,
     parameters: &Option<CryptographicParameters>,
-    data: &Data,
+    contents: &Data,
 ) -> Option<u64>
-    ensures { result ≡ payload_len (payloads.Sign id.now parameters.now data.now) }
+    ensures { result ≡ payload_len (payloads.Sign id.now parameters.now contents.now) }
 {
-    record_len::<SignRows>(fields![id, parameters, data])
+    record_len::<SignRows>(fields![id, parameters, contents])
 }
 
 /// The length of the payload of RNG Retrieve.

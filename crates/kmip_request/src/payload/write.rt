@@ -184,15 +184,15 @@ pub(crate) fn discover_versions(versions: &List<ProtocolVersion>, tag: Tag, out:
 pub(crate) fn sign(
     id: &Option<UniqueIdentifier>,
     parameters: &Option<CryptographicParameters>,
-    data: &Data,
+    contents: &Data,
     tag: Tag,
     out: &mut Buffer,
 )
-    requires form { HasPayloadForm (payloads.Sign id.now parameters.now data.now) }
-    requires room { payload_size (payloads.Sign id.now parameters.now data.now) ≤ out.old.spare }
-    ensures { IsAppended (payloads.Sign id.now parameters.now data.now) tag out.old out.new }
+    requires form { HasPayloadForm (payloads.Sign id.now parameters.now contents.now) }
+    requires room { payload_size (payloads.Sign id.now parameters.now contents.now) ≤ out.old.spare }
+    ensures { IsAppended (payloads.Sign id.now parameters.now contents.now) tag out.old out.new }
 {
-    write_record::<SignRows>(fields![id, parameters, data], tag, out);
+    write_record::<SignRows>(fields![id, parameters, contents], tag, out);
 }
 
 /// Appends the payload of RNG Retrieve.
