@@ -8,8 +8,8 @@ use Rattle.kmip_types.specs.ThePaddingMethod.{PaddingMethod}
 use Rattle.kmip_types.specs.TheHashingAlgorithm.{HashingAlgorithm}
 use Rattle.kmip_types.specs.declared.cryptographic_parameters.CryptographicParameters.{CryptographicParameters}
 use Rattle.kmip_types.specs.declared.attribute_value.AttributeValue.TheVariants as values
-use Rattle.kmip_request.specs.Constructors.{attribute_of}
-use Rattle.kmip_request.specs.TheAttribute.{Attribute}
+use Rattle.kmip_request_objects.specs.Constructors.{attribute_of}
+use Rattle.kmip_request_objects.specs.declared.attribute.Attribute.{Attribute}
 use Rattle.kmip_request.specs.declared.payload.RequestPayload.{RequestPayload}
 
 -- the operations and types of objects that the server supports, and who it is (KMIP 1.0, 4.24)

@@ -1,17 +1,20 @@
-//! The requests that the helpers make, each with memory of its own. The only error is
-//! `OutOfMemory`.
+//! The requests that a client's helpers make, and that a server recognizes as theirs, each with
+//! memory of its own. The only error is `OutOfMemory`. That for random bytes, which takes no memory,
+//! is only defined (`rng_request`).
+
 ghost use Rattle.std.specs.Prelude.{◌≡◌, ◌∷◌, [], ℕ, List, None, Some, IfOk};
 ghost use Rattle.std.specs.Int.{cast_signed, w32};
 ghost use Rattle.kmip_enums.specs.declared.query_function.QueryFunction.TheVariants.{QueryOperations};
 ghost use Rattle.kmip_enums.specs.declared.query_function.QueryFunction.TheVariants.{QueryObjects};
 ghost use Rattle.kmip_enums.specs.declared.query_function.QueryFunction.TheVariants.{QueryServerInformation};
 ghost use Rattle.kmip_types.specs.UsageMask.{usage_bits};
-ghost use Rattle.kmip_helpers.specs.Requests as requests;
+ghost use Rattle.kmip_request.specs.Requests as requests;
 
+use crate::payload::RequestPayload;
 use kmip_enums::{QueryFunction, RevocationReasonCode};
-use kmip_request::{
+use kmip_request_objects::{
     Attribute, CommonTemplateAttribute, PrivateKeyTemplateAttribute, PublicKeyTemplateAttribute,
-    RequestPayload, RevocationReason,
+    RevocationReason,
 };
 use kmip_types::{
     CryptographicAlgorithm, CryptographicParameters, CryptographicUsageMask, Data, DataLength,
@@ -33,7 +36,11 @@ pub fn query_request(alloc: Global) -> Result<RequestPayload, OutOfMemory>
 }
 
 /// A list of two attributes.
-fn two(alloc: Global, first: Attribute, second: Attribute) -> Result<List<Attribute>, OutOfMemory>
+fn two_attributes(
+    alloc: Global,
+    first: Attribute,
+    second: Attribute,
+) -> Result<List<Attribute>, OutOfMemory>
     ensures { IfOk result (λ made. made ≡ first ∷ second ∷ []) }
 {
     let mut attributes = List::new(alloc);
@@ -48,7 +55,7 @@ fn pair_attributes(alloc: Global, key_length: i32) -> Result<List<Attribute>, Ou
 {
     let algorithm = Attribute::CryptographicAlgorithm(alloc, CryptographicAlgorithm::RSA)?;
     let length = Attribute::CryptographicLength(alloc, key_length)?;
-    two(alloc, algorithm, length)
+    two_attributes(alloc, algorithm, length)
 }
 
 /// The attributes of the key that signs.
@@ -57,7 +64,7 @@ fn signing_attributes(alloc: Global, name: Text) -> Result<List<Attribute>, OutO
 {
     let name = Attribute::Name(alloc, name)?;
     let usage = Attribute::CryptographicUsageMask(alloc, CryptographicUsageMask::Sign)?;
-    two(alloc, name, usage)
+    two_attributes(alloc, name, usage)
 }
 
 /// The attributes of the key that verifies.
@@ -66,7 +73,7 @@ fn verifying_attributes(alloc: Global, name: Text) -> Result<List<Attribute>, Ou
 {
     let name = Attribute::Name(alloc, name)?;
     let usage = Attribute::CryptographicUsageMask(alloc, CryptographicUsageMask::Verify)?;
-    two(alloc, name, usage)
+    two_attributes(alloc, name, usage)
 }
 
 /// Asks for an RSA key pair, whose length is in bits: KMIP 1.0, 4.2.
