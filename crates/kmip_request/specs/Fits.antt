@@ -8,11 +8,14 @@ use Rattle.kmip_request.specs.declared.payload.RequestPayload.{RequestPayload}
 use Rattle.kmip_request.specs.Tables.{request_payload}
 use Rattle.kmip_request.specs.Values.{request_payload_val}
 
+abbrev pub FitsPayload : RequestPayload → Type 0
+FitsPayload payload = Fits request_payload (request_payload_val payload)
+
 -- the username and the password of a credential are UTF-8
-abbrev pub AreTexts : Option CredentialType → Type 0
-AreTexts None = Unit {0}
-AreTexts (Some (UsernameAndPassword c)) =
+abbrev pub FitsCredential : Option CredentialType → Type 0
+FitsCredential None = Unit {0}
+FitsCredential (Some (UsernameAndPassword c)) =
     IsUtf8 c.username × IfSome c.password (λ password. IsUtf8 password)
 
-abbrev pub IsHeld : RequestPayload → Option CredentialType → Type 0
-IsHeld payload credential = Fits request_payload (request_payload_val payload) × AreTexts credential
+abbrev pub FitsRequest : RequestPayload → Option CredentialType → Type 0
+FitsRequest payload credential = FitsPayload payload × FitsCredential credential
