@@ -3,16 +3,16 @@
 #
 #   clients/build.sh [--unproved] FOLDER
 #
-#   FOLDER/kmip_call     the program: one call over its standard input and output
-#   FOLDER/libkmip.a     the library of kmip.h, for C and Rust
-#   FOLDER/libkmip.so    the same, for Python
-#   FOLDER/kmip.h        its header
+#   FOLDER/kmip_call         the program: one call over its standard input and output
+#   FOLDER/libmetsuwan.a     the library of metsuwan.h, for C and Rust
+#   FOLDER/libmetsuwan.so    the same, for Python
+#   FOLDER/metsuwan.h        its header
 #
 # Without a flag the two crates kmip_call and kmip_c, and those below them, are proved first, which takes hours from
 # nothing and a minute where it was done before. With --unproved they are compiled at once, and no contract is checked.
 # KMIP_CALL and LIBKMIP_C, where they are set, are a program and a libkmip_c.a that were built before, and are taken.
 #
-# It needs the toolchain's `rt` on the path, and gcc with binutils; --unproved also python3.
+# It needs the toolchain's `rt` on the path, gcc with binutils, and make; --unproved also python3.
 set -eu
 usage() {
     echo 'usage: build.sh [--unproved] FOLDER' >&2
@@ -43,10 +43,5 @@ else
     cp "$top/crates/kmip_c/out/libkmip_c.a" "$folder/libkmip_c.a"
 fi
 
-# The library asks for memory by three functions of the toolchain, over malloc.
-memory=$(dirname "$(rt doc)")/c/liblibc_c.a
-rm -f "$folder/libkmip.a"
-printf 'CREATE %s\nADDLIB %s\nADDLIB %s\nSAVE\nEND\n' "$folder/libkmip.a" "$folder/libkmip_c.a" "$memory" | ar -M
-gcc -shared -o "$folder/libkmip.so" -Wl,--whole-archive "$folder/libkmip_c.a" -Wl,--no-whole-archive "$memory"
+make -s -C "$top/clients/c" library CORE="$folder/libkmip_c.a" OUT="$folder"
 rm "$folder/libkmip_c.a"
-cp "$top/clients/c/kmip.h" "$folder/kmip.h"
