@@ -14,7 +14,6 @@
 #   --measure N    each client also makes 10 N queries and N signatures over its one connection, beside PyKMIP's own client
 #   --keep         leaves the folder of the run where it is, and says where
 #
-# KMIP_CALL and LIBKMIP_C, where they are set, are the paths of a kmip_call and a libkmip_c.a that were built before.
 # It needs python3, openssl and, for a build, rt, gcc, make and cargo. What it starts it stops. How a case is added is said
 # in tools/live/harness.sh.
 # shellcheck disable=SC1090,SC1091,SC2030,SC2031,SC2034,SC2154 # harness.sh sets and uses them
@@ -51,7 +50,6 @@ for who in "${clients[@]}"; do [[ -d $here/$who ]] || give_up "there is no clien
 
 run=$(mktemp -d -t kmip-live-XXXXXX)
 finish() {
-    stop_all
     if [[ -n $keep ]]; then echo "kept: $run"; else rm -rf "$run"; fi
 }
 trap finish EXIT
@@ -59,8 +57,8 @@ trap 'exit 130' INT TERM
 
 install() {
     local missing=()
-    [[ -e /usr/bin/pykmip-server ]] || missing+=(python3-pykmip)
-    command -v jq >/dev/null || missing+=(jq)
+    type -P pykmip-server >/dev/null || missing+=(python3-pykmip)
+    type -P jq >/dev/null || missing+=(jq)
     [[ -e /usr/include/openssl/ssl.h ]] || missing+=(libssl-dev)
     compgen -G '/usr/share/cargo/registry/openssl-0.10*' >/dev/null || missing+=(librust-openssl-dev)
     ((${#missing[@]})) || return 0
@@ -70,26 +68,7 @@ install() {
         >"$run/apt" 2>&1 || { tail -5 "$run/apt" && give_up 'the packages were not installed'; }
 }
 
-install
-if [[ -z $built ]]; then
-    built=$run/kmip
-    "$top/clients/build.sh" ${unproved[@]+"${unproved[@]}"} "$built" >"$run/build" 2>&1 || { tail -20 "$run/build" && give_up 'no build'; }
-fi
-export KMIP_CALL=$built/kmip_call
-unset LIBKMIP_C KMIP_USER KMIP_PASSWORD KMIP_LIMIT KMIP_RECORD KMIP_TIMEOUT KMIP_PASSPHRASE
-certs=$run/certs
-"$here/certs.sh" "$certs" || give_up 'no certificates'
-server_port=$(free_port)
-"$here/start_server.sh" "$run" "$server_port" || give_up 'no server'
-started+=("$(cat "$run/server.pid")")
-start_fakes
-{
-    build_clients
-    run_cases fakes 8
-    run_cases server 1
-} > >(tee "$run/log") 2>&1
-wait $!
-if ((measure > 0)); then
+time_calls() {
     mkdir -p "$run/measured"
     host=localhost port=$server_port certificate=$certs/client.pem key=$certs/client.key authority=$certs/ca.pem patience=3600
     for client in "${clients[@]}"; do
@@ -97,5 +76,26 @@ if ((measure > 0)); then
         client_run life "$run/measured" "$measure"
     done
     "$python" "$here/measure.py" "$server_port" "$certs" "$KMIP_CALL" "$measure"
-fi
-count "$run/log"
+}
+
+live() {
+    install
+    if [[ -z $built ]]; then
+        built=$run/kmip
+        "$top/clients/build.sh" ${unproved[@]+"${unproved[@]}"} "$built" || give_up 'no build'
+    fi
+    export KMIP_CALL=$built/kmip_call
+    unset KMIP_USER KMIP_PASSWORD KMIP_LIMIT KMIP_RECORD KMIP_TIMEOUT KMIP_PASSPHRASE KMIP_PASSPHRASE_FILE
+    certs=$run/certs
+    "$here/certs.sh" "$certs" || give_up 'no certificates'
+    server_port=$(free_port)
+    "$here/start_server.sh" "$run" "$server_port" || give_up 'no server'
+    started+=("$(cat "$run/server.pid")")
+    start_fakes
+    build_clients
+    run_cases fakes 8
+    run_cases server 1
+    if ((measure > 0)); then time_calls; fi
+}
+
+count live

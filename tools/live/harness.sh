@@ -155,24 +155,28 @@ cases_of() { # CLIENT server|fakes
     done
 }
 
-# Runs the case files of all clients, so many at once, and prints what each wrote, in order.
+# Runs the case files of all clients, so many at once, and prints what each wrote, in order. Where `until` is set, none is
+# begun after so many seconds of the script.
 run_cases() { # server|fakes AT-ONCE
-    local who file number=0 printed=0 at_once=$2 running=()
-    local list=()
+    local who file number=0 printed=0 at_once=$2 running=() list=()
     for who in "${clients[@]}"; do
         while read -r file; do list+=("$who $file"); done < <(cases_of "$who" "$1")
     done
-    for ((number = 0; number < ${#list[@]} || printed < ${#list[@]}; )); do
-        if ((number < ${#list[@]} && number - printed < at_once)); then
-            # shellcheck disable=SC2086 # two words
-            run_case "$1.$number" ${list[number]} &
-            running[number]=$!
-            number=$((number + 1))
-        else
+    while ((printed < ${#list[@]})); do
+        if ((number == ${#list[@]} || number - printed == at_once)); then
             wait "${running[printed]}"
             grep -v '^ended ' "$run/$1.$printed.out"
             printed=$((printed + 1))
+            continue
         fi
+        read -r who file <<<"${list[number]}"
+        if ((SECONDS < ${until:-SECONDS + 1})); then
+            run_case "$1.$number" "$who" "$file" &
+        else
+            printf 'skipped %s: %s: no time is left\n' "$who" "$file" >"$run/$1.$number.out" &
+        fi
+        running[number]=$!
+        number=$((number + 1))
     done
 }
 
@@ -196,13 +200,20 @@ build_clients() {
     clients=(${able[@]+"${able[@]}"})
 }
 
-# The last line, from what was printed before: `N passed, M failed`; its status is 0 where none failed.
-count() { # LOG
+# Runs a function whose processes end with it, and writes the last line, `N passed, M failed`, with what failed and what was
+# skipped before it. Its status is 0 where none failed.
+count() { # FUNCTION
     local passed failed
-    passed=$(grep -c '^ok ' "$1")
-    failed=$(grep -c '^FAILED ' "$1")
-    grep '^FAILED ' "$1" | sort -u
-    grep '^skipped ' "$1" | sort -u
+    (
+        started=()
+        trap stop_all EXIT
+        trap 'exit 130' INT TERM
+        "$1"
+    ) 2>&1 | tee "$run/log"
+    passed=$(grep -c '^ok ' "$run/log")
+    failed=$(grep -c '^FAILED ' "$run/log")
+    grep '^skipped ' "$run/log" | sort -u
+    grep '^FAILED ' "$run/log" | sort -u
     printf '%d passed, %d failed\n' "$passed" "$failed"
     ((failed == 0 && passed > 0))
 }

@@ -1,16 +1,14 @@
 -- The JSON of a value that fits its shape is a text of the grammar.
 use Rattle.std.proofs.Common.{◌≡◌, ℕ, ◌+◌, ◌/◌, ◌%◌, ◌≤◌, ◌<◌, ℤ, pos, negsuc, Bool, true, false, cond, ◌||◌, nat_eq, nat_lt, List, [], ◌∷◌, ◌++◌, flat_map, Option, Some, None, ◌⊎◌, inl, inr, refl, sym, ap, ◌∙◌, subst, append_assoc, append-nil, arith}
 use Rattle.std.proofs.lemmas.Bool.Decides.{nat_tests}
-use Rattle.std.specs.Fmt.{decimal, signed_decimal}
 use Rattle.std.specs.Int.{cast_signed, w64}
-use Rattle.kmip_wire.specs.declared.kind.Kind.{Kind}
 use Rattle.kmip_wire.specs.declared.kind.Kind.TheVariants as kind
 use Rattle.kmip_shape.specs.declared.style.Style.{Style}
-use Rattle.kmip_shape.specs.declared.style.Style.TheVariants.{Bare, Json}
-use Rattle.kmip_shape.specs.Val.{Val, Vals, Field, Fields, Number, Text, Bytes, Truth, Record, Case, Absent, One, Many, NoField, AndField, NoVal, AndVal}
+use Rattle.kmip_shape.specs.declared.style.Style.TheVariants.{Json}
+use Rattle.kmip_shape.specs.Val.{Val, Vals, Fields, Number, Text, Bytes, Truth, Record, Case, Absent, One, Many, NoField, AndField, NoVal, AndVal}
 use Rattle.kmip_shape.specs.Shape.{Shape, RowList, Cases, Entry, Found, Scalar, OneOf, Rows, RowsOrBytes, Choice, Custom, NoRow, AndRow, NoCase, OfName, case_at}
-use Rattle.kmip_shape.specs.Fits.{AreBytes, kind_fits, leaf_fits, fits_in, fields_fit, field_fits, vals_fit}
-use Rattle.kmip_shape.specs.Shown.{hex_digit, hex_byte, control_mark, escape, text_in_style, bytes_in_style, truth_shown, word, name_mark, entry_in_style, leaf_in_style, comma, case_in_style, val_in_style, fields_in_style, row_in_style, list_in_style, members_in_style}
+use Rattle.kmip_shape.specs.Fits.{AreBytes, leaf_fits, fits_in, fields_fit, vals_fit}
+use Rattle.kmip_shape.specs.Shown.{hex_digit, hex_byte, control_mark, escape, text_in_style, truth_shown, word, name_mark, entry_in_style, leaf_in_style, comma, case_in_style, val_in_style, fields_in_style, list_in_style}
 use Rattle.kmip_shape.specs.Json.{IsHexDigit, AreCharacters, NoCharacter, AsItIs, Quote, Backslash, Coded, IsJson, AString, ANumber, True, False, NoMember, AnObject, NoElement, AnArray, AreMembers, AMember, AndMembers, AreElements, AnElement, AndElements}
 
 digit_is_hex : (m : ℕ) → m < 16 → IsHexDigit (hex_digit m)

@@ -46,7 +46,8 @@ mutual
     Scalar : Kind → Shape
     OneOf : List Entry → Shape
     Rows : RowList → Shape
-    -- rows with a byte form: the number is that of the case of the first field that has it
+    -- rows, or the bytes alone of the first field, where it is of the case of this number and the
+    -- other fields are absent
     RowsOrBytes : ℕ → RowList → Shape
     Choice : Rule → Cases → Shape
     -- a list of values of the choice around it

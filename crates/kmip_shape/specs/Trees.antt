@@ -48,7 +48,7 @@ all_absent NoField = true
 all_absent (AndField Absent fields) = all_absent fields
 all_absent (AndField _ fields) = false
 
--- the bytes of a record in its byte form
+-- the bytes of the first field, where it is of the case n and the other fields are absent
 abbrev pub byte_form : ℕ → Fields → Option (List ℕ)
 byte_form n (AndField (One (Case m (Bytes b))) fields) =
     cond (nat_eq m n && all_absent fields) (Some b) None

@@ -26,7 +26,7 @@ use crate::item_lists::{
     fits_list, fits_optional, fits_optional_list, list_len, optional_len, optional_list_len,
     plus_len, write_list, write_optional, write_optional_list,
 };
-use crate::record::{End, RowOf};
+use crate::record::{Choosing, End, Row};
 use crate::row_readers::{ChosenOne, ChosenOpt, Many, NonEmpty, One, Opt, OptMany};
 use crate::scalars::put_structure;
 use crate::show::{ShowItem, show_list, show_one, show_optional, show_optional_list};
@@ -407,8 +407,7 @@ impl<'b> ShowRows<'b> for End {
     fn show(_lent: (), _names: (), _after: bool, _out: &mut TextWriter) {}
 }
 
-impl<'b, A: FieldRow<'b>, B: FieldRows<'b>, const CHOOSES: bool> FieldRows<'b>
-    for RowOf<A, B, CHOOSES> {
+impl<'b, A: FieldRow<'b>, B: FieldRows<'b>> FieldRows<'b> for Row<A, B> {
     type Lent = (A::Lent, B::Lent);
 
     ghost row_list = { AndRow [] (Under A.tag) A.mark Plain A.shape B.row_list };
@@ -422,8 +421,7 @@ impl<'b, A: FieldRow<'b>, B: FieldRows<'b>, const CHOOSES: bool> FieldRows<'b>
     }
 }
 
-impl<'b, A: WriteRow<'b>, B: WriteRows<'b>, const CHOOSES: bool> WriteRows<'b>
-    for RowOf<A, B, CHOOSES> {
+impl<'b, A: WriteRow<'b>, B: WriteRows<'b>> WriteRows<'b> for Row<A, B> {
     type Lent = (A::Lent, B::Lent);
 
     ghost row_list = { AndRow [] (Under A.tag) A.mark Plain A.shape B.row_list };
@@ -446,8 +444,67 @@ impl<'b, A: WriteRow<'b>, B: WriteRows<'b>, const CHOOSES: bool> WriteRows<'b>
     }
 }
 
-impl<'b, A: ShowRow<'b>, B: ShowRows<'b>, const CHOOSES: bool> ShowRows<'b>
-    for RowOf<A, B, CHOOSES> {
+impl<'b, A: ShowRow<'b>, B: ShowRows<'b>> ShowRows<'b> for Row<A, B> {
+    type Lent = (A::Lent, B::Lent);
+
+    type Names = (&'b str, B::Names);
+
+    ghost fields = { λ lent. and_field (A.field lent.0) (B.fields lent.1) };
+
+    ghost named = { λ names. AndRow names.0.now (Under A.tag) A.mark Plain A.shape
+        (B.named names.1) };
+
+    fn show(
+        lent: (A::Lent, B::Lent),
+        names: (&'b str, B::Names),
+        after: bool,
+        out: &mut TextWriter,
+    ) {
+        let (field, rest) = lent;
+        let (name, names) = names;
+        let after = A::show(field, name, after, out);
+        B::show(rest, names, after, out);
+    }
+}
+
+impl<'b, A: FieldRow<'b>, B: FieldRows<'b>> FieldRows<'b> for Choosing<A, B> {
+    type Lent = (A::Lent, B::Lent);
+
+    ghost row_list = { AndRow [] (Under A.tag) A.mark Plain A.shape B.row_list };
+
+    ghost fields = { λ lent. and_field (A.field lent.0) (B.fields lent.1) };
+
+    fn known(lent: (A::Lent, B::Lent)) {
+        let (field, rest) = lent;
+        A::known(field);
+        B::known(rest);
+    }
+}
+
+impl<'b, A: WriteRow<'b>, B: WriteRows<'b>> WriteRows<'b> for Choosing<A, B> {
+    type Lent = (A::Lent, B::Lent);
+
+    ghost row_list = { AndRow [] (Under A.tag) A.mark Plain A.shape B.row_list };
+
+    ghost fields = { λ lent. and_field (A.field lent.0) (B.fields lent.1) };
+
+    #[tactic(auto, using(crate::proofs::Lists::tag_first, crate::proofs::Lists::tags_rest))]
+    #[inline(always)]
+    fn len(lent: (A::Lent, B::Lent)) -> Option<u64> {
+        let (field, rest) = lent;
+        plus_len(A::len(field), B::len(rest))
+    }
+
+    #[tactic(auto, using(crate::proofs::Appended::appended, crate::proofs::Lists::tag_first, crate::proofs::Lists::tags_rest))]
+    #[inline(always)]
+    fn write(lent: (A::Lent, B::Lent), out: &mut Buffer) {
+        let (field, rest) = lent;
+        A::write(field, out);
+        B::write(rest, out);
+    }
+}
+
+impl<'b, A: ShowRow<'b>, B: ShowRows<'b>> ShowRows<'b> for Choosing<A, B> {
     type Lent = (A::Lent, B::Lent);
 
     type Names = (&'b str, B::Names);

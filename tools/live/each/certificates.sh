@@ -12,6 +12,7 @@ key=$certs/plain.key call_is 'the key of another certificate' 3 query
 port=$(free_port) call_is 'nobody listens' 3 query
 fake other/server
 call_is "a server's certificate of another authority" 3 query
+SSL_CERT_FILE=$certs/other/ca.pem call_is 'the same where the system trusts that authority' 3 query
 fake wrong_host
 call_is "a server's certificate for another host" 3 query
 fake expired_server
