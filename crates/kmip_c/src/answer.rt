@@ -35,11 +35,11 @@ pub fn answer_line(
     call: &[u8],
     response: &[u8],
 ) -> Result<Option<AnswerLine>, OutOfMemory>
-    ensures grammar { IfOk result (λ told. call_of call.now ≡ None → told ≡ None) }
-    ensures told { (c : TheCall) → call_of call.now ≡ Some c →
-        IfOk result (λ told. MatchOption told ⊥
-        (λ t. (t.ending ≡ ending_of (answer_to c response.now)) ×
-        (t.line ≡ json_line c (answer_to c response.now)))) }
+    ensures grammar { IfOk result (λ answer. call_of call.now ≡ None → answer ≡ None) }
+    ensures answer { (c : TheCall) → call_of call.now ≡ Some c →
+        IfOk result (λ answer. MatchOption answer ⊥
+        (λ a. (a.ending ≡ ending_of (answer_to c response.now)) ×
+        (a.line ≡ json_line c (answer_to c response.now)))) }
 {
     let Some(call) = call_of(alloc, call)? else {
         return Ok(None);
