@@ -8,7 +8,8 @@
    KMIP_PEM set, a key or a certificate that was got is written as PEM.
 
    Status: 0 answered, 1 refused, 2 not of the grammar, 3 the connection is lost or there is none,
-   5 out of memory. What is no answer is a line of JSON on standard error. */
+   4 the answer could not be written, 5 out of memory. What is no answer is a line of JSON on
+   standard error. */
 #define _POSIX_C_SOURCE 200809L
 #include "metsuwan_tls.h"
 #include <stdio.h>
@@ -35,13 +36,13 @@ static int make(kmip_client *client, const char *call, const char *const *words)
         fprintf(stderr, "%s\n", *kmip_line(client) ? kmip_line(client) : "out of memory");
         return status;
     }
-    const char *text = kmip_line(client);
-    if (getenv("KMIP_PEM")) text = kmip_pem(client);
+    bool pem = getenv("KMIP_PEM") != NULL;
+    const char *text = pem ? kmip_pem(client) : kmip_line(client);
     if (!text) {
         fputs("{\"error\":\"MissingValue\",\"text\":\"the answer has no PEM form\"}\n", stderr);
         return KMIP_REFUSED;
     }
-    return printf("%s\n", text) < 0 || fflush(stdout) != 0 ? 4 : status;
+    return printf(pem ? "%s" : "%s\n", text) < 0 || fflush(stdout) != 0 ? 4 : status;
 }
 
 int main(int argc, char **argv) {
@@ -61,6 +62,8 @@ int main(int argc, char **argv) {
     if (!read_number("KMIP_TIMEOUT", 1e8, &settings.seconds))
         return misused("KMIP_TIMEOUT is no number of seconds");
     settings.limit = (uint32_t)limit;
+    if (!settings.user != !settings.password)
+        return misused("KMIP_USER and KMIP_PASSWORD: a credential is a user and a password");
     char error[300];
     kmip_client *client = kmip_open(&settings, error, sizeof error);
     if (!client) {

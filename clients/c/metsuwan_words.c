@@ -43,8 +43,9 @@ void kmip_room_free(kmip_room *it) {
 }
 
 char *kmip_copy_of(const char *text) {
-    char *made = malloc(strlen(text) + 1);
-    return made ? strcpy(made, text) : NULL;
+    size_t size = strlen(text) + 1;
+    char *made = malloc(size);
+    return made ? memcpy(made, text, size) : NULL;
 }
 
 void kmip_copy_free(char *text) {
@@ -133,7 +134,7 @@ static size_t write_character(const char *text, char into[8]) {
     size_t count = character((const unsigned char *)text);
     unsigned char byte = (unsigned char)*text;
     if (count == 0)
-        strcpy(into, "?");
+        snprintf(into, 8, "?");
     else if (byte == '"' || byte == '\\')
         snprintf(into, 8, "\\%c", byte);
     else if (byte < 0x20)

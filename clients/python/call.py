@@ -9,7 +9,8 @@ KMIP_TIMEOUT, the most seconds of connecting and of the call (30; 0: no deadline
 set, a key or a certificate that was got is written as PEM.
 
 Status: 0 answered, 1 refused, 2 not of the grammar, 3 the connection is lost or there is none,
-5 out of memory. What is no answer is a line of JSON on standard error.
+4 the answer could not be written, 5 out of memory. What is no answer is a line of JSON on standard
+error.
 """
 import json
 import os
@@ -46,23 +47,30 @@ def client_of(settings: List[str]) -> Client:
         raise GrammarError(str(error)) from error
 
 
+def answer_of(settings: List[str], name: str, texts: List[str]) -> str:
+    words = words_of(name, texts)
+    with client_of(settings) as kmip:
+        if name == 'get' and os.environ.get('KMIP_PEM'):
+            return kmip.get(texts[0]).pem()
+        return json.dumps(kmip.call(name, *words)) + '\n'
+
+
 def main() -> int:
     if len(sys.argv) < 7:
         return fail(GrammarError('usage: call.py HOST PORT CERTIFICATE KEY AUTHORITY CALL TEXT..'))
-    name, texts = sys.argv[6], sys.argv[7:]
     try:
-        words = words_of(name, texts)
-        with client_of(sys.argv[1:6]) as kmip:
-            if name == 'get' and os.environ.get('KMIP_PEM'):
-                print(kmip.get(texts[0]).pem())
-            else:
-                print(json.dumps(kmip.call(name, *words)))
+        answer = answer_of(sys.argv[1:6], sys.argv[6], sys.argv[7:])
     except KmipError as error:
         return fail(error)
     except OSError as error:  # there is no library
         return fail(ConnectError(str(error)))
     except MemoryError:
         return 5
+    try:
+        sys.stdout.write(answer)
+        sys.stdout.flush()
+    except OSError:
+        return 4
     return 0
 
 

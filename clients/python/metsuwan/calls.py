@@ -80,9 +80,11 @@ def _kinds_of(name: str, count: int) -> Tuple[Kind, ...]:
     if name not in CALLS:
         raise GrammarError('there is no call %s' % name)
     kinds = CALLS[name]
-    if count != len(kinds):
-        wanted = ', '.join(kind.name for kind in kinds) or 'nothing'
-        raise GrammarError('%s: after it stands %s; %d words were given' % (name, wanted, count))
+    if count > len(kinds):
+        raise GrammarError('%s: word %d after it is one too many' % (name, len(kinds) + 1))
+    if count < len(kinds):
+        raise GrammarError('%s: word %d after it is missing: %s'
+                           % (name, count + 1, kinds[count].name))
     return kinds
 
 

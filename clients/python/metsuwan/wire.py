@@ -1,17 +1,19 @@
 """A TLS connection, each use of which ends by a deadline."""
 from __future__ import annotations
 
+import contextlib
 import socket
 import ssl
 import threading
 import time
-from contextlib import contextmanager
 from typing import Any, Iterator, List, Optional, Union
 
 from .errors import ConnectError
 
 Passphrase = Union[str, bytes, None]
 Port = Union[int, str]
+# The state of a TCP connection that was reset, as Linux has it in TCP_INFO.
+TCP_CLOSE = 7
 
 
 def context_of(cert: str, key: str, ca: str, passphrase: Passphrase) -> ssl.SSLContext:
@@ -90,7 +92,7 @@ class Wire:
             raise TimeoutError
         return left / share
 
-    @contextmanager
+    @contextlib.contextmanager
     def _in_time(self) -> Iterator[None]:
         """Within it, the end of the time is an error that says so."""
         try:
@@ -139,6 +141,14 @@ class Wire:
                     raise
         raise OSError('the host has no address')
 
+    def _ended(self) -> OSError:
+        """Why there is nothing to read: of a reset, Python's ssl makes an end."""
+        with contextlib.suppress(OSError, AttributeError):
+            state = self._tls.getsockopt(socket.IPPROTO_TCP, socket.TCP_INFO, 1)
+            if state[0] == TCP_CLOSE:
+                return ConnectionResetError('Connection reset by peer')
+        return OSError('end of input')
+
     def check_idle(self) -> None:
         """Nothing, where the connection is open and has no bytes to read.
 
@@ -149,8 +159,9 @@ class Wire:
             early = self._tls.recv(1)
         except (ssl.SSLWantReadError, ssl.SSLWantWriteError):
             return
-        raise OSError('the server sent bytes that no call had asked for' if early
-                      else 'end of input')
+        if early:
+            raise OSError('the server sent bytes that no call had asked for')
+        raise self._ended()
 
     def send(self, request: bytes) -> None:
         """Sends all of these bytes."""
@@ -168,17 +179,14 @@ class Wire:
                 self._tls.settimeout(self._left())
                 piece = self._tls.recv(min(count - len(got), 65536))
                 if not piece:
-                    raise OSError('end of input')
+                    raise self._ended()
                 got += piece
         return bytes(got)
 
     def close(self, in_order: bool) -> None:
         """Ends the connection. In order, it says so to the server, and waits for nothing."""
-        try:
+        with contextlib.suppress(OSError, ValueError):
             if in_order:
                 self._tls.settimeout(0)
                 self._tls.unwrap()
-        except (OSError, ValueError):
-            pass
-        finally:
-            self._tls.close()
+        self._tls.close()
