@@ -38,22 +38,22 @@ pub record MakerKeeps (before after : MakerState) : Type 0 where
   pub faults : before.faults ≤ after.faults
 
 -- one question was asked, and it got this answer
-pub record Answered (before after : MakerState) (question : Asked) (answer : Made) : Type 0 where
+pub record MakerAnswered (before after : MakerState) (question : Asked) (answer : Made) : Type 0 where
   pub asked : after.asked ≡ before.asked ++ question ∷ []
   pub given : after.given ≡ before.given ++ answer ∷ []
 
 -- nothing was asked
-pub record IsSilent (before after : MakerState) : Type 0 where
+pub record MakerUnasked (before after : MakerState) : Type 0 where
   pub asked : after.asked ≡ before.asked
   pub given : after.given ≡ before.given
 
 -- One call of a maker with this question: it answered; or it refused, and its count of faults says
 -- so; or memory ran out, and nothing was asked.
-abbrev pub Makes :
+abbrev pub MakerCall :
     {T : Type 0} → (T → Made) → Asked → MakerState → MakerState → Result T MakerError → Type 0
-Makes made question before after (Ok x) =
-    IsTrue before.tells → Answered before after question (made x)
-Makes made question before after (Err Fault) =
-    (IsTrue before.tells → Answered before after question answers.Refused)
+MakerCall made question before after (Ok x) =
+    IsTrue before.tells → MakerAnswered before after question (made x)
+MakerCall made question before after (Err Fault) =
+    (IsTrue before.tells → MakerAnswered before after question answers.Refused)
     × MakerFaultsRose before.faults after.faults
-Makes made question before after (Err OutOfMemory) = IsTrue before.tells → IsSilent before after
+MakerCall made question before after (Err OutOfMemory) = IsTrue before.tells → MakerUnasked before after

@@ -3,7 +3,7 @@ use Rattle.std.specs.Prelude.{Err, IsTrue}
 use Rattle.std.proofs.Math.Facts.{to_z-of_z}
 use Rattle.kmip_store.specs.declared.maker.Asked.TheVariants as questions
 use Rattle.kmip_store.specs.declared.maker.Made.TheVariants as answers
-use Rattle.kmip_store.specs.Makers.{Answered, Makes}
+use Rattle.kmip_store.specs.Makers.{MakerAnswered, MakerCall}
 use Rattle.kmip_store.specs.declared.maker.Made.{Made}
 use Rattle.kmip_store.specs.declared.object.Object.{Object}
 use Rattle.kmip_store.specs.Objects.{identifier}
@@ -19,12 +19,12 @@ returns-in-Ok-clause-step g c =
           c.in_ok-identifiers.identifiers.0 c.in_ok-identifiers.identifiers.1 (search rules)
           (ids.0 ∙ ap (λ (xs : List Object). identifier (length xs)) same) (ids.1 ∙ ap (λ (xs : List Object). identifier (length xs + 1)) same);
       asks = refl;
-      told = subst (λ (n : ℤ). IsTrue (g.M.Maker.state c.args.maker.now).tells → Answered (g.M.Maker.state c.args.maker.now) (g.M.Maker.state c.key_pair.new.self) (questions.KeyPair n) (answers.Pair c.in-Ok.pair.0 c.in-Ok.pair.1)) (to_z-of_z c.ranges.key_length) c.in-Ok.ensures.call;
+      told = subst (λ (n : ℤ). IsTrue (g.M.Maker.state c.args.maker.now).tells → MakerAnswered (g.M.Maker.state c.args.maker.now) (g.M.Maker.state c.key_pair.new.self) (questions.KeyPair n) (answers.Pair c.in-Ok.pair.0 c.in-Ok.pair.1)) (to_z-of_z c.ranges.key_length) c.in-Ok.ensures.call;
     }
 
 pub returns-in-Err-Fault-clause-step : goal.returns-in-Err-Fault-clause-step
 returns-in-Err-Fault-clause-step g c =
     let made : List ℕ × List ℕ → Made = λ pair. answers.Pair pair.0 pair.1 in
     let fault = refusal made (questions.KeyPair c.args.key_length) (g.M.Maker.state c.args.maker.now) (g.M.Maker.state c.key_pair.new.self) c.in-Err-Fault.field-0 c.in-Err-Fault.field-0-is
-    (subst (λ (n : ℤ). Makes made (questions.KeyPair n) (g.M.Maker.state c.args.maker.now) (g.M.Maker.state c.key_pair.new.self) (Err c.in-Err-Fault.field-0)) (to_z-of_z c.ranges.key_length) c.in-Err-Fault.ensures.call) in
+    (subst (λ (n : ℤ). MakerCall made (questions.KeyPair n) (g.M.Maker.state c.args.maker.now) (g.M.Maker.state c.key_pair.new.self) (Err c.in-Err-Fault.field-0)) (to_z-of_z c.ranges.key_length) c.in-Err-Fault.ensures.call) in
     (record { made = Some answers.Refused; step_is = search rules; asks = refl; told = fault.0 }, fault.1)
