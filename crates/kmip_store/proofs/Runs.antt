@@ -12,7 +12,7 @@ use Rattle.kmip_store.specs.declared.call.Call.TheVariants.{Query, CreateRsaKeyP
 use Rattle.kmip_store.specs.Steps.{Answer, Got, Stepped, stay, become, step_where, on_found, step, get, can_sign, made_bytes}
 use Rattle.kmip_enums.specs.declared.state.State.TheVariants.{Active, Deactivated, Destroyed}
 use Rattle.kmip_store.specs.Runs.{AnsweredCall, objects_after, new_identifiers, identifiers_given}
-use Rattle.kmip_store.proofs.Places.{other_bytes}
+use Rattle.kmip_store.proofs.Identifiers.{other_bytes}
 use Rattle.kmip_store.proofs.Kept.{destroyed_kept, never_fewer}
 
 pub run_keeps : (objects : List Object) (calls : List AnsweredCall) (place : ℕ) (object : Object) → slice_get objects place ≡ Some object → is_destroyed object.state ≡ true → slice_get (objects_after objects calls) place ≡ Some object

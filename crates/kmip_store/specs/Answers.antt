@@ -6,7 +6,7 @@ use Rattle.kmip_store.specs.declared.error.StoreError.TheVariants.{ItemNotFound,
 use Rattle.kmip_store.specs.declared.maker.Asked.{Asked}
 use Rattle.kmip_store.specs.declared.maker.Made.{Made}
 use Rattle.kmip_store.specs.declared.maker.Made.TheVariants.{Refused}
-use Rattle.kmip_store.specs.Makers.{MakerState, MakerAnswered, MakerUnasked, MakerFaultsRose, is_answer}
+use Rattle.kmip_store.specs.Makers.{MakerState, MakerGrew, MakerFaultsRose, is_answer}
 use Rattle.kmip_store.specs.declared.call.Call.{Call}
 use Rattle.kmip_store.specs.Steps.{Answer, NotFound, Denied, Failed, stay, step, question}
 
@@ -18,12 +18,6 @@ Steps answer before call after (Err ItemNotFound) = step before call None ≡ st
 Steps answer before call after (Err PermissionDenied) = step before call None ≡ stay after Denied
 Steps answer before call after (Err CryptographicFailure) = ⊥
 Steps answer before call after (Err OutOfMemory) = after ≡ before
-
--- The lists of a maker grew by the question of a call and one answer to it, where there is one.
-abbrev pub MakerGrew : MakerState → MakerState → Option Asked → Option Made → Type 0
-MakerGrew before after None None = MakerUnasked before after
-MakerGrew before after (Some asked) (Some made) = MakerAnswered before after asked made
-MakerGrew before after _ _ = ⊥
 
 -- There is an answer exactly where there is a question, of the question's kind or a refusal.
 abbrev pub answers_question : Option Asked → Option Made → Bool
@@ -62,4 +56,4 @@ StepsAsking answer before call after asked answered (Err PermissionDenied) =
 StepsAsking answer before call after asked answered (Err CryptographicFailure) =
     IsStep before call after Failed asked answered × MakerFaultsRose asked.faults answered.faults
 StepsAsking answer before call after asked answered (Err OutOfMemory) =
-    (after ≡ before) × (IsTrue asked.tells → MakerUnasked asked answered)
+    (after ≡ before) × (IsTrue asked.tells → MakerGrew asked answered None None)

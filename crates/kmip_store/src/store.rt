@@ -118,8 +118,12 @@ impl Store {
         let public_name = Text::of(self.alloc, public_name)?;
         self.objects.reserve(2)?;
         let (private_key, public_key) = maker.key_pair(self.alloc, key_length)?;
-        let private =
-            Object::key_of(ObjectType::PrivateKey, private_name, key_length, private_key);
+        let private = Object::key_of(
+            ObjectType::PrivateKey,
+            private_name,
+            key_length,
+            private_key,
+        );
         let public = Object::key_of(ObjectType::PublicKey, public_name, key_length, public_key);
         add_pair(&mut self.objects, private, public);
         Ok(identifiers)
@@ -174,11 +178,10 @@ impl Store {
         ensures memory { IfErr result (λ e. e ≢ StoreError.OutOfMemory) }
     {
         let place = place_of(self.objects.as_slice(), id)?;
-        let object = &mut self.objects[place];
-        if !object.is_pre_active() {
+        if !self.objects[place].is_pre_active() {
             return Err(StoreError::PermissionDenied);
         }
-        object.state = State::Active;
+        self.objects[place].state = State::Active;
         Ok(())
     }
 
@@ -191,11 +194,10 @@ impl Store {
         ensures memory { IfErr result (λ e. e ≢ StoreError.OutOfMemory) }
     {
         let place = place_of(self.objects.as_slice(), id)?;
-        let object = &mut self.objects[place];
-        if !object.is_active() {
+        if !self.objects[place].is_active() {
             return Err(StoreError::PermissionDenied);
         }
-        object.state = State::Deactivated;
+        self.objects[place].state = State::Deactivated;
         Ok(())
     }
 
@@ -209,10 +211,11 @@ impl Store {
         ensures memory { IfErr result (λ e. e ≢ StoreError.OutOfMemory) }
     {
         let place = place_of(self.objects.as_slice(), id)?;
-        let object = &mut self.objects[place];
+        let object = &self.objects[place];
         if object.is_active() || object.is_destroyed() {
             return Err(StoreError::PermissionDenied);
         }
+        let object = &mut self.objects[place];
         object.state = State::Destroyed;
         object.key = Blob::new(self.alloc);
         Ok(())
@@ -226,11 +229,10 @@ impl Store {
         ensures { Steps (λ _. Done) self.old (RenameKey id.now new_name.now) self.new result }
     {
         let place = place_of(self.objects.as_slice(), id)?;
-        let object = &mut self.objects[place];
-        if object.is_destroyed() {
+        if self.objects[place].is_destroyed() {
             return Err(StoreError::PermissionDenied);
         }
-        object.name = Text::of(self.alloc, new_name)?;
+        self.objects[place].name = Text::of(self.alloc, new_name)?;
         Ok(())
     }
 
