@@ -119,7 +119,8 @@ wanted=()
 [[ -n $program ]] || wanted+=(kmip_call)
 [[ -n $library ]] || wanted+=(kmip_c)
 if [[ -z $unproved ]] && ((${#wanted[@]})); then
-    echo 'Each crate is proved: hours from nothing, minutes where it was proved here before. --unproved takes two to four minutes.'
+    echo 'Each crate is proved: hours from nothing, minutes where it was proved here before.'
+    echo 'With --unproved it takes two to four minutes.'
     (prove_all "${wanted[@]}")
     [[ -n $program ]] || program=$top/crates/kmip_call/out/kmip_call
     [[ -n $library ]] || library=$top/crates/kmip_c/out/libkmip_c.a
@@ -143,7 +144,10 @@ work=$(mktemp -d -t kmip-build-XXXXXX)
 trap 'rm -rf "$work"' EXIT
 mv "$folder/libkmip_c.a" "$work"
 if grep -q '^library:' "$top/clients/c/Makefile"; then
-    make -s -C "$top/clients/c" library CORE="$work/libkmip_c.a" OUT="$work" >>"$log" 2>&1 || { tail -20 "$log" >&2 && give_up 'no library'; }
+    if ! make -s -C "$top/clients/c" library CORE="$work/libkmip_c.a" OUT="$work" >>"$log" 2>&1; then
+        tail -20 "$log" >&2
+        give_up 'no library'
+    fi
     rm "$work/libkmip_c.a"
 else
     # It asks for memory by three functions of the toolchain, over malloc.
