@@ -48,7 +48,8 @@ extern "C" {
 /* What is returned in place of a length. */
 enum {
     KMIP_GRAMMAR = -2,       /* the call is not of the grammar, or a text is not UTF-8; or there are not 8 bytes of head */
-    KMIP_NOT_A_MESSAGE = -3, /* no head of a structure; no well-formed message, or no such item in it */
+    KMIP_NOT_A_MESSAGE = -3, /* of kmip_contents_len: no head of a structure */
+    KMIP_NO_VALUE = -3,      /* of kmip_value: the answer has no such value */
     KMIP_TOO_LONG = -4,      /* the response is longer than the limit */
     KMIP_MEMORY = -5,        /* out of memory */
     KMIP_NO_FORM = -6        /* the request has no wire form */
@@ -60,8 +61,8 @@ enum {
     KMIP_REFUSED = 1,      /* an error of the server, or no answer to this request: {"error":..,"text":..};
                               exactly one message was taken, and the connection is good for the next call */
     KMIP_CALL_GRAMMAR = 2, /* the call is not of the grammar; no line */
-    KMIP_LOST = 3,         /* the bytes end early, or are no well-formed message: {"error":..,"text":..};
-                              close the connection */
+    KMIP_LOST = 3,         /* the bytes end early, are no well-formed message, or answer for another object than the
+                              call named: {"error":..,"text":..}; close the connection */
     KMIP_NO_MEMORY = 5     /* out of memory; no line */
 };
 
@@ -102,39 +103,34 @@ int64_t kmip_contents_len(const uint8_t *head, size_t eight, uint32_t limit);
    Room for 4096 bytes and 8 for each byte of the response is mostly enough; where it is not, call again with as much as
    `length` tells.
 
-   A response belongs to a call by its operation alone: KMIP has no other tie where there is one batch item. So one call
-   at a time on a connection. */
+   A response belongs to a call by its operation, and where both name an object, by the object's identifier: KMIP has no
+   other tie where there is one batch item. So one call at a time on a connection. */
 int32_t kmip_answer(const uint8_t *call, size_t call_len, const uint8_t *response, size_t response_len, uint8_t *into,
                     size_t room, int64_t *length);
 
-/* Writes the value of one item of a response to `into`, and returns its length in bytes.
+/* Writes a single value of the answer that a response is to a call to `into`, and returns its length in bytes. The
+   answer is the one that kmip_answer writes as JSON.
 
-   response, response_len   the response: one whole message and nothing more
-   tag                      the item's tag, as KMIP_TAG_SIGNATURE_DATA
-   index                    which of the items with this tag, counted from 0 in the order in which they stand, a
-                            structure before what is in it; those of the header count too
+   call, call_len           the call whose request was sent
+   response, response_len   the response; what stands after its first message is not looked at
+   path, path_len           where the value stands below {"answer":, by the names of the JSON with a dot between two; an
+                            item of a list is named by its index in decimal digits, counted from 0:
+                                signature_data
+                                attributes.0.name
+                                cryptographic_object.PublicKey.key_block.key_value.key_material.Bytes
+   hex                      false: a text is written as its bytes, without quotes and escapes, a number as its decimal
+                            digits, and the rest as "true" or "false"
+                            true: a string of hex digits is written as the bytes that it stands for; KMIP's Byte Strings
+                            and Big Integers are such strings
    into, room               where the value is written, if it fits
-   KMIP_NOT_A_MESSAGE       there is no such item, or the response is not one well-formed message
+   KMIP_GRAMMAR             the call is not of the grammar, or the path is not UTF-8
+   KMIP_NO_VALUE            there is no such value: the answer is an error; or it has nothing at this path, or an object
+                            or a list; or `hex` is true, and there is no string of hex digits
+   KMIP_MEMORY              out of memory
 
-   Texts and byte strings are their bytes, without pads; an Integer, an Enumeration and an Interval are 4 bytes and a
-   Long Integer, a Boolean and a Date-Time 8, the highest first; a structure is the bytes of its items.
-
-   It says nothing of success: use it after KMIP_ANSWERED. */
-int64_t kmip_value(const uint8_t *response, size_t response_len, uint32_t tag, size_t index, uint8_t *into, size_t room);
-
-/* Tags of what answers hold (KMIP 1.0, 9.1.3.1; KMIP 1.2, 9.1.3.1). */
-enum {
-    KMIP_TAG_KEY_FORMAT_TYPE = 0x420042,
-    KMIP_TAG_KEY_MATERIAL = 0x420043,
-    KMIP_TAG_OBJECT_TYPE = 0x420057,
-    KMIP_TAG_OPERATION = 0x42005C,
-    KMIP_TAG_PRIVATE_KEY_UNIQUE_IDENTIFIER = 0x420066,
-    KMIP_TAG_PUBLIC_KEY_UNIQUE_IDENTIFIER = 0x42006F,
-    KMIP_TAG_UNIQUE_IDENTIFIER = 0x420094,
-    KMIP_TAG_VENDOR_IDENTIFICATION = 0x42009D,
-    KMIP_TAG_DATA = 0x4200C2,
-    KMIP_TAG_SIGNATURE_DATA = 0x4200C3
-};
+   Each call reads the whole response once more: for a list, parse the line of kmip_answer. */
+int64_t kmip_value(const uint8_t *call, size_t call_len, const uint8_t *response, size_t response_len,
+                   const uint8_t *path, size_t path_len, bool hex, uint8_t *into, size_t room);
 #ifdef __cplusplus
 }
 #endif
