@@ -3,10 +3,10 @@
 #
 #   clients/build.sh [--unproved] [--program FILE] [--library FILE] FOLDER
 #
-#   FOLDER/kmip_call     the program: one call over its standard input and output
-#   FOLDER/libkmip.a     the library of kmip.h, for C and Rust
-#   FOLDER/libkmip.so    the same, for Python
-#   FOLDER/kmip.h        its header
+#   FOLDER/kmip_call         the program: one call over its standard input and output
+#   FOLDER/libmetsuwan.a     the library of metsuwan.h, for C and Rust
+#   FOLDER/libmetsuwan.so    the same, for Python
+#   FOLDER/metsuwan.h        its header
 #
 # Without --unproved the crates kmip_call and kmip_c, and those below them, are proved first: hours from nothing, and
 # minutes where `rt ci` passed here before. The crate that is proved is shown, as one of how many.
@@ -119,8 +119,7 @@ wanted=()
 [[ -n $program ]] || wanted+=(kmip_call)
 [[ -n $library ]] || wanted+=(kmip_c)
 if [[ -z $unproved ]] && ((${#wanted[@]})); then
-    echo 'Each crate is proved: hours from nothing, minutes where it was proved here before.'
-    echo 'With --unproved it takes two to four minutes.'
+    echo 'Each crate is proved: hours from nothing, minutes where it was proved here before. --unproved takes two to four minutes.'
     (prove_all "${wanted[@]}")
     [[ -n $program ]] || program=$top/crates/kmip_call/out/kmip_call
     [[ -n $library ]] || library=$top/crates/kmip_c/out/libkmip_c.a
@@ -143,23 +142,8 @@ fi
 work=$(mktemp -d -t kmip-build-XXXXXX)
 trap 'rm -rf "$work"' EXIT
 mv "$folder/libkmip_c.a" "$work"
-if grep -q '^library:' "$top/clients/c/Makefile"; then
-    if ! make -s -C "$top/clients/c" library CORE="$work/libkmip_c.a" OUT="$work" >>"$log" 2>&1; then
-        tail -20 "$log" >&2
-        give_up 'no library'
-    fi
-    rm "$work/libkmip_c.a"
-else
-    # It asks for memory by three functions of the toolchain, over malloc.
-    (
-        cd "$work"
-        cp "$(dirname "$(rt doc)")/c/liblibc_c.a" memory.a
-        printf 'CREATE libkmip.a\nADDLIB libkmip_c.a\nADDLIB memory.a\nSAVE\nEND\n' | ar -M
-        gcc -shared -o libkmip.so -Wl,--whole-archive libkmip_c.a -Wl,--no-whole-archive memory.a
-        rm libkmip_c.a memory.a
-        cp "$top/clients/c/kmip.h" kmip.h
-    )
-fi
+make -s -C "$top/clients/c" library CORE="$work/libkmip_c.a" OUT="$work" >>"$log" 2>&1 || { tail -20 "$log" >&2 && give_up 'no library'; }
+rm "$work/libkmip_c.a"
 mv "$work"/* "$folder"
 printf 'made %s: %s\n' "$folder" "$(cd "$folder" && echo kmip_call lib*.a lib*.so *.h)"
 
