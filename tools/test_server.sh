@@ -120,9 +120,11 @@ has_ended() {
 stop() {
     local process
     if process=$(process_of); then
-        # PyKMIP takes up to 10 seconds to end; nothing that it has is to be kept.
+        # PyKMIP takes up to 10 seconds to end, and has processes of its own, which are all of one group. Nothing that it
+        # has is to be kept.
         kill "$process" 2>/dev/null || :
-        has_ended || kill -KILL "$process" 2>/dev/null || :
+        has_ended || :
+        kill -KILL -- "-$process" 2>/dev/null || :
         has_ended || give_up "process $process does not end"
         echo 'PyKMIP has ended.'
     else
