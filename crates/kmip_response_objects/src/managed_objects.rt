@@ -17,11 +17,11 @@ ghost use Rattle.kmip_response_objects.specs.Values.{managed_object_val};
 
 use crate::managed_object::{Certificate, ManagedObject, PrivateKey, PublicKey, SymmetricKey};
 use kmip_shape::row_readers::{Case, ReadRow};
-use kmip_shape::row_writers::{FieldRow, ShowRow};
+use kmip_shape::row_writers::{FieldRow, ShowRow, WriteRow};
 use kmip_shape::show::show_one;
-use kmip_shape::{Item, Outer, ReadError, TextWriter};
+use kmip_shape::{Item, Outer, ReadError, TextWriter, WriteItem};
 use kmip_tags::tags::{CERTIFICATE, PRIVATE_KEY, PUBLIC_KEY, SYMMETRIC_KEY};
-use kmip_wire::ItemRef;
+use kmip_wire::{Buffer, ItemRef, Tag};
 use std::alloc::Global;
 
 /// The items under the tags of managed objects. The object type says under which of them the object
@@ -123,6 +123,16 @@ impl<'b> FieldRow<'b> for ManagedObjects<'b> {
 
     fn known(lent: &'b ManagedObject) {
         lent.known();
+    }
+}
+
+impl<'b> WriteRow<'b> for ManagedObjects<'b> {
+    fn len(lent: &'b ManagedObject) -> Option<u64> {
+        lent.wire_len(Tag::of(0))
+    }
+
+    fn write(lent: &'b ManagedObject, out: &mut Buffer) {
+        lent.write_into(Tag::of(0), out);
     }
 }
 
