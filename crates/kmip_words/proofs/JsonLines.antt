@@ -7,8 +7,8 @@ use Rattle.kmip_wire.specs.declared.kind.Kind.TheVariants.{TextString}
 use Rattle.kmip_shape.specs.Shape.{Shape, RowList, Cases, Scalar, Rows, OneOf, NoCase, NoRow, Required}
 use Rattle.kmip_shape.specs.Fits.{Fits, fits_in, field_fits, mark_fits}
 use Rattle.kmip_shape.specs.Shown.{shown_in_style, text_in_style}
-use Rattle.kmip_json.specs.JsonTexts.{AreCharacters, NoCharacter, AsItIs, IsJson, AString, NoMember, AnObject, AreMembers, AMember, AndMembers}
-use Rattle.kmip_json.proofs.JsonTexts.{value_is}
+use Rattle.kmip_shape.specs.Json.{AreCharacters, NoCharacter, AsItIs, IsJson, AString, NoMember, AnObject, AreMembers, AMember, AndMembers}
+use Rattle.kmip_shape.proofs.Json.{value_is}
 use Rattle.kmip_enums.specs.Operations.{operation_line}
 use Rattle.kmip_enums.specs.declared.operation.Operation.{Operation}
 use Rattle.kmip_enums.specs.declared.operation.Operation.TheVariants as operations
