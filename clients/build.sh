@@ -142,7 +142,10 @@ fi
 work=$(mktemp -d -t kmip-build-XXXXXX)
 trap 'rm -rf "$work"' EXIT
 mv "$folder/libkmip_c.a" "$work"
-make -s -C "$top/clients/c" library CORE="$work/libkmip_c.a" OUT="$work" >>"$log" 2>&1 || { tail -20 "$log" >&2 && give_up 'no library'; }
+if ! make -s -C "$top/clients/c" library CORE="$work/libkmip_c.a" OUT="$work" >>"$log" 2>&1; then
+    tail -20 "$log" >&2
+    give_up 'no library'
+fi
 rm "$work/libkmip_c.a"
 mv "$work"/* "$folder"
 printf 'made %s: %s\n' "$folder" "$(cd "$folder" && echo kmip_call lib*.a lib*.so *.h)"
