@@ -1,14 +1,17 @@
-//! Key rotation: a new RSA pair is made, made active and tried; it takes over the name of the old private key, which is
-//! then revoked and destroyed. It writes the new private key's identifier.
+//! Key rotation: a new RSA pair is made, made active and tried; it takes over the name of the old
+//! private key, which is then revoked and destroyed. It writes the new private key's identifier.
 //!
 //! rotate HOST PORT CERTIFICATE KEY AUTHORITY OLD-PRIVATE-KEY NAME
-use metsuwan_openssl::{Server, TlsClient};
+mod settings;
+
+use metsuwan::TlsClient;
 use std::error::Error;
 use std::process::ExitCode;
 
 /// Each step is done only after the one before it was answered.
 fn rotate(client: &TlsClient, old: &str, name: &str) -> metsuwan::Result<String> {
-    let (new, _public) = client.create_rsa_key_pair(2048, format!("{name}, new"), format!("{name}, public"))?;
+    let (new, _public) =
+        client.create_rsa_key_pair(2048, format!("{name}, new"), format!("{name}, public"))?;
     client.activate_key(&new)?;
     client.sign(&new, b"hello")?;
     client.rename_key(old, format!("{name}, old"))?;
@@ -19,15 +22,14 @@ fn rotate(client: &TlsClient, old: &str, name: &str) -> metsuwan::Result<String>
 }
 
 fn run(words: &[String]) -> Result<String, Box<dyn Error>> {
-    match Server::of_words(words) {
-        Some((server, [old, name])) => Ok(rotate(&server.client()?, old, name)?),
+    match settings::server_of(words) {
+        Some((server, [old, name])) => Ok(rotate(&server.connect()?.build(), old, name)?),
         _ => Err("usage: rotate HOST PORT CERTIFICATE KEY AUTHORITY OLD-PRIVATE-KEY NAME".into()),
     }
 }
 
 fn main() -> ExitCode {
-    let words: Vec<String> = std::env::args().skip(1).collect();
-    match run(&words) {
+    match run(&settings::arguments().unwrap_or_default()) {
         Ok(new) => {
             println!("{new}");
             ExitCode::SUCCESS
