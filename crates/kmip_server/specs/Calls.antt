@@ -42,8 +42,8 @@ report_of x = record {
   response_text = x.res_diag;
 }
 
--- What a helper's call did: its request went over the link, and it returned its part of what that
--- came to; or memory ran out before, and nothing changed.
+-- What a helper's call did: its request went over the link, and it returned its part of the answer;
+-- or memory ran out before, and nothing changed.
 pub data HelperRan {T : Type 0} (state : T → LinkState) (call : Call) (before after : ClientState T)
     (result : Result Answered Error) : Type 0 where
   called : (answer : Answer) → IsCall state (request_of call) before after answer →

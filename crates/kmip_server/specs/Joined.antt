@@ -67,12 +67,13 @@ pub record CallReport : Type 0 where
 
 abbrev pub turn_report : CallSettings → Call → Turn → CallReport
 turn_report settings call turn =
-    let told = told_of settings.buffered turn.request turn.outcome.answer (take turn.outcome.taken turn.rest) in
+    let texts = told_of settings.buffered turn.request turn.outcome.answer
+    (take turn.outcome.taken turn.rest) in
     record {
       sent = turn.outcome.sent;
       answer = helper_answer call turn.outcome.answer;
-      request_text = told.request_text;
-      response_text = told.response_text;
+      request_text = texts.request_text;
+      response_text = texts.response_text;
     }
 
 -- what is to come of a call
@@ -154,7 +155,7 @@ finish settings now (call ∷ calls) =
 abbrev pub has_unsent : List Expected → Bool
 has_unsent [] = false
 has_unsent (Unsent request ∷ es) = true
-has_unsent (Reported told ∷ es) = has_unsent es
+has_unsent (Reported report ∷ es) = has_unsent es
 
 -- The bytes of a call's request, where it is valid, are read as that request.
 abbrev pub IsReadBack : Call → Option CredentialType → Type 0
@@ -186,17 +187,18 @@ AreHeldNext settings now (call ∷ calls) =
     (AreHeldNext settings (next settings now call).after calls)
 
 -- a call that the link cut short: a proper part of the request was sent
-pub record IsUnsent (settings : CallSettings) (request : List ℕ) (told : CallReport) : Type 0 where
+pub record IsUnsent (settings : CallSettings) (request : List ℕ)
+    (report : CallReport) : Type 0 where
   pub n : ℕ
   pub part : n < length request
-  pub sent : told.sent ≡ take n request
-  pub answer : told.answer ≡ Err (RequestWriteError (codes "link failed"))
-  pub request_text : told.request_text ≡ diagnostic_of settings.buffered (Some request)
-  pub response_text : told.response_text ≡ None
+  pub sent : report.sent ≡ take n request
+  pub answer : report.answer ≡ Err (RequestWriteError (codes "link failed"))
+  pub request_text : report.request_text ≡ diagnostic_of settings.buffered (Some request)
+  pub response_text : report.response_text ≡ None
 
 abbrev pub ReportMatches : CallSettings → Expected → CallReport → Type 0
-ReportMatches settings (Reported told) told' = told' ≡ told
-ReportMatches settings (Unsent request) told' = IsUnsent settings request told'
+ReportMatches settings (Reported report) report' = report' ≡ report
+ReportMatches settings (Unsent request) report' = IsUnsent settings request report'
 
 -- The calls were reported as expected, one for one.
 abbrev pub ReportsMatch : CallSettings → List Expected → List CallReport → Type 0

@@ -64,9 +64,9 @@ pub record HasServed (time : ℤ) (objects : List Object) (maker : MakerState)
   pub held : (more : List Made) →
       AreResponsesHeld time (fresh (maker.given ++ more)) (messages_in sent).whole
 
--- What holds once a message came whose response has no wire form: the same, but that the maker was
--- last asked the question of that message, where it has one. The message begins with what was sent
--- of it, and is longer.
+-- What holds once there was a message whose response has no wire form: the same, but that the maker
+-- was last asked the question of that message, where it has one. The message begins with what was
+-- sent of it, and is longer.
 pub record IsCut (time : ℤ) (objects : List Object) (maker : MakerState)
     (ever sent kept : List ℕ) : Type 0 where
   pub objects_are : (run_of time maker.given (messages_in sent).whole).objects ≡ objects
@@ -169,7 +169,8 @@ pub data WriteEffect {M : Type 0} (state : M → MakerState) (server server' : S
   formless : (n : ℕ) (refusal : Refusal) → result ≡ Err refusal →
       is_message (kept_in refusal) ≡ true →
       kept_in refusal ≡ (messages_in sent).begun ++ take n bytes →
-      AnswersRequest state server server' (kept_in refusal) (Err NoForm) → is_memory refusal ≡ false →
+      AnswersRequest state server server' (kept_in refusal) (Err NoForm) →
+      is_memory refusal ≡ false →
       WriteEffect state server server' ever ever' sent sent' bytes result
   no_memory : result ≡ Err Refusal.OutOfMemory →
       WriteEffect state server server' ever ever' sent sent' bytes result

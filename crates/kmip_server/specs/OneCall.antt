@@ -40,48 +40,51 @@ pub record Agrees (t : ℤ) (given : List Made) (link : LinkState) : Type 0 wher
   pub ever : (run_of t given (messages_in link.sent).whole).ever ≡ Some link.ever
   pub held : AreResponsesHeld t (fresh given) (messages_in link.sent).whole
 
--- with these answers of the maker, the call came as expected
-pub record CallMatches (settings : CallSettings) (call : Call) (before after : LinkState) (told : CallReport)
-    (stops : Bool) (given : List Made) : Type 0 where
+-- With these answers of the maker, the call was reported as expected, and client and server are as
+-- expected after it.
+pub record CallMatches (settings : CallSettings) (call : Call) (before after : LinkState)
+    (report : CallReport) (stops : Bool) (given : List Made) : Type 0 where
   pub agrees : Agrees settings.time given before
   pub next_is : next settings (between settings.time given before)
       call ≡ record {
-        expected = Reported told;
+        expected = Reported report;
         stops = stops;
         after = between settings.time given after;
       }
   pub held : IsHeldNext settings (between settings.time given before) call
 
--- for any answers of the maker that agree with the link after the call, it came as expected
-pub record CallAlwaysMatches (settings : CallSettings) (call : Call) (before after : LinkState) (told : CallReport)
-    (stops : Bool) : Type 0 where
+-- so it is for any answers of the maker that agree with the link after the call
+pub record CallAlwaysMatches (settings : CallSettings) (call : Call) (before after : LinkState)
+    (report : CallReport) (stops : Bool) : Type 0 where
   pub whole : (messages_in after.sent).begun ≡ []
   pub came : (given : List Made) → Agrees settings.time given after →
-      CallMatches settings call before after told stops given
+      CallMatches settings call before after report stops given
 
 -- The call's request was not sent whole, since the response to it has no wire form, with the
 -- maker's answers as they are.
 pub record CutCall {M : Type 0} (state : M → MakerState) (settings : CallSettings) (call : Call)
-    (before : LinkState) (after : ServerLinkState M) (told : CallReport) : Type 0 where
+    (before : LinkState) (after : ServerLinkState M) (report : CallReport) : Type 0 where
   pub faults : 0 < after.faults
   pub agrees : Agrees settings.time (state after.server.maker).given before
   pub request : List ℕ
   pub next_is : next settings (between settings.time (state after.server.maker).given before)
       call ≡ record { expected = Unsent request; stops = true; after = standing state after }
-  pub unsent : IsUnsent settings request told
+  pub unsent : IsUnsent settings request report
   pub held : IsHeldNext settings (between settings.time (state after.server.maker).given before)
       call
 
--- what a call left
+-- what a call did to its link, and how it was reported
 pub data CallEffect {M : Type 0} (state : M → MakerState) (settings : CallSettings) (call : Call)
-    (before after : ServerLinkState M) (told : CallReport) (stops : Bool) : Type 0 where
-  -- the link is open, and it came as expected
+    (before after : ServerLinkState M) (report : CallReport) (stops : Bool) : Type 0 where
+  -- the link is open, and the call was reported as expected
   as_expected : IsOpen state after →
-      CallAlwaysMatches settings call (server_link_state state before) (server_link_state state after) told
-      stops → CallEffect state settings call before after told stops
+      CallAlwaysMatches settings call (server_link_state state before)
+      (server_link_state state after) report stops →
+      CallEffect state settings call before after report stops
   -- the link is faulted, and this was the last call, cut short
-  cut_short : stops ≡ true → CutCall state settings call (server_link_state state before) after told →
-      CallEffect state settings call before after told stops
+  cut_short : stops ≡ true →
+      CutCall state settings call (server_link_state state before) after report →
+      CallEffect state settings call before after report stops
 
 -- whether the call failed at sending its request
 abbrev pub fails_writing : Answer → Bool
@@ -106,10 +109,11 @@ IsLinkAfterCall call answer link =
     ((link.faults ≡ 0) ⊎ ((0 < link.faults) ×
     ((fails_writing answer ≡ true) × IsRequestOf call link.kept)))
 
--- What calls came to, with the maker's answers as they are in the end: each was reported as
--- expected, and they left client and server so.
-pub record CallsEnd {M : Type 0} (state : M → MakerState) (settings : CallSettings) (before : LinkState)
-    (after : ServerLinkState M) (calls : List Call) (xs : List CallReport) : Type 0 where
+-- With the maker's answers as they are at the end, each call was reported as expected, and client
+-- and server are as expected afterwards.
+pub record CallsEnd {M : Type 0} (state : M → MakerState) (settings : CallSettings)
+    (before : LinkState) (after : ServerLinkState M) (calls : List Call)
+    (xs : List CallReport) : Type 0 where
   pub meet : ReportsMatch settings
       (expected_calls settings (between settings.time (state after.server.maker).given before)
       calls) xs
