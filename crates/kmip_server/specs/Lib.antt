@@ -3,7 +3,6 @@ pub mod Split
 pub mod Serving
 pub mod Link
 pub mod Joined
-pub mod OneCall
+pub mod Came
 pub mod Calls
 pub mod Direct
-pub mod Session

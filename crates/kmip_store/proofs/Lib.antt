@@ -1,4 +1,4 @@
-pub mod Identifiers
+pub mod Places
 pub mod Questions
 pub mod Kept
 pub mod Plains

@@ -17,7 +17,7 @@ mod laws;
 mod maker;
 mod memory_maker;
 mod object;
-mod places;
+mod objects;
 mod plain_maker;
 mod store;
 

@@ -1,4 +1,3 @@
-pub mod OtherObjects
 pub mod Calls
 pub mod Diagnostics
 pub mod Exchanges
@@ -6,5 +5,4 @@ pub mod NamedValues
 pub mod Moves
 pub mod Numbers
 pub mod EmptyLink
-pub mod JsonLines
 pub mod Texts

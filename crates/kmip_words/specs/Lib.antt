@@ -6,6 +6,4 @@ pub mod Requests
 pub mod Options
 pub mod Streams
 pub mod Exchange
-pub mod About
 pub mod Lookup
-pub mod JsonLines
