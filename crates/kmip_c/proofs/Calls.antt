@@ -6,7 +6,7 @@ use Rattle.kmip_client.specs.Client.{credential_for}
 use Rattle.kmip_words.specs.Words.{words_of}
 use Rattle.kmip_c.specs.Calls.{call_from, call_of, settings_of}
 
-not_utf8 : (bytes : List ℕ) → (IsUtf8 bytes → ⊥) → is_utf8 bytes ≡ false
+pub not_utf8 : (bytes : List ℕ) → (IsUtf8 bytes → ⊥) → is_utf8 bytes ≡ false
 not_utf8 bytes not = elim (is_utf8 bytes) as (λ b. is_utf8 bytes ≡ b → b ≡ false) [
   | true ↦ λ e. absurd (not (IsUtf8-from_is_utf8 bytes e))
   | false ↦ λ e. refl
