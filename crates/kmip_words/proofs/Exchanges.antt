@@ -1,5 +1,5 @@
 -- What a call of the client did, of its exchange over a link in memory.
-use Rattle.std.proofs.Common.{◌≡◌, ◌≢◌, ℕ, ◌+◌, ◌-◌, Bool, true, false, cond, List, ◌++◌, take, drop, Option, None, refl, ◌∙◌, ap, sym, subst, arith, Result, Ok, Err, IfOk}
+use Rattle.std.proofs.Common.{◌≡◌, ◌≢◌, ℕ, ◌+◌, ◌-◌, Bool, true, false, cond, List, ◌++◌, take, drop, Option, None, refl, ◌∙◌, ap, sym, subst, arith, zero-add, Result, Ok, Err, IfOk}
 use Rattle.std.proofs.lemmas.List.{drop-drop}
 use Rattle.kmip_shape.specs.Val.{Val, Number, Text, Bytes, Truth, Record, Case}
 use Rattle.kmip_shape.specs.Shape.{Shape}
@@ -101,10 +101,10 @@ pub answer_shown : {E : Type 0} {before after : ClientState MemoryState} (style 
 answer_shown style call payload answer (Ok ending) old new makes did shows = answered style call payload answer ending old new makes did shows.some shows.shown shows.ending_is
 answer_shown style call payload answer (Err error) old new makes did shows = tt
 
--- over a link that has these bytes to read, the answer is the outcome's, unless memory ran out
+-- over a link that has these bytes to read, the answer and the bytes taken are the outcome's, unless memory ran out
 pub outcome_given : {before after : ClientState MemoryState} (settings : Settings) (call : Call) (payload : RequestPayload) (response : List ℕ) (answer : Answer) →
-    settings_of before ≡ settings → before.link.ever ≡ response → before.link.pos ≡ 0 →
-    IsRequestOf payload call → IsCall memory_state payload before after answer → answer ≢ Err OutOfMemory → answer ≡ (call_outcome settings call response).answer
+    settings_of before ≡ settings → before.link.ever ≡ response → before.link.pos ≡ 0 → IsRequestOf payload call → IsCall memory_state payload before after answer → answer ≢ Err OutOfMemory →
+    (answer ≡ (call_outcome settings call response).answer) × (after.link.pos ≡ (call_outcome settings call response).taken)
 outcome_given {before = before} {after = after} settings call payload response answer same ever pos makes did some =
     let o : List ℕ → Outcome = λ rest. outcome payload before.credential before.limit rest in
     let rest : List ℕ = drop before.link.pos after.link.ever in
@@ -113,9 +113,11 @@ outcome_given {before = before} {after = after} settings call payload response a
     let moves : Moves (memory_state before.link) (memory_state after.link) (o rest).sent (o rest).taken = done.1 in
     let all : after.link.ever ≡ response = moves.still refl ∙ ever in
     let here : rest ≡ response = rw (pos, all) refl in
-    done.0 ∙ ap (λ (l : List ℕ). (o l).answer) here
-    ∙ ap (λ (it : Asked). (outcome_of it.message it.operation before.limit response).answer) (makes before.credential)
-    ∙ ap (λ (s : Settings). (call_outcome s call response).answer) same
+    let is : o rest ≡ call_outcome settings call response =
+    ap o here
+    ∙ ap (λ (it : Asked). outcome_of it.message it.operation before.limit response) (makes before.credential)
+    ∙ ap (λ (s : Settings). call_outcome s call response) same in
+    (done.0 ∙ ap (λ (it : Outcome). it.answer) is, moves.pos ∙ ap (λ n. n + (o rest).taken) pos ∙ zero-add (o rest).taken ∙ ap (λ (it : Outcome). it.taken) is)
 
 -- and its payload is of the call's operation
 pub of_call : {E : Type 0} (payload : RequestPayload) (call : Call) (result : Result ResponsePayload E) → IsRequestOf payload call →

@@ -1,13 +1,15 @@
 -- The lines of answers are JSON.
-use Rattle.std.proofs.Common.{◌≡◌, ℕ, ◌<◌, ◌≤◌, ℤ, pos, negsuc, Bool, true, false, ◌&&◌, not, nat_eq, nat_lt, List, [], ◌∷◌, ◌++◌, codes, Some, None, Ok, Err, refl, sym, ap, ◌∙◌, subst, append_assoc, arith}
+use Rattle.std.proofs.Common.{◌≡◌, ℕ, ◌<◌, ◌≤◌, ℤ, pos, negsuc, Bool, true, false, ◌&&◌, not, nat_eq, nat_lt, List, [], ◌∷◌, ◌++◌, codes, Option, Some, None, Ok, Err, refl, sym, ap, ◌∙◌, subst, append_assoc, append-nil, arith}
 use Rattle.std.proofs.lemmas.Bool.Decides.{nat_tests}
+use Rattle.std.specs.Fmt.{decimal}
 use Rattle.kmip_shape.specs.declared.style.Style.TheVariants.{Json}
 use Rattle.kmip_shape.specs.Val.{Val, Vals, Field, Fields, Number, Text, Bytes, Truth, Record, Case, Absent, One, Many, NoField, AndField}
 use Rattle.kmip_wire.specs.declared.kind.Kind.TheVariants.{TextString}
 use Rattle.kmip_shape.specs.Shape.{Shape, RowList, Cases, Scalar, Rows, OneOf, NoCase, NoRow, Required}
 use Rattle.kmip_shape.specs.Fits.{Fits, fits_in, field_fits, mark_fits}
 use Rattle.kmip_shape.specs.Shown.{shown_as, text_styled}
-use Rattle.kmip_json.specs.JsonTexts.{AreCharacters, NoCharacter, AsItIs, IsJson, AString, NoMember, AnObject, AreMembers, AMember, AndMembers}
+use Rattle.kmip_diag.specs.Diagnostic.{diagnostic}
+use Rattle.kmip_json.specs.JsonTexts.{AreCharacters, NoCharacter, AsItIs, IsJson, AString, ANumber, NoMember, AnObject, AreMembers, AMember, AndMembers}
 use Rattle.kmip_json.proofs.JsonTexts.{value_is}
 use Rattle.kmip_enums.specs.Operations.{operation_line}
 use Rattle.kmip_enums.specs.declared.operation.Operation.{Operation}
@@ -19,6 +21,7 @@ use Rattle.kmip_client.specs.declared.error.Error.{Error}
 use Rattle.kmip_client.specs.declared.error.Error.TheVariants.{ConfigurationError, SerializeError, RequestWriteError, ResponseReadError, DeserializeError, ServerError, InternalError, ItemNotFound, Unknown, OutOfMemory}
 use Rattle.kmip_words.specs.Exchange.{operation_asked, record_styled, texts_styled, value_styled, value_line, error_name, error_line, json_line}
 use Rattle.kmip_words.specs.JsonLines.{IsJsonLine}
+use Rattle.kmip_words.specs.Refusal.{reason_of, message_of, reason_member, message_member, internal_error_line}
 use Rattle.kmip_words.specs.declared.call.Call.{Call}
 use Rattle.kmip_words.specs.declared.call.Call.TheVariants.{Query, CreateRsa, Rng, Sign, Activate, Revoke, Destroy, Rename, Get, Raw, Locate, Attributes, CreateAes, Discover}
 use Rattle.kmip_words.proofs.Exchanges.{of_case}
@@ -152,3 +155,27 @@ payload_line_is call payload fits own = value_line_is (value_styled call payload
 
 pub failure_line_is : (call : Call) (error : Error) → IsJsonLine (json_line call (Err error))
 failure_line_is call error = error_line_is error
+
+-- members, and one more
+and_member : (m : List ℕ) → AreMembers m → (name value : List ℕ) → plain name ≡ true → IsJson value → AreMembers (m ++ 44 ∷ 34 ∷ (name ++ 34 ∷ 58 ∷ value))
+and_member m are name value e is = AndMembers m (34 ∷ (name ++ 34 ∷ 58 ∷ value)) are (AMember name value (are_plain name e) is)
+
+and_reason : (m : List ℕ) → AreMembers m → (reason : Option ℕ) → AreMembers (m ++ reason_member reason)
+and_reason m are (Some reason) = and_member m are (codes "reason") (decimal reason) refl (ANumber (pos reason))
+and_reason m are None = subst AreMembers (sym (append-nil m)) are
+
+and_message : (m : List ℕ) → AreMembers m → (message : Option (List ℕ)) → AreMembers (m ++ message_member message)
+and_message m are (Some message) = and_member m are (codes "message") (text_styled message Json) refl (string_is message)
+and_message m are None = subst AreMembers (sym (append-nil m)) are
+
+pub internal_error_line_is : (text response : List ℕ) → IsJsonLine (internal_error_line text response)
+internal_error_line_is text response =
+    let error : List ℕ = codes "\"error\":\"InternalError\",\"text\":" ++ text_styled text Json in
+    let skeleton : List ℕ = text_styled (diagnostic (Some 0x4200) response) Json in
+    let shown : List ℕ = error ++ (codes ",\"response\":" ++ skeleton) in
+    let all : List ℕ = (shown ++ reason_member (reason_of response)) ++ message_member (message_of response) in
+    (123 ∷ (all ++ 125 ∷ []),
+      AnObject all (and_message (shown ++ reason_member (reason_of response))
+      (and_reason shown (and_member error (members_of (codes "InternalError") text refl) (codes "response") skeleton refl (string_is (diagnostic (Some 0x4200) response))) (reason_of response))
+      (message_of response)),
+      simp append_assoc)

@@ -1,4 +1,5 @@
 pub mod About
+pub mod Added
 pub mod Calls
 pub mod Diagnostics
 pub mod Exchanges

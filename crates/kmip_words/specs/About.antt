@@ -1,10 +1,11 @@
 -- Whether an answer is about the object that its call asked about.
-use Rattle.std.specs.Prelude.{ℕ, List, [], ◌==◌, length, Bool, false, not, ◌&&◌, Option, Some, Ok, Err, codes, bytes_eq, if◌then◌else◌}
+use Rattle.std.specs.Prelude.{◌≡◌, ◌≢◌, ℕ, List, [], ◌==◌, length, take, Bool, false, not, ◌&&◌, Option, Some, Ok, Err, codes, bytes_eq, if◌then◌else◌}
 use Rattle.kmip_shape.specs.Val.{Val, Text, Case}
 use Rattle.kmip_client.specs.Check.{field_at, one_of, text_in}
-use Rattle.kmip_client.specs.Outcome.{Answer}
-use Rattle.kmip_client.specs.declared.error.Error.TheVariants.{InternalError}
+use Rattle.kmip_client.specs.Outcome.{Answer, Outcome}
+use Rattle.kmip_client.specs.declared.error.Error.TheVariants.{InternalError, OutOfMemory}
 use Rattle.kmip_words.specs.Exchange.{Settings, ending_of, json_line, call_outcome}
+use Rattle.kmip_words.specs.Refusal.{internal_error_line}
 use Rattle.kmip_words.specs.declared.call.Call.{Call}
 use Rattle.kmip_words.specs.declared.call.Call.TheVariants.{Sign, Activate, Revoke, Destroy, Rename, Get, Attributes}
 use Rattle.kmip_words.specs.declared.ending.Ending.{Ending}
@@ -54,10 +55,21 @@ answer_about call answer =
 abbrev pub ending_about : Call → Answer → Ending
 ending_about call answer = if is_about_another call answer then Lost else ending_of answer
 
--- the line of JSON that says what these bytes answer to a call
+-- the answer, and how many bytes were taken, are those of the outcome, unless memory ran out
+abbrev pub IsReply : Answer → ℕ → Outcome → Type 0
+IsReply answer taken outcome =
+    answer ≢ Err OutOfMemory → (answer ≡ outcome.answer) × (taken ≡ outcome.taken)
+
+-- the line of JSON of an answer; that of an `InternalError` shows the response too
+abbrev pub line_with : Call → Answer → List ℕ → List ℕ
+line_with call (Err (InternalError text)) response = internal_error_line text response
+line_with call answer response = json_line call answer
+
+-- the line of JSON that says what these bytes answer to a call, of which a first part is taken
 abbrev pub response_line : Settings → Call → List ℕ → List ℕ
 response_line settings call response =
-    json_line call (answer_about call (call_outcome settings call response).answer)
+    let outcome : Outcome = call_outcome settings call response in
+    line_with call (answer_about call outcome.answer) (take outcome.taken response)
 
 -- how the call ended that these bytes answer
 abbrev pub response_ending : Settings → Call → List ℕ → Ending

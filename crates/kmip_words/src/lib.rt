@@ -18,6 +18,7 @@ mod lookup;
 mod offline;
 mod options;
 mod raw;
+mod refusal;
 mod requests;
 mod setup;
 mod show;

@@ -1,11 +1,11 @@
 //! Calls with no link: the bytes that a call sends, and the answer that the bytes sent back are.
-ghost use Rattle.std.specs.Prelude.{◌≡◌, ◌≢◌, ◌++◌, [], Err, IfOk, OnOk, false, option_map};
+ghost use Rattle.std.specs.Prelude.{◌≡◌, ◌≤◌, ◌++◌, [], length, drop, IfOk, OnOk, false, option_map};
 ghost use Rattle.kmip_response.specs.Values.{response_payload_val};
 ghost use Rattle.kmip_client.specs.Client.{credential_for, IsOfOperation};
 ghost use Rattle.kmip_client.specs.Outcome.{answer_with_payload};
 ghost use Rattle.kmip_words.specs.Exchange.{Settings as TheSettings, settings_of, request_asked};
 ghost use Rattle.kmip_words.specs.Exchange.{operation_asked, call_outcome};
-ghost use Rattle.kmip_words.specs.About.{response_line, response_ending};
+ghost use Rattle.kmip_words.specs.About.{IsReply, response_line, response_ending};
 ghost use Rattle.kmip_words.specs.JsonLines.{IsJsonLine};
 
 use crate::about::is_about_another;
@@ -13,9 +13,9 @@ use crate::answers::{answer, show_answer};
 use crate::call::Call;
 use crate::ending::Ending;
 use crate::laws::lines_are_json;
+use crate::refusal::push_internal_error;
 use crate::requests::request_for;
 use crate::setup::client_of;
-use crate::show::show_error;
 use kmip_client::{Client, Error};
 use kmip_link::MemoryLink;
 use kmip_response::ResponsePayload;
@@ -120,22 +120,39 @@ pub fn request_of(
     }
 }
 
-/// What these bytes answer to a call; `OutOfMemory` where memory ran out.
-fn answer_by(
+/// What some bytes answer to a call.
+#[derive(Drop)]
+struct Reply {
+    answer: Result<ResponsePayload, Error>,
+    /// How many of the bytes the answer depends on.
+    taken: usize,
+}
+
+/// How many bytes a client's link has left to read.
+fn left_for(client: &mut Client<MemoryLink>) -> usize
+    ensures { result ≡ length (drop client.old.link.pos client.old.link.ever) }
+{
+    client.inner().rest().len()
+}
+
+/// What these bytes answer to a call.
+fn reply_of(
     alloc: Global,
     settings: &Settings,
     call: &Call,
     response: &[u8],
-) -> Result<ResponsePayload, Error>
-    ensures outcome { answer_with_payload result ≢ Err Error.OutOfMemory →
-        answer_with_payload result ≡ (call_outcome settings.now call.now response.now).answer }
-    ensures variant { IfOk result
-        (λ payload. IsOfOperation (operation_asked call.now) (response_payload_val payload)) }
+) -> Result<Reply, OutOfMemory>
+    ensures outcome { IfOk result (λ reply. IsReply (answer_with_payload reply.answer) reply.taken
+        (call_outcome settings.now call.now response.now)) }
+    ensures within { IfOk result (λ reply. reply.taken ≤ length response.now) }
+    ensures variant { IfOk result (λ reply. IfOk reply.answer
+        (λ payload. IsOfOperation (operation_asked call.now) (response_payload_val payload))) }
 {
-    let link = link_over(alloc, response)?;
-    let mut client = settings.client(alloc, link)?;
+    let mut client = settings.client(alloc, link_over(alloc, response)?)?;
     let request = request_for(alloc, call)?;
-    client.do_request(alloc, request)
+    let answer = client.do_request(alloc, request);
+    let taken = response.len() - left_for(&mut client);
+    Ok(Reply { answer, taken })
 }
 
 /// Adds the answer that these bytes are to a call as a line of JSON, and returns how the call
@@ -146,6 +163,10 @@ fn answer_by(
 /// Where the call named an object, and the answer is about another one, the line has the error
 /// `InternalError` with the text `answer for another object`, and the call ended as `Lost`: the
 /// response was sent for another call, and so the link is out of step.
+///
+/// The line of an `InternalError` also has the member `response`, the skeleton of the first message
+/// as kmip_diag prints it, and where that reports failure `reason`, the number of the server's
+/// reason, and `message`, the server's text, as far as they stand in it.
 pub fn answer_of(
     alloc: Global,
     settings: &Settings,
@@ -160,11 +181,15 @@ pub fn answer_of(
     ensures json { OnOk result (IsJsonLine (response_line settings.now call response.now)) }
 {
     lines_are_json();
-    let answer = answer_by(alloc, settings, &call, response);
+    let Reply { answer, taken } = reply_of(alloc, settings, &call, response)?;
+    let first = &response[..taken];
     if is_about_another(&call, &answer) {
-        let text = Text::of(alloc, "answer for another object")?;
-        show_error(alloc, Style::Json, &Error::InternalError(text), line)?;
+        push_internal_error(alloc, "answer for another object", first, line)?;
         return Ok(Ending::Lost);
+    }
+    if let Err(Error::InternalError(text)) = &answer {
+        push_internal_error(alloc, text.as_str(), first, line)?;
+        return Ok(Ending::Refused);
     }
     show_answer(alloc, Style::Json, &call, answer, line)
 }
