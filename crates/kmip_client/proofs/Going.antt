@@ -46,7 +46,7 @@ going_none state payloads start = record {
 next_step : {T : Type 0} {state : T → LinkState} {payloads : List RequestPayload} {start now next : ClientState T} {exchanges : List Told} {payload : RequestPayload} {rest : List RequestPayload} {answer : Answer} →
     Going state payloads start now exchanges (payload ∷ rest) → IsCall state payload now next answer →
     IsTrue (state start.link).tells → (state next.link).ever ≡ (state start.link).ever → lacks_memory answer ≡ false →
-    ((state now.link).ever ≡ (state start.link).ever) × Step start.buffered start.credential start.limit payload (state now.link) (state next.link) answer next.request_text next.response_text
+    ((state now.link).ever ≡ (state start.link).ever) × Step state start.buffered start.credential start.limit payload now.link next.link answer next.request_text next.response_text
 next_step {state = state} {now = now} going call tells same room =
     let tells_on : IsTrue (state now.link).tells = rw going.keeps.tells tells in
     let quiet = same_before (going.grows tells) (exchanged_grows (call.exchange tells_on)) same in
@@ -99,7 +99,7 @@ pub session_done : {T : Type 0} {state : T → LinkState} {payloads : List Reque
 session_done {state = state} {payloads = payloads} {start = start} {now = now} {exchanges = exchanges} going =
     let made : Calls state payloads start exchanges now = calls_end state payloads start exchanges now [] going.calls in
     record {
-      ran = λ tells same. end start.credential start.limit (left (state now.link)) (going.so_far tells same);
+      ran = λ tells same. end state start.link now.link start.credential start.limit (left (state now.link)) (going.so_far tells same);
       stops = stops_end payloads exchanges going.stops;
       calls = made;
       texts = calls_texts state payloads start exchanges now made;

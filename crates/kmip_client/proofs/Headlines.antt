@@ -13,13 +13,64 @@ use Rattle.kmip_client.specs.declared.error.Error.{Error}
 use Rattle.kmip_client.specs.declared.error.Error.TheVariants.{OutOfMemory}
 use Rattle.kmip_client.specs.declared.message.MessageStop.{MessageStop}
 use Rattle.kmip_client.specs.Message.{Message, message_at, taken_for}
-use Rattle.kmip_client.specs.Outcome.{Answer, outcome_of, answer_of, tree_answer, value_answer, response_tag, left_for, seen_by, Gives, reading_answer, Exchanged, completed, write_failed, read_failed, sending_cut, reading_cut, Caused, not_valid, given, no_memory}
+use Rattle.kmip_client.specs.Outcome.{Answer, outcome_by, answer_by, answer_of, tree_answer, value_answer, read_answer, response_tag, left_for, seen_by, Gives, reading_answer, Exchanged, completed, write_failed, read_failed, sending_cut, reading_cut, Caused, not_valid, given, no_memory}
 use Rattle.kmip_client.specs.Client.{IsOfOperation}
 use Rattle.kmip_client.proofs.Variants.{variant_of}
 use Rattle.kmip_client.specs.Headline.{IsValidResponse, IsSound, IsAnswered, Headline}
 
-error_payload : {error : Error} {payload : Val} {G : Type 0} → ◌≡◌ {A = Answer} (Err error) (Ok payload) → G
+error_payload : {A : Type 0} {error : Error} {payload : A} {G : Type 0} → ◌≡◌ {A = Result A Error} (Err error) (Ok payload) → G
 error_payload e = absurd (cc)
+
+-- A message is a valid response exactly where it stands at the front and reads so.
+pub record IsReadBy {A : Type 0} (reads : List ℕ → Result A Error) (limit : Option ℕ) (IsValid : List ℕ → List ℕ → A → Type 0) : Type 0 where
+  pub valid : (rest m : List ℕ) (payload : A) → message_at rest limit ≡ Message.Whole m → reads m ≡ Ok payload → IsValid rest m payload
+  pub front : (rest m : List ℕ) (payload : A) → IsValid rest m payload → message_at rest limit ≡ Message.Whole m
+  pub read : (rest m : List ℕ) (payload : A) → IsValid rest m payload → reads m ≡ Ok payload
+
+record IsTaken {A : Type 0} (IsValid : List ℕ → List ℕ → A → Type 0) (rest : List ℕ) (payload : A) (taken : ℕ) : Type 0 where
+  m : List ℕ
+  is_valid : IsValid rest m payload
+  all : taken ≡ length m
+
+-- a payload comes of a valid response alone, of which every byte is taken
+from_message : {A : Type 0} (reads : List ℕ → Result A Error) (limit : Option ℕ) (IsValid : List ℕ → List ℕ → A → Type 0) (rest : List ℕ) (payload : A) (here : Message) → IsReadBy reads limit IsValid →
+    message_at rest limit ≡ here → answer_by reads here ≡ Ok payload → IsTaken IsValid rest payload (taken_for rest here)
+from_message reads limit IsValid rest payload Message.Ended by front answers = error_payload answers
+from_message reads limit IsValid rest payload (Message.Refused error) by front answers = error_payload answers
+from_message reads limit IsValid rest payload (Message.Whole m) by front answers =
+    record { m = m; is_valid = by.valid rest m payload front answers; all = refl }
+
+-- and wherever a valid response stands, its payload does
+to_message : {A : Type 0} (reads : List ℕ → Result A Error) (limit : Option ℕ) (IsValid : List ℕ → List ℕ → A → Type 0) (rest m : List ℕ) (payload : A) → IsReadBy reads limit IsValid →
+    IsValid rest m payload → answer_by reads (message_at rest limit) ≡ Ok payload
+to_message reads limit IsValid rest m payload by it =
+    ap (λ here. answer_by reads here) (by.front rest m payload it) ∙ by.read rest m payload it
+
+not_rose : {before after : LinkState} {G : Type 0} → IsSound before after → FaultCountRose before.faults after.faults → G
+not_rose sound rose = absurd (omega (arith, sound.same, sound.below, rose))
+
+headline_of : {A : Type 0} {before after : LinkState} (bytes : List ℕ) (reads : List ℕ → Result A Error) (limit : Option ℕ) (IsValid : List ℕ → List ℕ → A → Type 0) (answer : Result A Error) → IsReadBy reads limit IsValid →
+    Exchanged (outcome_by (Some bytes) reads limit (left_for before after)) before after answer → IsSound before after → answer ≢ Err OutOfMemory →
+    IsAnswered bytes IsValid before after answer
+headline_of {before = before} {after = after} bytes reads limit IsValid answer by (completed is moves) sound room = record {
+  sent = moves.sent_is;
+  only = λ payload ok.
+      let it : IsTaken IsValid (left_for before after) payload (taken_for (left_for before after) (message_at (left_for before after) limit)) =
+      from_message reads limit IsValid (left_for before after) payload (message_at (left_for before after) limit) by refl (sym is ∙ ok) in
+      (it.m, it.is_valid, moves.pos ∙ ap (λ n. before.pos + n) it.all);
+  whenever = λ m payload valid. is ∙ to_message reads limit IsValid (left_for before after) m payload by valid;
+}
+headline_of bytes reads limit IsValid answer by (write_failed is rose n within moves) sound room = not_rose sound rose
+headline_of bytes reads limit IsValid answer by (read_failed is rose n within moves) sound room = not_rose sound rose
+headline_of bytes reads limit IsValid answer by (sending_cut is n within moves) sound room = absurd (room is)
+headline_of bytes reads limit IsValid answer by (reading_cut is n within moves) sound room = absurd (room is)
+
+pub headline : {A : Type 0} {before after : LinkState} (request : Option (List ℕ)) (reads : List ℕ → Result A Error) (limit : Option ℕ) (IsValid : List ℕ → List ℕ → A → Type 0) (answer : Result A Error) → IsReadBy reads limit IsValid →
+    Exchanged (outcome_by request reads limit (left_for before after)) before after answer → Headline request IsValid before after answer
+headline request reads limit IsValid answer by exchanged = λ bytes has sound room.
+    headline_of bytes reads limit IsValid answer by (rw has at exchanged) sound room
+
+-- ---- responses of KMIP's tables
 
 -- a value that answers with a payload
 from_value : (operation : Operation) (limit : Option ℕ) (rest m : List ℕ) (payload : Val) (tree : Tree) (value : Option Val) → message_at rest limit ≡ Message.Whole m → Parses tree 1 m →
@@ -28,10 +79,10 @@ from_value operation limit rest m payload tree None front parses reads answers =
 from_value operation limit rest m payload tree (Some value) front parses reads answers =
     record { tree = tree; value = value; front = front; parses = parses; reads = reads; checks = answers }
 
-parses_of : (tree : Tree) (m : List ℕ) → item_of 64 m ≡ Some tree → Parses tree 1 m
+pub parses_of : (tree : Tree) (m : List ℕ) → item_of 64 m ≡ Some tree → Parses tree 1 m
 parses_of tree m is = (tree_computed tree 1 m (omega arith, omega arith)).0 is
 
-computed_of : (tree : Tree) (m : List ℕ) → Parses tree 1 m → item_of 64 m ≡ Some tree
+pub computed_of : (tree : Tree) (m : List ℕ) → Parses tree 1 m → item_of 64 m ≡ Some tree
 computed_of tree m parses = (tree_computed tree 1 m (omega arith, omega arith)).1 parses
 
 from_tree : (operation : Operation) (limit : Option ℕ) (rest m : List ℕ) (payload : Val) (tree : Option Tree) → message_at rest limit ≡ Message.Whole m →
@@ -40,50 +91,13 @@ from_tree operation limit rest m payload None front is answers = error_payload a
 from_tree operation limit rest m payload (Some tree) front is answers =
     from_value operation limit rest m payload tree (root_read response_message response_tag tree) front (parses_of tree m is) refl answers
 
-record IsTaken (operation : Operation) (limit : Option ℕ) (rest : List ℕ) (payload : Val) (taken : ℕ) : Type 0 where
-  m : List ℕ
-  valid : IsValidResponse operation limit rest m payload
-  all : taken ≡ length m
-
--- a payload comes of a valid response alone, of which every byte is taken
-from_message : (operation : Operation) (limit : Option ℕ) (rest : List ℕ) (payload : Val) (here : Message) → message_at rest limit ≡ here → answer_of operation here ≡ Ok payload →
-    IsTaken operation limit rest payload (taken_for rest here)
-from_message operation limit rest payload Message.Ended front answers = error_payload answers
-from_message operation limit rest payload (Message.Refused error) front answers = error_payload answers
-from_message operation limit rest payload (Message.Whole m) front answers =
-    record { m = m; valid = from_tree operation limit rest m payload (item_of 64 m) front refl answers; all = refl }
-
--- and wherever a valid response stands, its payload does
-to_message : {operation : Operation} {limit : Option ℕ} {rest m : List ℕ} {payload : Val} → IsValidResponse operation limit rest m payload → answer_of operation (message_at rest limit) ≡ Ok payload
-to_message {operation = operation} {limit = limit} {rest = rest} {m = m} {payload = payload} it =
-    ap (λ here. answer_of operation here) it.front
-    ∙ ap (λ tree. tree_answer operation tree) (computed_of it.tree m it.parses)
-    ∙ ap (λ value. value_answer operation value) it.reads
-    ∙ it.checks
-
-not_rose : {before after : LinkState} {G : Type 0} → IsSound before after → FaultCountRose before.faults after.faults → G
-not_rose sound rose = absurd (omega (arith, sound.same, sound.below, rose))
-
-pub headline_of : {before after : LinkState} (bytes : List ℕ) (operation : Operation) (limit : Option ℕ) (answer : Answer) →
-    Exchanged (outcome_of (Some bytes) operation limit (left_for before after)) before after answer → IsSound before after → answer ≢ Err OutOfMemory →
-    IsAnswered bytes operation limit before after answer
-headline_of {before = before} {after = after} bytes operation limit answer (completed is moves) sound room = record {
-  sent = moves.sent_is;
-  only = λ payload ok.
-      let it : IsTaken operation limit (left_for before after) payload (taken_for (left_for before after) (message_at (left_for before after) limit)) =
-      from_message operation limit (left_for before after) payload (message_at (left_for before after) limit) refl (sym is ∙ ok) in
-      (it.m, it.valid, moves.pos ∙ ap (λ n. before.pos + n) it.all);
-  whenever = λ m payload valid. is ∙ to_message valid;
+pub typed_valid : (operation : Operation) (limit : Option ℕ) → IsReadBy (read_answer operation) limit (IsValidResponse operation limit)
+typed_valid operation limit = record {
+  valid = λ rest m payload front answers. from_tree operation limit rest m payload (item_of 64 m) front refl answers;
+  front = λ rest m payload it. it.front;
+  read = λ rest m payload it.
+      ap (λ tree. tree_answer operation tree) (computed_of it.tree m it.parses) ∙ ap (λ value. value_answer operation value) it.reads ∙ it.checks;
 }
-headline_of bytes operation limit answer (write_failed is rose n within moves) sound room = not_rose sound rose
-headline_of bytes operation limit answer (read_failed is rose n within moves) sound room = not_rose sound rose
-headline_of bytes operation limit answer (sending_cut is n within moves) sound room = absurd (room is)
-headline_of bytes operation limit answer (reading_cut is n within moves) sound room = absurd (room is)
-
-pub headline : {before after : LinkState} (request : Option (List ℕ)) (operation : Operation) (limit : Option ℕ) (answer : Answer) →
-    Exchanged (outcome_of request operation limit (left_for before after)) before after answer → Headline request operation limit before after answer
-headline request operation limit answer exchanged = λ bytes has sound room.
-    headline_of bytes operation limit answer (rw has at exchanged) sound room
 
 -- over any link, a payload has the variant of the operation
 value_variant : (operation : Operation) (tree : Tree) (value : Option Val) (payload : Val) → root_read response_message response_tag tree ≡ value → value_answer operation value ≡ Ok payload → IsOfOperation operation payload
@@ -99,7 +113,7 @@ given_variant operation Message.Ended payload answers = error_payload answers
 given_variant operation (Message.Refused error) payload answers = error_payload answers
 given_variant operation (Message.Whole m) payload answers = read_variant operation (item_of 64 m) payload answers
 
-said_variant : (operation : Operation) (taken : List ℕ) (read : Result (Unit {0}) MessageStop) (payload : Val) → reading_answer operation taken read ≡ Ok payload → IsOfOperation operation payload
+said_variant : (operation : Operation) (taken : List ℕ) (read : Result (Unit {0}) MessageStop) (payload : Val) → reading_answer (read_answer operation) taken read ≡ Ok payload → IsOfOperation operation payload
 said_variant operation taken (Ok _) payload answers = read_variant operation (item_of 64 taken) payload answers
 said_variant operation taken (Err MessageStop.Ended) payload answers = error_payload answers
 said_variant operation taken (Err (MessageStop.Refused error)) payload answers = error_payload answers
@@ -107,11 +121,11 @@ said_variant operation taken (Err MessageStop.Fault) payload answers = error_pay
 said_variant operation taken (Err MessageStop.OutOfMemory) payload answers = error_payload answers
 
 pub told_variant : {P : Type 0} (val : P → Val) (operation : Operation) (taken : List ℕ) (read : Result (Unit {0}) MessageStop) (result : Result P Error) →
-    Gives (reading_answer operation taken read) (seen_by val result) → IfOk result (λ payload. IsOfOperation operation (val payload))
+    Gives (reading_answer (read_answer operation) taken read) (seen_by val result) → IfOk result (λ payload. IsOfOperation operation (val payload))
 told_variant val operation taken read (Ok payload) gives = said_variant operation taken read (val payload) (sym gives)
 told_variant val operation taken read (Err error) gives = tt
 
-caused_variant : {before after : ℕ} (request : Option (List ℕ)) (operation : Operation) (limit : Option ℕ) (answer : Answer) (payload : Val) → Caused request operation limit before after answer → answer ≡ Ok payload → IsOfOperation operation payload
+caused_variant : {before after : ℕ} (request : Option (List ℕ)) (operation : Operation) (limit : Option ℕ) (answer : Answer) (payload : Val) → Caused request (read_answer operation) limit before after answer → answer ≡ Ok payload → IsOfOperation operation payload
 caused_variant request operation limit answer payload (not_valid has is) ok = error_payload (sym is ∙ ok)
 caused_variant request operation limit answer payload (Caused.write_failed has is rose) ok = error_payload (sym is ∙ ok)
 caused_variant request operation limit answer payload (Caused.read_failed has is rose) ok = error_payload (sym is ∙ ok)
@@ -119,6 +133,6 @@ caused_variant request operation limit answer payload (given has rest is) ok = g
 caused_variant request operation limit answer payload (no_memory is) ok = error_payload (sym is ∙ ok)
 
 pub seen_variant : {P : Type 0} {before after : ℕ} (val : P → Val) (request : Option (List ℕ)) (operation : Operation) (limit : Option ℕ) (result : Result P Error) →
-    Caused request operation limit before after (seen_by val result) → IfOk result (λ payload. IsOfOperation operation (val payload))
+    Caused request (read_answer operation) limit before after (seen_by val result) → IfOk result (λ payload. IsOfOperation operation (val payload))
 seen_variant val request operation limit (Ok payload) caused = caused_variant request operation limit (Ok (val payload)) (val payload) caused refl
 seen_variant val request operation limit (Err error) caused = tt

@@ -11,7 +11,7 @@ use Rattle.kmip_client.specs.declared.error.Error.{Error}
 use Rattle.kmip_client.specs.declared.error.Error.TheVariants.{ConfigurationError, SerializeError, RequestWriteError, ResponseReadError, DeserializeError, ServerError, InternalError, ItemNotFound, Unknown, OutOfMemory}
 use Rattle.kmip_client.specs.declared.session.Exchange.{Exchange}
 use Rattle.kmip_client.specs.Transfer.{Grows}
-use Rattle.kmip_client.specs.Outcome.{Answer, seen_by, Outcome, outcome, left_for, Moves, Exchanged, completed, write_failed, read_failed, sending_cut, reading_cut}
+use Rattle.kmip_client.specs.Outcome.{Answer, seen_by, OutcomeOf, outcome, left_for, Moves, Exchanged, completed, write_failed, read_failed, sending_cut, reading_cut, FailsReading, reading_failed}
 use Rattle.kmip_client.specs.Client.{ClientState, loses_connection, lacks_memory}
 use Rattle.kmip_client.specs.Calls.{IsCall}
 use Rattle.kmip_client.specs.Diagnostics.{diagnostic_of, IsRequestText, IsResponseText}
@@ -27,7 +27,7 @@ grows_none a = record { more = []; is = append_none a.ever }
 pub grows_on : {a b c : LinkState} → Grows a b → Grows b c → Grows a c
 grows_on {a = a} ab bc = record { more = ab.more ++ bc.more; is = bc.is ∙ ap (λ l. l ++ bc.more) ab.is ∙ append_assoc a.ever ab.more bc.more }
 
-pub exchanged_grows : {o : Outcome} {before after : LinkState} {answer : Answer} → Exchanged o before after answer → Grows before after
+pub exchanged_grows : {A : Type 0} {o : OutcomeOf A} {before after : LinkState} {answer : Result A Error} → Exchanged o before after answer → Grows before after
 exchanged_grows (completed is moves) = moves.ever
 exchanged_grows (write_failed is rose n h moves) = moves.ever
 exchanged_grows (read_failed is rose n h moves) = moves.ever
@@ -70,11 +70,13 @@ pub pushed : {P : Type 0} (val : P → Val) (xs : List (Exchange P)) (x : Exchan
 pushed val xs x told is = map-append (exchange_told val) xs (x ∷ []) ∙ ap (λ t. map (exchange_told val) xs ++ t ∷ []) is
 
 -- what a call did where nothing came to its link
-pub record Step (buffered : Bool) (credential : Option CredentialType) (limit : Option ℕ) (payload : RequestPayload) (now after : LinkState) (answer : Answer) (asked said : Option (List ℕ)) : Type 0 where
-  pub exchanged : Exchanged (outcome payload credential limit (left now)) now after answer
+pub record Step {T : Type 0} (state : T → LinkState) (buffered : Bool) (credential : Option CredentialType) (limit : Option ℕ) (payload : RequestPayload) (now after : T) (answer : Answer) (asked said : Option (List ℕ)) : Type 0 where
+  pub exchanged : Exchanged (outcome payload credential limit (left (state now))) (state now) (state after) answer
+  pub reading : answer ≡ reading_failed → FailsReading state (request_bytes payload credential) (outcome payload credential limit (left (state now))).taken now after
+  pub keeps : Keeps (state now) (state after)
   pub request_text : IsRequestText buffered (request_bytes payload credential) answer asked
-  pub response_text : IsResponseText buffered (take (after.pos - now.pos) (left now)) answer said
-  pub same : after.ever ≡ now.ever
+  pub response_text : IsResponseText buffered (take ((state after).pos - (state now).pos) (left (state now))) answer said
+  pub same : (state after).ever ≡ (state now).ever
   pub room : lacks_memory answer ≡ false
 
 left_is : (now after : LinkState) → after.ever ≡ now.ever → left_for now after ≡ left now
@@ -82,12 +84,15 @@ left_is now after same = ap (λ l. drop now.pos l) same
 
 pub step_of : {T : Type 0} {state : T → LinkState} {payload : RequestPayload} {before after : ClientState T} {answer : Answer} →
     IsCall state payload before after answer → IsTrue (state before.link).tells → (state after.link).ever ≡ (state before.link).ever → lacks_memory answer ≡ false →
-    Step before.buffered before.credential before.limit payload (state before.link) (state after.link) answer after.request_text after.response_text
+    Step state before.buffered before.credential before.limit payload before.link after.link answer after.request_text after.response_text
 step_of {state = state} {payload = payload} {before = before} {after = after} {answer = answer} call tells same room =
     let P : List ℕ → Type 0 = λ rest. Exchanged (outcome payload before.credential before.limit rest) (state before.link) (state after.link) answer in
+    let R : List ℕ → Type 0 = λ rest. FailsReading state (request_bytes payload before.credential) (outcome payload before.credential before.limit rest).taken before.link after.link in
     let Q : List ℕ → Type 0 = λ rest. IsResponseText before.buffered (take ((state after.link).pos - (state before.link).pos) rest) answer after.response_text in
     record {
       exchanged = subst P (left_is (state before.link) (state after.link) same) (call.exchange tells);
+      reading = λ is. subst R (left_is (state before.link) (state after.link) same) (call.reading tells is);
+      keeps = call.keeps;
       request_text = call.request_text;
       response_text = subst Q (left_is (state before.link) (state after.link) same) (call.response_text tells);
       same = same;
@@ -112,14 +117,14 @@ told_is buffered request taken (Err (Unknown t)) a b p q room = both_told _ a b 
 told_is buffered request taken (Err OutOfMemory) a b p q room = absurd (let e : true ≡ false = room in cc)
 
 -- the texts of a call are those of its answer and of the bytes that it took
-step_told : {buffered : Bool} {credential : Option CredentialType} {limit : Option ℕ} {payload : RequestPayload} {now after : LinkState} {answer : Answer} {asked said : Option (List ℕ)} {sent : List ℕ} {n : ℕ} (expected : Answer) →
-    Step buffered credential limit payload now after answer asked said → answer ≡ expected → Moves now after sent n →
-    telling answer asked said ≡ told_of buffered (request_bytes payload credential) expected (take n (left now))
-step_told {buffered = buffered} {credential = credential} {payload = payload} {now = now} {after = after} {answer = answer} {asked = asked} {said = said} {n = n} expected step is moves =
-    let passed : after.pos - now.pos ≡ n = omega (arith, moves.pos) in
-    told_is buffered (request_bytes payload credential) (take (after.pos - now.pos) (left now)) answer asked said step.request_text step.response_text step.room
-    ∙ ap (λ k. told_of buffered (request_bytes payload credential) answer (take k (left now))) passed
-    ∙ ap (λ a. told_of buffered (request_bytes payload credential) a (take n (left now))) is
+step_told : {T : Type 0} {state : T → LinkState} {buffered : Bool} {credential : Option CredentialType} {limit : Option ℕ} {payload : RequestPayload} {now after : T} {answer : Answer} {asked said : Option (List ℕ)} {sent : List ℕ} {n : ℕ} (expected : Answer) →
+    Step state buffered credential limit payload now after answer asked said → answer ≡ expected → Moves (state now) (state after) sent n →
+    telling answer asked said ≡ told_of buffered (request_bytes payload credential) expected (take n (left (state now)))
+step_told {state = state} {buffered = buffered} {credential = credential} {payload = payload} {now = now} {after = after} {answer = answer} {asked = asked} {said = said} {n = n} expected step is moves =
+    let passed : (state after).pos - (state now).pos ≡ n = omega (arith, moves.pos) in
+    told_is buffered (request_bytes payload credential) (take ((state after).pos - (state now).pos) (left (state now))) answer asked said step.request_text step.response_text step.room
+    ∙ ap (λ k. told_of buffered (request_bytes payload credential) answer (take k (left (state now)))) passed
+    ∙ ap (λ a. told_of buffered (request_bytes payload credential) a (take n (left (state now)))) is
 
 pub record SoFar (buffered : Bool) (all : List Turn) (before now : LinkState) (exchanges : List Told) (rest : List Turn) : Type 0 where
   pub done : List Turn
@@ -176,15 +181,15 @@ begins t turns true = ([], refl)
 begins t turns false = (turns, refl)
 
 -- an answer that keeps the connection
-pub turn : {buffered : Bool} {all : List Turn} {before now after : LinkState} {asked said : Option (List ℕ)} (exchanges : List Told) (credential : Option CredentialType) (limit : Option ℕ) (payload : RequestPayload) (payloads : List RequestPayload) (answer : Answer) →
-    Keeps before now → SoFar buffered all before now exchanges (session (payload ∷ payloads) credential limit (left now)) →
-    Step buffered credential limit payload now after answer asked said → Exchanged (outcome payload credential limit (left now)) now after answer → loses_connection answer ≡ false →
-    SoFar buffered all before after (exchanges ++ telling answer asked said ∷ []) (session payloads credential limit (left after))
-turn {buffered = buffered} {all = all} {before = before} {now = now} {after = after} {asked = asked} {said = said} exchanges credential limit payload payloads answer keeps so_far step (completed is moves) kept =
-    let t : Turn = turn_of payload credential limit (left now) in
-    let P : List Turn → Type 0 = λ l. SoFar buffered all before now exchanges l in
-    let Q : List ℕ → Type 0 = λ rest. SoFar buffered all before after (exchanges ++ telling answer asked said ∷ []) (session payloads credential limit rest) in
-    let begun = subst P (session_next payload payloads credential limit (left now) ∙ keeps_on_loss t _ (ap loses_connection (sym is) ∙ kept)) so_far in
+pub turn : {T : Type 0} {state : T → LinkState} {buffered : Bool} {all : List Turn} {before : LinkState} {now after : T} {asked said : Option (List ℕ)} (exchanges : List Told) (credential : Option CredentialType) (limit : Option ℕ) (payload : RequestPayload) (payloads : List RequestPayload) (answer : Answer) →
+    Keeps before (state now) → SoFar buffered all before (state now) exchanges (session (payload ∷ payloads) credential limit (left (state now))) →
+    Step state buffered credential limit payload now after answer asked said → Exchanged (outcome payload credential limit (left (state now))) (state now) (state after) answer → loses_connection answer ≡ false →
+    SoFar buffered all before (state after) (exchanges ++ telling answer asked said ∷ []) (session payloads credential limit (left (state after)))
+turn {state = state} {buffered = buffered} {all = all} {before = before} {now = now} {after = after} {asked = asked} {said = said} exchanges credential limit payload payloads answer keeps so_far step (completed is moves) kept =
+    let t : Turn = turn_of payload credential limit (left (state now)) in
+    let P : List Turn → Type 0 = λ l. SoFar buffered all before (state now) exchanges l in
+    let Q : List ℕ → Type 0 = λ rest. SoFar buffered all before (state after) (exchanges ++ telling answer asked said ∷ []) (session payloads credential limit rest) in
+    let begun = subst P (session_next payload payloads credential limit (left (state now)) ∙ keeps_on_loss t _ (ap loses_connection (sym is) ∙ kept)) so_far in
     subst Q (left_on step.same moves) (one_more {t = t} _ keeps begun (step_told t.outcome.answer step is moves) moves)
 turn exchanges credential limit payload payloads answer keeps so_far step (write_failed is rose n h moves) kept = absurd (let e : true ≡ false = rw is at kept in cc)
 turn exchanges credential limit payload payloads answer keeps so_far step (read_failed is rose n h moves) kept = absurd (let e : true ≡ false = rw is at kept in cc)
@@ -192,43 +197,48 @@ turn exchanges credential limit payload payloads answer keeps so_far step (sendi
 turn exchanges credential limit payload payloads answer keeps so_far step (reading_cut is n h moves) kept = absurd (let e : true ≡ false = rw is at step.room in cc)
 
 -- all turns are there
-all_done : {buffered : Bool} {all : List Turn} {before now : LinkState} {exchanges : List Told} → SoFar buffered all before now exchanges [] → Ran buffered all before now exchanges
-all_done {buffered = buffered} {all = all} {before = before} {now = now} so_far =
+all_done : {T : Type 0} {state : T → LinkState} {buffered : Bool} {all : List Turn} {before now : T} {exchanges : List Told} → SoFar buffered all (state before) (state now) exchanges [] → Ran state buffered all before now exchanges
+all_done {state = state} {buffered = buffered} {all = all} {before = before} {now = now} so_far =
     let is : all ≡ so_far.done = so_far.split ∙ sym (append_none so_far.done) in
-    let P : List Turn → Type 0 = λ l. Moves before now (all_sent l) (all_taken l) in
+    let P : List Turn → Type 0 = λ l. Moves (state before) (state now) (all_sent l) (all_taken l) in
     whole (so_far.told_are ∙ ap (λ l. map (turn_told buffered) l) (sym is)) (subst P (sym is) so_far.moves)
 
-pub end : {buffered : Bool} {all : List Turn} {before now : LinkState} {exchanges : List Told} (credential : Option CredentialType) (limit : Option ℕ) (rest : List ℕ) →
-    SoFar buffered all before now exchanges (session [] credential limit rest) → Ran buffered all before now exchanges
+pub end : {T : Type 0} (state : T → LinkState) {buffered : Bool} {all : List Turn} (before now : T) {exchanges : List Told} (credential : Option CredentialType) (limit : Option ℕ) (rest : List ℕ) →
+    SoFar buffered all (state before) (state now) exchanges (session [] credential limit rest) → Ran state buffered all before now exchanges
 unfolding session
-end credential limit rest so_far = all_done so_far
+end state before now credential limit rest so_far = all_done {state = state} {before = before} {now = now} so_far
+
+not_reading : {R : Type 0} (text : List ℕ) → ◌≡◌ {A = Answer} (Err (RequestWriteError text)) reading_failed → R
+not_reading text is = absurd (cc)
 
 -- an answer that ends the session
-pub stop : {buffered : Bool} {all : List Turn} {before now after : LinkState} {asked said : Option (List ℕ)} (exchanges : List Told) (credential : Option CredentialType) (limit : Option ℕ) (payload : RequestPayload) (payloads : List RequestPayload) (answer : Answer) →
-    Keeps before now → SoFar buffered all before now exchanges (session (payload ∷ payloads) credential limit (left now)) →
-    Step buffered credential limit payload now after answer asked said → Exchanged (outcome payload credential limit (left now)) now after answer → loses_connection answer ≡ true →
-    Ran buffered all before after (exchanges ++ telling answer asked said ∷ [])
-stop {buffered = buffered} {all = all} {before = before} {now = now} {after = after} exchanges credential limit payload payloads answer keeps so_far step (completed is moves) lost =
-    let t : Turn = turn_of payload credential limit (left now) in
-    let P : List Turn → Type 0 = λ l. SoFar buffered all before now exchanges l in
-    let begun = subst P (session_next payload payloads credential limit (left now) ∙ loss_ends t _ (ap loses_connection (sym is) ∙ lost)) so_far in
-    all_done (one_more {t = t} [] keeps begun (step_told t.outcome.answer step is moves) moves)
-stop {buffered = buffered} {all = all} {before = before} {now = now} {after = after} {asked = asked} {said = said} exchanges credential limit payload payloads answer keeps so_far step (write_failed is rose n h moves) lost =
-    let t : Turn = turn_of payload credential limit (left now) in
+pub stop : {T : Type 0} {state : T → LinkState} {buffered : Bool} {all : List Turn} {before now after : T} {asked said : Option (List ℕ)} (exchanges : List Told) (credential : Option CredentialType) (limit : Option ℕ) (payload : RequestPayload) (payloads : List RequestPayload) (answer : Answer) →
+    Keeps (state before) (state now) → SoFar buffered all (state before) (state now) exchanges (session (payload ∷ payloads) credential limit (left (state now))) →
+    Step state buffered credential limit payload now after answer asked said → Exchanged (outcome payload credential limit (left (state now))) (state now) (state after) answer → loses_connection answer ≡ true →
+    Ran state buffered all before after (exchanges ++ telling answer asked said ∷ [])
+stop {state = state} {buffered = buffered} {all = all} {before = before} {now = now} {after = after} exchanges credential limit payload payloads answer keeps so_far step (completed is moves) lost =
+    let t : Turn = turn_of payload credential limit (left (state now)) in
+    let P : List Turn → Type 0 = λ l. SoFar buffered all (state before) (state now) exchanges l in
+    let begun = subst P (session_next payload payloads credential limit (left (state now)) ∙ loss_ends t _ (ap loses_connection (sym is) ∙ lost)) so_far in
+    all_done {state = state} {before = before} {now = after} (one_more {t = t} [] keeps begun (step_told t.outcome.answer step is moves) moves)
+stop {state = state} {buffered = buffered} {all = all} {before = before} {now = now} {after = after} {asked = asked} {said = said} exchanges credential limit payload payloads answer keeps so_far step (write_failed is rose n h moves) lost =
+    let t : Turn = turn_of payload credential limit (left (state now)) in
     let last : Answer = Err (RequestWriteError (codes "link failed")) in
-    let first = begins t (session payloads credential limit (drop t.outcome.taken (left now))) (loses_connection t.outcome.answer) in
+    let first = begins t (session payloads credential limit (drop t.outcome.taken (left (state now)))) (loses_connection t.outcome.answer) in
     broken so_far.done t first.0 last (take n t.outcome.sent) 0
-    (so_far.split ∙ ap (λ l. so_far.done ++ l) (session_next payload payloads credential limit (left now) ∙ first.1))
+    (so_far.split ∙ ap (λ l. so_far.done ++ l) (session_next payload payloads credential limit (left (state now)) ∙ first.1))
     (ap (λ l. l ++ telling answer asked said ∷ []) so_far.told_are ∙ ap (λ v. map (turn_told buffered) so_far.done ++ v ∷ []) (step_told last step is moves))
     (writing n h) (omega (arith, keeps.faults)) (moves_on keeps so_far.moves moves)
-stop {buffered = buffered} {all = all} {before = before} {now = now} {after = after} {asked = asked} {said = said} exchanges credential limit payload payloads answer keeps so_far step (read_failed is rose n h moves) lost =
-    let t : Turn = turn_of payload credential limit (left now) in
+    (record { between = now; keeps = keeps; moves = so_far.moves; later = step.keeps; last_moves = moves; rose = rose; reading = not_reading _ })
+stop {state = state} {buffered = buffered} {all = all} {before = before} {now = now} {after = after} {asked = asked} {said = said} exchanges credential limit payload payloads answer keeps so_far step (read_failed is rose n h moves) lost =
+    let t : Turn = turn_of payload credential limit (left (state now)) in
     let last : Answer = Err (ResponseReadError (codes "link failed")) in
-    let first = begins t (session payloads credential limit (drop t.outcome.taken (left now))) (loses_connection t.outcome.answer) in
+    let first = begins t (session payloads credential limit (drop t.outcome.taken (left (state now)))) (loses_connection t.outcome.answer) in
     broken so_far.done t first.0 last t.outcome.sent n
-    (so_far.split ∙ ap (λ l. so_far.done ++ l) (session_next payload payloads credential limit (left now) ∙ first.1))
+    (so_far.split ∙ ap (λ l. so_far.done ++ l) (session_next payload payloads credential limit (left (state now)) ∙ first.1))
     (ap (λ l. l ++ telling answer asked said ∷ []) so_far.told_are ∙ ap (λ v. map (turn_told buffered) so_far.done ++ v ∷ []) (step_told last step is moves))
     (reading n h) (omega (arith, keeps.faults)) (moves_on keeps so_far.moves moves)
+    (record { between = now; keeps = keeps; moves = so_far.moves; later = step.keeps; last_moves = moves; rose = rose; reading = λ _. step.reading is })
 stop exchanges credential limit payload payloads answer keeps so_far step (sending_cut is n h moves) lost = absurd (let e : true ≡ false = rw is at step.room in cc)
 stop exchanges credential limit payload payloads answer keeps so_far step (reading_cut is n h moves) lost = absurd (let e : true ≡ false = rw is at step.room in cc)
 

@@ -89,6 +89,3 @@ read_in_place old m into p q n got len is at within all =
     ∙ (rw (is, at, append_assoc old (into ++ p) q, append_assoc into p q) (take-append-add old (into ++ (p ++ q)) got))
     ∙ ap (λ l. old ++ l) (take-append-le got into (p ++ q) within)
 
--- bytes that room was added to begin with themselves
-pub with_room : (old more : List ℕ) (n room : ℕ) → n ≡ length old → take n (take (n + room) old ++ more) ≡ old
-with_room old more n room is = grind (arith, common_steps, is)

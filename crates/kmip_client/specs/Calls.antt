@@ -1,8 +1,9 @@
 -- One call of a client as a whole, and a helper that makes one.
-use Rattle.std.specs.Prelude.{◌≡◌, ◌-◌, ℕ, List, take, false, None, Result, Ok, Err, IsTrue}
+use Rattle.std.specs.Prelude.{◌≡◌, ◌-◌, ℕ, List, take, false, Option, None, Result, Ok, Err, IsTrue}
 use Rattle.kmip_shape.specs.Val.{Val}
 use Rattle.kmip_link.specs.State.{LinkState, Keeps}
 use Rattle.kmip_enums.specs.declared.operation.Operation.{Operation}
+use Rattle.kmip_types.specs.declared.auth.CredentialType.{CredentialType}
 use Rattle.kmip_request.specs.Message.{request_bytes, operation_of}
 use Rattle.kmip_request.specs.declared.payload.RequestPayload.{RequestPayload}
 use Rattle.kmip_response.specs.Values.{response_payload_val}
@@ -11,31 +12,48 @@ use Rattle.kmip_response.specs.declared.payloads.identifiers.CreateKeyPairRespon
 use Rattle.kmip_client.specs.declared.error.Error.{Error}
 use Rattle.kmip_client.specs.declared.error.Error.TheVariants.{OutOfMemory}
 use Rattle.kmip_client.specs.Outcome.{Answer, seen_by, Exchanged, Caused, FailsReading}
-use Rattle.kmip_client.specs.Outcome.{reading_failed, outcome, left_for}
-use Rattle.kmip_client.specs.Headline.{Headline}
+use Rattle.kmip_client.specs.Outcome.{reading_failed, OutcomeOf, outcome_by, left_for, read_answer}
+use Rattle.kmip_client.specs.Headline.{Headline, IsValidResponse}
 use Rattle.kmip_client.specs.Client.{ClientState, loses_connection, count_after}
 use Rattle.kmip_client.specs.Diagnostics.{IsRequestText, IsResponseText}
 
--- What `do_request` promises of a call for this request, which found the client as `before`, left
--- it as `after` and answered so. `state` is what the link means. What is said where the link
--- `tells` is said of a link that tells its bytes, and the rest of any link.
-pub record IsCall {T : Type 0} (state : T → LinkState) (payload : RequestPayload)
-    (before after : ClientState T) (answer : Answer) : Type 0 where
+-- How calls of one kind are written and read. Their requests are of type R, and their payloads are
+-- seen as of type A.
+pub record CallKind (R A : Type 0) : Type 1 where
+  -- the canonical bytes of a request under a credential, where it has any
+  pub bytes_of : R → Option CredentialType → Option (List ℕ)
+  -- what a whole message answers to a request
+  pub reads : R → List ℕ → Result A Error
+  -- under a limit on its length, the front of these bytes left is this message, which answers a
+  -- request with this payload
+  pub IsValid : R → Option ℕ → List ℕ → List ℕ → A → Type 0
+
+-- what a call should come to that found the client and left its link so
+abbrev pub outcome_for : {T R A : Type 0} → CallKind R A → (T → LinkState) → R → ClientState T →
+    T → OutcomeOf A
+outcome_for kind state request before after =
+    outcome_by (kind.bytes_of request before.credential) (kind.reads request) before.limit
+    (left_for (state before.link) (state after))
+
+-- What a call promises for this request, which found the client as `before`, left it as `after` and
+-- answered so. `state` is what the link means. What is said where the link `tells` is said of a
+-- link that tells its bytes, and the rest of any link.
+pub record IsCallOf {T R A : Type 0} (kind : CallKind R A) (state : T → LinkState) (request : R)
+    (before after : ClientState T) (answer : Result A Error) : Type 0 where
   -- outcome: what was answered, sent and taken, as it should be or broken off
   pub exchange : IsTrue (state before.link).tells →
-      Exchanged
-      (outcome payload before.credential before.limit
-      (left_for (state before.link) (state after.link)))
+      Exchanged (outcome_for kind state request before after.link)
       (state before.link) (state after.link) answer
   -- cause: why it answered so
-  pub caused : Caused (request_bytes payload before.credential) (operation_of payload) before.limit
+  pub caused : Caused (kind.bytes_of request before.credential) (kind.reads request) before.limit
       (state before.link).faults (state after.link).faults answer
   -- failing read: the link failed after it took the whole request, where the answer says so
   pub reading : IsTrue (state before.link).tells → answer ≡ reading_failed →
-      FailsReading state (request_bytes payload before.credential) before.link after.link
+      FailsReading state (kind.bytes_of request before.credential)
+      (outcome_for kind state request before after.link).taken before.link after.link
   -- headline: failures aside, a valid request is sent, and Ok is answered just to a valid response
   pub headline : IsTrue (state before.link).tells →
-      Headline (request_bytes payload before.credential) (operation_of payload) before.limit
+      Headline (kind.bytes_of request before.credential) (kind.IsValid request before.limit)
       (state before.link) (state after.link) answer
   -- link kept: what no call of a link changes, and a count of faults that did not fall
   pub keeps : Keeps (state before.link) (state after.link)
@@ -48,7 +66,7 @@ pub record IsCall {T : Type 0} (state : T → LinkState) (payload : RequestPaylo
   -- count: one more connection error, modulo 256, exactly if the answer is one
   pub count : after.errors ≡ count_after before.errors (loses_connection answer)
   -- texts: the request's is its diagnostic; none, or that, after memory ran out
-  pub request_text : IsRequestText before.buffered (request_bytes payload before.credential) answer
+  pub request_text : IsRequestText before.buffered (kind.bytes_of request before.credential) answer
       after.request_text
   -- texts: the response's is that of the bytes taken, and none if the request was not sent
   pub response_text : IsTrue (state before.link).tells →
@@ -58,6 +76,19 @@ pub record IsCall {T : Type 0} (state : T → LinkState) (payload : RequestPaylo
       answer after.response_text
   -- texts: of a response there is none if no diagnostics are kept
   pub quiet : before.buffered ≡ false → after.response_text ≡ None
+
+-- the calls whose requests and responses are of KMIP's tables
+abbrev pub typed_calls : CallKind RequestPayload Val
+typed_calls = record {
+  bytes_of = request_bytes;
+  reads = λ payload. read_answer (operation_of payload);
+  IsValid = λ payload. IsValidResponse (operation_of payload);
+}
+
+-- what `do_request` promises of a call for this request
+abbrev pub IsCall : {T : Type 0} → (T → LinkState) → RequestPayload → ClientState T →
+    ClientState T → Answer → Type 0
+IsCall state payload before after answer = IsCallOf typed_calls state payload before after answer
 
 -- a part of the payload, errors passed on
 abbrev pub part_of : {P R : Type 0} → (P → R) → Result P Error → Result R Error

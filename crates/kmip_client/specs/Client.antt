@@ -1,11 +1,10 @@
 -- A client, as a value.
-use Rattle.std.specs.Prelude.{◌≡◌, ℕ, ◌+◌, ◌%◌, List, Bool, true, false, Option, Some, None, Ok, Err}
+use Rattle.std.specs.Prelude.{◌≡◌, ℕ, ◌+◌, ◌%◌, List, Bool, true, false, Option, Some, None, Result, Ok, Err}
 use Rattle.kmip_shape.specs.Val.{Val, Case}
 use Rattle.kmip_enums.specs.Operations.{operation_line}
 use Rattle.kmip_enums.specs.declared.operation.Operation.{Operation}
 use Rattle.kmip_types.specs.declared.auth.CredentialType.{CredentialType}
 use Rattle.kmip_types.specs.declared.auth.CredentialType.TheVariants.{UsernameAndPassword}
-use Rattle.kmip_client.specs.Outcome.{Answer}
 use Rattle.kmip_client.specs.declared.error.Error.{Error}
 use Rattle.kmip_client.specs.declared.error.Error.TheVariants.{RequestWriteError, ResponseReadError, OutOfMemory}
 
@@ -42,7 +41,7 @@ is_connection_error (RequestWriteError text) = true
 is_connection_error (ResponseReadError text) = true
 is_connection_error error = false
 
-abbrev pub loses_connection : Answer → Bool
+abbrev pub loses_connection : {A : Type 0} → Result A Error → Bool
 loses_connection (Ok payload) = false
 loses_connection (Err error) = is_connection_error error
 
@@ -51,7 +50,7 @@ abbrev pub count_after : ℕ → Bool → ℕ
 count_after errors true = (errors + 1) % 256
 count_after errors false = errors
 
-abbrev pub lacks_memory : Answer → Bool
+abbrev pub lacks_memory : {A : Type 0} → Result A Error → Bool
 lacks_memory (Err OutOfMemory) = true
 lacks_memory answer = false
 

@@ -1,7 +1,7 @@
 -- The diagnostics of a call.
-use Rattle.std.specs.Prelude.{◌≡◌, ℕ, List, Bool, true, false, Option, Some, None, Err, ◌⊎◌}
+use Rattle.std.specs.Prelude.{◌≡◌, ℕ, List, Bool, true, false, Option, Some, None, Result, Err, ◌⊎◌}
 use Rattle.kmip_diag.specs.Diagnostic.{diagnostic}
-use Rattle.kmip_client.specs.Outcome.{Answer}
+use Rattle.kmip_client.specs.declared.error.Error.{Error}
 use Rattle.kmip_client.specs.declared.error.Error.TheVariants.{SerializeError, RequestWriteError, OutOfMemory}
 
 -- the diagnostic of these bytes, where the buffer is on
@@ -15,14 +15,16 @@ diagnostic_of buffered None = None
 diagnostic_of buffered (Some bytes) = diagnostic_for buffered bytes
 
 -- The text is the diagnostic of the request, or none after memory ran out.
-abbrev pub IsRequestText : Bool → Option (List ℕ) → Answer → Option (List ℕ) → Type 0
+abbrev pub IsRequestText : {A : Type 0} → Bool → Option (List ℕ) → Result A Error →
+    Option (List ℕ) → Type 0
 IsRequestText buffered request (Err OutOfMemory) text =
     (text ≡ None) ⊎ (text ≡ diagnostic_of buffered request)
 IsRequestText buffered request answer text = text ≡ diagnostic_of buffered request
 
 -- The text is the diagnostic of the bytes that were taken, or none where the request was not sent
 -- or memory ran out.
-abbrev pub IsResponseText : Bool → List ℕ → Answer → Option (List ℕ) → Type 0
+abbrev pub IsResponseText : {A : Type 0} → Bool → List ℕ → Result A Error → Option (List ℕ) →
+    Type 0
 IsResponseText buffered taken (Err OutOfMemory) text =
     (text ≡ None) ⊎ (text ≡ diagnostic_for buffered taken)
 IsResponseText buffered taken (Err (SerializeError reason)) text = text ≡ None
@@ -30,7 +32,7 @@ IsResponseText buffered taken (Err (RequestWriteError reason)) text = text ≡ N
 IsResponseText buffered taken answer text = text ≡ diagnostic_for buffered taken
 
 -- whether a response was read, wholly or in part
-abbrev pub is_read : Answer → Bool
+abbrev pub is_read : {A : Type 0} → Result A Error → Bool
 is_read (Err OutOfMemory) = false
 is_read (Err (SerializeError reason)) = false
 is_read (Err (RequestWriteError reason)) = false

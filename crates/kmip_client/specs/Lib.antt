@@ -12,4 +12,4 @@ pub mod Lending
 pub mod Session
 pub mod Order
 pub mod Skeletons
-pub use Rattle.kmip_helpers.specs.Requests
+pub use Rattle.kmip_request.specs.Requests

@@ -6,12 +6,13 @@ use Rattle.kmip_shape.specs.Val.{Val}
 use Rattle.kmip_types.specs.declared.auth.CredentialType.{CredentialType}
 use Rattle.kmip_request.specs.Message.{request_bytes}
 use Rattle.kmip_request.specs.declared.payload.RequestPayload.{RequestPayload}
-use Rattle.kmip_link.specs.State.{LinkState, FaultCountRose, left}
+use Rattle.kmip_link.specs.State.{LinkState, FaultCountRose, Keeps, left}
 use Rattle.kmip_client.specs.declared.error.Error.{Error}
 use Rattle.kmip_client.specs.declared.error.Error.TheVariants.{SerializeError}
 use Rattle.kmip_client.specs.declared.error.Error.TheVariants.{RequestWriteError, ResponseReadError}
 use Rattle.kmip_client.specs.declared.session.Exchange.{Exchange}
-use Rattle.kmip_client.specs.Outcome.{Answer, seen_by, Outcome, outcome, Moves}
+use Rattle.kmip_client.specs.Outcome.{Answer, seen_by, Outcome, outcome, Moves, FailsReading}
+use Rattle.kmip_client.specs.Outcome.{reading_failed}
 use Rattle.kmip_client.specs.Client.{ClientState, loses_connection, lacks_memory, count_after}
 use Rattle.kmip_client.specs.Calls.{IsCall}
 use Rattle.kmip_client.specs.Diagnostics.{diagnostic_for, diagnostic_of}
@@ -90,20 +91,36 @@ pub data BrokenOff (o : Outcome) : Answer → List ℕ → ℕ → Type 0 where
   reading : (n : ℕ) → n ≤ o.taken →
       BrokenOff o (Err (ResponseReadError (codes "link failed"))) o.sent n
 
+-- A session broke off at the call of this turn: that call found the link as `between`, after all
+-- that the turns before it sent and took, sent and took these itself, and in it the count of faults
+-- rose.
+pub record BreaksIn {T : Type 0} (state : T → LinkState) (done : List Turn) (turn : Turn)
+    (last : Answer) (sent : List ℕ) (taken : ℕ) (before after : T) : Type 0 where
+  pub between : T
+  pub keeps : Keeps (state before) (state between)
+  pub moves : Moves (state before) (state between) (all_sent done) (all_taken done)
+  pub later : Keeps (state between) (state after)
+  pub last_moves : Moves (state between) (state after) sent taken
+  pub rose : FaultCountRose (state between).faults (state after).faults
+  pub reading : last ≡ reading_failed →
+      FailsReading state turn.request turn.outcome.taken between after
+
 -- How a session of these turns went, and what it told.
-pub data Ran (buffered : Bool) (turns : List Turn) (before after : LinkState)
-    (exchanges : List Told) : Type 0 where
+pub data Ran {T : Type 0} (state : T → LinkState) (buffered : Bool) (turns : List Turn)
+    (before after : T) (exchanges : List Told) : Type 0 where
   whole : exchanges ≡ map (turn_told buffered) turns →
-      Moves before after (all_sent turns) (all_taken turns) →
-      Ran buffered turns before after exchanges
+      Moves (state before) (state after) (all_sent turns) (all_taken turns) →
+      Ran state buffered turns before after exchanges
   -- the link failed after some of them
   broken : (done : List Turn) (turn : Turn) (more : List Turn) (last : Answer) (sent : List ℕ)
       (taken : ℕ) → turns ≡ done ++ turn ∷ more →
       exchanges ≡ map (turn_told buffered) done ++
       told_of buffered turn.request last (take taken turn.rest) ∷ [] →
-      BrokenOff turn.outcome last sent taken → FaultCountRose before.faults after.faults →
-      Moves before after (all_sent done ++ sent) (all_taken done + taken) →
-      Ran buffered turns before after exchanges
+      BrokenOff turn.outcome last sent taken →
+      FaultCountRose (state before).faults (state after).faults →
+      Moves (state before) (state after) (all_sent done ++ sent) (all_taken done + taken) →
+      BreaksIn state done turn last sent taken before after →
+      Ran state buffered turns before after exchanges
 
 -- after this answer the next request's call is made
 abbrev pub GoesOn : Answer → Type 0
@@ -185,9 +202,9 @@ pub record IsSession {T : Type 0} (state : T → LinkState) (payloads : List Req
     (before after : ClientState T) (exchanges : List Told) : Type 0 where
   -- what was sent, taken and told, over a link that tells its bytes and got none meanwhile
   pub ran : IsTrue (state before.link).tells → (state after.link).ever ≡ (state before.link).ever →
-      Ran before.buffered
+      Ran state before.buffered
       (session payloads before.credential before.limit (left (state before.link)))
-      (state before.link) (state after.link) exchanges
+      before.link after.link exchanges
   -- there is one exchange for each request, up to the first that lost the connection
   pub stops : Stops payloads exchanges
   -- each exchange is what a call of `do_request` told, made on the client that the call before left

@@ -52,7 +52,7 @@ pub fn answer_read(
     taken: &[u8],
     read: Result<(), MessageStop>,
 ) -> Result<ResponsePayload, Error>
-    ensures { Gives (reading_answer operation taken.now read) (answer_with_payload result) }
+    ensures { Gives (reading_answer (read_answer operation) taken.now read) (answer_with_payload result) }
 {
     match read {
         Ok(()) => answer_whole(alloc, operation, taken),

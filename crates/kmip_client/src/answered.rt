@@ -9,6 +9,7 @@ ghost use Rattle.kmip_response.specs.Values.{sign_payload_val, unique_identifier
 ghost use Rattle.kmip_response.specs.Values.{attribute_edit_payload_val, get_payload_val};
 ghost use Rattle.kmip_client.specs.Client.{IsOfOperation};
 ghost use Rattle.kmip_client.specs.Outcome.{Gives, answer_with_payload, seen_by, reading_answer};
+ghost use Rattle.kmip_client.specs.Outcome.{read_answer};
 
 use crate::answer::answer_read;
 use crate::error::Error;
@@ -192,7 +193,7 @@ pub fn answer_to<P: Answered>(
     read: Result<(), MessageStop>,
 ) -> Result<P, Error>
     requires { P.Answers operation }
-    ensures { Gives (reading_answer operation taken.now read) (seen_by (P.val operation) result) }
+    ensures { Gives (reading_answer (read_answer operation) taken.now read) (seen_by (P.val operation) result) }
 {
     part(operation, answer_read(alloc, operation, taken, read))
 }

@@ -5,7 +5,7 @@ ghost use Rattle.kmip_link.specs.State.{Keeps};
 ghost use Rattle.kmip_shape.specs.Val.{Val};
 ghost use Rattle.kmip_request.specs.Message.{request_bytes, credential_of, operation_of};
 ghost use Rattle.kmip_client.specs.Outcome.{Exchanged, Caused, FailsReading, reading_failed};
-ghost use Rattle.kmip_client.specs.Outcome.{outcome, left_for, seen_by};
+ghost use Rattle.kmip_client.specs.Outcome.{outcome, left_for, seen_by, read_answer};
 ghost use Rattle.kmip_client.specs.declared.error.Error.TheVariants.{OutOfMemory as no_memory};
 ghost use Rattle.kmip_client.specs.Diagnostics.{diagnostic_for, is_read};
 ghost use Rattle.kmip_client.specs.Diagnostics.{IsRequestText, IsResponseText};
@@ -108,13 +108,15 @@ pub fn call<L: Link, P: Answered>(
         (L.state link.old) (L.state link.new) (seen_by (P.val (operation_of payload.now)) result) }
     ensures caused { Caused
         (request_bytes payload.now (option_map credential_of settings.now.authentication))
-        (operation_of payload.now) settings.now.config.max_bytes
+        (read_answer (operation_of payload.now)) settings.now.config.max_bytes
         (L.state link.old).faults (L.state link.new).faults
         (seen_by (P.val (operation_of payload.now)) result) }
     ensures reading { IsTrue (L.state link.old).tells →
         seen_by (P.val (operation_of payload.now)) result ≡ reading_failed →
         FailsReading L.state
         (request_bytes payload.now (option_map credential_of settings.now.authentication))
+        (outcome payload.now (option_map credential_of settings.now.authentication)
+        settings.now.config.max_bytes (left_for (L.state link.old) (L.state link.new))).taken
         link.old link.new }
     ensures request_text { IsRequestText settings.now.config.has_buf
         (request_bytes payload.now (option_map credential_of settings.now.authentication))

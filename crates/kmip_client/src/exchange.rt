@@ -7,7 +7,7 @@ ghost use Rattle.kmip_link.specs.State.{Keeps, FaultCountRose, Writes, left};
 ghost use Rattle.kmip_request.specs.Message.{request_bytes, credential_of, operation_of};
 ghost use Rattle.kmip_client.specs.Transfer.{WritesPart};
 ghost use Rattle.kmip_client.specs.Outcome.{Exchanged, Caused, FailsReading, reading_failed};
-ghost use Rattle.kmip_client.specs.Outcome.{outcome_of, left_for, seen_by};
+ghost use Rattle.kmip_client.specs.Outcome.{outcome_of, left_for, seen_by, read_answer};
 ghost use Rattle.kmip_client.specs.Client.{lacks_memory};
 ghost use Rattle.kmip_client.specs.declared.error.Error.TheVariants.{SerializeError};
 ghost use Rattle.kmip_client.specs.declared.error.Error.TheVariants.{RequestWriteError};
@@ -78,11 +78,14 @@ pub fn exchange<L: Link, P: Answered>(
         Exchanged (outcome_of (Some request.now) operation config.now.max_bytes
         (left_for (L.state link.old) (L.state link.new))) (L.state link.old) (L.state link.new)
         (seen_by (P.val operation) result) }
-    ensures caused { Caused (Some request.now) operation config.now.max_bytes
+    ensures caused { Caused (Some request.now) (read_answer operation) config.now.max_bytes
         (L.state link.old).faults (L.state link.new).faults (seen_by (P.val operation) result) }
     ensures reading { IsTrue (L.state link.old).tells →
         seen_by (P.val operation) result ≡ reading_failed →
-        FailsReading L.state (Some request.now) link.old link.new }
+        FailsReading L.state (Some request.now)
+        (outcome_of (Some request.now) operation config.now.max_bytes
+        (left_for (L.state link.old) (L.state link.new))).taken
+        link.old link.new }
     ensures bytes { IsTrue (L.state link.old).tells →
         lacks_memory (seen_by (P.val operation) result) ≡ false →
         taken.new.items ≡

@@ -1,6 +1,7 @@
 //! One message off a link.
 ghost use Rattle.std.specs.Prelude.{◌≡◌, ◌+◌, ◌*◌, ◌<◌, ◌≤◌, ◌++◌, ◌^◌, ℕ, [], length, take, drop};
-ghost use Rattle.std.specs.Prelude.{IfOk, OnErr, OnOk, IsErrOf, IsTrue, vec_len};
+ghost use Rattle.std.specs.Prelude.{IfOk, OnErr, OnOk, IsErrOf, IsTrue, vec_len, vec_capacity};
+ghost use Rattle.std.specs.Prelude.{max};
 ghost use Rattle.kmip_wire.specs.Heads.{head_says};
 ghost use Rattle.kmip_link.specs.State.{Keeps, FaultCountRose, left};
 ghost use Rattle.kmip_client.specs.Message.{ReadsMessage, IsRead};
@@ -53,7 +54,7 @@ fn contents_len(bytes: &[u8], config: &Config) -> Result<u32, MessageStop>
 }
 
 /// Reads one message to the end of `taken`, which is empty: the head, then exactly the contents
-/// that it says.
+/// that it says. Room is never taken for more than 65,536 bytes ahead of those that were read.
 pub fn read_message<L: Link>(
     link: &mut L,
     config: &Config,
@@ -67,6 +68,8 @@ pub fn read_message<L: Link>(
     ensures read { IsRead config.now.max_bytes taken.new.items result }
     ensures fault { IsErrOf result MessageStop.Fault →
         FaultCountRose (L.state link.old).faults (L.state link.new).faults }
+    ensures ahead { vec_capacity taken.new ≤
+        max (vec_capacity taken.old) (vec_len taken.new + 65536) }
 {
     read_more(link, 8, taken)?;
     let len = contents_len(taken, config)?;

@@ -7,7 +7,7 @@ use std::alloc::Global;
 /// What is reserved for a response, in bytes: few are longer.
 pub const FIRST_ROOM: usize = 256;
 
-/// The most room that is kept for requests, and for responses, in bytes.
+/// The most memory that is kept for requests, and for responses, in bytes.
 const MOST_KEPT: usize = 65536;
 
 /// The room of a call's messages.
@@ -38,7 +38,8 @@ impl Room {
     {
         self.request.wipe();
         wipe(&mut self.taken);
-        self.request.spare() <= MOST_KEPT && self.taken.capacity() <= MOST_KEPT
+        // a buffer has at most twice the memory of its room, since its vector doubles when it grows
+        self.request.spare() <= MOST_KEPT / 2 && self.taken.capacity() <= MOST_KEPT
     }
 }
 

@@ -1,6 +1,7 @@
 //! Loops over the calls of a link: all of a request, and so many bytes of a response.
 ghost use Rattle.std.specs.Prelude.{◌≡◌, ◌+◌, ◌-◌, ◌<◌, ◌≤◌, ◌++◌, [], ℕ, length, take, drop, min};
-ghost use Rattle.std.specs.Prelude.{IfOk, IfErr, OnErr, OnOk, IsErrOf, IsTrue, vec_len};
+ghost use Rattle.std.specs.Prelude.{IfOk, IfErr, OnErr, OnOk, IsErrOf, IsTrue, vec_len, max};
+ghost use Rattle.std.specs.Prelude.{vec_capacity};
 ghost use Rattle.kmip_link.specs.State.{Keeps, Writes, FaultCountRose, left};
 ghost use Rattle.kmip_client.specs.Transfer.{WritesPart, Takes, TakesPart};
 
@@ -61,6 +62,22 @@ pub fn write_all<L: Link>(link: &mut L, bytes: &[u8]) -> Result<(), LinkError>
     Ok(())
 }
 
+/// Makes `taken` longer by `room` bytes that mean nothing. No more room is taken than for these.
+fn lengthen(taken: &mut Vec<u8>, room: usize) -> Result<(), AllocError>
+    ensures kept { take (length taken.old.items) taken.new.items ≡ taken.old.items }
+    ensures ok { OnOk result (vec_len taken.new ≡ vec_len taken.old + room) }
+    ensures err { OnErr result (taken.new.items ≡ taken.old.items) }
+    ensures capacity { vec_capacity taken.new ≤
+        max (vec_capacity taken.old) (vec_len taken.old + room) }
+{
+    taken.reserve_exact(room)?;
+    let end = taken.len() + room;
+    while taken.len() < end {
+        taken.push_reserved(0);
+    }
+    Ok(())
+}
+
 /// Reads at most `room` bytes into their place, at the end of `taken`.
 fn read_piece<L: Link>(link: &mut L, room: usize, taken: &mut Vec<u8>) -> Result<usize, ReadStop>
     requires some { 0 < room }
@@ -81,9 +98,11 @@ fn read_piece<L: Link>(link: &mut L, room: usize, taken: &mut Vec<u8>) -> Result
     ensures kept { take (length taken.old.items) taken.new.items ≡ taken.old.items }
     ensures part { IsTrue (L.state link.old).tells →
         TakesPart (L.state link.old) (L.state link.new) room }
+    ensures ahead { vec_capacity taken.new ≤
+        max (vec_capacity taken.old) (vec_len taken.old + room) }
 {
     let len = taken.len();
-    taken.resize(len + room, 0)?;
+    lengthen(taken, room)?;
     match link.read(&mut taken[len..]) {
         Ok(got) => {
             taken.truncate(len + got);
@@ -99,8 +118,8 @@ fn read_piece<L: Link>(link: &mut L, room: usize, taken: &mut Vec<u8>) -> Result
     }
 }
 
-/// Reads `count` bytes to the end of `taken`, in pieces of at most 65,536. Room is taken only piece
-/// by piece.
+/// Reads `count` bytes to the end of `taken`, in pieces of at most 65,536. Room is taken piece by
+/// piece, so that it is never for more than one piece ahead of the bytes that were read.
 pub fn read_more<L: Link>(link: &mut L, count: usize, taken: &mut Vec<u8>) -> Result<(), ReadStop>
     ensures keeps { Keeps (L.state link.old) (L.state link.new) }
     ensures kept { take (length taken.old.items) taken.new.items ≡ taken.old.items }
@@ -119,6 +138,8 @@ pub fn read_more<L: Link>(link: &mut L, count: usize, taken: &mut Vec<u8>) -> Re
         × (taken.new.items ≡ taken.old.items ++ take n (left (L.state link.old))) }
     ensures part { IsTrue (L.state link.old).tells →
         TakesPart (L.state link.old) (L.state link.new) count }
+    ensures ahead { vec_capacity taken.new ≤
+        max (vec_capacity taken.old) (vec_len taken.new + 65536) }
 {
     let mut done = 0;
     while done < count {

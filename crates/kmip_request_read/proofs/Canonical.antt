@@ -102,7 +102,7 @@ matched payload a message root b e p c =
 -- ---- the message of a matched request
 
 -- the item of a credential
-abbrev password_of : List ℕ → Password
+abbrev pub password_of : List ℕ → Password
 password_of text = record { 0 = text }
 
 abbrev pub item_of : CredentialType → Authentication

@@ -201,7 +201,7 @@ other_request m other = other_items m.0 m.1 other
 
 -- ---- the bytes
 
-first_level : IsLevel 1
+pub first_level : IsLevel 1
 first_level = (omega arith, omega arith)
 
 parsed : (root : Tree) (b : List ℕ) → Parses root 1 b → item_of 64 b ≡ Some root

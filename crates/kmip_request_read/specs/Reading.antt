@@ -37,17 +37,13 @@ minor_for Sign = 2
 minor_for RNGRetrieve = 2
 minor_for _ = 0
 
--- the one canonical message of a request, with these items in its header in the place of a
--- credential's, where it has one
-abbrev pub message_with : Request → List Tree → Option (List ℕ)
-message_with request authentication = option_and_then bytes (option_map
-    (message_tree (header_tree (minor_for request.operation) authentication)
-    (operation_line request.operation).number)
-    (tree_of request_payload REQUEST_PAYLOAD request.payload))
-
 -- the one canonical message of a request and a credential, where it has one
 abbrev pub message_bytes : Request → Option CredentialType → Option (List ℕ)
-message_bytes request credential = message_with request (authentication_trees credential)
+message_bytes request credential = option_and_then bytes (option_map
+    (message_tree
+    (header_tree (minor_for request.operation) (authentication_trees credential))
+    (operation_line request.operation).number)
+    (tree_of request_payload REQUEST_PAYLOAD request.payload))
 
 -- the request in a batch item that has no identifier, and whose operation is that of its payload
 -- (KMIP 1.0, 7.2)

@@ -1,6 +1,6 @@
 //! Laws over the definitions, each the contract of a function that does nothing.
 
-ghost use Rattle.std.specs.Prelude.{◌≡◌, ◌≤◌, ◌+◌, ℕ, List, length, Option, Some};
+ghost use Rattle.std.specs.Prelude.{◌≡◌, ◌≤◌, ◌+◌, ℕ, List, length, Option, Some, None};
 ghost use Rattle.kmip_wire.specs.Head.{head_length};
 ghost use Rattle.kmip_wire.specs.Tree.{Tree};
 ghost use Rattle.kmip_wire.specs.Parses.{Parses};
@@ -8,10 +8,10 @@ ghost use Rattle.kmip_wire.specs.Bytes.{HasRanges};
 ghost use Rattle.kmip_types.specs.declared.auth.CredentialType.{CredentialType};
 ghost use Rattle.kmip_request.specs.declared.payload.RequestPayload.{RequestPayload};
 ghost use Rattle.kmip_request.specs.Message.{request_bytes};
-ghost use Rattle.kmip_request.specs.Held.{IsHeld};
+ghost use Rattle.kmip_request.specs.Held.{AreTexts, IsHeld};
 ghost use Rattle.kmip_request_read.specs.Matched.{IsMatched, IsMatchedValue};
 ghost use Rattle.kmip_request_read.specs.Reading.{Request, request_for, message_bytes};
-ghost use Rattle.kmip_request_read.specs.Reading.{message_with, request_read};
+ghost use Rattle.kmip_request_read.specs.Reading.{request_read};
 
 /// Two matched requests of the same bytes are equal, in payload and credential. The premises
 /// `IsHeld` hold of every payload and credential that Rust can hold.
@@ -34,12 +34,16 @@ pub fn request_is_read()
         request_bytes p c ≡ Some b → request_read b ≡ Some (request_for p) }
 {}
 
-/// A request that `request_read` reads from bytes is matched, and the bytes are its message, with
-/// some list of items in its header in the place of a credential's.
+/// A request that `request_read` reads from bytes is matched, and the bytes are its message with
+/// some credential. Where it reads none, the bytes are the message of no matched request, with any
+/// credential.
 pub fn read_request_is_matched()
-    ensures { (b : List ℕ) (r : Request) → request_read b ≡ Some r →
+    ensures read { (b : List ℕ) (r : Request) → request_read b ≡ Some r →
         IsMatchedValue r.operation r.payload ×
-        ((trees : List Tree) × (message_with r trees ≡ Some b)) }
+        ((c : Option CredentialType) × AreTexts c × (message_bytes r c ≡ Some b)) }
+    ensures unread { (b : List ℕ) → request_read b ≡ None → (p : RequestPayload)
+        (c : Option CredentialType) → IsHeld p c → IsMatched p →
+        request_bytes p c ≡ Some b → ⊥ }
 {}
 
 /// The bytes of a request parse, as a tree whose numbers, texts and bytes are in their ranges. The

@@ -9,11 +9,10 @@ ghost use Rattle.kmip_request.specs.Values.{request_payload_val};
 ghost use Rattle.kmip_request_read.specs.Reading.{request_for, request_read};
 ghost use Rattle.kmip_server_core.specs.Requests as calls;
 
-use kmip_helpers::{
-    activate_request, destroy_request, get_request, key_pair_request, query_request,
-    rename_request, revoke_request, sign_request,
+use kmip_request::{
+    RequestPayload, activate_request, destroy_request, get_request, key_pair_request,
+    query_request, rename_request, revoke_request, sign_request, to_vec,
 };
-use kmip_request::{RequestPayload, to_vec};
 use kmip_request_read::{RequestReadError, from_slice, request_is_read};
 use kmip_shape::Item;
 use kmip_store::Call;

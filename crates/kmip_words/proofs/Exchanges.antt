@@ -3,7 +3,7 @@ use Rattle.std.proofs.Common.{◌≡◌, ◌≢◌, ℕ, ◌+◌, ◌-◌, Bool,
 use Rattle.std.proofs.lemmas.List.{drop-drop}
 use Rattle.kmip_shape.specs.Val.{Val, Number, Text, Bytes, Truth, Record, Case}
 use Rattle.kmip_shape.specs.Shape.{Shape}
-use Rattle.kmip_shape.specs.Shown.{shown_as}
+use Rattle.kmip_shape.specs.Shown.{shown_in_style}
 use Rattle.kmip_shape.specs.declared.style.Style.{Style}
 use Rattle.kmip_link.specs.Plan.{MemoryState, memory_state}
 use Rattle.kmip_enums.specs.Operations.{operation_line}
@@ -18,7 +18,7 @@ use Rattle.kmip_client.specs.declared.error.Error.TheVariants.{OutOfMemory}
 use Rattle.kmip_client.specs.Outcome.{Answer, Outcome, outcome, outcome_of, Moves, Exchanged}
 use Rattle.kmip_client.specs.Calls.{IsCall}
 use Rattle.kmip_client.specs.Client.{ClientState, IsOfOperation}
-use Rattle.kmip_words.specs.Exchange.{Settings, Asked, asked_of, IsRequestOf, operation_asked, payload_styled, record_styled, value_styled, answer_line, is_error, loses_link, ending_of, fails, settings_of, call_outcome, step_in, step_of, told_lines, Shows, Answers}
+use Rattle.kmip_words.specs.Exchange.{Settings, Asked, asked_of, IsRequestOf, operation_asked, payload_in_style, record_in_style, value_in_style, answer_line, is_error, loses_link, ending_of, fails, settings_of, call_outcome, step_in, step_of, told_lines, Shows, Answers}
 use Rattle.kmip_words.specs.declared.ending.Ending.{Ending}
 use Rattle.kmip_words.specs.declared.ending.Ending.TheVariants.{Lost, Refused}
 use Rattle.kmip_words.specs.declared.call.Call.{Call}
@@ -45,7 +45,7 @@ fails_is (Err error) = fails_by (loses_link error)
 
 -- the text of a call's payload in a style
 abbrev told_in : Style → Call → Val → List ℕ
-told_in style call payload = value_styled call payload style
+told_in style call payload = value_in_style call payload style
 
 -- so a call that makes this request did what its step says
 answered : {before after : ClientState MemoryState} (style : Style) (call : Call) (payload : RequestPayload) (answer : Answer) (ending : Ending) (old new : List ℕ) → IsRequestOf payload call →
@@ -90,8 +90,8 @@ of_case operation (Truth t) P f own = absurd own
 of_case operation (Record fields) P f own = absurd own
 
 -- a payload that is shown as its record, by the table of its operation
-pub record_is : (operation : Operation) (shape : Shape) (style : Style) (payload : Val) → ((v : Val) → payload_styled (Case (operation_line operation).number v) style ≡ shown_as shape v style) → IsOfOperation operation payload → payload_styled payload style ≡ record_styled shape payload style
-record_is operation shape style payload same = of_case operation payload (λ v. payload_styled v style ≡ record_styled shape v style) (λ n v is. rw is (same v))
+pub record_is : (operation : Operation) (shape : Shape) (style : Style) (payload : Val) → ((v : Val) → payload_in_style (Case (operation_line operation).number v) style ≡ shown_in_style shape v style) → IsOfOperation operation payload → payload_in_style payload style ≡ record_in_style shape payload style
+record_is operation shape style payload same = of_case operation payload (λ v. payload_in_style v style ≡ record_in_style shape v style) (λ n v is. rw is (same v))
 
 -- the answer of a call was shown, unless memory ran out
 pub answer_shown : {E : Type 0} {before after : ClientState MemoryState} (style : Style) (call : Call) (payload : RequestPayload) (answer : Answer) (shown : Result Ending E) (old new : List ℕ) →

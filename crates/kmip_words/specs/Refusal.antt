@@ -9,7 +9,7 @@ use Rattle.kmip_wire.specs.Parts.{tag_of, children_in, enumeration_in, text_in}
 use Rattle.kmip_wire.specs.Reading.{item_of}
 use Rattle.kmip_tags.specs.Tags.{BATCH_ITEM, RESULT_STATUS, RESULT_REASON, RESULT_MESSAGE}
 use Rattle.kmip_diag.specs.Diagnostic.{diagnostic}
-use Rattle.kmip_shape.specs.Shown.{text_styled}
+use Rattle.kmip_shape.specs.Shown.{text_in_style}
 use Rattle.kmip_shape.specs.declared.style.Style.TheVariants.{Json}
 
 -- the first item with the tag in a structure
@@ -44,17 +44,17 @@ reason_member (Some reason) = codes ",\"reason\":" ++ decimal reason
 reason_member None = []
 
 abbrev pub message_member : Option (List ℕ) → List ℕ
-message_member (Some message) = codes ",\"message\":" ++ text_styled message Json
+message_member (Some message) = codes ",\"message\":" ++ text_in_style message Json
 message_member None = []
 
 -- what stands beside an error in its line of JSON: `,"response":"..","reason":18,"message":".."`
 abbrev pub refusal_members : List ℕ → List ℕ
 refusal_members response =
-    (codes ",\"response\":" ++ text_styled (diagnostic (Some 0x4200) response) Json)
+    (codes ",\"response\":" ++ text_in_style (diagnostic (Some 0x4200) response) Json)
     ++ (reason_member (reason_of response) ++ message_member (message_of response))
 
 -- the line of JSON of an `InternalError` with this text, in which the response is shown
 abbrev pub internal_error_line : List ℕ → List ℕ → List ℕ
 internal_error_line text response =
-    (codes "{\"error\":\"InternalError\",\"text\":" ++ text_styled text Json)
+    (codes "{\"error\":\"InternalError\",\"text\":" ++ text_in_style text Json)
     ++ (refusal_members response ++ codes "}\n")

@@ -4,8 +4,8 @@ ghost use Rattle.kmip_enums.specs.declared.operation.Operation.{Operation as The
 ghost use Rattle.kmip_response.specs.Values.{response_payload_val};
 ghost use Rattle.kmip_client.specs.Client.{IsOfOperation};
 ghost use Rattle.kmip_client.specs.Outcome.{answer_with_payload};
-ghost use Rattle.kmip_words.specs.Exchange.{settings_of, operation_asked, payload_styled};
-ghost use Rattle.kmip_words.specs.Exchange.{texts_styled, value_styled, value_line, step_in};
+ghost use Rattle.kmip_words.specs.Exchange.{settings_of, operation_asked, payload_in_style};
+ghost use Rattle.kmip_words.specs.Exchange.{texts_in_style, value_in_style, value_line, step_in};
 ghost use Rattle.kmip_words.specs.Exchange.{json_line, Answers, Shows};
 ghost use Rattle.kmip_words.specs.JsonLines.{IsJsonLine};
 
@@ -30,7 +30,7 @@ fn push_record(
     line: &mut Text,
 ) -> Result<(), OutOfMemory>
     ensures { OnOk result (line.new ≡ line.old
-        ++ value_line (payload_styled (response_payload_val payload.now) style) style) }
+        ++ value_line (payload_in_style (response_payload_val payload.now) style) style) }
 {
     match payload {
         ResponsePayload::Create(payload) => push_payload(alloc, style, payload, line),
@@ -62,7 +62,7 @@ fn push_identifiers(
 ) -> Result<(), OutOfMemory>
     requires { IsOfOperation TheOperation.CreateKeyPair (response_payload_val payload.now) }
     ensures { OnOk result (line.new ≡ line.old
-        ++ value_line (texts_styled (response_payload_val payload.now) style) style) }
+        ++ value_line (texts_in_style (response_payload_val payload.now) style) style) }
 {
     match payload {
         ResponsePayload::CreateKeyPair(pair) => {
@@ -84,7 +84,7 @@ fn push_answer(
 ) -> Result<(), OutOfMemory>
     requires { IsOfOperation (operation_asked call.now) (response_payload_val payload.now) }
     ensures { OnOk result (line.new ≡ line.old
-        ++ value_line (value_styled call.now (response_payload_val payload.now) style) style) }
+        ++ value_line (value_in_style call.now (response_payload_val payload.now) style) style) }
 {
     match call {
         Call::Raw { .. } => push_payload(alloc, style, payload, line),
@@ -115,7 +115,7 @@ pub fn show_answer(
 ) -> Result<Ending, OutOfMemory>
     requires { IfOk answer
         (λ payload. IsOfOperation (operation_asked call.now) (response_payload_val payload)) }
-    ensures shown { IfOk result (λ ending. Shows (λ payload. value_styled call.now payload style)
+    ensures shown { IfOk result (λ ending. Shows (λ payload. value_in_style call.now payload style)
         style (answer_with_payload answer) ending line.old line.new) }
     ensures json { IsJsonLine (json_line call.now (answer_with_payload answer)) }
 {

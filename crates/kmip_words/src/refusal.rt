@@ -3,7 +3,7 @@ ghost use Rattle.std.specs.Prelude.{◌≡◌, ◌++◌, codes, Some, option_map
 ghost use Rattle.std.specs.Option.{option_and_then};
 ghost use Rattle.kmip_wire.specs.Items.{item_tree};
 ghost use Rattle.kmip_wire.specs.Parts.{enumeration_in};
-ghost use Rattle.kmip_shape.specs.Shown.{text_styled};
+ghost use Rattle.kmip_shape.specs.Shown.{text_in_style};
 ghost use Rattle.kmip_shape.specs.declared.style.Style.TheVariants.{Json};
 ghost use Rattle.kmip_diag.specs.Diagnostic.{diagnostic};
 ghost use Rattle.kmip_words.specs.Refusal.{item_with, failed_item, reason_of, message_of};
@@ -62,7 +62,7 @@ fn push_string_after(
     text: &str,
     line: &mut Text,
 ) -> Result<(), OutOfMemory>
-    ensures { OnOk result (line.new ≡ line.old ++ (before.now ++ text_styled text.now Json)) }
+    ensures { OnOk result (line.new ≡ line.old ++ (before.now ++ text_in_style text.now Json)) }
 {
     line.push_str(before)?;
     Text::of(alloc, text)?.show_json(alloc, line)

@@ -8,7 +8,7 @@ use crate::call::Call;
 use crate::raw::RawRequest;
 use bitflags::Flags;
 use kmip_enums::ObjectType;
-use kmip_helpers::{
+use kmip_request::{
     activate_request, destroy_request, get_request, key_pair_request, query_request,
     rename_request, revoke_request, sign_request,
 };

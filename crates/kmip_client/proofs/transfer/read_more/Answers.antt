@@ -9,6 +9,7 @@ loop-done-preserved g c =
     record {
       within = within;
       grown = omega (arith, c.in_ok-done.ensures.some);
+      ahead = omega (arith, i.ahead, c.read_piece.ensures.ahead, c.in_ok-done.ensures.some);
       kept = kept_on _ _ _ i.kept c.read_piece.ensures.kept;
       keeps = keeps_on i.keeps c.read_piece.ensures.keeps;
       takes = λ tells. takes_on (i.takes tells) (c.in_ok-done.ensures.ok (rw i.keeps.tells tells)).0;

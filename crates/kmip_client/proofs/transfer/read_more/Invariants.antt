@@ -1,4 +1,4 @@
-use Rattle.std.proofs.Common.{◌≡◌, ◌+◌, ◌-◌, ◌≤◌, ◌++◌, length, take, IsTrue, vec_len}
+use Rattle.std.proofs.Common.{◌≡◌, ◌+◌, ◌-◌, ◌≤◌, ◌++◌, length, take, IsTrue, vec_len, vec_capacity, max}
 use Rattle.kmip_link.specs.State.{Keeps, left}
 use Rattle.kmip_client.specs.Transfer.{Takes}
 use Rattle.kmip_client.proofs.transfer.read_more.Given as goal
@@ -7,6 +7,7 @@ abbrev pub invariant-loop-done : goal.invariant-loop-done
 invariant-loop-done g l = record {
   within : l.done ≤ l.count;
   grown : vec_len l.taken ≡ vec_len l.initial.taken + l.done;
+  ahead : vec_capacity l.taken ≤ max (vec_capacity l.initial.taken) (vec_len l.taken + 65536);
   kept : take (length l.initial.taken.items) l.taken.items ≡ l.initial.taken.items;
   keeps : Keeps (g.L.Link.state l.initial.link) (g.L.Link.state l.link);
   takes : IsTrue (g.L.Link.state l.initial.link).tells → Takes (g.L.Link.state l.initial.link) (g.L.Link.state l.link) l.done;

@@ -1,8 +1,9 @@
 use Rattle.std.proofs.Common.{◌∙◌, ap, refl, IsTrue, Bool}
 use Rattle.kmip_request.specs.Message.{request_bytes, operation_of}
 use Rattle.kmip_client.specs.Client.{count_after}
-use Rattle.kmip_client.specs.Outcome.{seen_by, outcome, left_for, Exchanged}
-use Rattle.kmip_client.proofs.Headlines.{headline, seen_variant}
+use Rattle.kmip_client.specs.Headline.{IsValidResponse}
+use Rattle.kmip_client.specs.Outcome.{seen_by, outcome, left_for, read_answer, Exchanged}
+use Rattle.kmip_client.proofs.Headlines.{headline, typed_valid, seen_variant}
 use Rattle.kmip_client.proofs.client.Client.request.Goals as goal
 
 -- the clauses are about the client as a value, and the call's about its fields
@@ -17,7 +18,7 @@ returns-clause-call g c =
       exchange = exchange;
       caused = rw (← c.self.view_is) e.caused;
       reading = rw (← c.self.view_is) e.reading;
-      headline = λ tells. headline (request_bytes c.args.payload.now c.args.self.now.credential) (operation_of c.args.payload.now) c.args.self.now.limit _ (exchange tells);
+      headline = λ tells. headline (request_bytes c.args.payload.now c.args.self.now.credential) (read_answer (operation_of c.args.payload.now)) c.args.self.now.limit (IsValidResponse (operation_of c.args.payload.now) c.args.self.now.limit) _ (typed_valid (operation_of c.args.payload.now) c.args.self.now.limit) (exchange tells);
       keeps = rw (← c.self.view_is) e.keeps;
       credential = rw (← c.self.view_is) refl;
       limit = rw (← c.self.view_is) refl;
