@@ -3,10 +3,10 @@
 #
 #   clients/build.sh [--unproved] [--program FILE] [--library FILE] FOLDER
 #
-#   FOLDER/kmip_call     the program: one call over its standard input and output
-#   FOLDER/libkmip.a     the library of kmip.h, for C and Rust
-#   FOLDER/libkmip.so    the same, for Python
-#   FOLDER/kmip.h        its header
+#   FOLDER/kmip_call         the program: one call over its standard input and output
+#   FOLDER/libmetsuwan.a     the library of metsuwan.h, for C and Rust
+#   FOLDER/libmetsuwan.so    the same, for Python
+#   FOLDER/metsuwan.h        its header
 #
 # Without --unproved the crates kmip_call and kmip_c, and those below them, are proved first: hours from nothing, and
 # minutes where `rt ci` passed here before. The crate that is proved is shown, as one of how many.
@@ -16,8 +16,8 @@
 #   --library FILE   takes this libkmip_c.a, which was built before
 #   --help           prints this
 #
-# It needs the Rattle toolchain's `rt` on the path (README.md says which), python3, gcc and binutils. FOLDER/build.log has
-# what they wrote.
+# It needs the Rattle toolchain's `rt` on the path (README.md says which), python3, gcc, make and binutils. FOLDER/build.log
+# has what they wrote.
 set -eu
 
 give_up() { # TEXT
@@ -61,6 +61,7 @@ type -P rt >/dev/null || missing+=('rt (the Rattle toolchain; no package of Debi
 needs python3 python3
 needs gcc gcc
 needs ar binutils
+needs make make
 if ((${#missing[@]})); then
     printf 'build.sh: missing: %s\n' "${missing[@]}" >&2
     exit 1
@@ -137,15 +138,17 @@ elif [[ ! $library -ef $folder/libkmip_c.a ]]; then
     cp "$library" "$folder/libkmip_c.a"
 fi
 
-# The library asks for memory by three functions of the toolchain, over malloc. ar's scripts know no spaces in names.
-cd "$folder"
-cp "$(dirname "$(rt doc)")/c/liblibc_c.a" memory.a
-rm -f libkmip.a
-printf 'CREATE libkmip.a\nADDLIB libkmip_c.a\nADDLIB memory.a\nSAVE\nEND\n' | ar -M
-gcc -shared -o libkmip.so -Wl,--whole-archive libkmip_c.a -Wl,--no-whole-archive memory.a
-rm libkmip_c.a memory.a
-cp "$top/clients/c/kmip.h" kmip.h
-printf 'made %s: kmip_call libkmip.a libkmip.so kmip.h\n' "$folder"
+# The library, for the two ways of linking. It is made in a folder whose path has no space, which neither make nor ar knows.
+work=$(mktemp -d -t kmip-build-XXXXXX)
+trap 'rm -rf "$work"' EXIT
+mv "$folder/libkmip_c.a" "$work"
+if ! make -s -C "$top/clients/c" library CORE="$work/libkmip_c.a" OUT="$work" >>"$log" 2>&1; then
+    tail -20 "$log" >&2
+    give_up 'no library'
+fi
+rm "$work/libkmip_c.a"
+mv "$work"/* "$folder"
+printf 'made %s: %s\n' "$folder" "$(cd "$folder" && echo kmip_call lib*.a lib*.so *.h)"
 
 # What the clients themselves stand on.
 missing=()
@@ -155,7 +158,6 @@ needs flock util-linux
 if ((${#missing[@]})); then printf "the shell's client also wants %s\n" "${missing[@]}"; fi
 missing=()
 [[ -e /usr/include/openssl/ssl.h ]] || missing+=('the headers of OpenSSL (Debian: apt-get install libssl-dev)')
-needs make make
 if ((${#missing[@]})); then printf 'the client in C also wants %s\n' "${missing[@]}"; fi
 missing=()
 needs rustc rustc

@@ -75,7 +75,7 @@ proved_build() { # FILE
 
 # Leaves in $built the folder of what the clients stand on.
 build() {
-    local words=(--unproved) program library status
+    local words=(--unproved) program library status left=$((until > SECONDS ? until - SECONDS : 1))
     if [[ -n $built ]]; then return 0; fi
     if ! type -P rt >/dev/null; then
         echo 'skipped the clients: there is no toolchain (rt) to build with; --built DIR takes a build'
@@ -85,7 +85,7 @@ build() {
     library=$(proved_build "$top/crates/kmip_c/out/libkmip_c.a") && words+=(--library "$library")
     built=$run/kmip
     mkdir "$run/tmp"
-    TMPDIR=$run/tmp timeout $((until > SECONDS ? until - SECONDS : 1)) "$top/clients/build.sh" "${words[@]}" "$built" >"$run/build" 2>&1
+    TMPDIR=$run/tmp timeout "$left" "$top/clients/build.sh" "${words[@]}" "$built" >"$run/build" 2>&1
     status=$?
     ((status != 0)) || return 0
     if ((status == 124)); then

@@ -72,17 +72,20 @@ start() {
     fi
     type -P openssl >/dev/null || missing+=('openssl (Debian: apt-get install openssl)')
     type -P pykmip-server >/dev/null ||
-        missing+=('pykmip-server (Debian 12: apt-get install python3-pykmip; else pip install PyKMIP, with Python 3.11 or earlier)')
+        missing+=('pykmip-server (Debian 12: apt-get install python3-pykmip; else, with Python 3.11 or earlier, pip install PyKMIP)')
     if ((${#missing[@]})); then
         printf 'test_server.sh: missing: %s\n' "${missing[@]}" >&2
         exit 1
     fi
-    if [[ -e $folder && ! -e $folder/server.conf && -n $(ls -A "$folder") ]]; then give_up "$folder is not empty, and no folder of this script"; fi
+    if [[ -e $folder && ! -e $folder/server.conf && -n $(ls -A "$folder") ]]; then
+        give_up "$folder is not empty, and no folder of this script"
+    fi
     if [[ -n $port ]] && is_taken "$port"; then give_up "port $port is taken"; fi
     [[ -n $port ]] || port=$(free_port)
     rm -rf "$folder"
     "$top/tools/live/certs.sh" "$folder/certs" few || give_up 'no certificates'
-    "$top/tools/live/start_server.sh" "$folder" "$port" || give_up "PyKMIP did not start; $folder/server.out has what it wrote"
+    "$top/tools/live/start_server.sh" "$folder" "$port" ||
+        give_up "PyKMIP did not start; $folder/server.out has what it wrote"
     echo "PyKMIP listens on localhost:$port, as process $(<"$folder/server.pid")."
 }
 
@@ -92,11 +95,14 @@ say_next() {
     listens=$(sed -n 's/^port=//p' "$folder/server.conf")
     printf -v certs '%q %q %q' "$folder/certs/client.pem" "$folder/certs/client.key" "$folder/certs/ca.pem"
     printf '\nEnter:\n\n'
-    if [[ ! -x $program ]]; then printf '    %q --unproved %q      # once: makes kmip_call, in some minutes\n' "$top/clients/build.sh" "$top/built"; fi
+    if [[ ! -x $program ]]; then
+        printf '    %q --unproved %q      # once: makes kmip_call, in some minutes\n' "$top/clients/build.sh" "$top/built"
+    fi
     printf '    export KMIP_CALL=%q\n' "$program"
     printf '    . %q\n' "$top/clients/shell/kmip.sh"
     printf '    kmip_open localhost:%s %s\n' "$listens" "$certs"
-    printf "    kmip create-rsa 2048 issuing 'issuing, public'\n\nAnd at last:\n\n    kmip_close\n    %q stop" "$top/tools/test_server.sh"
+    printf "    kmip create-rsa 2048 issuing 'issuing, public'\n"
+    printf '\nAnd at last:\n\n    kmip_close\n    %q stop' "$top/tools/test_server.sh"
     if [[ $folder != "$top/built/test_server" ]]; then printf ' --folder %q' "$folder"; fi
     printf '\n'
 }
@@ -114,9 +120,11 @@ has_ended() {
 stop() {
     local process
     if process=$(process_of); then
-        # PyKMIP takes up to 10 seconds to end; nothing that it has is to be kept.
+        # PyKMIP takes up to 10 seconds to end, and has processes of its own, which are all of one group. Nothing that it
+        # has is to be kept.
         kill "$process" 2>/dev/null || :
-        has_ended || kill -KILL "$process" 2>/dev/null || :
+        has_ended || :
+        kill -KILL -- "-$process" 2>/dev/null || :
         has_ended || give_up "process $process does not end"
         echo 'PyKMIP has ended.'
     else

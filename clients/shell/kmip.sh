@@ -105,7 +105,7 @@ kmip_can_open() { # CERTIFICATE KEY AUTHORITY
 }
 
 # Leaves in KMIP_WORDS the words of `openssl s_client`. -nocommands: without it a block of input that begins with Q, R, K
-# or k is a command, and lost. -pass: without it openssl asks the terminal. Descriptors 8 and 9 are those that kmip_carry opens.
+# or k is a command, and lost. -pass: without it openssl asks the terminal. Descriptors 8 and 9 are kmip_carry's.
 kmip_client_words() { # HOST:PORT CERTIFICATE KEY AUTHORITY
     local host=${1%:*}
     host=${host#[} host=${host%]}
@@ -130,7 +130,7 @@ kmip_client_words() { # HOST:PORT CERTIFICATE KEY AUTHORITY
 kmip_carry() { # FROM TO LOG CERTIFICATE
     export -n KMIP_PASSPHRASE KMIP_PASSWORD
     exec openssl "${KMIP_WORDS[@]}" <&"$1" >&"$2" 2>&"$3" 9<<<"${KMIP_PASSPHRASE-}" \
-        8< <(awk '/-BEGIN .*CERTIFICATE-/ { n++ } n > 1' "$4") \
+        8< <(awk '/-BEGIN .*CERTIFICATE-/ { n++; within = 1 } within && n > 1; /-END / { within = 0 }' "$4") \
         {KMIP_IN}<&- {KMIP_OUT}>&- {KMIP_STATE}>&- {KMIP_LOG}<&-
 }
 
@@ -243,7 +243,8 @@ kmip_make() { # WORD..
         return
     fi
     if read -r -t 0 -u "$KMIP_IN"; then
-        kmip_lose RequestWriteError 'the connection ended, or bytes came that no call had asked for; nothing was sent; kmip_open opens a new one'
+        kmip_lose RequestWriteError \
+            'the connection ended, or bytes came that no call had asked for; nothing was sent; kmip_open opens a new one'
         return
     fi
     trap 'kmip_end; trap - INT; kill -INT "$BASHPID"' INT

@@ -16,6 +16,7 @@
 #   encrypted        alice's certificate again; its key is encrypted with the passphrase `geheim & co`
 #   chained          a client, carol, of an authority between; chained.pem holds that authority's certificate too
 #   other/..         `ca`, `server` and `client` again, under another authority
+#   objects/..       keys and a certificate that a server may hold, in DER, as PublicKey.X509.der
 #
 # PyKMIP wants exactly one common name of a client's certificate, who is then the owner of what the client makes, and,
 # with enable_tls_client_auth=True, the extended key usage clientAuth.
@@ -50,6 +51,20 @@ expired() { # NAME SUBJECT EXTENSIONS
     rm -f "$1.csr" "$1.ext" index.txt* ca.conf ca.srl.old [0-9A-F]*.pem
 }
 
+# What a server holds, as fakes.py gives it out: an RSA pair, a key on a curve, and a certificate.
+objects() { # FOLDER
+    mkdir -p "$1"
+    openssl genrsa -out "$1/rsa.pem" 2048
+    openssl ecparam -name prime256v1 -genkey -noout -out "$1/ec.pem"
+    openssl rsa -in "$1/rsa.pem" -RSAPublicKey_out -outform DER -out "$1/PublicKey.PKCS1.der"
+    openssl pkey -in "$1/rsa.pem" -pubout -outform DER -out "$1/PublicKey.X509.der"
+    openssl rsa -in "$1/rsa.pem" -traditional -outform DER -out "$1/PrivateKey.PKCS1.der"
+    openssl pkcs8 -topk8 -nocrypt -in "$1/rsa.pem" -outform DER -out "$1/PrivateKey.PKCS8.der"
+    openssl ec -in "$1/ec.pem" -outform DER -out "$1/PrivateKey.ECPrivateKey.der"
+    openssl x509 -in client.pem -outform DER -out "$1/Certificate.X509.der"
+    printf 'raw bytes of key' >"$1/SymmetricKey.Raw.der"
+}
+
 pair_of() { # FOLDER COMMON-NAME: an authority, a server and a client
     mkdir -p "$1"
     cd "$1"
@@ -73,6 +88,7 @@ make_all() { # DIR few|all
     leaf between '/CN=Test authority between' "$authority"
     leaf chained /CN=carol "$of_client" between
     cat between.pem >>chained.pem
+    objects objects
     pair_of "$1/other" 'Other authority'
 }
 

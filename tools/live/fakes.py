@@ -177,6 +177,52 @@ def certificate(wire, request):
     wire.sendall(response(QUERY, [text(0x42009D, owner.get('commonName', 'nobody'))]))
 
 
+# The objects that `objects` has, by KMIP's numbers: the tag of the object, and of a key's format or a certificate's type.
+OBJECT_TYPES = {'Certificate': (1, 0x420013), 'SymmetricKey': (2, 0x42008F), 'PublicKey': (3, 0x42006D),
+                'PrivateKey': (4, 0x420064)}
+FORMATS = {'Raw': 1, 'PKCS1': 3, 'PKCS8': 4, 'X509': 5, 'ECPrivateKey': 6}
+
+
+def object_of(kind, form, value):
+    """An object of this type and format; `value` is what stands as its key value, or a certificate's bytes."""
+    number, tag = OBJECT_TYPES[kind]
+    if kind == 'Certificate':
+        body = [enumeration(0x42001D, 1), octets(0x42001E, value)]
+    else:
+        body = [structure(0x420040, enumeration(0x420042, FORMATS[form]), value)]
+    return [enumeration(0x420057, number), structure(tag, *body)]
+
+
+@fake
+def objects(wire, request):
+    """answers get with the object of a file of certs.sh, as `PublicKey.X509`; `wrapped` is a key that is wrapped"""
+    asked = (value_of(request, '420094', 7) or b'').decode()
+    if asked == 'wrapped':
+        kind, form, value = 'PrivateKey', 'PKCS8', octets(0x420045, b'wrapped')
+    else:
+        kind, form = asked.split('.')
+        with open('%s/objects/%s.der' % (sys.argv[1], asked), 'rb') as file:
+            value = file.read()
+        if kind != 'Certificate':
+            value = structure(0x420045, octets(0x420043, value))
+    number, body = object_of(kind, form, value)
+    wire.sendall(response(GET, [number, identifier(asked), body]))
+
+
+@fake
+def end_after(wire, request):
+    """is good once, and then ends the connection"""
+    good(wire, request)
+    return True
+
+
+@fake
+def no_close(wire, request):
+    """is good once, and then neither reads nor ends the connection"""
+    good(wire, request)
+    time.sleep(120)
+
+
 # Messages that break off, or don't come, or come slowly.
 
 @fake
@@ -413,6 +459,11 @@ def no_attributes(wire, request):
 
 
 @fake
+def closing(wire, request):
+    """ends the connection while the request is sent (see connection)"""
+
+
+@fake
 def early(wire, request):
     """has answered query before it was asked (see connection)"""
     time.sleep(120)
@@ -423,6 +474,11 @@ def connection(name, context, wire):
         with context.wrap_socket(wire, server_side=True) as wire:
             if name == 'early':
                 wire.sendall(GOOD_QUERY)
+            if name == 'closing':
+                wire.recv(10)
+                wire.shutdown(socket.SHUT_WR)
+                time.sleep(0.3)
+                return
             while True:
                 request = message_of(wire)
                 if not request or FAKES[name](wire, request):
@@ -444,8 +500,8 @@ def serve_each(listener, serve):
         threading.Thread(target=quietly, args=(wire,), daemon=True).start()
 
 
-def listen(name, serve):
-    listener = socket.create_server(('127.0.0.1', 0), backlog=100)
+def listen(name, serve, host='127.0.0.1'):
+    listener = socket.create_server((host, 0), backlog=100, family=socket.AF_INET6 if ':' in host else socket.AF_INET)
     print(name, listener.getsockname()[1], flush=True)
     threading.Thread(target=serve, args=(listener,), daemon=True).start()
 
@@ -463,6 +519,7 @@ def main():
         for name, function in {**FAKES, **PLAIN}.items():
             print('%-16s %s' % (name, function.__doc__))
         print('%-16s %s' % ('/'.join(CERTIFICATES), 'is good, but for its certificate'))
+        print('%-16s %s' % ('address6', 'is good, at ::1, with the certificate `address`'))
         return
     if len(sys.argv) != 2 or sys.argv[1].startswith('-'):
         sys.exit('usage: fakes.py CERTS | --list')
@@ -476,6 +533,10 @@ def main():
         listen(name, over_tls(name, 'server'))
     for name in CERTIFICATES:
         listen(name, over_tls('good', name))
+    try:
+        listen('address6', over_tls('good', 'address'), '::1')
+    except OSError:
+        pass  # this machine has no IPv6
     for name, serve in PLAIN.items():
         listen(name, serve)
     print('ready', flush=True)
@@ -483,4 +544,5 @@ def main():
         time.sleep(3600)
 
 
-main()
+if __name__ == '__main__':
+    main()

@@ -146,10 +146,12 @@ run_case() { # NUMBER CLIENT FILE
 
 # The case files of a client that want the server, or those that don't, one a line.
 cases_of() { # CLIENT server|fakes
-    local file
+    local file needs
     for file in "$here"/each/*.sh "$here/$1"/*.sh; do
         [[ -e $file && ${file##*/} != client.sh ]] || continue
-        if [[ $2 == server ]]; then grep -q '^# needs: server' "$file"; else ! grep -q '^# needs: server' "$file"; fi || continue
+        needs=fakes
+        if grep -q '^# needs: server' "$file"; then needs=server; fi
+        [[ $needs == "$2" ]] || continue
         file=${file#"$here/"}
         if ((${#topics[@]} == 0)) || [[ " ${topics[*]} " == *" $(basename "$file" .sh) "* ]]; then printf '%s\n' "$file"; fi
     done

@@ -1,6 +1,7 @@
 #!/bin/sh
 # Starts a PyKMIP server on 127.0.0.1 with the certificates in DIR/certs, and waits until it listens. Its process is then
-# in DIR/server.pid; end it by: kill "$(cat DIR/server.pid)", which takes up to 10 seconds.
+# in DIR/server.pid, and is the first of a group of processes; end it by: kill "$(cat DIR/server.pid)", which takes up to
+# 10 seconds, or the group at once by: kill -KILL -- "-$(cat DIR/server.pid)".
 set -eu
 dir=${1:?usage: start_server.sh DIR PORT}
 port=${2:?usage: start_server.sh DIR PORT}

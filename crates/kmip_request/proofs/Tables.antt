@@ -1,4 +1,4 @@
--- What the tables of a request are, computed along them to their end.
+-- What is checked of the tables of a request, each by computing it.
 use Rattle.std.proofs.Common.{◌≡◌, ◌≤◌, true, refl, arith}
 use Rattle.kmip_shape.specs.Fits.{tags_once}
 use Rattle.kmip_shape.proofs.Ranges.{tags_in_range, depth}

@@ -2,7 +2,7 @@ pub mod Tables
 pub mod Values
 pub mod Same
 pub mod Message
-pub mod Held
+pub mod Fits
 pub mod Requests
 pub mod Payload
 pub use Rattle.kmip_request_objects.specs.Constructors

@@ -22,7 +22,7 @@ use Rattle.kmip_request.specs.declared.authentication.CredentialValue.TheVariant
 use Rattle.kmip_request.specs.Tables.{authentication, credential, credential_values, username_and_password}
 use Rattle.kmip_request.specs.Values.{authentication_val, credential_value_val}
 use Rattle.kmip_request.specs.Message.{authentication_trees, header_tree, message_tree}
-use Rattle.kmip_request.specs.Held.{AreTexts}
+use Rattle.kmip_request.specs.Fits.{FitsCredential}
 use Rattle.kmip_request_read.proofs.Options.{and_then_some, map_some, test_some}
 use Rattle.kmip_request_read.proofs.Canonical.{item_of, password_of}
 
@@ -172,7 +172,7 @@ field_trees_are outer d (inr (v, is, read)) =
 
 -- ---- the texts of a credential
 
-pub texts_parse : (minor operation : ℕ) (c : Option CredentialType) (payload : Tree) (b : List ℕ) → Parses (message_tree (header_tree minor (authentication_trees c)) operation payload) 1 b → AreTexts c
+pub texts_parse : (minor operation : ℕ) (c : Option CredentialType) (payload : Tree) (b : List ℕ) → Parses (message_tree (header_tree minor (authentication_trees c)) operation payload) 1 b → FitsCredential c
 texts_parse minor operation None payload b p = tt
 texts_parse minor operation (Some (UsernameAndPassword c)) payload b p = go c.password p
   where

@@ -24,9 +24,9 @@ use Rattle.kmip_types.specs.declared.auth.CredentialType.{CredentialType}
 use Rattle.kmip_request.specs.declared.payload.RequestPayload.{RequestPayload}
 use Rattle.kmip_request.specs.Tables.{request_message, request_header, request_payload, authentication}
 use Rattle.kmip_request.specs.Message.{authentication_trees, header_tree, message_tree, request_bytes}
-use Rattle.kmip_request.specs.Held.{AreTexts, IsHeld}
+use Rattle.kmip_request.specs.Fits.{FitsCredential, FitsRequest}
 use Rattle.kmip_request_read.specs.Matched.{under_number, IsMatchedValue, IsMatched}
-use Rattle.kmip_request_read.specs.Reading.{Request, minor_for, message_bytes, item_request, is_plain_header, under_header, request_in, are_bytes, is_tree, canonical_in, request_read}
+use Rattle.kmip_request_read.specs.Reading.{Request, minor_for, message_bytes, item_request, is_client_header, under_header, request_in, are_bytes, is_tree, canonical_in, request_read}
 use Rattle.kmip_request.proofs.Tables.{message_once}
 use Rattle.kmip_request_read.proofs.Canonical.{root_of}
 use Rattle.kmip_request_read.proofs.Options.{and_then_some, map_some, test_some}
@@ -62,7 +62,7 @@ item_says _ r h = none_some _ h
 abbrev header_with : ℕ → Field → Val
 header_with minor credential = Record (AndField (One (Record (AndField (One (Number (pos 1))) (AndField (One (Number (pos minor))) NoField)))) (AndField Absent (AndField credential (AndField (One (Number (pos 1))) NoField))))
 
-header_says : (minor : ℕ) (header : Val) → is_plain_header minor header ≡ true → (credential : Field) × (header ≡ header_with minor credential)
+header_says : (minor : ℕ) (header : Val) → is_client_header minor header ≡ true → (credential : Field) × (header ≡ header_with minor credential)
 header_says minor (Record (AndField (One (Record (AndField (One (Number major)) (AndField (One (Number own)) NoField)))) (AndField Absent (AndField credential (AndField (One (Number count)) NoField))))) h =
     let s = plain_says minor major own count h in
     (credential, λ i. Record (AndField (One (Record (AndField (One (Number (s.0 i))) (AndField (One (Number (s.1 i))) NoField)))) (AndField Absent (AndField credential (AndField (One (Number (s.2 i))) NoField)))))
@@ -80,11 +80,11 @@ parts_say : (message : Val) (r : Request) → request_in message ≡ Some r → 
 parts_say (Record (AndField (One header) (AndField (Many (AndVal item NoVal)) NoField))) r h = (header, item, refl, h)
 parts_say _ r h = none_some _ h
 
-under_says : (header : Val) (o : Option Request) (r : Request) → under_header header o ≡ Some r → (o ≡ Some r) × (is_plain_header (minor_for r.operation) header ≡ true)
+under_says : (header : Val) (o : Option Request) (r : Request) → under_header header o ≡ Some r → (o ≡ Some r) × (is_client_header (minor_for r.operation) header ≡ true)
 under_says header None r h = none_some _ h
 under_says header (Some s) r h =
-    let t = test_some (is_plain_header (minor_for s.operation) header) (Some s) r h in
-    (t.1, subst (λ (q : Request). is_plain_header (minor_for q.operation) header ≡ true) (some_same s r t.1) t.0)
+    let t = test_some (is_client_header (minor_for s.operation) header) (Some s) r h in
+    (t.1, subst (λ (q : Request). is_client_header (minor_for q.operation) header ≡ true) (some_same s r t.1) t.0)
 
 -- a message of a request is one round its item and a plain header
 abbrev IsOf : Val → Request → Type 0
@@ -143,7 +143,7 @@ header_read minor credential item root h =
 
 -- the message of a request and a credential
 abbrev IsMessageOf : Request → List ℕ → Type 0
-IsMessageOf r b = (c : Option CredentialType) × AreTexts c × (message_bytes r c ≡ Some b)
+IsMessageOf r b = (c : Option CredentialType) × FitsCredential c × (message_bytes r c ≡ Some b)
 
 of_message : (message : Val) (r : Request) (root : Tree) (b : List ℕ) → IsOf message r → read_of request_message no_outer root ≡ Some message → tree_of request_message REQUEST_MESSAGE message ≡ Some root → bytes root ≡ Some b → Parses root 1 b →
     selected_in message NoCase request_message no_outer REQUEST_MESSAGE → IsMatchedValue r.operation r.payload × IsMessageOf r b
@@ -162,7 +162,7 @@ of_message message r root b is read tree own parses s =
       (c.0, texts_parse minor n c.0 m.0 b (subst (λ (t : Tree). Parses t 1 b) (sym m.2) parses), ap (λ (o : Option Tree). option_and_then bytes o) w ∙ own),
     )
 
-pub read_matched : (b : List ℕ) (r : Request) → request_read b ≡ Some r → IsMatchedValue r.operation r.payload × ((c : Option CredentialType) × AreTexts c × (message_bytes r c ≡ Some b))
+pub read_matched : (b : List ℕ) (r : Request) → request_read b ≡ Some r → IsMatchedValue r.operation r.payload × ((c : Option CredentialType) × FitsCredential c × (message_bytes r c ≡ Some b))
 unfolding request_read
 read_matched b r h =
     let p = and_then_some (item_of 64 b) (λ tree. option_and_then (canonical_in b tree) (root_read request_message REQUEST_MESSAGE tree)) r h in
@@ -177,5 +177,5 @@ read_matched b r h =
     (selected message NoCase request_message no_outer REQUEST_MESSAGE root message_once tree read)
 
 -- where nothing is read, the bytes are the message of no matched request
-pub unread_none : (b : List ℕ) → request_read b ≡ None → (p : RequestPayload) (c : Option CredentialType) → IsHeld p c → IsMatched p → request_bytes p c ≡ Some b → ⊥
+pub unread_none : (b : List ℕ) → request_read b ≡ None → (p : RequestPayload) (c : Option CredentialType) → FitsRequest p c → IsMatched p → request_bytes p c ≡ Some b → ⊥
 unread_none b none p c h m e = none_some ⊥ (sym none ∙ request_is_read p c b h m e)

@@ -56,18 +56,18 @@ item_request item = None
 
 -- The header is that of a message with one batch item in this minor version of KMIP 1, without a
 -- maximum response size (KMIP 1.0, 7.2).
-abbrev pub is_plain_header : ℕ → Val → Bool
-is_plain_header minor
+abbrev pub is_client_header : ℕ → Val → Bool
+is_client_header minor
     (Record (AndField (One
     (Record (AndField (One (Number major)) (AndField (One (Number own)) NoField))))
     (AndField Absent (AndField credential (AndField (One (Number count)) NoField))))) =
     int_eq major (pos 1) && (int_eq own (pos minor) && int_eq count (pos 1))
-is_plain_header minor header = false
+is_client_header minor header = false
 
 abbrev pub under_header : Val → Option Request → Option Request
 under_header header None = None
 under_header header (Some request) =
-    if is_plain_header (minor_for request.operation) header then Some request else None
+    if is_client_header (minor_for request.operation) header then Some request else None
 
 -- the request in a message that is as a client writes it
 abbrev pub request_in : Val → Option Request

@@ -2,7 +2,7 @@
 
 ghost use Rattle.std.specs.Prelude.{◌≡◌, true, false, Some, IfOk};
 ghost use Rattle.kmip_shape.specs.Fits.{Fits};
-ghost use Rattle.kmip_request.specs.Held.{AreTexts};
+ghost use Rattle.kmip_request.specs.Fits.{FitsCredential};
 ghost use Rattle.kmip_request.specs.Message.{request_bytes};
 ghost use Rattle.kmip_request.specs.Tables.{request_payload};
 ghost use Rattle.kmip_request.specs.Values.{request_payload_val};
@@ -59,7 +59,7 @@ pub fn call_known(alloc: Global, call: &Call) -> Result<(), OutOfMemory>
 
 /// The texts of a credential are UTF-8.
 fn texts_known(credential: &Option<CredentialType>)
-    ensures { AreTexts credential.now }
+    ensures { FitsCredential credential.now }
 {
     match credential {
         Some(CredentialType::UsernameAndPassword(credential)) => {

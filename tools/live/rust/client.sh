@@ -7,13 +7,13 @@ client_needs() {
     command -v cargo >/dev/null || echo cargo
     command -v cc >/dev/null || echo gcc
     compgen -G "$crates/openssl-0.10*" >/dev/null || echo librust-openssl-dev
-    [[ -e $built/libkmip.a ]] || echo 'libkmip.a (clients/build.sh)'
+    [[ -e $built/libmetsuwan.a ]] || echo 'libmetsuwan.a (clients/build.sh)'
 }
 
 # A copy, since cargo writes a Cargo.lock; Debian's crates, so that no network is needed.
 client_build() {
     cp -r "$top/clients/rust" "$run/rust/source" && cd "$run/rust/source/openssl" &&
-        LIBKMIP_DIR=$built CARGO_TARGET_DIR=$run/rust/target cargo build --release --offline \
+        LIBMETSUWAN_DIR=$built CARGO_TARGET_DIR=$run/rust/target cargo build --release --offline \
             --config 'source.crates-io.replace-with="debian"' --config "source.debian.directory=\"$crates\""
 }
 

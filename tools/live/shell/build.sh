@@ -1,7 +1,7 @@
 # shellcheck shell=bash
 # clients/build.sh, over a copy of the repository's scripts and a toolchain that proves nothing and takes no time.
-if ! type -P gcc ar >/dev/null; then
-    printf 'skipped shell: build.sh is not tried: there is no gcc, or no ar (binutils)\n'
+if ! type -P gcc ar make >/dev/null; then
+    printf 'skipped shell: build.sh is not tried: there is no gcc, no make or no ar (binutils)\n'
     return
 fi
 copy="$work/a copy"
@@ -9,7 +9,7 @@ kit="$work/a kit"
 mkdir -p "$copy/crates" "$copy/tools" "$kit/c" "$kit/bin"
 cp -r "$top/clients" "$top/crates.txt" "$copy"
 printf 'int memory(void) { return 1; }\n' >memory.c
-printf 'int kmip_library(void) { return 2; }\n' >library.c
+printf 'int kmip_request(void) { return 2; }\n' >library.c
 gcc -c memory.c library.c && ar rc "$kit/c/liblibc_c.a" memory.o && ar rc ready.a library.o
 while read -r it _; do mkdir -p "$copy/crates/${it%:}"; done < <(grep '^[a-z]' "$copy/crates.txt")
 # `rt` of this kit notes what it was asked for, and leaves what is built.
@@ -41,10 +41,11 @@ says 'each crate is shown, of how many' '^\[1/[0-9]+\] kmip_[a-z_]+ \.\. [0-9]+ 
 crates=$(grep -cE '^kmip_(call|c |.*lib$)' asked)
 ((crates > 2)) && [[ $(tail -1 asked) == 'kmip_c lib' ]] && grep -q '^kmip_call run -- --version$' asked
 verdict 'the crates below come before the program and the library'
-[[ $("the folder/kmip_call") == 'kmip_call of the copy' && -e "the folder/libkmip.a" && -e "the folder/libkmip.so" && -e "the folder/kmip.h" ]]
-verdict 'the folder has all that it promises'
-(($(ar t "the folder/libkmip.a" | grep -cE '^(library|memory)\.o$') == 2))
-verdict 'the library has its memory functions'
+[[ $("the folder/kmip_call") == 'kmip_call of the copy' && -e $(echo "the folder/"lib*.a) && -e $(echo "the folder/"*.h) ]]
+verdict 'the folder has the program, the library and its header'
+for library in "the folder/"lib*.a "the folder/"lib*.so; do nm -g "$library" 2>/dev/null | grep -q ' T kmip_request$' || break; done
+[[ $library == *.so ]] && nm -g "$library" | grep -q ' T kmip_request$'
+verdict 'the library has its calls, static and shared'
 BROKEN=kmip_types built_is 'a crate that is not proved ends it' 1 broken
 says 'what rt wrote is shown' 'kmip_types is not proved'
 [[ ! -e broken/kmip_call ]]
@@ -59,7 +60,7 @@ built_is 'a flag that is none' 2 --proved fifth
 built_is 'no folder' 2
 built_is 'two folders' 2 fifth sixth
 built_is '--help' 0 --help
-says 'it says what is made' 'libkmip\.so'
+says 'it says what is made' 'FOLDER/lib[a-z]*\.so'
 [[ ! -e fifth && ! -e sixth ]]
 verdict 'nothing is made where nothing is built'
 mkdir few
@@ -70,3 +71,4 @@ verdict 'without its tools it ends'
 says 'rt is said to be missing' 'missing: rt '
 says 'and gcc, with its package' 'missing: gcc .*apt-get install gcc'
 says 'and ar, with its package' 'missing: ar .*apt-get install binutils'
+says 'and make' 'missing: make .*apt-get install make'

@@ -39,6 +39,7 @@ if type -P mandoc >/dev/null; then
     verdict 'mandoc finds nothing in the manual page'
 fi
 if type -P man >/dev/null; then
-    [[ -z $(LC_ALL=C.UTF-8 man --warnings -l "$page" 2>&1 >"$work/page.txt" | tee "$said") ]] && grep -q 'EXIT STATUS' "$work/page.txt"
+    LC_ALL=C.UTF-8 man --warnings -l "$page" 2>"$said" >"$work/page.txt"
+    [[ ! -s $said ]] && grep -q 'EXIT STATUS' "$work/page.txt"
     verdict 'man shows the manual page with no warning'
 fi

@@ -1,4 +1,5 @@
-//! Copying the payload of each operation, by a function of its own, so that each is proved alone.
+//! Copying the payload of each operation. Each is a function of its own, so that each is proved
+//! alone. The only error is `OutOfMemory`.
 
 ghost use Rattle.std.specs.Prelude.{◌≡◌, IfOk};
 ghost use Rattle.kmip_request.specs.declared.payload.RequestPayload.TheVariants as payloads;

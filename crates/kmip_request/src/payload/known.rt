@@ -1,7 +1,7 @@
-//! What is known of the fields of each payload, by a function of its own, so that each is proved
-//! alone. None does anything.
+//! Lemmas: the fields of a payload fit its table. Each is a function of its own, so that each is
+//! proved alone. The calls do nothing.
 
-ghost use Rattle.kmip_request.specs.Payload.{FitsPayload};
+ghost use Rattle.kmip_request.specs.Fits.{FitsPayload};
 ghost use Rattle.kmip_request.specs.declared.payload.RequestPayload.TheVariants as payloads;
 
 use crate::header::ProtocolVersion;
@@ -22,14 +22,14 @@ use kmip_types::{
 };
 use kmip_wire::{Boxed, List};
 
-/// The fields of Create.
+/// The lemma for Create.
 pub(crate) fn create(object_type: &ObjectType, template: &TemplateAttribute)
     ensures { FitsPayload (payloads.Create object_type.now template.now) }
 {
     fits_record::<CreateRows>(fields![object_type, template]);
 }
 
-/// The fields of Create Key Pair.
+/// The lemma for Create Key Pair.
 pub(crate) fn create_key_pair(
     common: &Option<CommonTemplateAttribute>,
     private_key: &Option<PrivateKeyTemplateAttribute>,
@@ -40,7 +40,7 @@ pub(crate) fn create_key_pair(
     fits_record::<CreateKeyPairRows>(fields![common, private_key, public_key]);
 }
 
-/// The fields of Register.
+/// The lemma for Register.
 pub(crate) fn register(
     object_type: &ObjectType,
     template: &TemplateAttribute,
@@ -51,14 +51,14 @@ pub(crate) fn register(
     fits_record::<RegisterRows>(fields![object_type, template, object]);
 }
 
-/// The fields of Locate.
+/// The lemma for Locate.
 pub(crate) fn locate(attributes: &List<Attribute>)
     ensures { FitsPayload (payloads.Locate attributes.now) }
 {
     fits_record::<LocateRows>(fields![attributes]);
 }
 
-/// The fields of Get.
+/// The lemma for Get.
 pub(crate) fn get(
     id: &Option<UniqueIdentifier>,
     format: &Option<KeyFormatType>,
@@ -70,28 +70,28 @@ pub(crate) fn get(
     fits_record::<GetRows>(fields![id, format, compression, specification]);
 }
 
-/// The fields of Get Attributes.
+/// The lemma for Get Attributes.
 pub(crate) fn get_attributes(id: &Option<UniqueIdentifier>, names: &Option<List<AttributeName>>)
     ensures { FitsPayload (payloads.GetAttributes id.now names.now) }
 {
     fits_record::<GetAttributesRows>(fields![id, names]);
 }
 
-/// The fields of Get Attribute List, Activate and Destroy.
+/// The lemma for Get Attribute List, Activate and Destroy.
 pub(crate) fn identifier(id: &Option<UniqueIdentifier>)
     ensures { FitsPayload (payloads.Activate id.now) }
 {
     fits_record::<IdentifierRows>(fields![id]);
 }
 
-/// The fields of Add Attribute and Modify Attribute.
+/// The lemma for Add Attribute and Modify Attribute.
 pub(crate) fn edit(id: &Option<UniqueIdentifier>, attribute: &Attribute)
     ensures { FitsPayload (payloads.AddAttribute id.now attribute.now) }
 {
     fits_record::<EditRows>(fields![id, attribute]);
 }
 
-/// The fields of Delete Attribute.
+/// The lemma for Delete Attribute.
 pub(crate) fn delete_attribute(
     id: &Option<UniqueIdentifier>,
     name: &AttributeName,
@@ -102,7 +102,7 @@ pub(crate) fn delete_attribute(
     fits_record::<DeleteAttributeRows>(fields![id, name, index]);
 }
 
-/// The fields of Revoke.
+/// The lemma for Revoke.
 pub(crate) fn revoke(
     id: &Option<UniqueIdentifier>,
     reason: &RevocationReason,
@@ -113,21 +113,21 @@ pub(crate) fn revoke(
     fits_record::<RevokeRows>(fields![id, reason, date]);
 }
 
-/// The fields of Query.
+/// The lemma for Query.
 pub(crate) fn query(functions: &List<QueryFunction>)
     ensures { FitsPayload (payloads.Query functions.now) }
 {
     fits_record::<QueryRows>(fields![functions]);
 }
 
-/// The fields of Discover Versions.
+/// The lemma for Discover Versions.
 pub(crate) fn discover_versions(versions: &List<ProtocolVersion>)
     ensures { FitsPayload (payloads.DiscoverVersions versions.now) }
 {
     fits_record::<DiscoverVersionsRows>(fields![versions]);
 }
 
-/// The fields of Sign.
+/// The lemma for Sign.
 pub(crate) fn sign(
     id: &Option<UniqueIdentifier>,
     parameters: &Option<CryptographicParameters>,
@@ -138,7 +138,7 @@ pub(crate) fn sign(
     fits_record::<SignRows>(fields![id, parameters, contents]);
 }
 
-/// The fields of RNG Retrieve.
+/// The lemma for RNG Retrieve.
 pub(crate) fn rng_retrieve(length: &DataLength)
     ensures { FitsPayload (payloads.RNGRetrieve length.now) }
 {

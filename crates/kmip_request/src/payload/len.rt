@@ -1,5 +1,5 @@
-//! The length of each payload's canonical bytes, and `None` exactly where it has none: by a function
-//! of its own, so that each is proved alone.
+//! The length of the canonical bytes of each operation's payload, and `None` exactly where it has
+//! none. Each is a function of its own, so that each is proved alone.
 
 ghost use Rattle.std.specs.Prelude.{◌≡◌};
 ghost use Rattle.kmip_request.specs.Payload.{payload_len};

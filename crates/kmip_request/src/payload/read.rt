@@ -1,4 +1,5 @@
-//! Reading the payload of each operation, by a function of its own, so that each is proved alone.
+//! Reading the payload of each operation. Each is a function of its own, so that each is proved
+//! alone.
 
 ghost use Rattle.std.specs.Prelude.{◌≡◌, Err, IfOk, Some, None};
 ghost use Rattle.std.specs.Option.{option_map};

@@ -1,4 +1,5 @@
-//! Writing the payload of each operation, by a function of its own, so that each is proved alone.
+//! Writing the payload of each operation. Each is a function of its own, so that each is proved
+//! alone.
 
 ghost use Rattle.std.specs.Prelude.{◌≤◌};
 ghost use Rattle.kmip_request.specs.Payload.{HasPayloadForm, payload_size, IsAppended};
