@@ -119,7 +119,11 @@ int64_t kmip_contents_len(const uint8_t *head, size_t eight, uint32_t limit);
 
    A response belongs to a call by its operation, and where both name an object, by the object's
    identifier: KMIP has no other tie where there is one batch item. So one call at a time on a
-   connection. */
+   connection.
+
+   The line of an InternalError also has "response", the tags, types and nesting of the message that
+   came, and where that reports failure "reason", the number of the server's reason, and "message",
+   the server's text. */
 int32_t kmip_answer(const uint8_t *call, size_t call_len, const uint8_t *response,
                     size_t response_len, uint8_t *into, size_t room, int64_t *length);
 
