@@ -83,7 +83,7 @@ static void slow_names(kmip_settings it) {
     double from = seconds_now();
     it.seconds = 1.5;
     check(kmip_open(&it, error, sizeof error) == NULL, "a name that is not found in time");
-    check(seconds_now() - from < 3, "the deadline holds");
+    check(seconds_now() - from < 5, "the deadline holds");
     check_text(error,
                "{\"error\":\"ConnectError\",\"text\":\"connect: the host is not found within 1.5 "
                "seconds\"}",

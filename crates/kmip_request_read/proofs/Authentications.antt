@@ -1,6 +1,6 @@
 -- What is read in the place of an Authentication is the item of a credential, and in a message that
 -- parses the texts of that credential are UTF-8.
-use Rattle.std.proofs.Common.{◌≡◌, ℕ, pos, Bool, true, false, List, [], ◌∷◌, ◌++◌, Option, Some, None, refl, sym, ◌∙◌, ap, subst, ◌⊎◌, inl, inr}
+use Rattle.std.proofs.Common.{◌≡◌, ℕ, pos, Bool, true, false, cond, List, [], ◌∷◌, ◌++◌, Option, Some, None, refl, sym, ◌∙◌, ap, subst, ◌⊎◌, inl, inr}
 use Rattle.kmip_tags.specs.Tags.{AUTHENTICATION}
 use Rattle.std.specs.Prelude.{IsUtf8, IfSome, nat_eq, filter, ◌||◌}
 use Rattle.std.specs.Cmp.{unsigned_Decides}
@@ -14,17 +14,16 @@ use Rattle.kmip_shape.specs.Shape.{Shape, RowList, Cases, Mark, Required, Option
 use Rattle.kmip_shape.specs.Trees.{trees_in}
 use Rattle.kmip_shape.specs.Reads.{read_in, read_rows, read_case, marked_field, with_field}
 use Rattle.kmip_shape.proofs.Parts.{none_some, some_same}
-use Rattle.kmip_enums.specs.CredentialTypes.{credential_types, credential_type_val}
-use Rattle.kmip_enums.specs.declared.credential_type.CredentialType.TheVariants as types
+use Rattle.kmip_enums.specs.CredentialTypes.{credential_types}
 use Rattle.kmip_types.specs.declared.auth.CredentialType.{CredentialType}
 use Rattle.kmip_types.specs.declared.auth.CredentialType.TheVariants.{UsernameAndPassword}
 use Rattle.kmip_request.specs.declared.authentication.CredentialValue.TheVariants as values
 use Rattle.kmip_request.specs.Tables.{authentication, credential, credential_values, username_and_password}
-use Rattle.kmip_request.specs.Values.{authentication_val, credential_value_val}
+use Rattle.kmip_request.specs.Values.{credential_value_val}
 use Rattle.kmip_request.specs.Message.{authentication_trees, header_tree, message_tree}
 use Rattle.kmip_request.specs.Fits.{FitsCredential}
 use Rattle.kmip_request_read.proofs.Options.{and_then_some, map_some, test_some}
-use Rattle.kmip_request_read.proofs.Canonical.{item_of, password_of}
+use Rattle.kmip_request_read.proofs.Canonical.{password_of}
 
 -- ---- what was read of rows
 
@@ -87,7 +86,8 @@ text_read outer v r = let m = map_some (text_in r.0) Text v r.1 in (m.0, sym m.2
 -- a value of a table is a number
 entry_read : (outer : OuterValue) (v : Val) → Reads (OneOf credential_types) outer v → (n : ℕ) × (v ≡ Number (pos n))
 entry_read outer v r =
-    let e = and_then_some (enumeration_in r.0) _ v r.1 in
+    let read : ℕ → Option Val = λ n. cond (in_table n credential_types) (Some (Number (pos n))) None in
+    let e = and_then_some (enumeration_in r.0) read v r.1 in
     let t = test_some (in_table e.0 credential_types) (Some (Number (pos e.0))) v e.2 in
     (e.0, sym (some_same (Number (pos e.0)) v t.1))
 
@@ -129,10 +129,11 @@ value_read outer v r = go outer.number r.1
         let u = user_read outer m.0 (r.0, m.1) in
         (u.0, u.1, sym m.2 ∙ u.2, ap Some (one_of n t.0))
 
-same_one : (m n : ℕ) → Some m ≡ Some n → m ≡ n
-same_one m n h = some_same m n h
+-- the value of a credential
+abbrev credential_record : List ℕ → Option (List ℕ) → Val
+credential_record username password = Record (AndField (One (Number (pos 1))) (AndField (One (value_of username password)) NoField))
 
-credential_read : (outer : OuterValue) (v : Val) → Reads credential outer v → (username : List ℕ) × (password : Option (List ℕ)) × (v ≡ Record (AndField (One (Number (pos 1))) (AndField (One (value_of username password)) NoField)))
+credential_read : (outer : OuterValue) (v : Val) → Reads credential outer v → (username : List ℕ) × (password : Option (List ℕ)) × (v ≡ credential_record username password)
 credential_read outer v r =
     let all = record_read (rows_of credential) outer v r in
     let first = all.2 in
@@ -141,24 +142,34 @@ credential_read outer v r =
     let chooser : first.0 ≡ One (Number (pos kind.0)) = first.3.1 ∙ ap One kind.1 in
     let value = value_read (chosen_by first.0) second.3.0 second.3.2 in
     let number : Some kind.0 ≡ Some 1 = ap (λ (d : Field). (chosen_by d).number) (sym chooser) ∙ value.3 in
-    let is_one : kind.0 ≡ 1 = same_one kind.0 1 number in
-    let last : second.0 ≡ One (value_of value.0 value.1) = second.3.1 ∙ ap One value.2 in (
-      value.0,
-      value.1,
-      all.1 ∙ (ap Record first.2 ∙ (λ i. Record (AndField (chooser i) (second.2 i))) ∙ (λ i. Record (AndField (One (Number (pos (is_one i)))) (AndField (last i) (second.4 i))))),
-    )
+    let is_one : kind.0 ≡ 1 = some_same kind.0 1 number in
+    let last : second.0 ≡ One (value_of value.0 value.1) = second.3.1 ∙ ap One value.2 in
+    (value.0, value.1, go all.0 first.1 second.1 first.0 second.0 kind.0 (value_of value.0 value.1) all.1 first.2 chooser is_one second.2 last second.4)
+  where
+    go : (fs gs hs : Fields) (c d : Field) (n : ℕ) (w : Val) → v ≡ Record fs → fs ≡ AndField c gs → c ≡ One (Number (pos n)) → n ≡ 1 → gs ≡ AndField d hs → d ≡ One w → hs ≡ NoField
+        → v ≡ Record (AndField (One (Number (pos 1))) (AndField (One w) NoField))
+    go fs gs hs c d n w h i j k l m o = cc
 
-authentication_read : (outer : OuterValue) (v : Val) → Reads authentication outer v → (username : List ℕ) × (password : Option (List ℕ)) × (v ≡ authentication_val (item_of (UsernameAndPassword (record { username = username; password = password }))))
+-- the value of its Authentication
+abbrev authentication_record : List ℕ → Option (List ℕ) → Val
+authentication_record username password = Record (AndField (One (credential_record username password)) NoField)
+
+authentication_read : (outer : OuterValue) (v : Val) → Reads authentication outer v → (username : List ℕ) × (password : Option (List ℕ)) × (v ≡ authentication_record username password)
 authentication_read outer v r =
     let all = record_read (rows_of authentication) outer v r in
     let first = all.2 in
     let c = credential_read outer first.3.0 first.3.2 in
-    let only : first.0 ≡ One _ = first.3.1 ∙ ap One c.2 in
-    (c.0, c.1, all.1 ∙ (ap Record first.2 ∙ (λ i. Record (AndField (only i) (first.4 i)))))
+    (c.0, c.1, go all.0 first.1 first.0 first.3.0 (credential_record c.0 c.1) all.1 first.2 first.3.1 c.2 first.4)
+  where
+    go : (fs gs : Fields) (d : Field) (u w : Val) → v ≡ Record fs → fs ≡ AndField d gs → d ≡ One u → u ≡ w → gs ≡ NoField → v ≡ Record (AndField (One w) NoField)
+    go fs gs d u w h i j k l = cc
 
--- its item is that of a credential
-credential_trees : (username : List ℕ) (password : Option (List ℕ)) → trees_in (One (authentication_val (item_of (UsernameAndPassword (record { username = username; password = password }))))) NoCase authentication AUTHENTICATION
-    ≡ Some (authentication_trees (Some (UsernameAndPassword (record { username = username; password = password }))))
+-- the credential of a username and a password
+abbrev credential_with : List ℕ → Option (List ℕ) → CredentialType
+credential_with username password = UsernameAndPassword (record { username = username; password = password })
+
+-- its items are those of the credential
+credential_trees : (username : List ℕ) (password : Option (List ℕ)) → trees_in (One (authentication_record username password)) NoCase authentication AUTHENTICATION ≡ Some (authentication_trees (Some (credential_with username password)))
 credential_trees username None = refl
 credential_trees username (Some password) = refl
 
@@ -167,8 +178,8 @@ pub field_trees_are : (outer : OuterValue) (d : Field) → FieldReads Optional a
 field_trees_are outer d (inl absent) = (None, ap (λ (x : Field). trees_in x NoCase authentication AUTHENTICATION) absent)
 field_trees_are outer d (inr (v, is, read)) =
     let a = authentication_read outer v read in
-    let whole : d ≡ One (authentication_val (item_of (UsernameAndPassword (record { username = a.0; password = a.1 })))) = is ∙ ap One a.2 in
-    (Some (UsernameAndPassword (record { username = a.0; password = a.1 })), ap (λ (x : Field). trees_in x NoCase authentication AUTHENTICATION) whole ∙ credential_trees a.0 a.1)
+    let whole : d ≡ One (authentication_record a.0 a.1) = is ∙ ap One a.2 in
+    (Some (credential_with a.0 a.1), ap (λ (x : Field). trees_in x NoCase authentication AUTHENTICATION) whole ∙ credential_trees a.0 a.1)
 
 -- ---- the texts of a credential
 

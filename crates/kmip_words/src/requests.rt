@@ -9,10 +9,9 @@ use crate::raw::RawRequest;
 use bitflags::Flags;
 use kmip_enums::ObjectType;
 use kmip_request::{
-    activate_request, destroy_request, get_request, key_pair_request, query_request,
-    rename_request, revoke_request, sign_request,
+    Attribute, RequestPayload, TemplateAttribute, activate_request, destroy_request, get_request,
+    key_pair_request, query_request, rename_request, revoke_request, sign_request,
 };
-use kmip_request::{Attribute, RequestPayload, TemplateAttribute};
 use kmip_request_read::same_message;
 use kmip_types::{CryptographicAlgorithm, CryptographicUsageMask, DataLength, UniqueIdentifier};
 use kmip_wire::{List, OutOfMemory, Text, TryClone};
