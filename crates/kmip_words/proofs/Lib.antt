@@ -1,4 +1,4 @@
-pub mod About
+pub mod OtherObjects
 pub mod Added
 pub mod Calls
 pub mod Diagnostics
