@@ -1,5 +1,5 @@
 #!/usr/bin/env python3
-"""One call, whose arguments are texts. It writes the answer as JSON.
+"""One call, whose arguments are texts. It writes the answer as one line of JSON.
 
     call.py HOST PORT CERTIFICATE KEY AUTHORITY CALL TEXT..
 
@@ -52,7 +52,7 @@ def answer_of(settings: List[str], name: str, texts: List[str]) -> str:
     with client_of(settings) as kmip:
         if name == 'get' and os.environ.get('KMIP_PEM'):
             return kmip.get(texts[0]).pem()
-        return json.dumps(kmip.call(name, *words)) + '\n'
+        return json.dumps({'answer': kmip.call(name, *words)}) + '\n'
 
 
 def main() -> int:

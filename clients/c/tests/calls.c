@@ -132,6 +132,18 @@ static void refused(kmip_client *client) {
     check(kmip_call(client, "query", NULL) == KMIP_ANSWERED, "the connection is good");
 }
 
+/* A connection that is good is ended in order: the next client is told how. */
+static void in_order(kmip_client *client, const kmip_settings *settings) {
+    check(kmip_call(client, "query", NULL) == KMIP_ANSWERED, "a call");
+    kmip_close(client);
+    nanosleep(&(struct timespec){.tv_nsec = 300000000}, NULL);
+    client = opened(settings);
+    check(kmip_call(client, "query", NULL) == KMIP_ANSWERED, "a call on another connection");
+    check_text(kmip_text(client, "vendor_identification", NULL), "in order",
+               "kmip_close has told the server");
+    kmip_close(client);
+}
+
 /* kmip_close waits for nobody. */
 static void close_waits(kmip_client *client) {
     check(kmip_call(client, "query", NULL) == KMIP_ANSWERED, "a call");
@@ -146,6 +158,7 @@ int main(int argc, char **argv) {
     kmip_settings settings = settings_of(argv + 1);
     kmip_client *client = opened(&settings);
     if (strcmp(mode, "close") == 0) return close_waits(client), 0;
+    if (strcmp(mode, "in_order") == 0) return in_order(client, &settings), 0;
     if (strcmp(mode, "restart") == 0) signals(client, SA_RESTART);
     if (strcmp(mode, "interrupt") == 0) signals(client, 0);
     if (strcmp(mode, "sigpipe") == 0) sigpipe(client);

@@ -174,6 +174,13 @@ class Time(unittest.TestCase):
             kmip.close()
             kmip.close()
 
+    def test_closing_tells_the_server(self) -> None:
+        for _ in range(2):
+            with client_of('ends') as kmip:
+                told = kmip.query()['vendor_identification']
+            time.sleep(0.3)
+        self.assertEqual(told, 'in order')
+
     def test_the_limit(self) -> None:
         with self.assertRaisesRegex(DeserializeError, 'limit of 1048576 bytes'):
             client_of('over_limit').query()

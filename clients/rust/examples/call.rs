@@ -25,7 +25,7 @@ impl From<Error> for Failure {
     fn from(error: Error) -> Failure {
         let status = match error {
             Error::GrammarError(_) | Error::ConfigurationError(_) => 2,
-            Error::Unknown(_) => 5,
+            Error::OutOfMemory(_) => 5,
             _ if error.is_lost() => 3,
             _ => 1,
         };

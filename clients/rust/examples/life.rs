@@ -34,7 +34,7 @@ fn wanted(is_so: bool, otherwise: &str) -> Outcome<()> {
 
 fn live(client: &TlsClient, folder: &Path, count: u32) -> Outcome<()> {
     let server = client.query()?;
-    let can_sign = server.operations.unwrap_or_default().iter().any(|it| it == "Sign");
+    let can_sign = server.operations.iter().flatten().any(|it| it == "Sign");
     wanted(can_sign && server.vendor_identification.is_some(), "query names no Sign")?;
     let (private_key, public_key) =
         client.create_rsa_key_pair(2048, "life, 100%".into(), "life, public".into())?;
@@ -63,8 +63,9 @@ fn live(client: &TlsClient, folder: &Path, count: u32) -> Outcome<()> {
     Ok(())
 }
 
-fn run(words: &[String]) -> Outcome<()> {
-    let Some((server, [folder, count @ ..])) = settings::server_of(words) else {
+fn run() -> Outcome<()> {
+    let words = settings::arguments().ok_or("a word is not UTF-8")?;
+    let Some((server, [folder, count @ ..])) = settings::server_of(&words) else {
         return Err("usage: life HOST PORT CERTIFICATE KEY AUTHORITY FOLDER [COUNT]".into());
     };
     let count = count.first().map_or(Ok(0), |it| it.parse())?;
@@ -72,7 +73,7 @@ fn run(words: &[String]) -> Outcome<()> {
 }
 
 fn main() -> ExitCode {
-    match run(&settings::arguments().unwrap_or_default()) {
+    match run() {
         Ok(()) => ExitCode::SUCCESS,
         Err(error) => {
             eprintln!("{error}");

@@ -21,15 +21,16 @@ fn rotate(client: &TlsClient, old: &str, name: &str) -> metsuwan::Result<String>
     Ok(new)
 }
 
-fn run(words: &[String]) -> Result<String, Box<dyn Error>> {
-    match settings::server_of(words) {
+fn run() -> Result<String, Box<dyn Error>> {
+    let words = settings::arguments().ok_or("a word is not UTF-8")?;
+    match settings::server_of(&words) {
         Some((server, [old, name])) => Ok(rotate(&server.connect()?.build(), old, name)?),
         _ => Err("usage: rotate HOST PORT CERTIFICATE KEY AUTHORITY OLD-PRIVATE-KEY NAME".into()),
     }
 }
 
 fn main() -> ExitCode {
-    match run(&settings::arguments().unwrap_or_default()) {
+    match run() {
         Ok(new) => {
             println!("{new}");
             ExitCode::SUCCESS

@@ -87,8 +87,9 @@ pub enum Error {
     OtherObject(Details),
     /// The server refused the request, since it has no such object.
     ItemNotFound(Details),
-    /// Out of memory, or an error of another kind. The connection is closed where it
-    /// [`is_lost`](Error::is_lost).
+    /// Memory ran out. The connection is closed.
+    OutOfMemory(Details),
+    /// An error of another kind. The connection is closed where it [`is_lost`](Error::is_lost).
     Unknown(Details),
 }
 
@@ -140,7 +141,7 @@ impl Error {
     }
 
     pub(crate) fn memory() -> Error {
-        Error::Unknown(Details::new("out of memory", true))
+        Error::OutOfMemory(Details::new("out of memory", true))
     }
 
     /// The error of a line `{"error":..,"text":..}`; `lost` where the connection is to be closed.
@@ -149,7 +150,7 @@ impl Error {
         let member = |name: &str| json.as_ref().and_then(|it| it.member(name));
         let text = |name: &str| member(name).and_then(Json::as_text);
         let (Some(kind), Some(told)) = (text("error"), text("text")) else {
-            return Error::Unknown(Details::new("the library's line is not one of an error", true));
+            return Error::Unknown(Details::new("the library's line cannot be read", true));
         };
         let details = Details {
             reason: member("reason").and_then(Json::as_number).and_then(|it| it.try_into().ok()),
@@ -183,6 +184,7 @@ impl Error {
             Error::ServerError(it) => ("ServerError", it),
             Error::InternalError(it) | Error::OtherObject(it) => ("InternalError", it),
             Error::ItemNotFound(it) => ("ItemNotFound", it),
+            Error::OutOfMemory(it) => ("OutOfMemory", it),
             Error::Unknown(it) => ("Unknown", it),
         }
     }

@@ -1,8 +1,8 @@
 //! JSON (RFC 8259), as answers have it.
 use std::fmt::{self, Debug, Display, Formatter, Write};
 
-/// The most levels of lists and objects within each other. KMIP messages have at most 64.
-const LEVELS: usize = 256;
+/// The most levels of lists and objects within each other. Messages have at most 64 levels.
+const LEVELS: usize = 512;
 
 /// A value of JSON. `Display` writes it as JSON. `Debug` shows the names of its members and no
 /// value, since that may be of a key.

@@ -2,7 +2,7 @@
 //! responses, is proved; this crate moves the bytes. The names are those of the crate
 //! kmip-protocol.
 //!
-//! With the feature `openssl`, [`TlsConnector`] makes the connection:
+//! With the feature `openssl`, `TlsConnector` makes the connection:
 //!
 #![cfg_attr(feature = "openssl", doc = "```no_run")]
 #![cfg_attr(not(feature = "openssl"), doc = "```ignore")]

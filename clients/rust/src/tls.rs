@@ -234,7 +234,7 @@ impl Time {
     }
 
     fn over(&self) -> io::Error {
-        let seconds = self.timeout.unwrap_or_default().as_secs_f64();
+        let seconds = self.timeout.map_or(0.0, |it| it.as_secs_f64());
         io::Error::new(ErrorKind::TimedOut, format!("no answer within {seconds} seconds"))
     }
 

@@ -4,6 +4,7 @@ mod ttlv;
 use metsuwan::{library, Client, ClientBuilder, Error, Json, ProtocolVersion, Word};
 use std::collections::VecDeque;
 use std::io::{self, Read, Write};
+use std::slice::from_ref;
 use std::sync::{Arc, Mutex};
 use std::time::{Duration, Instant};
 use ttlv::{bytes, enumeration, failure, identifier, integer, response, response_with};
@@ -101,13 +102,13 @@ fn values_are_those_of_the_answer() {
         [text(0x420066, &format!("{name}private")), text(0x42006F, &format!("{name}public"))]
     };
     let evil = structure(0x540001, &pair("evil-"));
-    let in_front = [&[evil.clone()], &pair("")[..]].concat();
+    let in_front = [from_ref(&evil), &pair("")].concat();
     let signed = [identifier("k"), bytes(0x4200C3, b"signature")];
     let evil_signed = structure(0x540001, &[bytes(0x4200C3, b"evil"), identifier("evil")]);
     let client = client(&[
         response(CREATE_KEY_PAIR, &in_front),
         response_with(&evil, CREATE_KEY_PAIR, &pair("")),
-        response(SIGN, &[&[evil_signed.clone()], &signed[..]].concat()),
+        response(SIGN, &[from_ref(&evil_signed), &signed].concat()),
         response_with(&evil_signed, SIGN, &signed),
     ]);
     for _ in 0..2 {
@@ -126,7 +127,7 @@ fn a_value_by_its_path_is_that_of_the_library() {
     let evil = structure(0x540001, &[bytes(0x420043, b"evil"), identifier("evil")]);
     let payload = [vec![evil], key_of(3, 0x42006D, 3, material(b"\x01\xAB"))].concat();
     let response = response(GET, &payload);
-    let answer = client(&[response.clone()]).get_key("k").unwrap().answer;
+    let answer = client(from_ref(&response)).get_key("k").unwrap().answer;
     let block = "cryptographic_object.PublicKey.key_block";
     for path in ["object_type", "unique_identifier", &format!("{block}.key_format_type")] {
         let wanted = library::value("get k", &response, path, false).unwrap();
@@ -197,11 +198,16 @@ fn a_missing_value_is_an_error_and_the_connection_good() {
 #[test]
 fn a_query_is_one_pass() {
     let operations: Vec<_> = (0..60_000).map(|at| enumeration(0x42005C, 1 + at % 40)).collect();
-    let client = client(&[response(QUERY, &operations)]);
+    let response = response(QUERY, &operations);
+    let started = Instant::now();
+    assert_eq!(library::answer("query", &response).0, library::Status::Answered);
+    let once = started.elapsed();
+    let client = client(from_ref(&response));
     let started = Instant::now();
     let operations = client.query().unwrap().operations.unwrap();
     assert_eq!((operations.len(), operations[1].as_str()), (60_000, "CreateKeyPair"));
-    assert!(started.elapsed() < Duration::from_secs(8), "{:?}", started.elapsed());
+    let most = 4 * once + Duration::from_secs(1);
+    assert!(started.elapsed() < most, "{:?}, {once:?}", started.elapsed());
 }
 
 /// This call ends so, the stream is dropped, and later calls send nothing.
@@ -271,10 +277,10 @@ fn what_does_not() {
 fn a_response_has_a_limit() {
     let answer = response(QUERY, &[text(0x42009D, &"x".repeat(1 << 20))]);
     let length = u32::try_from(answer.len()).unwrap();
-    let error = client(&[answer.clone()]).query().unwrap_err();
+    let error = client(from_ref(&answer)).query().unwrap_err();
     let wanted = "the response is longer than the limit of 1048576 bytes";
     assert!(matches!(error, Error::DeserializeError(_)) && error.details().text() == wanted);
-    let with = |limit| script(&[answer.clone()]).0.with_max_bytes(limit).build().query();
+    let with = |limit| script(from_ref(&answer)).0.with_max_bytes(limit).build().query();
     assert!(with(length).is_ok() && with(length - 1).is_err());
     assert!(with(0).is_ok(), "0 is no limit");
 }

@@ -93,10 +93,12 @@ pub is_of : (r : Result Bool OutOfMemory) (b : List ℕ) (p : RequestPayload) (c
     IfOk r (λ same. same ≡ true → request_read b ≡ Some (request_for (request_of c))) → IfOk r (λ same. same ≡ false → request_bytes (request_of c) credential ≡ Some b → ⊥) →
     IfOk r (λ is. IsTrue is ↔ (request_read b ≡ Some (request_for (request_of c))))
 is_of (Ok true) b p credential c read written same other = (λ t. same refl, λ h. refl)
-is_of (Ok false) b p credential c read written same other =
-    (λ t. absurd (cc), λ h.
-    let vals : request_payload_val (request_of c) ≡ request_payload_val p = ap (λ (x : Request). x.payload) (some_same (request_for (request_of c)) (request_for p) (sym h ∙ read)) in
-    absurd (other refl (ap (λ x. request_bytes x credential) (request_payload_same (request_of c) p vals) ∙ written)))
+is_of (Ok false) b p credential c read written same other = (
+  λ t. absurd (cc),
+  λ h.
+      let vals : request_payload_val (request_of c) ≡ request_payload_val p = ap (λ (x : Request). x.payload) (some_same (request_for (request_of c)) (request_for p) (sym h ∙ read)) in
+      absurd (other refl (ap (λ x. request_bytes x credential) (request_payload_same (request_of c) p vals) ∙ written)),
+)
 is_of (Err e) b p credential c read written same other = tt
 
 -- and bytes that are no request are that of no call

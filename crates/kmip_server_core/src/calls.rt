@@ -7,8 +7,8 @@ ghost use Rattle.kmip_server_core.specs.Answering.{AnswersCall, AnswersCallAlone
 
 use crate::items::{get_item, query_item, rng_item, sign_item};
 use crate::keys::{activate, destroy, rename, revoke};
-use crate::pair::create;
 use crate::message::Stamp;
+use crate::pair::create;
 use kmip_store::{Call, Maker, Store};
 use kmip_wire::{Blob, Text, WireError};
 

@@ -10,8 +10,8 @@ ghost use Rattle.kmip_server_core.specs.Served.{served, served_request, asks, as
 ghost use Rattle.kmip_server_core.specs.State.{ServerState, AnswersRequest};
 
 use crate::calls::answer_call;
-use crate::recognize::call_of;
 use crate::message::Stamp;
+use crate::recognize::call_of;
 use kmip_enums::{Operation, ResultReason};
 use kmip_request::RequestPayload;
 use kmip_request_read::{RequestReadError, from_slice};
