@@ -1,6 +1,9 @@
 //! The payload of a response.
 
-ghost use Rattle.std.specs.Prelude.{◌≡◌};
+ghost use Rattle.std.specs.Prelude.{◌≡◌, IfOk, Some, None, Err};
+ghost use Rattle.kmip_wire.specs.Items.{item_tree};
+ghost use Rattle.kmip_shape.specs.Reads.{read_of};
+ghost use Rattle.kmip_shape.specs.Resume.{outer_of};
 ghost use Rattle.kmip_response.specs.Tables.{response_payload};
 ghost use Rattle.kmip_response.specs.Values.{response_payload_val};
 ghost use Rattle.kmip_response.specs.Same.{response_payload_same};
@@ -130,26 +133,44 @@ impl WriteItem for ResponsePayload {
     }
 }
 
+/// Reads the payload that a variant holds. Each arm below calls it, and so has no value of its own
+/// whose drop is to be proved.
+fn read_as<T: ReadItem, F: FnOnce(T) -> ResponsePayload>(
+    variant: F,
+    alloc: Global,
+    outer: Outer<'_>,
+    item: ItemRef<'_>,
+) -> Result<ResponsePayload, ReadError>
+    requires { F.IsAlwaysCallable variant }
+    ensures ok { IfOk result (λ x. (payload : T) × F.post variant payload x ×
+        (read_of T.shape (outer_of outer.entry) (item_tree item.entry) ≡ Some (T.val payload))) }
+    ensures unread { result ≡ Err ReadError.Unread →
+        read_of T.shape (outer_of outer.entry) (item_tree item.entry) ≡ None }
+{
+    let payload = T::read(alloc, outer, item)?;
+    Ok(variant(payload))
+}
+
 impl ReadItem for ResponsePayload {
     fn read(alloc: Global, outer: Outer<'_>, item: ItemRef<'_>) -> Result<Self, ReadError> {
         match outer.number {
-            Some(1) => Ok(Self::Create(ReadItem::read(alloc, outer, item)?)),
-            Some(2) => Ok(Self::CreateKeyPair(ReadItem::read(alloc, outer, item)?)),
-            Some(3) => Ok(Self::Register(ReadItem::read(alloc, outer, item)?)),
-            Some(8) => Ok(Self::Locate(ReadItem::read(alloc, outer, item)?)),
-            Some(10) => Ok(Self::Get(ReadItem::read(alloc, outer, item)?)),
-            Some(11) => Ok(Self::GetAttributes(ReadItem::read(alloc, outer, item)?)),
-            Some(12) => Ok(Self::GetAttributeList(ReadItem::read(alloc, outer, item)?)),
-            Some(13) => Ok(Self::AddAttribute(ReadItem::read(alloc, outer, item)?)),
-            Some(14) => Ok(Self::ModifyAttribute(ReadItem::read(alloc, outer, item)?)),
-            Some(15) => Ok(Self::DeleteAttribute(ReadItem::read(alloc, outer, item)?)),
-            Some(18) => Ok(Self::Activate(ReadItem::read(alloc, outer, item)?)),
-            Some(19) => Ok(Self::Revoke(ReadItem::read(alloc, outer, item)?)),
-            Some(20) => Ok(Self::Destroy(ReadItem::read(alloc, outer, item)?)),
-            Some(24) => Ok(Self::Query(ReadItem::read(alloc, outer, item)?)),
-            Some(30) => Ok(Self::DiscoverVersions(ReadItem::read(alloc, outer, item)?)),
-            Some(33) => Ok(Self::Sign(ReadItem::read(alloc, outer, item)?)),
-            Some(37) => Ok(Self::RNGRetrieve(ReadItem::read(alloc, outer, item)?)),
+            Some(1) => read_as(Self::Create, alloc, outer, item),
+            Some(2) => read_as(Self::CreateKeyPair, alloc, outer, item),
+            Some(3) => read_as(Self::Register, alloc, outer, item),
+            Some(8) => read_as(Self::Locate, alloc, outer, item),
+            Some(10) => read_as(Self::Get, alloc, outer, item),
+            Some(11) => read_as(Self::GetAttributes, alloc, outer, item),
+            Some(12) => read_as(Self::GetAttributeList, alloc, outer, item),
+            Some(13) => read_as(Self::AddAttribute, alloc, outer, item),
+            Some(14) => read_as(Self::ModifyAttribute, alloc, outer, item),
+            Some(15) => read_as(Self::DeleteAttribute, alloc, outer, item),
+            Some(18) => read_as(Self::Activate, alloc, outer, item),
+            Some(19) => read_as(Self::Revoke, alloc, outer, item),
+            Some(20) => read_as(Self::Destroy, alloc, outer, item),
+            Some(24) => read_as(Self::Query, alloc, outer, item),
+            Some(30) => read_as(Self::DiscoverVersions, alloc, outer, item),
+            Some(33) => read_as(Self::Sign, alloc, outer, item),
+            Some(37) => read_as(Self::RNGRetrieve, alloc, outer, item),
             _ => Err(ReadError::Unread),
         }
     }
