@@ -17,10 +17,10 @@
 //! of each error. [`exchange_all`] makes several calls in order.
 #![tactic(auto)]
 
-mod answer;
 mod answered;
 mod builder;
 mod call;
+mod call_request;
 mod check;
 mod client;
 mod error;
@@ -28,9 +28,11 @@ mod exchange;
 mod helpers;
 mod laws;
 mod message;
+mod operation;
 mod room;
 mod session;
 mod transfer;
+mod untyped;
 
 pub use builder::ClientBuilder;
 pub use client::Client;
@@ -38,4 +40,5 @@ pub use error::{Error, Result};
 pub use kmip_request as request;
 pub use kmip_response as response;
 pub use laws::{diagnostics_of_sessions, messages_are_answered_in_order};
+pub use operation::Version;
 pub use session::{Answers, Exchange, exchange_all};

@@ -5,7 +5,7 @@ ghost use Rattle.kmip_response.specs.Values.{response_payload_val};
 ghost use Rattle.kmip_client.specs.Session.{IsSession, exchange_told, CutOff};
 ghost use Rattle.kmip_client.specs.declared.error.Error.TheVariants.{OutOfMemory as no_memory};
 
-use crate::answered::AnsweredByAny;
+use crate::answered::AnyPayload;
 use crate::client::{Client, lacks_memory, loses_connection};
 use crate::error::{Error, Result};
 use kmip_link::Link;
@@ -57,7 +57,7 @@ pub fn exchange_all<T: Link>(
 }
 
 /// The same, over any payload that each call answers, so that its proof sees no variant.
-fn exchanges<T: Link, P: AnsweredByAny>(
+fn exchanges<T: Link, P: AnyPayload>(
     alloc: Global,
     client: &mut Client<T>,
     payloads: Vec<RequestPayload>,
@@ -71,7 +71,7 @@ fn exchanges<T: Link, P: AnsweredByAny>(
         (client.new.buffered ≡ client.old.buffered) }
     ensures memory { IfErr result (λ e. e ≡ no_memory) }
 {
-    P::answers_any();
+    P::whole_holds();
     let mut exchanges = List::new(alloc);
     for payload in payloads {
         let answer = client.request(alloc, &payload);
