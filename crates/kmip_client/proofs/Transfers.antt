@@ -88,4 +88,3 @@ read_in_place old m into p q n got len is at within all =
     take-take (n + got) len ((take n m ++ (into ++ p)) ++ q) all
     ∙ (rw (is, at, append_assoc old (into ++ p) q, append_assoc into p q) (take-append-add old (into ++ (p ++ q)) got))
     ∙ ap (λ l. old ++ l) (take-append-le got into (p ++ q) within)
-
