@@ -1,52 +1,165 @@
 #!/bin/bash
 # Builds what the clients stand on, into a folder.
 #
-#   clients/build.sh [--unproved] FOLDER
+#   clients/build.sh [--unproved] [--program FILE] [--library FILE] FOLDER
 #
-#   FOLDER/kmip_call     the program: one call over its standard input and output
-#   FOLDER/libkmip.a     the library of kmip.h, for C and Rust
-#   FOLDER/libkmip.so    the same, for Python
-#   FOLDER/kmip.h        its header
+#   FOLDER/kmip_call         the program: one call over its standard input and output
+#   FOLDER/libmetsuwan.a     the library of metsuwan.h, for C and Rust
+#   FOLDER/libmetsuwan.so    the same, for Python
+#   FOLDER/metsuwan.h        its header
 #
-# Without a flag the two crates kmip_call and kmip_c, and those below them, are proved first, which takes hours from
-# nothing and a minute where it was done before. With --unproved they are compiled at once, and no contract is checked.
-# KMIP_CALL and LIBKMIP_C, where they are set, are a program and a libkmip_c.a that were built before, and are taken.
+# Without --unproved the crates kmip_call and kmip_c, and those below them, are proved first: hours from nothing, and
+# minutes where `rt ci` passed here before. The crate that is proved is shown, as one of how many.
 #
-# It needs the toolchain's `rt` on the path, and gcc with binutils; --unproved also python3.
+#   --unproved       compiles at once, and checks no contract: to try things out. It takes two to four minutes
+#   --program FILE   takes this kmip_call, which was built before
+#   --library FILE   takes this libkmip_c.a, which was built before
+#   --help           prints this
+#
+# It needs the Rattle toolchain's `rt` on the path (README.md says which), python3, gcc, make and binutils. FOLDER/build.log
+# has what they wrote.
 set -eu
+
+give_up() { # TEXT
+    printf 'build.sh: %s\n' "$*" >&2
+    exit 1
+}
+
 usage() {
-    echo 'usage: build.sh [--unproved] FOLDER' >&2
+    sed -n '4s/^# */usage: /p' "$0" >&2
     exit 2
 }
-unproved=
-if [ "${1-}" = --unproved ]; then unproved=1 && shift; fi
-[ $# = 1 ] || usage
+
+unproved='' program='' library='' folder=''
+while (($#)); do
+    case $1 in
+    --help) sed -n '2,/^set/{/^set/d;s/^# \{0,1\}//p}' "$0" && exit ;;
+    --unproved) unproved=1 ;;
+    --program | --library)
+        (($# > 1)) || usage
+        [[ -f $2 ]] || give_up "there is no file $2"
+        if [[ $1 == --program ]]; then program=$(realpath "$2"); else library=$(realpath "$2"); fi
+        shift
+        ;;
+    -*) usage ;;
+    *)
+        [[ -z $folder && -n $1 ]] || usage
+        folder=$1
+        ;;
+    esac
+    shift
+done
+[[ -n $folder ]] || usage
 top=$(cd "$(dirname "$0")/.." && pwd)
-mkdir -p "$1"
-folder=$(cd "$1" && pwd)
 
-if [ -n "${KMIP_CALL-}" ]; then
-    cp "$KMIP_CALL" "$folder/kmip_call"
-elif [ -n "$unproved" ]; then
-    python3 "$top/tools/unproved_build.py" program kmip_call "$folder/kmip_call" "$top"
-else
-    (cd "$top/crates/kmip_call" && rt run -- --version </dev/null)
-    cp "$top/crates/kmip_call/out/kmip_call" "$folder/kmip_call"
+# What is missing, and the Debian package that has it.
+missing=()
+needs() { # COMMAND PACKAGE
+    type -P "$1" >/dev/null || missing+=("$1 (Debian: apt-get install $2)")
+}
+type -P rt >/dev/null || missing+=('rt (the Rattle toolchain; no package of Debian: README.md says where it is from)')
+needs python3 python3
+needs gcc gcc
+needs ar binutils
+needs make make
+if ((${#missing[@]})); then
+    printf 'build.sh: missing: %s\n' "${missing[@]}" >&2
+    exit 1
 fi
 
-if [ -n "${LIBKMIP_C-}" ]; then
-    cp "$LIBKMIP_C" "$folder/libkmip_c.a"
-elif [ -n "$unproved" ]; then
-    python3 "$top/tools/unproved_build.py" library kmip_c "$folder/libkmip_c.a" "$top"
-else
-    (cd "$top/crates/kmip_c" && rt lib)
-    cp "$top/crates/kmip_c/out/libkmip_c.a" "$folder/libkmip_c.a"
+mkdir -p "$folder"
+folder=$(cd "$folder" && pwd)
+log=$folder/build.log
+: >"$log"
+
+# The crates of the repository below these and these, lowest first, one a line.
+crates_below() { # CRATE..
+    awk -v wanted="$*" '
+        { sub(/#.*/, "") }
+        match($0, /:/) { split(substr($0, 1, RSTART - 1), name, " "); uses[name[1]] = substr($0, RSTART + 1) }
+        function visit(it, list, n, i) {
+            if (!(it in uses) || it in seen) return
+            seen[it] = 1
+            n = split(uses[it], list, " ")
+            for (i = 1; i <= n; i++) visit(list[i])
+            print it
+        }
+        END { n = split(wanted, list, " "); for (i = 1; i <= n; i++) visit(list[i]) }' "$top/crates.txt"
+}
+
+step() { # TEXT COMMAND..: a line before and after
+    local text=$1 from=$SECONDS
+    shift
+    printf '%s .. ' "$text"
+    if ! "$@" >>"$log" 2>&1; then
+        printf 'FAILED\n'
+        tail -20 "$log" >&2
+        give_up "$log has the whole of it"
+    fi
+    printf '%d s\n' $((SECONDS - from))
+}
+
+proved() { # CRATE VERB..: `rt VERB` in its folder
+    cd "$top/crates/$1" && rt "${@:2}" </dev/null
+}
+
+prove_all() { # CRATE..: the programs and static libraries to build
+    local list=() number=0 it
+    mapfile -t list < <(crates_below "$@")
+    for it in "${list[@]}"; do
+        number=$((number + 1))
+        case $it in
+        kmip_call) step "[$number/${#list[@]}] $it" proved "$it" run -- --version ;;
+        *) step "[$number/${#list[@]}] $it" proved "$it" lib ;;
+        esac
+    done
+}
+
+wanted=()
+[[ -n $program ]] || wanted+=(kmip_call)
+[[ -n $library ]] || wanted+=(kmip_c)
+if [[ -z $unproved ]] && ((${#wanted[@]})); then
+    echo 'Each crate is proved: hours from nothing, minutes where it was proved here before. --unproved takes two to four minutes.'
+    (prove_all "${wanted[@]}")
+    [[ -n $program ]] || program=$top/crates/kmip_call/out/kmip_call
+    [[ -n $library ]] || library=$top/crates/kmip_c/out/libkmip_c.a
+fi
+if [[ -n $unproved ]] && ((${#wanted[@]})); then
+    echo 'Compiled with no proof: two to four minutes in all.'
+fi
+if [[ -z $program ]]; then
+    step '[1/2] kmip_call' python3 "$top/tools/unproved_build.py" program kmip_call "$folder/kmip_call" "$top"
+elif [[ ! $program -ef $folder/kmip_call ]]; then
+    cp "$program" "$folder/kmip_call"
+fi
+if [[ -z $library ]]; then
+    step '[2/2] the library' python3 "$top/tools/unproved_build.py" library kmip_c "$folder/libkmip_c.a" "$top"
+elif [[ ! $library -ef $folder/libkmip_c.a ]]; then
+    cp "$library" "$folder/libkmip_c.a"
 fi
 
-# The library asks for memory by three functions of the toolchain, over malloc.
-memory=$(dirname "$(rt doc)")/c/liblibc_c.a
-rm -f "$folder/libkmip.a"
-printf 'CREATE %s\nADDLIB %s\nADDLIB %s\nSAVE\nEND\n' "$folder/libkmip.a" "$folder/libkmip_c.a" "$memory" | ar -M
-gcc -shared -o "$folder/libkmip.so" -Wl,--whole-archive "$folder/libkmip_c.a" -Wl,--no-whole-archive "$memory"
-rm "$folder/libkmip_c.a"
-cp "$top/clients/c/kmip.h" "$folder/kmip.h"
+# The library, for the two ways of linking. It is made in a folder whose path has no space, which neither make nor ar knows.
+work=$(mktemp -d -t kmip-build-XXXXXX)
+trap 'rm -rf "$work"' EXIT
+mv "$folder/libkmip_c.a" "$work"
+if ! make -s -C "$top/clients/c" library CORE="$work/libkmip_c.a" OUT="$work" >>"$log" 2>&1; then
+    tail -20 "$log" >&2
+    give_up 'no library'
+fi
+rm "$work/libkmip_c.a"
+mv "$work"/* "$folder"
+printf 'made %s: %s\n' "$folder" "$(cd "$folder" && echo kmip_call lib*.a lib*.so *.h)"
+
+# What the clients themselves stand on.
+missing=()
+needs openssl openssl
+needs jq jq
+needs flock util-linux
+if ((${#missing[@]})); then printf "the shell's client also wants %s\n" "${missing[@]}"; fi
+missing=()
+[[ -e /usr/include/openssl/ssl.h ]] || missing+=('the headers of OpenSSL (Debian: apt-get install libssl-dev)')
+if ((${#missing[@]})); then printf 'the client in C also wants %s\n' "${missing[@]}"; fi
+missing=()
+needs rustc rustc
+needs cargo cargo
+if ((${#missing[@]})); then printf 'the client in Rust also wants %s\n' "${missing[@]}"; fi

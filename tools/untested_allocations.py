@@ -102,7 +102,6 @@ def public_calls(crate):
         text = without_comments(open(path).read())
         module = os.path.relpath(path, os.path.join(crate, "src")).split(os.sep)[0].removesuffix(".rt")
         blocks = list(impls("\n" + text))
-        inside = [(start - 1, start + len(block) + 400) for _, _, block, start in blocks]
         for trait, kind, block, _ in blocks:
             if trait in TRAITS:
                 calls.add((trait, kind, TRAITS[trait]))

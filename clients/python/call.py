@@ -1,38 +1,76 @@
 #!/usr/bin/env python3
 """One call, whose arguments are texts. It writes the answer as JSON.
 
-    LIBKMIP=./libkmip.so call.py HOST PORT CERTIFICATE KEY AUTHORITY CALL TEXT..
+    call.py HOST PORT CERTIFICATE KEY AUTHORITY CALL TEXT..
 
-The environment's KMIP_USER and KMIP_PASSWORD are a credential, KMIP_LIMIT the most bytes of a response, KMIP_TIMEOUT the
-most seconds that one read or write may wait. Status: 0 answered, 1 refused, 2 not of the grammar, 3 the connection is lost or there is none.
+The environment may have KMIP_USER and KMIP_PASSWORD, a credential; KMIP_PASSPHRASE, that of an
+encrypted key; KMIP_LIMIT, the most bytes of a response (1048576 where it is not set; 0: no limit);
+KMIP_TIMEOUT, the most seconds of connecting and of the call (30; 0: no deadline). With KMIP_PEM
+set, a key or a certificate that was got is written as PEM.
+
+Status: 0 answered, 1 refused, 2 not of the grammar, 3 the connection is lost or there is none,
+4 the answer could not be written, 5 out of memory. What is no answer is a line of JSON on standard
+error.
 """
 import json
 import os
 import sys
+from typing import List
 
-from metsuwan import Client, GrammarError, Refused
+from metsuwan import Client, ConnectError, ConnectionLost, GrammarError, KmipError
+from metsuwan.calls import words_of
+
+
+def fail(error: KmipError) -> int:
+    print(json.dumps(error.line()), file=sys.stderr)
+    if isinstance(error, GrammarError):
+        return 2
+    return 3 if isinstance(error, ConnectionLost) else 1
+
+
+def number(name: str, otherwise: float) -> float:
+    text = os.environ.get(name) or str(otherwise)
+    try:
+        return float(text)
+    except ValueError:
+        raise GrammarError('%s is no number' % name) from None
+
+
+def client_of(settings: List[str]) -> Client:
+    host, port, cert, key, ca = settings
+    given = os.environ.get
+    try:
+        return Client(host, port, cert=cert, key=key, ca=ca, user=given('KMIP_USER'),
+                      password=given('KMIP_PASSWORD'), passphrase=given('KMIP_PASSPHRASE'),
+                      limit=int(number('KMIP_LIMIT', 1 << 20)), timeout=number('KMIP_TIMEOUT', 30))
+    except (ValueError, OverflowError) as error:
+        raise GrammarError(str(error)) from error
+
+
+def answer_of(settings: List[str], name: str, texts: List[str]) -> str:
+    words = words_of(name, texts)
+    with client_of(settings) as kmip:
+        if name == 'get' and os.environ.get('KMIP_PEM'):
+            return kmip.get(texts[0]).pem()
+        return json.dumps(kmip.call(name, *words)) + '\n'
 
 
 def main() -> int:
     if len(sys.argv) < 7:
-        print('usage: call.py HOST PORT CERTIFICATE KEY AUTHORITY CALL TEXT..', file=sys.stderr)
-        return 2
-    host, port, cert, key, ca = sys.argv[1:6]
-    limit = int(os.environ.get('KMIP_LIMIT', 1 << 20))
+        return fail(GrammarError('usage: call.py HOST PORT CERTIFICATE KEY AUTHORITY CALL TEXT..'))
     try:
-        with Client(host, int(port), cert=cert, key=key, ca=ca, user=os.environ.get('KMIP_USER'),
-                    password=os.environ.get('KMIP_PASSWORD'), limit=limit,
-                    timeout=float(os.environ.get('KMIP_TIMEOUT', 30))) as kmip:
-            print(json.dumps(kmip.call(*sys.argv[6:])))
-    except Refused as error:
-        print('%s: %s' % (error.kind, error), file=sys.stderr)
-        return 1
-    except GrammarError as error:
-        print(error, file=sys.stderr)
-        return 2
-    except OSError as error:
-        print('%s: %s' % (getattr(error, 'kind', type(error).__name__), error), file=sys.stderr)
-        return 3
+        answer = answer_of(sys.argv[1:6], sys.argv[6], sys.argv[7:])
+    except KmipError as error:
+        return fail(error)
+    except OSError as error:  # there is no library
+        return fail(ConnectError(str(error)))
+    except MemoryError:
+        return 5
+    try:
+        sys.stdout.write(answer)
+        sys.stdout.flush()
+    except OSError:
+        return 4
     return 0
 
 

@@ -1,10 +1,11 @@
 #!/usr/bin/env python3
 """The life of a key: made, active, read, used, named anew, revoked, destroyed, gone.
 
-    LIBKMIP=./libkmip.so life.py HOST PORT CERTIFICATE KEY AUTHORITY FOLDER [COUNT]
+    life.py HOST PORT CERTIFICATE KEY AUTHORITY FOLDER [COUNT]
 
-It leaves the public key (PKCS#1, DER) and the signature of ``hello`` in FOLDER, as public.der and signature. With a COUNT
-it also makes ten times so many queries and so many signatures, and says how long each took.
+It leaves the public key (PKCS#1) in FOLDER as public.der and public.pem, and the signature of
+``hello`` as signature. With a COUNT it also makes ten times so many queries and so many signatures,
+and says how long each took.
 """
 import pathlib
 import sys
@@ -38,8 +39,9 @@ def live(kmip: Client, folder: pathlib.Path, count: int) -> None:
     pair = kmip.create_rsa_key_pair(2048, 'life, 100%', 'life, public')
     kmip.activate(pair.private_key)
     public = kmip.get(pair.public_key)
-    assert (public.object_type, public.key_format_type) == (3, 3)
-    (folder / 'public.der').write_bytes(public.key_material or b'')
+    assert (public.object_type, public.key_format_type) == ('PublicKey', 'PKCS1')
+    (folder / 'public.der').write_bytes(public.key_material)
+    (folder / 'public.pem').write_text(public.pem(), encoding='ascii')
     signed = kmip.sign(pair.private_key, b'hello')
     assert signed.unique_identifier == pair.private_key
     (folder / 'signature').write_bytes(signed.signature_data)
@@ -56,11 +58,12 @@ def live(kmip: Client, folder: pathlib.Path, count: int) -> None:
 
 def main() -> int:
     if len(sys.argv) < 7:
-        print('usage: life.py HOST PORT CERTIFICATE KEY AUTHORITY FOLDER [COUNT]', file=sys.stderr)
+        print('usage: life.py HOST PORT CERTIFICATE KEY AUTHORITY FOLDER [COUNT]',
+              file=sys.stderr)
         return 2
     host, port, cert, key, ca, folder = sys.argv[1:7]
     count = int(sys.argv[7]) if len(sys.argv) > 7 else 0
-    with Client(host, int(port), cert=cert, key=key, ca=ca) as kmip:
+    with Client(host, port, cert=cert, key=key, ca=ca) as kmip:
         live(kmip, pathlib.Path(folder), count)
     return 0
 

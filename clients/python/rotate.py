@@ -1,12 +1,13 @@
 #!/usr/bin/env python3
-"""Key rotation: a new RSA pair is made, made active and tried; it takes over the name of the old private key, which is
-then revoked and destroyed. It writes the new private key's identifier.
+"""Key rotation: a new RSA pair is made, made active and tried; it takes over the name of the old
+private key, which is then revoked and destroyed. It writes the new private key's identifier.
 
-    LIBKMIP=./libkmip.so rotate.py HOST PORT CERTIFICATE KEY AUTHORITY OLD-PRIVATE-KEY NAME
+    rotate.py HOST PORT CERTIFICATE KEY AUTHORITY OLD-PRIVATE-KEY NAME
 """
+import json
 import sys
 
-from metsuwan import Client, KmipError
+from metsuwan import Client, ConnectionLost, KmipError
 
 
 def rotate(kmip: Client, old: str, name: str) -> str:
@@ -23,15 +24,16 @@ def rotate(kmip: Client, old: str, name: str) -> str:
 
 def main() -> int:
     if len(sys.argv) != 8:
-        print('usage: rotate.py HOST PORT CERTIFICATE KEY AUTHORITY OLD-PRIVATE-KEY NAME', file=sys.stderr)
+        print('usage: rotate.py HOST PORT CERTIFICATE KEY AUTHORITY OLD-PRIVATE-KEY NAME',
+              file=sys.stderr)
         return 2
     host, port, cert, key, ca, old, name = sys.argv[1:]
     try:
-        with Client(host, int(port), cert=cert, key=key, ca=ca) as kmip:
+        with Client(host, port, cert=cert, key=key, ca=ca) as kmip:
             print(rotate(kmip, old, name))
-    except (KmipError, OSError) as error:
-        print('%s: %s' % (getattr(error, 'kind', type(error).__name__), error), file=sys.stderr)
-        return 1
+    except KmipError as error:
+        print(json.dumps(error.line()), file=sys.stderr)
+        return 3 if isinstance(error, ConnectionLost) else 1
     return 0
 
 

@@ -1,3 +1,4 @@
+# shellcheck shell=bash
 # A KMIP client for bash scripts: source this file.
 #
 #   kmip_open localhost:5696 client.pem client.key ca.pem    one TLS connection, to a server whose certificate is of this
@@ -8,16 +9,38 @@
 #
 # `kmip` writes one line of JSON and has the status of kmip_call: 0 answered, 1 refused, 2 no such call, 3 the connection
 # is lost, 4 the answer could not be written, 5 out of memory. All calls go over one connection, each by a process of its
-# own: a call takes just its own message, so the next begins where it ended. After a status of 3 or more close, and open
-# a new connection. One call at a time: two at once would take each other's bytes.
+# own. Only one is made at a time: a second one, as of a background job, waits. After a status of 3 or more, and after a
+# call that was interrupted, the connection is closed, and each later call has status 3, until kmip_open: what comes then
+# could be the answer to the call that was given up.
 #
 # Arguments are plain texts: `kmip rename 4 'issuing key'`. Those of them that the grammar writes with an escape, as a
 # space, are written so here; the empty argument is the empty text, or no bytes. An empty identifier is refused (status 2):
 # a server may take it for the last object that was made on the connection.
 #
-# Settings, all optional: KMIP_USER and KMIP_PASSWORD (a credential; both), KMIP_LIMIT (the most bytes of a response),
-# KMIP_RECORD (a file that each call and its response are added to), KMIP_TIMEOUT (seconds for each call; status 3 when
-# they are over), KMIP_CALL (the program, if it is not kmip_call on the path).
+# Settings, all optional:
+#   KMIP_TIMEOUT     seconds for each call, with connect and handshake; status 3 when they are over. 30 where it is not
+#                    set; 0: no deadline
+#   KMIP_LIMIT       the most bytes of a response. 1048576 where it is not set; 0: no limit
+#   KMIP_USER, KMIP_PASSWORD     a credential; both
+#   KMIP_PASSPHRASE, or KMIP_PASSPHRASE_FILE with it as its first line     that of an encrypted key
+#   KMIP_RECORD      a file that each call and its response are added to
+#   KMIP_CALL        the program, if it is not kmip_call on the path: its path, or words
+#
+# It needs bash 5.0, openssl 3.0, flock (util-linux), timeout and mkfifo (coreutils), jq for kmip_field, and /proc.
+
+if ((BASH_VERSINFO[0] < 5)); then
+    echo 'kmip.sh: bash 5.0 or later is needed' >&2
+    # shellcheck disable=SC2317 # where the file is run, and not sourced
+    return 1 2>/dev/null || exit 1
+fi
+
+# An open connection is
+#   KMIP_PID               the process of openssl
+#   KMIP_IN, KMIP_OUT      descriptors: its output, which calls read, and its input
+#   KMIP_STATE             a file with no name, empty where the connection is good. It is locked for a call, and holds a
+#                          word from a call's beginning until it has ended well: so a call that finds it there knows that
+#                          the one before was given up, however that ended
+#   KMIP_LOG               a file with no name, in which openssl says what is wrong
 
 # Leaves in KMIP_WORD the word that stands for a text in a call: what is special is written as % and two hex digits.
 kmip_escape() { # TEXT
@@ -47,87 +70,263 @@ kmip_word() { # TEXT
     printf '%s\n' "$KMIP_WORD"
 }
 
+# One line of JSON for a failure that kmip_call cannot tell of.
+kmip_fails() { # ERROR TEXT
+    printf '{"error":"%s","text":"%s"}\n' "$1" "$2"
+}
+
+# Leaves in KMIP_WORDS the words that run kmip_call.
+kmip_program() {
+    KMIP_WORDS=("${KMIP_CALL:-kmip_call}")
+    [[ -n ${KMIP_CALL-} && ! -x $KMIP_CALL ]] || return 0
+    IFS=$' \t' read -ra KMIP_WORDS <<<"$KMIP_CALL"
+}
+
+# Says on standard error what is missing for a connection; its status is 0 where nothing is.
+kmip_can_open() { # CERTIFICATE KEY AUTHORITY
+    local file missing='' KMIP_WORDS
+    for file in "$@" ${KMIP_PASSPHRASE_FILE:+"$KMIP_PASSPHRASE_FILE"}; do
+        [[ -r $file && ! -d $file ]] || missing+="cannot read $file; "
+    done
+    if [[ -z ${KMIP_PASSPHRASE+set}${KMIP_PASSPHRASE_FILE-} ]] && grep -qs ENCRYPTED "$2"; then
+        missing+="$2 is encrypted: KMIP_PASSPHRASE or KMIP_PASSPHRASE_FILE has to be set; "
+    fi
+    kmip_program
+    type -P "${KMIP_WORDS[0]}" >/dev/null ||
+        missing+="there is no program ${KMIP_WORDS[0]}: clients/build.sh makes kmip_call, for the path or KMIP_CALL; "
+    type -P flock >/dev/null || missing+='there is no flock (Debian: util-linux); '
+    if ! type -P openssl >/dev/null; then
+        missing+='there is no openssl; '
+    elif ! openssl s_client -help 2>&1 | grep -q -e -nocommands; then
+        missing+="$(openssl version) is too old: 3.0 is needed; "
+    fi
+    [[ -z $missing ]] || printf 'kmip_open: %s\n' "${missing%; }" >&2
+    [[ -z $missing ]]
+}
+
+# Leaves in KMIP_WORDS the words of `openssl s_client`. -nocommands: without it a block of input that begins with Q, R, K
+# or k is a command, and lost. -pass: without it openssl asks the terminal. Descriptors 8 and 9 are kmip_carry's.
+kmip_client_words() { # HOST:PORT CERTIFICATE KEY AUTHORITY
+    local host=${1%:*}
+    host=${host#[} host=${host%]}
+    KMIP_WORDS=(s_client -quiet -verify_quiet -no_ign_eof -nocommands -connect "$1" -verify_return_error
+        -cert "$2" -key "$3" -CAfile "$4" -no-CApath -no-CAstore)
+    if [[ $host =~ ^[0-9.]+$ || $host == *:* ]]; then
+        KMIP_WORDS+=(-verify_ip "$host" -noservername)
+    else
+        KMIP_WORDS+=(-verify_hostname "$host" -servername "$host")
+    fi
+    if (($(grep -c -e '-BEGIN .*CERTIFICATE-' "$2") > 1)); then KMIP_WORDS+=(-cert_chain /dev/fd/8); fi
+    if [[ -n ${KMIP_PASSPHRASE+set} ]]; then
+        KMIP_WORDS+=(-pass fd:9)
+    elif [[ -n ${KMIP_PASSPHRASE_FILE-} ]]; then
+        KMIP_WORDS+=(-pass "file:$KMIP_PASSPHRASE_FILE")
+    else
+        KMIP_WORDS+=(-pass pass:)
+    fi
+}
+
+# Becomes openssl, between the two descriptors. The passphrase is in no word and no environment.
+kmip_carry() { # FROM TO LOG CERTIFICATE
+    export -n KMIP_PASSPHRASE KMIP_PASSWORD
+    exec openssl "${KMIP_WORDS[@]}" <&"$1" >&"$2" 2>&"$3" 9<<<"${KMIP_PASSPHRASE-}" \
+        8< <(awk '/-BEGIN .*CERTIFICATE-/ { n++; within = 1 } within && n > 1; /-END / { within = 0 }' "$4") \
+        {KMIP_IN}<&- {KMIP_OUT}>&- {KMIP_STATE}>&- {KMIP_LOG}<&-
+}
+
 # Opens the connection: 0, or 3 where there is none. The reason is on standard error.
 kmip_open() { # HOST:PORT CERTIFICATE KEY AUTHORITY
     if (($# != 4)) || [[ $1 != ?*:?* ]]; then
         echo 'usage: kmip_open HOST:PORT CERTIFICATE KEY AUTHORITY' >&2
         return 2
     fi
-    if [[ -n ${KMIP_PID-} ]]; then
+    if [[ -n ${KMIP_PID-} ]] && ! kmip_is_lost; then
         echo 'kmip_open: a connection is open; kmip_close it' >&2
         return 2
     fi
-    local host=${1%:*} file
-    host=${host#[} host=${host%]}
-    for file in "${@:2}"; do
-        [[ -r $file ]] || { echo "kmip_open: cannot read $file" >&2 && return 3; }
-    done
-    local name=(-verify_hostname "$host" -servername "$host")
-    if [[ $host =~ ^[0-9.]+$ || $host == *:* ]]; then name=(-verify_ip "$host" -noservername); fi
-    coproc KMIP_WIRE { exec openssl s_client -quiet -verify_quiet -no_ign_eof -connect "$1" "${name[@]}" \
-        -verify_return_error -cert "$2" -key "$3" -CAfile "$4" -no-CApath -no-CAstore 2> >(exec sed -u '/^DONE$/d' >&2); }
-    KMIP_PID=$KMIP_WIRE_PID
-    # Descriptors of our own: bash forgets the pair when openssl ends.
-    if ! { exec {KMIP_IN}<&"${KMIP_WIRE[0]}" {KMIP_OUT}>&"${KMIP_WIRE[1]}"; } 2>/dev/null; then
-        kmip_close
+    kmip_close
+    kmip_can_open "${@:2}" || return 3
+    local folder from to both log try KMIP_WORDS
+    if ! { folder=$(mktemp -d) && mkfifo "$folder/in" "$folder/out"; }; then return 3; fi
+    # Each pipe is opened at both ends first, so that no opening waits for the other end. Their files are removed: the
+    # end of the shell is the end of the connection, and nothing is left.
+    # shellcheck disable=SC2094 # the two ends of a pipe
+    if ! exec {both}<>"$folder/in" {KMIP_IN}<"$folder/in" {to}>"$folder/in" {both}>&- \
+        {both}<>"$folder/out" {from}<"$folder/out" {KMIP_OUT}>"$folder/out" {both}>&- \
+        {KMIP_STATE}<>"$folder/state" {log}>>"$folder/log" {KMIP_LOG}<"$folder/log"; then
+        rm -rf "$folder"
         return 3
     fi
-    eval "exec ${KMIP_WIRE[0]}<&- ${KMIP_WIRE[1]}>&-"
+    rm -rf "$folder"
+    kmip_client_words "$@"
+    { kmip_carry "$from" "$to" "$log" "$2" & } 2>/dev/null
+    KMIP_PID=$!
+    # It is no job of the script: a bare `wait` does not wait for it.
+    disown "$KMIP_PID" 2>/dev/null || :
+    for ((try = 0; try < 500; try++)); do
+        if kmip_lives || [[ ! -e /proc/$KMIP_PID ]]; then break; fi
+        sleep 0.01
+    done
+    exec {from}<&- {to}>&- {log}>&-
+}
+
+# Whether openssl carries the connection: its input is the other end of our output. So it is no other process that has
+# got its number since.
+kmip_lives() {
+    [[ /proc/$KMIP_PID/fd/0 -ef /proc/self/fd/$KMIP_OUT ]]
+}
+
+# Ends openssl.
+kmip_end() {
+    if kmip_lives; then kill "$KMIP_PID" 2>/dev/null || :; fi
+}
+
+# Whether the connection is lost. While a call is made on it, it is not.
+kmip_is_lost() {
+    local mine lost=1
+    if ! kmip_lives || ! exec {mine}<>"/proc/self/fd/$KMIP_STATE"; then return 0; fi
+    if flock -n "$mine" && [[ -s /proc/self/fd/$mine ]]; then lost=0; fi
+    exec {mine}>&-
+    return $lost
+}
+
+# Says on standard error what openssl said: why a certificate is refused, or there is no connection.
+kmip_reasons() {
+    sed -nE 's/^verify error:num=[0-9]+:/kmip: certificate: /p
+        s/^[0-9A-F]+:error:[^:]*:[^:]*:[^:]*:([^:]*):[^:]*:[0-9]*:(.+)/kmip: openssl: \1 (\2)/p
+        s/^[0-9A-F]+:error:[^:]*:[^:]*:[^:]*:([^:]*):[^:]*:[0-9]*:$/kmip: openssl: \1/p
+        s/^(Could|Can.t|Error) .*/kmip: openssl: &/p' "/proc/self/fd/$KMIP_LOG" | sort -u >&2
+}
+
+# Ends the connection for a reason, whose line it writes; the status is that of a connection that is lost.
+kmip_lose() { # ERROR TEXT
+    kmip_end
+    kmip_fails "$@"
+    kmip_reasons
+    return 3
+}
+
+# Locks the connection for a call, by the descriptor KMIP_MINE, and leaves in KMIP_SECONDS what is left of its deadline.
+kmip_lock() {
+    local from=${EPOCHREALTIME/[^0-9]/} left=$KMIP_DEADLINE
+    exec {KMIP_MINE}<>"/proc/self/fd/$KMIP_STATE" || return
+    kmip_seconds "$left"
+    if ((left == 0)); then
+        flock "$KMIP_MINE"
+        return
+    fi
+    # In C's locale, since flock reads a number by the locale's rules.
+    LC_ALL=C flock -w "$KMIP_SECONDS" "$KMIP_MINE" || return
+    left=$((left + from - ${EPOCHREALTIME/[^0-9]/}))
+    kmip_seconds $((left > 0 ? left : 1))
+}
+
+# Leaves in KMIP_SECONDS so many microseconds, as seconds.
+kmip_seconds() { # MICROSECONDS
+    printf -v KMIP_SECONDS '%d.%06d' $(($1 / 1000000)) $(($1 % 1000000))
+}
+
+# Makes one call, in a shell of its own, whose end unlocks the connection.
+kmip_make() { # WORD..
+    local status KMIP_MINE KMIP_SECONDS
+    if ! kmip_lock; then
+        kmip_fails RequestWriteError 'another call is made on the connection; nothing was sent'
+        return 3
+    fi
+    if [[ -s /proc/self/fd/$KMIP_MINE ]]; then
+        kmip_lose RequestWriteError 'the connection was given up; nothing was sent; kmip_open opens a new one'
+        return
+    fi
+    printf 'a call is made\n' >&"$KMIP_MINE"
+    if ! kmip_lives; then
+        kmip_lose RequestWriteError 'there is no connection; nothing was sent; kmip_open opens a new one'
+        return
+    fi
+    if read -r -t 0 -u "$KMIP_IN"; then
+        kmip_lose RequestWriteError \
+            'the connection ended, or bytes came that no call had asked for; nothing was sent; kmip_open opens a new one'
+        return
+    fi
+    trap 'kmip_end; trap - INT; kill -INT "$BASHPID"' INT
+    trap '' PIPE
+    timeout --foreground -k 1 "$KMIP_SECONDS" "$@" 2>&1 <&"$KMIP_IN" >&"$KMIP_OUT"
+    status=$?
+    case $status in
+    0 | 1 | 2) : >|"/proc/self/fd/$KMIP_MINE" ;;
+    3 | 4 | 5) kmip_end && kmip_reasons ;;
+    124) kmip_lose ResponseReadError "no whole response within ${KMIP_TIMEOUT:-30} seconds" ;;
+    126 | 127) kmip_lose RequestWriteError "kmip_call cannot be run: status $status" ;;
+    *) kmip_lose ResponseReadError "kmip_call was ended: status $status" ;;
+    esac
+    ((status <= 5)) || status=3
+    return $status
+}
+
+# Leaves in KMIP_DEADLINE the microseconds of KMIP_TIMEOUT.
+kmip_deadline() {
+    [[ ${KMIP_TIMEOUT:-30} =~ ^([0-9]{1,9})([.]([0-9]{1,6}))?$ ]] || return 1
+    local fraction=${BASH_REMATCH[3]-}000000
+    KMIP_DEADLINE=$((10#${BASH_REMATCH[1]} * 1000000 + 10#${fraction:0:6}))
 }
 
 # Makes a call, and writes its answer.
 kmip() { # CALL WORD..
+    local words=() word status=0 KMIP_WORD KMIP_WORDS KMIP_DEADLINE
     if [[ -z ${KMIP_PID-} ]]; then
-        echo 'kmip: no connection is open' >&2
+        kmip_fails RequestWriteError 'no connection is open; kmip_open opens one'
         return 3
     fi
     case ${1-} in
-    query | create-rsa | create-aes | rng | locate | discover | raw) ;;
+    '' | query | create-rsa | create-aes | rng | locate | discover | raw) ;;
     *)
         if [[ -z ${2-} ]]; then
-            echo "kmip: ${1-} without an identifier" >&2
+            kmip_fails GrammarError 'the call has no identifier'
             return 2
         fi
         ;;
     esac
-    local words=() word KMIP_WORD program=(${KMIP_CALL:-kmip_call}) status
-    if [[ -n ${KMIP_TIMEOUT-} ]]; then program=(timeout "$KMIP_TIMEOUT" "${program[@]}"); fi
+    if ! kmip_deadline; then
+        kmip_fails GrammarError 'KMIP_TIMEOUT is no number of seconds'
+        return 2
+    fi
     if [[ -n ${KMIP_USER+set} ]]; then words+=("user=$KMIP_USER"); fi
-    if [[ -n ${KMIP_LIMIT+set} ]]; then words+=("limit=$KMIP_LIMIT"); fi
-    if [[ -n ${KMIP_RECORD+set} ]]; then words+=("record=$KMIP_RECORD"); fi
+    words+=("limit=${KMIP_LIMIT:-1048576}")
+    if [[ -n ${KMIP_RECORD-} ]]; then words+=("record=$KMIP_RECORD"); fi
     words+=("${1-}")
     for word in "${@:2}"; do
         kmip_escape "$word"
         words+=("$KMIP_WORD")
     done
-    "${program[@]}" "${words[@]}" 2>&1 <&"$KMIP_IN" >&"$KMIP_OUT"
-    status=$?
-    if [[ $status == 124 && -n ${KMIP_TIMEOUT-} ]]; then return 3; fi
+    kmip_program
+    (
+        export -n KMIP_PASSPHRASE
+        if [[ -n ${KMIP_PASSWORD+set} ]]; then export KMIP_PASSWORD; fi
+        kmip_make "${KMIP_WORDS[@]}" "${words[@]}"
+    ) || status=$?
+    if ((status > 5)); then
+        kmip_lose ResponseReadError 'the call was interrupted' || status=$?
+    fi
     return $status
 }
 
 # Makes a call, and writes one field of its answer, as unique_identifier or operations[0]. An error goes to standard error.
 kmip_field() { # FIELD CALL WORD..
-    local field=$1 answer status
-    shift
-    answer=$(kmip "$@")
-    status=$?
-    if ((status == 0)); then
-        jq -er ".answer.$field" <<<"$answer" || { echo "kmip_field: no $field in $answer" >&2 && return 1; }
-    else
+    local field=${1-} answer status=0
+    answer=$(kmip "${@:2}") || status=$?
+    if ((status != 0)); then
         printf '%s\n' "$answer" >&2
+    elif ! jq -er ".answer.$field" <<<"$answer"; then
+        printf 'kmip_field: no %s in %s\n' "$field" "$answer" >&2
+        status=1
     fi
     return $status
 }
 
 # Ends the connection.
 kmip_close() {
-    if [[ -n ${KMIP_IN-} ]]; then exec {KMIP_IN}<&-; fi
-    if [[ -n ${KMIP_OUT-} ]]; then exec {KMIP_OUT}>&-; fi
     if [[ -n ${KMIP_PID-} ]]; then
-        kill "$KMIP_PID" 2>/dev/null
-        wait "$KMIP_PID" 2>/dev/null
+        kmip_end
+        exec {KMIP_IN}<&- {KMIP_OUT}>&- {KMIP_STATE}>&- {KMIP_LOG}<&-
     fi
-    unset KMIP_IN KMIP_OUT KMIP_PID
-    return 0
+    unset KMIP_IN KMIP_OUT KMIP_STATE KMIP_LOG KMIP_PID
 }

@@ -29,9 +29,7 @@ refused() { # CALL WORD..: it is refused, and the connection is good
     ((status == 1)) || fail "$1: status $status: $answer"
 }
 bytes() { # the bytes of hex digits
-    local digits
-    read -r digits
-    printf "$(sed 's/../\\x&/g' <<<"$digits")"
+    printf '%b' "$(sed 's/../\\x&/g')"
 }
 timed() { # WHAT COUNT CALL WORD..
     local what=$1 count=$2 started i
@@ -43,9 +41,11 @@ timed() { # WHAT COUNT CALL WORD..
 }
 
 kmip_open "$1:$2" "$3" "$4" "$5" || exit 3
-vendor=$(kmip_field vendor_identification query) && [[ -n $vendor ]] || fail 'query names no vendor'
+vendor=$(kmip_field vendor_identification query) || fail query
+[[ -n $vendor ]] || fail 'query names no vendor'
 pair=$(kmip create-rsa 2048 'life, 100%' 'life, public') || fail "create-rsa: $pair"
-private=$(jq -er .answer.private_key <<<"$pair") && public=$(jq -er .answer.public_key <<<"$pair") || fail "create-rsa: $pair"
+private=$(jq -er .answer.private_key <<<"$pair") || fail "create-rsa: $pair"
+public=$(jq -er .answer.public_key <<<"$pair") || fail "create-rsa: $pair"
 need activate "$private"
 key=$(kmip get "$public") || fail "get: $key"
 [[ $(jq -r .answer.object_type <<<"$key") == PublicKey ]] || fail "get: $key"

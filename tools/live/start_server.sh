@@ -1,6 +1,7 @@
 #!/bin/sh
 # Starts a PyKMIP server on 127.0.0.1 with the certificates in DIR/certs, and waits until it listens. Its process is then
-# in DIR/server.pid; end it by: kill "$(cat DIR/server.pid)", which takes up to 10 seconds.
+# in DIR/server.pid, and is the first of a group of processes; end it by: kill "$(cat DIR/server.pid)", which takes up to
+# 10 seconds, or the group at once by: kill -KILL -- "-$(cat DIR/server.pid)".
 set -eu
 dir=${1:?usage: start_server.sh DIR PORT}
 port=${2:?usage: start_server.sh DIR PORT}
@@ -20,13 +21,13 @@ tls_cipher_suites=
 logging_level=INFO
 database_path=$dir/pykmip.db
 CONF
-pykmip-server -f "$dir/server.conf" -l "$dir/server.log" >"$dir/server.out" 2>&1 </dev/null &
+setsid pykmip-server -f "$dir/server.conf" -l "$dir/server.log" >"$dir/server.out" 2>&1 </dev/null &
 echo $! >"$dir/server.pid"
 for _ in $(seq 300); do
     if grep -q 'Starting connection service' "$dir/server.log" 2>/dev/null; then exit 0; fi
     kill -0 "$(cat "$dir/server.pid")" 2>/dev/null || break
     sleep 0.1
 done
-cat "$dir/server.out" >&2
+tail -5 "$dir/server.out" >&2
 echo 'the server does not listen' >&2
 exit 1

@@ -5,12 +5,17 @@
     with Client('localhost', 5696, cert='client.pem', key='client.key', ca='ca.pem') as kmip:
         pair = kmip.create_rsa_key_pair(2048, 'issuing', 'issuing, public')
         kmip.activate(pair.private_key)
-        signature = kmip.sign(pair.private_key, b'to be signed')
+        signature = kmip.sign(pair.private_key, b'to be signed').signature_data
 """
-from .client import Client, Key, KeyPair, Signed
-from .errors import (ConnectionLost, DeserializeError, GrammarError, InternalError, ItemNotFound, KmipError, Refused,
-                     RequestWriteError, ResponseReadError, SerializeError, ServerError)
+from .client import Client
+from .errors import (ConnectError, ConnectionLost, DeserializeError, GrammarError, InternalError,
+                     ItemNotFound, KmipError, MissingValue, OtherObject, Refused, RequestWriteError,
+                     ResponseReadError, SerializeError, ServerError)
+from .objects import KeyPair, ManagedObject, Signed
 
-__all__ = ['Client', 'ConnectionLost', 'DeserializeError', 'GrammarError', 'InternalError', 'ItemNotFound', 'Key',
-           'KeyPair', 'KmipError', 'Refused', 'RequestWriteError', 'ResponseReadError', 'SerializeError', 'ServerError',
-           'Signed']
+__version__ = '1.0'
+__all__ = [
+    'Client', 'ConnectError', 'ConnectionLost', 'DeserializeError', 'GrammarError', 'InternalError',
+    'ItemNotFound', 'KeyPair', 'KmipError', 'ManagedObject', 'MissingValue', 'OtherObject',
+    'Refused', 'RequestWriteError', 'ResponseReadError', 'SerializeError', 'ServerError', 'Signed',
+]

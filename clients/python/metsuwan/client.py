@@ -2,85 +2,73 @@
 from __future__ import annotations
 
 import json
-import socket
-import ssl
 import threading
-from typing import Any, List, NamedTuple, Optional, Tuple
+from typing import Any, Dict, List, Optional, Tuple
 
-from .errors import (DeserializeError, GrammarError, RequestWriteError, ResponseReadError, SerializeError,
-                     error_of)
-from .library import (ANSWERED, CALL_GRAMMAR, GRAMMAR, LOST, NO_FORM, NO_MEMORY, TOO_LONG, Credential, Library, Word,
-                      word)
+from .calls import Bytes, Word, line_of
+from .errors import (ConnectError, ConnectionLost, DeserializeError, GrammarError, MissingValue,
+                     RequestWriteError, ResponseReadError, SerializeError, error_of)
+from .library import (ANSWERED, CALL_GRAMMAR, GRAMMAR, LOST, NO_FORM, NO_MEMORY, TOO_LONG,
+                      Credential, Library)
+from .objects import KeyPair, ManagedObject, Signed, bytes_at, text_at, value_at
+from .wire import Passphrase, Port, Wire, context_of
 
-KEY_MATERIAL = 0x420043
-KEY_FORMAT_TYPE = 0x420042
-OBJECT_TYPE = 0x420057
 HEAD = 8
-# The calls whose first word is no identifier.
-NO_IDENTIFIER = ('query', 'create-rsa', 'create-aes', 'rng', 'locate', 'discover', 'raw')
 
 
-class KeyPair(NamedTuple):
-    """The identifiers of a new pair."""
-
-    private_key: str
-    public_key: str
-
-
-class Signed(NamedTuple):
-    """A signature, and the key that made it."""
-
-    unique_identifier: str
-    signature_data: bytes
-
-
-class Key(NamedTuple):
-    """An object of the server. ``object_type`` and ``key_format_type`` are KMIP's numbers (2: symmetric key, 3: public
-    key, 4: private key; 1: raw, 3: PKCS#1, 5: X.509). ``answer`` is the whole answer."""
-
-    unique_identifier: str
-    object_type: int
-    key_format_type: Optional[int]
-    key_material: Optional[bytes]
-    answer: Any
+def _credential(user: Optional[str], password: Optional[str]) -> Credential:
+    if user is None and password is None:
+        return None
+    if user is None or password is None:
+        raise ValueError('a credential is a user and a password')
+    try:
+        return user.encode(), password.encode()
+    except UnicodeEncodeError:
+        raise ValueError('the user or the password is not UTF-8') from None
 
 
 class Client:
-    """One connection to a KMIP server, as a context manager. Threads may share it: one call at a time is made on it.
+    """One connection to a KMIP server, as a context manager. Threads may share it: one call at a
+    time is made on it.
 
     :param host: the name or address that the server's certificate has to have
-    :param cert: PEM file of the client's certificate
+    :param cert: PEM file of the client's certificate, and after it those of authorities between
     :param key: PEM file of its private key
-    :param ca: PEM file of the authority of the server's certificate
+    :param ca: PEM file of the authority of the server's certificate; no other is trusted
+    :param passphrase: that of a private key that is encrypted; no terminal is asked
     :param user: with ``password`` a credential in each request
     :param limit: the most bytes of a response, its head counted; 0: no limit
-    :param timeout: seconds that one read or write may wait; None: for ever
-    :param library: the path of ``libkmip.so``; if it is left out, the environment's ``LIBKMIP`` or the system's
-    :raises OSError: where there is no connection, as ``ssl.SSLCertVerificationError``
+    :param timeout: the most seconds of the opening, and of each call, whatever the server does;
+        None or 0: no deadline
+    :param library: the path of ``libmetsuwan.so``; if it is left out, the environment's
+        ``LIBMETSUWAN``, that of this package, or the system's
+    :raises ConnectError: there is no connection; its ``__cause__`` is the error of ``ssl`` or
+        ``socket``
+    :raises ValueError: a setting is none
     """
 
-    def __init__(self, host: str, port: int = 5696, *, cert: str, key: str, ca: str, user: Optional[str] = None,
-                 password: Optional[str] = None, limit: int = 1 << 20, timeout: Optional[float] = 30.0,
-                 library: Optional[str] = None) -> None:
+    def __init__(self, host: str, port: Port = 5696, *, cert: str, key: str, ca: str,
+                 passphrase: Passphrase = None, user: Optional[str] = None,
+                 password: Optional[str] = None, limit: int = 1 << 20,
+                 timeout: Optional[float] = 30.0, library: Optional[str] = None) -> None:
         if not 0 <= limit < 1 << 32:
             raise ValueError('a limit is 0 to 4294967295')
-        if (user is None) != (password is None):
-            raise ValueError('a credential is a user and a password')
+        if timeout is not None and not 0 <= timeout < 1e9:
+            raise ValueError('a timeout is 0 to 1e9 seconds')
+        self._credential = _credential(user, password)
         self._library = Library(library)
-        self._credential: Credential = None if user is None or password is None else (user, password)
         self._limit = limit
         self._lock = threading.Lock()
-        self._wire: Optional[ssl.SSLSocket] = None
-        self.last_response = b''
-        settings = ssl.create_default_context(cafile=ca)
-        settings.load_cert_chain(cert, key)
-        plain = socket.create_connection((host, port), timeout)
+        self._server = '%s:%s' % (host, port)
+        self._wire: Optional[Wire] = None
+        context = context_of(cert, key, ca, passphrase)
         try:
-            plain.setsockopt(socket.IPPROTO_TCP, socket.TCP_NODELAY, 1)
-            self._wire = settings.wrap_socket(plain, server_hostname=host)
-        except BaseException:
-            plain.close()
-            raise
+            self._wire = Wire(host, port, context, timeout or None)
+        except OSError as error:
+            raise ConnectError(str(error)) from error
+
+    def __repr__(self) -> str:
+        return '<Client of %s, %s>' % (self._server, 'open' if self._wire else 'closed')
 
     def __enter__(self) -> 'Client':
         return self
@@ -89,72 +77,83 @@ class Client:
         self.close()
 
     def close(self) -> None:
-        """Ends the connection. A client that is closed makes no more calls."""
-        wire, self._wire = self._wire, None
-        if wire is not None:
-            wire.close()
+        """Ends the connection, once a call that another thread makes has ended. A client that is
+        closed makes no more calls."""
+        with self._lock:
+            self._end(True)
 
-    def call(self, name: str, *words: Word) -> Any:
+    def call(self, name: str, *words: Word) -> Dict[str, Any]:
         """Makes a call, and returns its answer as JSON has it.
 
-        ``name`` is the first word, as ``sign``; the others are texts, bytes or numbers, and are written as the grammar
-        wants them. A word that stands for bytes must be given as ``bytes``.
+        ``name`` is the first word, as ``sign``; the others are texts, bytes or numbers, and are
+        written as the grammar wants them.
 
         :raises KmipError: by kind, as ``ItemNotFound``
+        :raises TypeError: a word is of another type than the call wants
         """
-        return self._ask(name, *words)[0]
+        line = line_of(name, words)
+        with self._lock:
+            status, told = self._exchange(line)
+        if status == NO_MEMORY:
+            raise MemoryError
+        if status == CALL_GRAMMAR:
+            raise GrammarError('%s and its words are not of the grammar' % name)
+        answer = json.loads(told)
+        if status != ANSWERED:
+            raise error_of(status, answer)
+        payload = answer['answer']
+        if not isinstance(payload, dict):
+            raise MissingValue('the answer is no object')
+        return payload
 
-    def value(self, tag: int, index: int = 0) -> Optional[bytes]:
-        """The value of item number ``index`` with this tag in the last response, or None where there is none."""
-        return self._library.value(self.last_response, tag, index)
-
-    def query(self) -> Any:
+    def query(self) -> Dict[str, Any]:
         """What the server can do: ``operations`` and more."""
         return self.call('query')
 
-    def create_rsa_key_pair(self, bits: int, private_key_name: str, public_key_name: str) -> KeyPair:
+    def create_rsa_key_pair(self, bits: int, private_key_name: str,
+                            public_key_name: str) -> KeyPair:
         """Makes a pair under these names."""
         pair = self.call('create-rsa', bits, private_key_name, public_key_name)
-        return KeyPair(pair['private_key'], pair['public_key'])
+        return KeyPair(text_at(pair, 'private_key'), text_at(pair, 'public_key'))
+
+    def create_aes(self, bits: int, name: str) -> str:
+        """Makes an AES key to encrypt and decrypt with, under this name."""
+        return text_at(self.call('create-aes', bits, name), 'unique_identifier')
 
     def rng_retrieve(self, count: int) -> bytes:
         """So many random bytes."""
-        return bytes.fromhex(self.call('rng', count)['random_bytes'])
+        return bytes_at(self.call('rng', count), 'random_bytes')
 
     def activate(self, identifier: str) -> None:
         """Makes a key active."""
         self.call('activate', identifier)
 
-    def sign(self, identifier: str, message: bytes) -> Signed:
+    def sign(self, identifier: str, message: Bytes) -> Signed:
         """Signs these bytes with this private key."""
-        answer = self.call('sign', identifier, bytes(message))
-        return Signed(answer['unique_identifier'], bytes.fromhex(answer['signature_data']))
+        answer = self.call('sign', identifier, message)
+        return Signed(text_at(answer, 'unique_identifier'), bytes_at(answer, 'signature_data'))
 
     def rename(self, identifier: str, new_name: str) -> None:
         """Gives a key another name."""
         self.call('rename', identifier, new_name)
 
-    def get(self, identifier: str) -> Key:
-        """A key itself."""
-        answer, response = self._ask('get', identifier)
-        return Key(answer['unique_identifier'], self._number(response, OBJECT_TYPE) or 0,
-                   self._number(response, KEY_FORMAT_TYPE), self._library.value(response, KEY_MATERIAL), answer)
+    def get(self, identifier: str) -> ManagedObject:
+        """An object itself."""
+        answer = self.call('get', identifier)
+        return ManagedObject(text_at(answer, 'unique_identifier'), text_at(answer, 'object_type'),
+                             answer)
+
+    def attributes(self, identifier: str) -> List[Dict[str, Any]]:
+        """All attributes of an object, each with its name and its value."""
+        return list(value_at(self.call('attributes', identifier), 'attributes'))
 
     def locate(self, name: str) -> List[str]:
-        """The identifiers of the objects with this name."""
-        return self.call('locate', name).get('unique_identifiers', [])
+        """The identifiers of the objects with this name; none, where there are no such objects."""
+        return list(value_at(self.call('locate', name), 'unique_identifiers'))
 
-    def attributes(self, identifier: str) -> Any:
-        """All attributes of an object, each with its name and its value."""
-        return self.call('attributes', identifier)['attributes']
-
-    def create_aes(self, bits: int, name: str) -> str:
-        """Makes an AES key to encrypt and decrypt with, under this name."""
-        return self.call('create-aes', bits, name)['unique_identifier']
-
-    def discover(self) -> Any:
+    def discover(self) -> List[Dict[str, int]]:
         """The versions of KMIP that the server speaks."""
-        return self.call('discover').get('supported_versions', [])
+        return list(value_at(self.call('discover'), 'supported_versions'))
 
     def revoke(self, identifier: str) -> None:
         """Takes a key out of use."""
@@ -164,66 +163,54 @@ class Client:
         """Destroys a key that is not active."""
         self.call('destroy', identifier)
 
-    def _ask(self, name: str, *words: Word) -> Tuple[Any, bytes]:
-        """The answer of a call, and the response that it was read from."""
-        if name not in NO_IDENTIFIER and (not words or words[0] == ''):
-            # A server may take it for the last object that was made on the connection.
-            raise GrammarError('%s without an identifier' % name)
-        line = ' '.join([name] + [word(it) for it in words]).encode()
-        with self._lock:
-            status, told = self._exchange(line)
-            response = self.last_response
-        if status == NO_MEMORY:
-            raise MemoryError
-        if status == CALL_GRAMMAR:
-            raise GrammarError('%s is not of the grammar' % name)
-        answer = json.loads(told)
-        if status != ANSWERED:
-            raise error_of(answer['error'], answer['text'])
-        return answer['answer'], response
-
-    def _number(self, response: bytes, tag: int) -> Optional[int]:
-        value = self._library.value(response, tag)
-        return None if value is None else int.from_bytes(value, 'big')
+    def _end(self, in_order: bool) -> None:
+        wire, self._wire = self._wire, None
+        if wire is not None:
+            wire.close(in_order)
 
     def _exchange(self, call: bytes) -> Tuple[int, str]:
-        """The three steps that nothing checks: send these bytes, read 8, read so many."""
-        request = self._library.request(call, self._credential)
-        if isinstance(request, int):
-            if request == NO_FORM:
-                raise SerializeError('request has no wire form')
-            return (CALL_GRAMMAR if request == GRAMMAR else NO_MEMORY), ''
+        """The status of a call and its line of JSON. Whatever goes wrong, a connection of which it
+        is not known what comes next is closed."""
         if self._wire is None:
-            raise RequestWriteError('the connection is closed')
+            raise RequestWriteError('the connection is closed; nothing was sent')
+        request = self._library.request(call, self._credential)
+        if request == GRAMMAR:
+            return CALL_GRAMMAR, ''
+        if request == NO_FORM:
+            raise SerializeError('request has no wire form')
+        status, told = NO_MEMORY, ''
         try:
-            try:
-                self._wire.sendall(request)
-            except OSError as error:
-                raise RequestWriteError(str(error)) from error
-            head = self._read(HEAD)
-            more = self._library.contents_len(head, self._limit)
-            if more == TOO_LONG:
-                raise DeserializeError('the response is longer than the limit of %d bytes' % self._limit)
-            if more < 0:
-                raise DeserializeError('not a structure')
-            self.last_response = head + self._read(more)
-            status, told = self._library.answer(call, self.last_response)
+            if isinstance(request, bytes):
+                status, told = self._library.answer(call, self._response(self._wire, request))
         except BaseException:
-            self.close()
+            self._end(False)
             raise
         if status in (LOST, NO_MEMORY):
-            self.close()
+            self._end(False)
         return status, told
 
-    def _read(self, count: int) -> bytes:
-        assert self._wire is not None
-        got = bytearray()
-        while len(got) < count:
-            try:
-                piece = self._wire.recv(min(count - len(got), 65536))
-            except OSError as error:
-                raise ResponseReadError(str(error)) from error
-            if not piece:
-                raise ResponseReadError('end of input')
-            got += piece
-        return bytes(got)
+    def _response(self, wire: Wire, request: bytes) -> bytes:
+        """The three steps that nothing checks: these bytes are sent, 8 are read, and then so
+        many."""
+        wire.begin()
+        try:
+            wire.check_idle()
+        except OSError as error:
+            raise RequestWriteError('%s; nothing was sent' % error) from error
+        try:
+            wire.send(request)
+        except OSError as error:
+            raise RequestWriteError(str(error)) from error
+        try:
+            head = wire.read(HEAD)
+            more = self._library.contents_len(head, self._limit)
+            if more == TOO_LONG:
+                raise DeserializeError('the response is longer than the limit of %d bytes'
+                                       % self._limit)
+            if more < 0:
+                raise DeserializeError('not a structure')
+            return head + wire.read(more)
+        except ConnectionLost:
+            raise
+        except OSError as error:
+            raise ResponseReadError(str(error)) from error

@@ -1,4 +1,4 @@
-//! The proved library: requests and answers as bytes. `kmip.h` says what each of its calls does.
+//! The proved library: requests and answers as bytes. `metsuwan.h` says what each of its calls does.
 
 extern "C" {
     fn kmip_request(

@@ -17,7 +17,7 @@ use Rattle.kmip_types.specs.declared.auth.CredentialType.{CredentialType}
 use Rattle.kmip_request.specs.declared.payload.RequestPayload.{RequestPayload}
 use Rattle.kmip_request.specs.Tables.{request_payload}
 use Rattle.kmip_request.specs.Values.{request_payload_val}
-use Rattle.kmip_request.specs.Held.{IsHeld}
+use Rattle.kmip_request.specs.Fits.{FitsRequest}
 use Rattle.kmip_request.specs.Message.{operation_of, minor_of, authentication_trees, header_tree, message_tree, request_bytes}
 use Rattle.kmip_request_read.specs.Matched.{IsMatched}
 use Rattle.kmip_request_read.specs.Reading.{Request, request_for, request_read}
@@ -43,7 +43,7 @@ abbrev AreMessages : Type 0
 AreMessages = (p : RequestPayload) (c : Option CredentialType) (b : List ℕ) → request_bytes p c ≡ Some b → (8 ≤ length b) × (length b ≡ 8 + head_length b)
 
 abbrev AreRead : Type 0
-AreRead = (p : RequestPayload) (c : Option CredentialType) (b : List ℕ) → IsHeld p c → IsMatched p → request_bytes p c ≡ Some b → request_read b ≡ Some (request_for p)
+AreRead = (p : RequestPayload) (c : Option CredentialType) (b : List ℕ) → FitsRequest p c → IsMatched p → request_bytes p c ≡ Some b → request_read b ≡ Some (request_for p)
 
 -- ---- the bytes of a request are a frame
 

@@ -3,7 +3,7 @@ use Rattle.std.specs.Prelude.{◌≡◌, ◌↔◌, ℕ, List, [], ◌∷◌, ma
 use Rattle.kmip_shape.specs.Val.{Val}
 use Rattle.kmip_enums.specs.declared.operation.Operation.{Operation}
 use Rattle.kmip_types.specs.declared.auth.CredentialType.{CredentialType}
-use Rattle.kmip_request.specs.Held.{IsHeld}
+use Rattle.kmip_request.specs.Fits.{FitsRequest}
 use Rattle.kmip_request.specs.Message.{operation_of}
 use Rattle.kmip_request.specs.declared.payload.RequestPayload.{RequestPayload}
 use Rattle.kmip_request_read.specs.Matched.{IsMatched}
@@ -31,7 +31,7 @@ AllAgree operations outcomes answers = ⊥
 abbrev pub AreMatched : List RequestPayload → Option CredentialType → Type 0
 AreMatched [] credential = Unit {0}
 AreMatched (payload ∷ payloads) credential =
-    (IsHeld payload credential × IsMatched payload) × AreMatched payloads credential
+    (FitsRequest payload credential × IsMatched payload) × AreMatched payloads credential
 
 -- The report on what the turns of these requests sent and took agrees with their answers.
 pub record IsReported (payloads : List RequestPayload) (turns : List Turn)

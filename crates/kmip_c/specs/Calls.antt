@@ -2,14 +2,15 @@
 use Rattle.std.specs.Prelude.{◌≡◌, ℕ, ℤ, pos, Bool, true, false, ◌&&◌, List, Option, Some, None, if◌then◌else◌}
 use Rattle.std.specs.Str.{is_utf8}
 use Rattle.kmip_client.specs.Client.{credential_for}
-use Rattle.kmip_client.specs.Outcome.{Answer}
 use Rattle.kmip_words.specs.Words.{words_of}
 use Rattle.kmip_words.specs.Calls.{typed_call}
-use Rattle.kmip_words.specs.Exchange.{Settings, request_asked, call_outcome, ending_of, json_line}
+use Rattle.kmip_words.specs.Exchange.{Settings, request_asked}
+use Rattle.kmip_words.specs.About.{response_line, response_ending}
+use Rattle.kmip_words.specs.Lookup.{value_at}
 use Rattle.kmip_words.specs.declared.call.Call.{Call}
 use Rattle.kmip_words.specs.declared.ending.Ending.{Ending}
 use Rattle.kmip_words.specs.declared.ending.Ending.TheVariants.{Answered, Refused, Lost}
-use Rattle.kmip_c.specs.Codes.{IsTold, grammar, no_form}
+use Rattle.kmip_c.specs.Codes.{IsReported, grammar, no_form, no_value}
 
 abbrev pub call_from : Option (List (List ℕ)) → Option Call
 call_from (Some words) = typed_call words
@@ -41,7 +42,7 @@ settings_of true user password =
 -- given is not of the grammar
 abbrev pub IsRequested : Option Settings → Option Call → List ℕ → ℤ → List ℕ → Type 0
 IsRequested (Some settings) (Some call) before result after =
-    IsTold (request_asked call settings.credential).message no_form before result after
+    IsReported (request_asked call settings.credential).message no_form before result after
 IsRequested settings call before result after = (result ≡ grammar) × (after ≡ before)
 
 -- how a call ended, as 0, 1 or 3
@@ -50,15 +51,24 @@ status_of Answered = pos 0
 status_of Refused = pos 1
 status_of Lost = pos 3
 
--- the answer of a client that sent the call and has these bytes to read
-abbrev pub answer_to : Call → List ℕ → Answer
-answer_to call response = (call_outcome plain call response).answer
-
 -- what C gets for a response, memory aside: how the call ended, and the line of its answer; or that
 -- the call is not of the grammar
 abbrev pub IsAnswered : Option Call → List ℕ → ℤ → List ℕ → ℤ → List ℕ → Type 0
 IsAnswered (Some call) response status before length after =
-    (status ≡ status_of (ending_of (answer_to call response)))
-    × IsTold (Some (json_line call (answer_to call response))) (pos 0) before length after
+    (status ≡ status_of (response_ending plain call response))
+    × IsReported (Some (response_line plain call response)) (pos 0) before length after
 IsAnswered None response status before length after =
-    (status ≡ pos 2) × IsTold None (pos 0) before length after
+    (status ≡ pos 2) × IsReported None (pos 0) before length after
+
+-- the call of a line, where the line is of the grammar and the path is a text
+abbrev pub call_with_path : List ℕ → List ℕ → Option Call
+call_with_path line path = if is_utf8 path then call_of line else None
+
+-- what C gets for a value of the answer, memory aside: the bytes of the value at the path in the
+-- line of the answer, or that there is none; or that the call is not of the grammar, or the path is
+-- no text
+abbrev pub IsValueReported : Option Call → List ℕ → List ℕ → Bool → List ℕ → ℤ → List ℕ → Type 0
+IsValueReported (Some call) response path hex before result after =
+    IsReported (value_at path hex (response_line plain call response)) no_value before result after
+IsValueReported None response path hex before result after =
+    IsReported None grammar before result after

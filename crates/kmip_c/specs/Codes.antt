@@ -11,10 +11,10 @@ room_with bytes room =
 
 -- the whole length is returned, and the bytes are written where they fit; where there are none,
 -- this code is returned, and nothing is written
-abbrev pub IsTold : Option (List ℕ) → ℤ → List ℕ → ℤ → List ℕ → Type 0
-IsTold (Some bytes) code before result after =
+abbrev pub IsReported : Option (List ℕ) → ℤ → List ℕ → ℤ → List ℕ → Type 0
+IsReported (Some bytes) code before result after =
     (result ≡ pos (length bytes)) × (after ≡ room_with bytes before)
-IsTold None code before result after = (result ≡ code) × (after ≡ before)
+IsReported None code before result after = (result ≡ code) × (after ≡ before)
 
 -- the codes from -2 to -6
 abbrev pub grammar : ℤ
@@ -22,6 +22,9 @@ grammar = negsuc 1
 
 abbrev pub not_a_message : ℤ
 not_a_message = negsuc 2
+
+abbrev pub no_value : ℤ
+no_value = negsuc 2
 
 abbrev pub too_long : ℤ
 too_long = negsuc 3

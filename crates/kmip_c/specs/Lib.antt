@@ -1,4 +1,2 @@
 pub mod Calls
 pub mod Codes
-pub mod Items
-pub mod Fronts

@@ -3,35 +3,34 @@
 //!
 //! It opens nothing and keeps nothing: the caller has the connection, sends the bytes of
 //! `kmip_request`, reads 8 bytes, asks `kmip_contents_len` how many follow, reads them, and passes
-//! all to `kmip_answer`. `kmip_value` returns single values of a response. No function has a
+//! all to `kmip_answer`. `kmip_value` returns single values of an answer. No function has a
 //! precondition on its arguments, since nothing checks a caller in C.
 #![tactic(auto)]
 
 ghost use Rattle.std.specs.Prelude.{◌≡◌, ◌≢◌, pos};
-ghost use Rattle.kmip_wire.specs.Tree.{Tree};
-ghost use Rattle.kmip_wire.specs.Parses.{Parses};
-ghost use Rattle.kmip_c.specs.Calls.{call_of, settings_of, IsRequested, IsAnswered};
-ghost use Rattle.kmip_c.specs.Codes.{limit_of, contents_code, not_a_message, memory, IsTold};
-ghost use Rattle.kmip_c.specs.Items.{value_at};
+ghost use Rattle.kmip_c.specs.Calls.{call_of, call_with_path, settings_of};
+ghost use Rattle.kmip_c.specs.Calls.{IsRequested, IsAnswered, IsValueReported};
+ghost use Rattle.kmip_c.specs.Codes.{limit_of, contents_code, memory};
 
 mod answer;
 mod call;
 mod copy;
-mod find;
 #[cfg(test)]
 mod tests;
 
 use answer::{answer_line, status_of};
 use call::{call_of, settings_of};
 use copy::copy_out;
-use find::find_value;
 use kmip_wire::{Config, HeadError, OutOfMemory, head};
-use kmip_words::request_of;
+use kmip_words::{request_of, value_at};
 use std::alloc::Global;
+use std::str;
 
 const NOT_OF_THE_GRAMMAR: i64 = -2;
 
 const NOT_A_MESSAGE: i64 = -3;
+
+const NO_VALUE: i64 = -3;
 
 const TOO_LONG: i64 = -4;
 
@@ -136,9 +135,9 @@ pub extern "C" fn kmip_answer(
     ensures memory { result ≡ pos 5 → (length.new ≡ pos 0) × (into.new ≡ into.old) }
 {
     match answer_line(alloc, call, response) {
-        Ok(Some(told)) => {
-            *length = copy_out(told.line.as_str().as_bytes(), into);
-            status_of(told.ending)
+        Ok(Some(answer)) => {
+            *length = copy_out(answer.line.as_str().as_bytes(), into);
+            status_of(answer.ending)
         }
         Ok(None) => {
             *length = 0;
@@ -151,21 +150,46 @@ pub extern "C" fn kmip_answer(
     }
 }
 
-/// Writes the value of the item number `index`, counted from 0, among those with this tag, to
-/// `into`, and returns how many bytes it has. Where they do not fit, nothing is written. Items are
-/// counted in the order in which they stand in the response, those of its header too, a structure
-/// before the items in it.
+/// Writes a single value of the answer that a response is to a call to `into`, and returns how many
+/// bytes it has. Where they do not fit, nothing is written. The answer is the one that
+/// `kmip_answer` writes as JSON.
 ///
-/// - -3: there is no such item, or the response is not one well-formed message. Nothing is written.
+/// `path` leads to the value by the names that the JSON has below `{"answer":`, with a dot between
+/// two, and the index of an item of a list in decimal digits, counted from 0, as
+/// `attributes.0.name`. With `hex` false, a text is written as its bytes, without quotes and
+/// escapes, a number as its decimal digits, and the rest as `true` or `false`. With `hex` true, a
+/// string of hex digits is written as the bytes that it stands for. After each code nothing is
+/// written:
+///
+/// - -2: the call is not of the grammar, or the path is not UTF-8.
+/// - -3: there is no such value. The answer is an error; or it has nothing at this path, or an
+///   object or a list; or `hex` is true, and there is no string of hex digits.
+/// - -5: memory ran out.
 #[unsafe(no_mangle)]
-pub extern "C" fn kmip_value(response: &[u8], tag: u32, index: usize, into: &mut [u8]) -> i64
-    ensures found { (tree : Tree) → Parses tree 1 response.now →
-        IsTold (value_at tag index tree response.now) not_a_message into.old result into.new }
-    ensures none { ((tree : Tree) → Parses tree 1 response.now → ⊥) → (result ≡ not_a_message) ×
-        (into.new ≡ into.old) }
+pub extern "C" fn kmip_value(
+    alloc: Global,
+    call: &[u8],
+    response: &[u8],
+    path: &[u8],
+    hex: bool,
+    into: &mut [u8],
+) -> i64
+    ensures value { result ≢ memory →
+        IsValueReported (call_with_path call.now path.now) response.now path.now hex into.old result
+        into.new }
+    ensures memory { result ≡ memory → into.new ≡ into.old }
 {
-    match find_value(response, tag, index) {
-        Some(value) => copy_out(value, into),
-        None => NOT_A_MESSAGE,
+    let Ok(path) = str::from_utf8(path) else {
+        return NOT_OF_THE_GRAMMAR;
+    };
+    let answer = match answer_line(alloc, call, response) {
+        Ok(Some(answer)) => answer,
+        Ok(None) => return NOT_OF_THE_GRAMMAR,
+        Err(OutOfMemory) => return NO_MEMORY,
+    };
+    match value_at(alloc, path, hex, answer.line.as_str()) {
+        Ok(Some(value)) => copy_out(&value, into),
+        Ok(None) => NO_VALUE,
+        Err(OutOfMemory) => NO_MEMORY,
     }
 }

@@ -16,7 +16,25 @@ const RESPONSE: [u8; 152] = [
     0xDE, 0xAD, 0xBE, 0xEF, 0x00, 0x00, 0x00, 0x00,
 ];
 
-/// The line of its answer.
+/// A response to a request for versions: 1.2 and 1.0.
+const VERSIONS: [u8; 216] = [
+    0x42, 0x00, 0x7B, 0x01, 0x00, 0x00, 0x00, 0xD0, 0x42, 0x00, 0x7A, 0x01, 0x00, 0x00, 0x00, 0x48,
+    0x42, 0x00, 0x69, 0x01, 0x00, 0x00, 0x00, 0x20, 0x42, 0x00, 0x6A, 0x02, 0x00, 0x00, 0x00, 0x04,
+    0x00, 0x00, 0x00, 0x01, 0x00, 0x00, 0x00, 0x00, 0x42, 0x00, 0x6B, 0x02, 0x00, 0x00, 0x00, 0x04,
+    0x00, 0x00, 0x00, 0x01, 0x00, 0x00, 0x00, 0x00, 0x42, 0x00, 0x92, 0x09, 0x00, 0x00, 0x00, 0x08,
+    0x00, 0x00, 0x00, 0x00, 0x00, 0x00, 0x00, 0x01, 0x42, 0x00, 0x0D, 0x02, 0x00, 0x00, 0x00, 0x04,
+    0x00, 0x00, 0x00, 0x01, 0x00, 0x00, 0x00, 0x00, 0x42, 0x00, 0x0F, 0x01, 0x00, 0x00, 0x00, 0x78,
+    0x42, 0x00, 0x5C, 0x05, 0x00, 0x00, 0x00, 0x04, 0x00, 0x00, 0x00, 0x1E, 0x00, 0x00, 0x00, 0x00,
+    0x42, 0x00, 0x7F, 0x05, 0x00, 0x00, 0x00, 0x04, 0x00, 0x00, 0x00, 0x00, 0x00, 0x00, 0x00, 0x00,
+    0x42, 0x00, 0x7C, 0x01, 0x00, 0x00, 0x00, 0x50, 0x42, 0x00, 0x69, 0x01, 0x00, 0x00, 0x00, 0x20,
+    0x42, 0x00, 0x6A, 0x02, 0x00, 0x00, 0x00, 0x04, 0x00, 0x00, 0x00, 0x01, 0x00, 0x00, 0x00, 0x00,
+    0x42, 0x00, 0x6B, 0x02, 0x00, 0x00, 0x00, 0x04, 0x00, 0x00, 0x00, 0x02, 0x00, 0x00, 0x00, 0x00,
+    0x42, 0x00, 0x69, 0x01, 0x00, 0x00, 0x00, 0x20, 0x42, 0x00, 0x6A, 0x02, 0x00, 0x00, 0x00, 0x04,
+    0x00, 0x00, 0x00, 0x01, 0x00, 0x00, 0x00, 0x00, 0x42, 0x00, 0x6B, 0x02, 0x00, 0x00, 0x00, 0x04,
+    0x00, 0x00, 0x00, 0x00, 0x00, 0x00, 0x00, 0x00,
+];
+
+/// The line of the answer of random bytes.
 const LINE: &str = "{\"answer\":{\"random_bytes\":\"DEADBEEF\"}}\n";
 
 /// `kmip_request` without its clauses, so that the proof of a test looks into no definition; so are
@@ -40,8 +58,15 @@ fn answer(alloc: Global, call: &[u8], response: &[u8], into: &mut [u8], length: 
     kmip_answer(alloc, call, response, into, length)
 }
 
-fn value(response: &[u8], tag: u32, index: usize, into: &mut [u8]) -> i64 {
-    kmip_value(response, tag, index, into)
+fn value(
+    alloc: Global,
+    call: &[u8],
+    response: &[u8],
+    path: &[u8],
+    hex: bool,
+    into: &mut [u8],
+) -> i64 {
+    kmip_value(alloc, call, response, path, hex, into)
 }
 
 #[test]
@@ -106,21 +131,64 @@ fn a_head_tells_how_many_bytes_follow(rt: HostRuntime) {
 }
 
 #[test]
-fn a_value_is_found_by_its_tag(rt: HostRuntime) {
-    let mut into = [7u8; 8];
-    assert!(rt; value(&RESPONSE, 0x4200C2, 0, &mut into) == 4);
-    assert!(rt; into == [0xDE, 0xAD, 0xBE, 0xEF, 7, 7, 7, 7]);
-    assert!(rt; value(&RESPONSE, 0x420069, 0, &mut into) == 32);
-    assert!(rt; into == [0xDE, 0xAD, 0xBE, 0xEF, 7, 7, 7, 7]);
-    assert!(rt; value(&RESPONSE, 0x42005C, 0, &mut into) == 4);
-    assert!(rt; into == [0, 0, 0, 0x25, 7, 7, 7, 7]);
+fn a_value_of_the_answer_is_found_by_its_path(rt: HostRuntime) {
+    let alloc: Global = rt.alloc();
+    let mut into = [7u8; 16];
+    assert!(rt; value(alloc, b"rng 4", &RESPONSE, b"random_bytes", true, &mut into) == 4);
+    assert!(rt; &into[..5] == [0xDE, 0xAD, 0xBE, 0xEF, 7].as_slice());
+    assert!(rt;
+        value(
+            alloc,
+            b"rng 4",
+            &RESPONSE,
+            b"random_bytes",
+            false,
+            &mut into
+        ) == 8
+    );
+    assert!(rt; &into[..9] == b"DEADBEEF\x07".as_slice());
+    let minor = b"supported_versions.0.minor";
+    assert!(rt; value(alloc, b"discover", &VERSIONS, minor, false, &mut into) == 1);
+    assert!(rt; into[0] == b'2');
+    let mut short = [7u8; 3];
+    assert!(rt;
+        value(
+            alloc,
+            b"rng 4",
+            &RESPONSE,
+            b"random_bytes",
+            true,
+            &mut short
+        ) == 4
+    );
+    assert!(rt; short == [7u8; 3]);
+}
+
+/// What `kmip_value` returns for a number of the versions.
+fn of_versions(alloc: Global, path: &[u8]) -> i64 {
+    value(alloc, b"discover", &VERSIONS, path, false, &mut [0; 8])
+}
+
+/// What `kmip_value` returns for bytes of the answer of a call.
+fn of_random(alloc: Global, call: &[u8], path: &[u8]) -> i64 {
+    value(alloc, call, &RESPONSE, path, true, &mut [0; 8])
 }
 
 #[test]
-fn a_value_that_is_not_there_is_not_found(rt: HostRuntime) {
-    let mut into = [7u8; 8];
-    assert!(rt; value(&RESPONSE, 0x4200C2, 1, &mut into) == -3);
-    assert!(rt; value(&RESPONSE, 0x420066, 0, &mut into) == -3);
-    assert!(rt; value(&RESPONSE[..151], 0x4200C2, 0, &mut into) == -3);
-    assert!(rt; into == [7u8; 8]);
+fn a_value_that_the_answer_has_not_is_not_found(rt: HostRuntime) {
+    let alloc: Global = rt.alloc();
+    assert!(rt; of_versions(alloc, b"supported_versions.1.major") == 1);
+    assert!(rt; of_versions(alloc, b"supported_versions") == -3);
+    assert!(rt; of_versions(alloc, b"supported_versions.0") == -3);
+    assert!(rt; of_versions(alloc, b"supported_versions.2.major") == -3);
+    assert!(rt; of_versions(alloc, b"supported_versions.01.major") == -3);
+    assert!(rt; of_versions(alloc, b"") == -3);
+    assert!(rt; of_versions(alloc, b"answer") == -3);
+    assert!(rt; of_random(alloc, b"rng 4", b"random_bytes") == 4);
+    assert!(rt; of_random(alloc, b"rng 4", b"random_bytes.0") == -3);
+    assert!(rt; of_random(alloc, b"rng 4", b"random_bytes.") == -3);
+    assert!(rt; of_random(alloc, b"query", b"random_bytes") == -3);
+    assert!(rt; of_random(alloc, b"query", b"text") == -3);
+    assert!(rt; of_random(alloc, b"rng", b"random_bytes") == -2);
+    assert!(rt; of_random(alloc, b"rng 4", &[255]) == -2);
 }

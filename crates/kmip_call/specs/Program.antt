@@ -4,12 +4,11 @@ use Rattle.kmip_link.specs.State.{SourceState, SinkState, FaultCountRose}
 use Rattle.kmip_client.specs.Outcome.{Answer}
 use Rattle.kmip_words.specs.Calls.{typed_call}
 use Rattle.kmip_words.specs.Streams.{WrotePart}
-use Rattle.kmip_words.specs.Exchange.{ending_of, json_line}
 use Rattle.kmip_words.specs.declared.call.Call.{Call}
 use Rattle.kmip_words.specs.declared.ending.Ending.{Ending}
 use Rattle.kmip_words.specs.declared.ending.Ending.TheVariants.{Answered, Refused, Lost}
 use Rattle.kmip_call.specs.Record.{is_recordable, record_of}
-use Rattle.kmip_call.specs.Exchange.{Carried}
+use Rattle.kmip_call.specs.Exchange.{Carried, line_of, ending_by}
 use Rattle.kmip_call.specs.declared.command.Order.{Order}
 
 -- whether a call of these words may be made: where it is to be recorded, only if a script may hold
@@ -34,8 +33,8 @@ pub record Makes (order : Order) (w0 w1 : SinkState) (s0 s1 : SourceState)
   pub is : call_for order ≡ Some call
   pub answer : Answer
   pub carried : Carried order.settings call w0 w1 s0 s1 response answer
-  pub line_is : line ≡ json_line call answer
-  pub ending_is : ending ≡ ending_of answer
+  pub line_is : line ≡ line_of order.settings call response answer
+  pub ending_is : ending ≡ ending_by order.settings call response answer
 
 -- The program made the call over its sink and source, and wrote the record and the line of the
 -- answer; after 4, one of these two could not be written.
@@ -48,7 +47,8 @@ pub record Ran (order : Order) (w0 w1 : SinkState) (s0 s1 : SourceState) (f0 f1 
   pub carried : Carried order.settings call w0 w1 s0 s1 response answer
   pub recorded : status ≢ 4 → IsTrue f0.tells →
       f1.sent ≡ f0.sent ++ record_of order.file order.words response
-  pub told : status ≢ 4 → IsTrue k0.tells → k1.sent ≡ k0.sent ++ json_line call answer
-  pub part : IsTrue k0.tells → WrotePart k0 k1 (json_line call answer)
-  pub status_is : status ≢ 4 → status ≡ status_of (ending_of answer)
+  pub told : status ≢ 4 → IsTrue k0.tells →
+      k1.sent ≡ k0.sent ++ line_of order.settings call response answer
+  pub part : IsTrue k0.tells → WrotePart k0 k1 (line_of order.settings call response answer)
+  pub status_is : status ≢ 4 → status ≡ status_of (ending_by order.settings call response answer)
   pub cause : status ≡ 4 → FaultCountRose f0.faults f1.faults ⊎ FaultCountRose k0.faults k1.faults

@@ -5,7 +5,7 @@ use Rattle.std.specs.Prelude.{ℕ, zero, suc, ℤ, pos, List, [], ◌++◌, Bool
 use Rattle.std.specs.Ordering.{int_eq}
 use Rattle.std.specs.Fmt.{decimal}
 use Rattle.kmip_shape.specs.Val.{Val, Vals, Field, Fields, Number, Text, Record, Absent, One, Many, NoField, AndField, NoVal, AndVal}
-use Rattle.kmip_shape.specs.Shown.{entry_styled}
+use Rattle.kmip_shape.specs.Shown.{entry_in_style}
 use Rattle.kmip_shape.specs.declared.style.Style.TheVariants.{Bare}
 use Rattle.kmip_enums.specs.Operations.{operation_line, operations}
 use Rattle.kmip_enums.specs.ResultStatuses.{result_status_line}
@@ -69,7 +69,7 @@ has_status status item =
 -- the operation of a batch item as texts print it
 abbrev pub operation_shown : Option Val → List ℕ
 operation_shown (Some (Number (pos n))) =
-    codes "Some(" ++ (entry_styled operations n Bare ++ codes ")")
+    codes "Some(" ++ (entry_in_style operations n Bare ++ codes ")")
 operation_shown val = codes "None"
 
 abbrev pub count_text : ℕ → List ℕ

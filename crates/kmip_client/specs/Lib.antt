@@ -12,6 +12,6 @@ pub mod Lending
 pub mod Session
 pub mod Order
 pub mod Skeletons
-pub use Rattle.kmip_helpers.specs.Requests
+pub use Rattle.kmip_request.specs.Requests
 pub mod Untyped
 pub mod Operation

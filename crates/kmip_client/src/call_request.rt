@@ -65,6 +65,7 @@ pub trait CallRequest {
 }
 
 /// A request of KMIP's tables, whose response is read as this payload.
+#[derive(Drop)]
 pub struct TypedRequest<'a, P> {
     pub payload: &'a RequestPayload,
     pub returns: PhantomData<P>,

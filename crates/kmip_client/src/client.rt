@@ -1,7 +1,7 @@
 //! A client over a link.
 ghost use Rattle.std.specs.Prelude.{◌≡◌, None, IfOk, option_map};
 ghost use Rattle.kmip_request.specs.Message.{operation_of, credential_of};
-ghost use Rattle.kmip_request.specs.Held.{AreTexts};
+ghost use Rattle.kmip_request.specs.Fits.{FitsCredential};
 ghost use Rattle.kmip_response.specs.Values.{response_payload_val};
 ghost use Rattle.kmip_client.specs.Client.{ClientState, loses_connection, lacks_memory};
 ghost use Rattle.kmip_client.specs.Client.{count_after, IsOfOperation};
@@ -114,7 +114,7 @@ impl<T> Client<T> {
     /// What holds of each client: the texts of its credential are UTF-8. It does nothing.
     #[tactic(auto, using(crate::proofs::Texts::texts_known))]
     pub fn known(&self)
-        ensures { AreTexts self.now.credential }
+        ensures { FitsCredential self.now.credential }
     {
         match &self.settings.authentication {
             Some(authentication) => authentication.known(),

@@ -6,18 +6,17 @@ ghost use Rattle.kmip_client.specs.Calls.{IsCall, Helped, Asked, part_of, nothin
 ghost use Rattle.kmip_client.specs.Calls.{identifiers_of};
 ghost use Rattle.kmip_response.specs.Values.{response_payload_val};
 ghost use Rattle.kmip_client.specs.Outcome.{seen_by};
-ghost use Rattle.kmip_helpers.specs.Requests as requests;
+ghost use Rattle.kmip_request.specs.Requests as requests;
 ghost use Rattle.kmip_request.specs.Message.{operation_of};
 
 use crate::answered::Answered;
 use crate::client::Client;
 use crate::error::{Error, Result};
-use kmip_helpers::{
-    activate_request, destroy_request, get_request, key_pair_request, query_request,
-    rename_request, revoke_request, sign_request,
-};
 use kmip_link::Link;
-use kmip_request::RequestPayload;
+use kmip_request::{
+    RequestPayload, activate_request, destroy_request, get_request, key_pair_request,
+    query_request, rename_request, revoke_request, sign_request,
+};
 use kmip_response::{
     CreateKeyPairResponsePayload, GetResponsePayload, ModifyAttributeResponsePayload,
     QueryResponsePayload, RNGRetrieveResponsePayload, SignResponsePayload,

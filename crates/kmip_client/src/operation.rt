@@ -188,6 +188,7 @@ fn is_request_payload(tree: &Tree) -> bool
 }
 
 /// A request of an operation, whose payload is a tree.
+#[derive(Clone, Copy)]
 pub struct OperationRequest<'a> {
     pub operation: Operation,
     pub version: Version,

@@ -5,6 +5,6 @@ pub mod Reading
 pub mod Stacks
 pub mod Expanding
 pub mod Ranges
-pub mod Told
+pub mod SameDiagnostics
 pub mod Trees
 pub mod Explained

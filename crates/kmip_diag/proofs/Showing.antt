@@ -12,7 +12,7 @@ use Rattle.kmip_diag.specs.declared.token.Token.TheVariants.{Open}
 use Rattle.kmip_diag.specs.Skeleton.{skeleton}
 use Rattle.kmip_diag.specs.Printed.{printed, printed_tag}
 use Rattle.kmip_diag.specs.Tokens.{token_text}
-use Rattle.kmip_diag.specs.Diagnostic.{Shown, ended, stopped, item, torn, OpensAt, Shows, shown_text, IsDiagnostic, opening_tag, shown_by, shown_at, shown_within, diagnostic}
+use Rattle.kmip_diag.specs.Diagnostic.{Shown, ended, stopped, item, cut_off, OpensAt, Shows, shown_text, IsDiagnostic, opening_tag, shown_by, shown_at, shown_within, diagnostic}
 use Rattle.kmip_diag.proofs.Wire.{front_rule, value_shorter}
 
 -- fuel above the length is enough
@@ -69,18 +69,18 @@ pub diag_start : (p : Option ℕ) (b : List ℕ) → diagnostic p b ≡ [] ++ sh
 unfolding diagnostic
 diag_start p b = refl
 
-module _ (p : Option ℕ) (whole text b : List ℕ) (level : ℕ) (is_torn : Bool) (so_far : whole ≡ text ++ shown_text p is_torn (shown_within level b)) where
-  shows : (s : Shown) → shown_within level b ≡ s → whole ≡ text ++ shown_text p is_torn s
-  shows s e = so_far ∙ ap (λ x. text ++ shown_text p is_torn x) e
+module _ (p : Option ℕ) (whole text b : List ℕ) (level : ℕ) (is_cut_off : Bool) (so_far : whole ≡ text ++ shown_text p is_cut_off (shown_within level b)) where
+  shows : (s : Shown) → shown_within level b ≡ s → whole ≡ text ++ shown_text p is_cut_off s
+  shows s e = so_far ∙ ap (λ x. text ++ shown_text p is_cut_off x) e
 
   pub diag_item : (t : Tree) (after rest : List ℕ) → 0 < length b → Some t ≡ front_at level b → after ≡ text ++ printed p (skeleton t) → rest ≡ drop (size_at b) b
-      → whole ≡ after ++ shown_text p is_torn (shown_within level rest)
+      → whole ≡ after ++ shown_text p is_cut_off (shown_within level rest)
   diag_item t after rest some front pushed dropped =
       let step = shown_step level b some ∙ ap (λ o. shown_by o (opening_tag level b) (shown_within level (drop (size_at b) b)) (shown_within (level + 1) (value_of b))) (sym front)
       in shows (item t (shown_within level (drop (size_at b) b))) step
-      ∙ sym (append_assoc text (printed p (skeleton t)) (shown_text p is_torn (shown_within level (drop (size_at b) b))))
-      ∙ ap (λ x. x ++ shown_text p is_torn (shown_within level (drop (size_at b) b))) (sym pushed)
-      ∙ ap (λ r. after ++ shown_text p is_torn (shown_within level r)) (sym dropped)
+      ∙ sym (append_assoc text (printed p (skeleton t)) (shown_text p is_cut_off (shown_within level (drop (size_at b) b))))
+      ∙ ap (λ x. x ++ shown_text p is_cut_off (shown_within level (drop (size_at b) b))) (sym pushed)
+      ∙ ap (λ r. after ++ shown_text p is_cut_off (shown_within level r)) (sym dropped)
 
   diag_opened : (tag : ℕ) (after rest : List ℕ) → 0 < length b → None ≡ front_at level b → opening_tag level b ≡ Some tag → after ≡ text ++ (printed_tag p tag ++ (91 ∷ [])) → rest ≡ value_of b
       → whole ≡ after ++ shown_text p true (shown_within (level + 1) rest)
@@ -89,15 +89,15 @@ module _ (p : Option ℕ) (whole text b : List ℕ) (level : ℕ) (is_torn : Boo
       ∙ ap (λ o. shown_by o (opening_tag level b) (shown_within level (drop (size_at b) b)) (shown_within (level + 1) (value_of b))) (sym front)
       ∙ ap (λ o. shown_by None o (shown_within level (drop (size_at b) b)) (shown_within (level + 1) (value_of b))) opens
       in let more = shown_text p true (shown_within (level + 1) (value_of b))
-      in shows (torn tag (shown_within (level + 1) (value_of b))) step
+      in shows (cut_off tag (shown_within (level + 1) (value_of b))) step
       ∙ ap (λ x. text ++ x) (sym (append_assoc (printed_tag p tag) (91 ∷ []) more))
       ∙ sym (append_assoc text (printed_tag p tag ++ (91 ∷ [])) more)
       ∙ ap (λ x. x ++ more) (sym pushed)
       ∙ ap (λ r. after ++ shown_text p true (shown_within (level + 1) r)) (sym inside)
 
-  pub diag_torn : (token : Token) (after rest : List ℕ) → 0 < length b → None ≡ front_at level b → Some token ≡ option_map Open (opening_tag level b) → after ≡ text ++ token_text p token → rest ≡ value_of b
+  pub diag_cut_off : (token : Token) (after rest : List ℕ) → 0 < length b → None ≡ front_at level b → Some token ≡ option_map Open (opening_tag level b) → after ≡ text ++ token_text p token → rest ≡ value_of b
       → (level ≤ 64) × (whole ≡ after ++ shown_text p true (shown_within (level + 1) rest))
-  diag_torn token after rest some front opens pushed inside = let o = opened_token (opening_tag level b) token opens in ((opened_says level b o.0 o.1).0.0, diag_opened o.0 after rest some front o.1 (pushed ∙ ap (λ k. text ++ token_text p k) o.2) inside)
+  diag_cut_off token after rest some front opens pushed inside = let o = opened_token (opening_tag level b) token opens in ((opened_says level b o.0 o.1).0.0, diag_opened o.0 after rest some front o.1 (pushed ∙ ap (λ k. text ++ token_text p k) o.2) inside)
 
   pub diag_stop : (after : List ℕ) → 0 < length b → None ≡ front_at level b → None ≡ option_map Open (opening_tag level b) → after ≡ text ++ (33 ∷ []) → after ≡ whole
   diag_stop after some front opens pushed =
@@ -106,10 +106,10 @@ module _ (p : Option ℕ) (whole text b : List ℕ) (level : ℕ) (is_torn : Boo
       ∙ ap (λ o. shown_by None o (shown_within level (drop (size_at b) b)) (shown_within (level + 1) (value_of b))) (sym (opened_none (opening_tag level b) opens))
       in pushed ∙ sym (shows stopped step)
 
-  pub diag_end_torn : (after : List ℕ) → b ≡ [] → is_torn ≡ true → after ≡ text ++ (33 ∷ []) → after ≡ whole
-  diag_end_torn after e is pushed = pushed ∙ sym (shows ended (shown_end level b e) ∙ ap (λ x. text ++ shown_text p x ended) is)
+  pub diag_end_cut_off : (after : List ℕ) → b ≡ [] → is_cut_off ≡ true → after ≡ text ++ (33 ∷ []) → after ≡ whole
+  diag_end_cut_off after e is pushed = pushed ∙ sym (shows ended (shown_end level b e) ∙ ap (λ x. text ++ shown_text p x ended) is)
 
-  pub diag_end : b ≡ [] → is_torn ≡ false → text ≡ whole
+  pub diag_end : b ≡ [] → is_cut_off ≡ false → text ≡ whole
   diag_end e is = sym (shows ended (shown_end level b e) ∙ ap (λ x. text ++ shown_text p x ended) is ∙ append-nil text)
 
 -- ---- the relation

@@ -1,4 +1,4 @@
--- A printed text read piece by piece: what is still to come of each open structure, the innermost first.
+-- A printed text read piece by piece: what is left of each open structure, the innermost first.
 use Rattle.std.proofs.Common.{◌≡◌, ◌⊎◌, inl, inr, refl, sym, ◌∙◌, ap, subst, arith, ℕ, zero, suc, ◌+◌, ◌-◌, ◌<◌, Bool, true, false, List, [], ◌∷◌, ◌++◌, length, Option, Some, None, nat_lt}
 use Rattle.std.specs.Prelude.{◌==◌, if◌then◌else◌}
 use Rattle.std.specs.Cmp.{unsigned_Decides}

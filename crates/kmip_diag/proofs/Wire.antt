@@ -5,55 +5,41 @@ use Rattle.std.proofs.lemmas.Slice.Eq.{bytes_eq-Decides}
 use Rattle.std.specs.Prelude.{bytes_eq}
 use mathlib.Core.Bool.{not}
 use Rattle.std.proofs.lemmas.Option.{none-some}
-use Rattle.std.proofs.lemmas.List.{length-take, length-take-le, length-drop}
+use Rattle.std.proofs.lemmas.List.{length-take, length-drop}
 use Rattle.kmip_wire.specs.Tree.{Tree}
 use Rattle.kmip_wire.specs.Head.{head_length, size_at, value_of}
 use Rattle.kmip_wire.specs.Parses.{Parses, IsLevel, IsFront, NoFront}
 use Rattle.kmip_wire.specs.Reading.{item_of, front_at}
-use Rattle.kmip_wire.proofs.Computed.{sized, size_at-take, tree_computed}
+use Rattle.kmip_wire.proofs.Computed as computed
 
 pub no_front_deep : (level : ℕ) (b : List ℕ) → 64 < level → front_at level b ≡ None
 unfolding item_of
 no_front_deep level b h = let none : 65 - level ≡ 0 = omega (arith, h) in ap (λ k. item_of k (take (size_at b) b)) none
 
--- an item at the front is as long as its head tells
+-- an item at the front is as long as its head says
 pub front_size : (level : ℕ) (b : List ℕ) (n : ℕ) → IsFront level b n → n ≡ size_at b
-front_size level b n (le, (t, q)) =
-    let s = sized t level (take n b) q
-    in let long : length (take n b) ≡ n = length-take-le n b le
-    in sym long ∙ s.whole ∙ size_at-take n b (omega (arith, s.head, long))
+front_size level b n (le, (t, q)) = sym (computed.front_size t level n b le q)
 
 -- the item at the front, or none
-pub front_rule : (level : ℕ) (b : List ℕ) → 1 ≤ level → MatchOption (front_at level b) (NoFront level b) (λ t. (size_at b ≤ length b) × Parses t level (take (size_at b) b))
+abbrev pub IsFrontTree : ℕ → List ℕ → Option Tree → Type 0
+IsFrontTree level b o = MatchOption o (NoFront level b) (λ t. (size_at b ≤ length b) × Parses t level (take (size_at b) b))
+
+pub front_rule : (level : ℕ) (b : List ℕ) → 1 ≤ level → IsFrontTree level b (front_at level b)
 front_rule level b low = by_level (leb level 64) refl
   where
-    found : (t : Tree) → IsLevel level → item_of (65 - level) (take (size_at b) b) ≡ Some t → (size_at b ≤ length b) × Parses t level (take (size_at b) b)
-    found t l e =
-        let q = (tree_computed t level (take (size_at b) b) l).0 e
-        in let s = sized t level (take (size_at b) b) q
-        in (short (leb (size_at b) (length b)) refl s.whole, q)
-      where
-        short : (x : Bool) → leb (size_at b) (length b) ≡ x → length (take (size_at b) b) ≡ size_at (take (size_at b) b) → size_at b ≤ length b
-        short true e w = leb-true _ _ e
-        short false e w = omega (arith, w, size_at-take (size_at b) b (omega arith), leb-false _ _ e, length-take (size_at b) b)
+    by_front : IsLevel level → (o : Option Tree) → front_at level b ≡ o → IsFrontTree level b o
+    by_front l None e = λ n (le, (t, q)). none-some t (sym e ∙ (computed.front_computed t level b l).1 (n, le, q))
+    by_front l (Some t) e =
+        let f = (computed.front_computed t level b l).0 e
+        in subst (λ n. (n ≤ length b) × Parses t level (take n b)) (sym (computed.front_size t level f.0 b f.1 f.2)) (f.1, f.2)
 
-    missed : IsLevel level → front_at level b ≡ None → NoFront level b
-    missed l e n (le, (t, q)) =
-        let same = front_size level b n (le, (t, q))
-        in none-some t (sym e ∙ (tree_computed t level (take (size_at b) b) l).1 (subst (λ k. Parses t level (take k b)) same q))
-
-    by_front : IsLevel level → (o : Option Tree) → front_at level b ≡ o → MatchOption o (NoFront level b) (λ t. (size_at b ≤ length b) × Parses t level (take (size_at b) b))
-    by_front l None e = missed l e
-    by_front l (Some t) e = found t l e
-
-    by_level : (x : Bool) → leb level 64 ≡ x → MatchOption (front_at level b) (NoFront level b) (λ t. (size_at b ≤ length b) × Parses t level (take (size_at b) b))
+    by_level : (x : Bool) → leb level 64 ≡ x → IsFrontTree level b (front_at level b)
     by_level true e = by_front (low, leb-true level 64 e) (front_at level b) refl
     by_level false e =
         let deep = leb-false level 64 e
-        in subst (λ o. MatchOption o (NoFront level b) (λ t. (size_at b ≤ length b) × Parses t level (take (size_at b) b))) (sym (no_front_deep level b deep))
-        (λ n (le, (t, q)). omega (arith, deep, (sized t level (take n b) q).level_is.1))
+        in subst (IsFrontTree level b) (sym (no_front_deep level b deep)) (λ n (le, (t, q)). omega (arith, deep, (computed.sized t level (take n b) q).level_is.1))
 
--- contents are shorter than what they stand in
+-- contents are shorter than the item with its head
 pub value_shorter : (b : List ℕ) → 0 < length b → length (value_of b) < length b
 value_shorter b some = omega (arith, some, length-take (head_length b) (drop 8 b), length-drop 8 b)
 

@@ -24,12 +24,12 @@ abbrev mutual
 abbrev pub AreGood : Skeletons → ℕ → Type 0
 AreGood ts level = AreSkeletons ts × AreWithin ts level
 
--- `text` is printed from skeletons, whose lines are `out`
+-- `text` is printed for skeletons, whose lines are `out`
 abbrev pub IsExpansion : Option ℕ → List ℕ → List ℕ → Type 0
 IsExpansion prefix text out =
     (ts : Skeletons) × AreGood ts 1 × (printed_all prefix ts ≡ text) × (out ≡ all_lines 0 ts)
 
--- `text` is printed from no skeletons
+-- `text` is printed for no skeletons
 abbrev pub IsNoDiagnostic : Option ℕ → List ℕ → Type 0
 IsNoDiagnostic prefix text = (ts : Skeletons) → AreGood ts 1 → printed_all prefix ts ≡ text → ⊥
 
@@ -49,7 +49,7 @@ abbrev mutual
   are_good none level = true
   are_good (more t ts) level = is_good t level && are_good ts level
 
--- the lines of what was read, where the text is printed from it
+-- the lines of what was read, if the text is printed for it
 abbrev pub checked_lines : Option ℕ → List ℕ → Skeletons → Option (List ℕ)
 checked_lines prefix text ts =
     if are_good ts 1 && bytes_eq (printed_all prefix ts) text then Some (all_lines 0 ts) else None

@@ -1,4 +1,4 @@
--- The lines that tell of skeletons.
+-- The lines of skeletons.
 use Rattle.std.specs.Prelude.{true, ℕ, zero, suc, ◌+◌, List, [], ◌∷◌, ◌++◌, Option, Some, None, codes}
 use Rattle.std.specs.Fmt.{digits}
 use Rattle.kmip_wire.specs.Kinds.{code_of}
@@ -42,7 +42,7 @@ mark_kind ByteString = kinds.ByteString
 mark_kind DateTime = kinds.DateTime
 mark_kind Interval = kinds.Interval
 
--- an enumeration's number is told, and nothing of other values
+-- an enumeration's number is shown, and no other value
 abbrev pub data_text : Mark → List ℕ
 data_text (Enumeration n) = digits 16 true n
 data_text _ = codes "<redacted>"

@@ -1,5 +1,5 @@
--- Reading a printed text from its front. What is read is compared with the text afterwards, so that
--- no rule of printing is told twice.
+-- Reading a printed text from its front. What is read is printed again and compared with the text,
+-- so that the rules of printing are stated only once.
 use Rattle.std.specs.Prelude.{ℕ, zero, suc, ◌+◌, ◌*◌, ◌-◌, ◌%◌, ◌^◌, List, [], ◌∷◌, length, Option, Some, None, option_map, nat_lt, ◌==◌, if◌then◌else◌}
 use Rattle.kmip_diag.specs.declared.token.Mark.{Mark}
 use Rattle.kmip_diag.specs.declared.token.Mark.TheVariants.{Integer, LongInteger, BigInteger, Enumeration, Boolean, TextString, ByteString, DateTime, Interval}
@@ -7,7 +7,7 @@ use Rattle.kmip_diag.specs.declared.token.Token.{Token}
 use Rattle.kmip_diag.specs.declared.token.Token.TheVariants.{Scalar, Open, Close}
 use Rattle.kmip_diag.specs.Skeleton.{Skeleton, Skeletons, scalar, structure, none, more}
 
--- what an upper-case hex digit is worth
+-- the number of an upper-case hex digit
 abbrev pub hex_value : ℕ → Option ℕ
 hex_value c = if nat_lt c 48 then None
     else (if nat_lt c 58 then Some (c - 48)
@@ -30,7 +30,7 @@ with_prefix None n = n
 abbrev pub tag_of : Option ℕ → ℕ → ℕ → ℕ
 tag_of prefix digits n = if digits == 2 then with_prefix prefix n else n
 
--- an enumeration's number, and what ends it
+-- the piece of an enumeration, and the rest after the letter that ends its number
 abbrev pub number_token : ℕ → ℕ × List ℕ → Option (Token × List ℕ)
 number_token tag (n, []) = None
 number_token tag (n, c ∷ cs) = Some (Scalar tag (Enumeration n), cs)
@@ -45,7 +45,7 @@ mark_at c =
     else (if c == 120 then Some ByteString
     else (if c == 100 then Some DateTime else (if c == 110 then Some Interval else None)))))))
 
--- the piece of the tag and the letter after it
+-- the piece with the tag and the letter after it
 abbrev pub by_letter : ℕ → ℕ → List ℕ → Option (Token × List ℕ)
 by_letter tag c cs = if c == 91 then Some (Open tag, cs)
     else (if c == 101 then number_token tag (numeral 0 cs)

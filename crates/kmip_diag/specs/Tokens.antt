@@ -1,4 +1,4 @@
--- The pieces that a printed text consists of, and the ranges of their numbers.
+-- The pieces of a printed text, and the ranges of their numbers.
 use Rattle.std.specs.Prelude.{ℕ, ◌<◌, ◌^◌, List, [], ◌∷◌, ◌++◌, Option}
 use Rattle.kmip_diag.specs.declared.token.Mark.{Mark}
 use Rattle.kmip_diag.specs.declared.token.Mark.TheVariants.{Enumeration}

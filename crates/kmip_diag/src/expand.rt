@@ -1,4 +1,4 @@
-// The lines of a diagnostic.
+//! Expands a diagnostic into lines that a person can read.
 ghost use Rattle.std.specs.Prelude.{◌≡◌, MatchResult, Some, None};
 ghost use Rattle.kmip_diag.specs.Expansion.{next_depth, expansion};
 
@@ -11,14 +11,15 @@ use std::alloc::Global;
 /// Why a text was not expanded.
 #[derive(Clone, Copy, PartialEq, Eq, Debug)]
 pub enum DiagError {
-    /// The text is not printed, under the printer's prefix, from a list of skeletons of level at
-    /// most 64; so is each text with `!`.
+    /// The text is not what the printer, with its prefix, prints for items of at most 64 levels. A
+    /// text with `!` never is.
     NotADiagnostic,
     /// Memory ran out.
     OutOfMemory,
 }
 
-// The depth after a piece: none where an item would pass level 64, or a bracket closes nothing.
+/// The depth after a piece. `None` where an item would have a level above 64, or where `]` ends no
+/// structure.
 fn next_depth(depth: u32, token: &Token) -> Option<u32>
     ensures { result ≡ next_depth depth token.now }
 {
@@ -30,10 +31,10 @@ fn next_depth(depth: u32, token: &Token) -> Option<u32>
 }
 
 impl PrettyPrinter {
-    /// One line for each item of a printed text, each with a line feed at its end: two spaces for
-    /// each level below the root, `Tag: NAME (0xTTTTTT), Type: TYPE (0xCC), Data: `, and then
-    /// nothing for a Structure, the number in hex for an Enumeration and `<redacted>` for the rest.
-    /// A tag without a name has the name `Unknown`.
+    /// One line for each item of a printed text, each with a line feed at its end. A line has two
+    /// spaces for each level below the root, `Tag: NAME (0xTTTTTT), Type: TYPE (0xCC), Data: `, and
+    /// then nothing for a Structure, the number in hex for an Enumeration and `<redacted>` for any
+    /// other type. The name of a tag without a name is `Unknown`.
     pub fn expand(&self, alloc: Global, text: &str) -> Result<Text, DiagError>
         ensures { MatchResult result (λ lines. expansion self.now text.now ≡
             Some lines) (λ e. e ≡ DiagError.NotADiagnostic → expansion self.now text.now ≡ None) }

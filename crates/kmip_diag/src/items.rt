@@ -1,4 +1,4 @@
-// The text of well-formed items.
+//! Prints well-formed items.
 ghost use Rattle.std.specs.Prelude.{◌≡◌, ◌++◌, IfOk, option_map};
 ghost use Rattle.kmip_wire.specs.Tree.{trees_of};
 ghost use Rattle.kmip_wire.specs.Parts.{scalar_in};
@@ -12,7 +12,7 @@ use crate::token::Mark;
 use kmip_wire::{Children, ItemRef, Kind, OutOfMemory, Text};
 use std::alloc::Global;
 
-// What is told of an item that is no structure.
+/// What a diagnostic shows of the value of an item. `None` for a Structure.
 fn mark_of(item: ItemRef<'_>) -> Option<Mark>
     ensures { result ≡ option_map mark_of (scalar_in (item_tree item.entry)) }
 {
@@ -34,6 +34,7 @@ fn mark_of(item: ItemRef<'_>) -> Option<Mark>
 }
 
 impl PrettyPrinter {
+    /// Appends the text of an item.
     #[cycle(items)]
     pub(crate) fn print_item(
         &self,
@@ -56,6 +57,7 @@ impl PrettyPrinter {
         text.push_str("]")
     }
 
+    /// Appends the texts of the children, one after another.
     #[cycle(items)]
     fn print_items(
         &self,

@@ -11,6 +11,7 @@
 //! ```
 #![tactic(auto)]
 
+mod diagnostic;
 mod expand;
 mod items;
 mod laws;
@@ -19,7 +20,6 @@ mod print;
 mod printer;
 mod read;
 mod token;
-mod torn;
 
 pub use expand::DiagError;
 pub use laws::{

@@ -1,4 +1,4 @@
-// The line of an item.
+//! Writes the line of an item.
 ghost use Rattle.std.specs.Prelude.{◌≡◌, ◌++◌, codes, IfOk};
 ghost use Rattle.kmip_tags.specs.Names.{name_of};
 ghost use Rattle.kmip_diag.specs.Lines.{indent, name_text, kind_name, mark_kind, data_text};
@@ -11,6 +11,7 @@ use kmip_tags::name_of;
 use kmip_wire::{Kind, OutOfMemory, Tag, Text};
 use std::alloc::Global;
 
+/// Appends two spaces for each level.
 fn push_indent(text: &mut Text, depth: u32) -> Result<(), OutOfMemory>
     ensures { IfOk result (λ _. text.new ≡ text.old ++ indent depth) }
 {
@@ -22,6 +23,7 @@ fn push_indent(text: &mut Text, depth: u32) -> Result<(), OutOfMemory>
     Ok(())
 }
 
+/// The name of a tag, or `Unknown`.
 fn tag_name(tag: Tag) -> &'static str
     ensures { result.now ≡ name_text (name_of tag) }
 {
@@ -31,6 +33,7 @@ fn tag_name(tag: Tag) -> &'static str
     }
 }
 
+/// Appends the number of a tag, in brackets.
 fn push_number_part(text: &mut Text, tag: Tag) -> Result<(), OutOfMemory>
     ensures { IfOk result (λ _. text.new ≡ text.old ++ number_part tag) }
 {
@@ -39,6 +42,7 @@ fn push_number_part(text: &mut Text, tag: Tag) -> Result<(), OutOfMemory>
     text.push_str("), ")
 }
 
+/// Appends the name and number of a tag.
 fn push_tag_part(text: &mut Text, tag: Tag) -> Result<(), OutOfMemory>
     ensures { IfOk result (λ _. text.new ≡ text.old ++ tag_part tag) }
 {
@@ -47,6 +51,7 @@ fn push_tag_part(text: &mut Text, tag: Tag) -> Result<(), OutOfMemory>
     push_number_part(text, tag)
 }
 
+/// The name of a type.
 fn kind_name(kind: Kind) -> &'static str
     ensures { result.now ≡ kind_name kind }
 {
@@ -64,6 +69,7 @@ fn kind_name(kind: Kind) -> &'static str
     }
 }
 
+/// Appends the name and number of a type.
 fn push_type_part(text: &mut Text, kind: Kind) -> Result<(), OutOfMemory>
     ensures { IfOk result (λ _. text.new ≡ text.old ++ type_part kind) }
 {
@@ -74,6 +80,7 @@ fn push_type_part(text: &mut Text, kind: Kind) -> Result<(), OutOfMemory>
     text.push_str("), ")
 }
 
+/// The type that a mark stands for.
 fn mark_kind(mark: Mark) -> Kind
     ensures { result ≡ mark_kind mark }
 {
@@ -90,6 +97,7 @@ fn mark_kind(mark: Mark) -> Kind
     }
 }
 
+/// Appends the part of a line before the value.
 fn push_head(text: &mut Text, depth: u32, tag: Tag, kind: Kind) -> Result<(), OutOfMemory>
     ensures { IfOk result (λ _. text.new ≡
         text.old ++ (indent depth ++ (tag_part tag ++ (type_part kind ++ codes "Data: ")))) }
@@ -100,6 +108,7 @@ fn push_head(text: &mut Text, depth: u32, tag: Tag, kind: Kind) -> Result<(), Ou
     text.push_str("Data: ")
 }
 
+/// Appends the number of an enumeration, and `<redacted>` for any other type.
 fn push_data(alloc: Global, text: &mut Text, mark: Mark) -> Result<(), OutOfMemory>
     ensures { IfOk result (λ _. text.new ≡ text.old ++ data_text mark) }
 {
@@ -112,6 +121,7 @@ fn push_data(alloc: Global, text: &mut Text, mark: Mark) -> Result<(), OutOfMemo
     }
 }
 
+/// Appends the line of a piece at the depth, and nothing for the end of a structure.
 pub(crate) fn push_line(
     alloc: Global,
     text: &mut Text,

@@ -1,4 +1,4 @@
-// The text of the pieces of a diagnostic.
+//! Prints the pieces of a diagnostic.
 ghost use Rattle.std.specs.Prelude.{◌≡◌, true, ◌%◌, [], ◌∷◌, ◌++◌, IfOk};
 ghost use Rattle.std.specs.Fmt.{digit_glyph, digits};
 ghost use Rattle.kmip_diag.specs.Printed.{two, six, has_prefix, printed_tag, printed_mark};
@@ -9,6 +9,7 @@ use crate::token::{Mark, Token};
 use kmip_wire::{OutOfMemory, Tag, Text};
 use std::alloc::Global;
 
+/// The last hex digit of a number.
 fn digit(number: u32) -> &'static str
     ensures { result.now ≡ digit_glyph true (number % 16) ∷ [] }
 {
@@ -32,6 +33,7 @@ fn digit(number: u32) -> &'static str
     }
 }
 
+/// Appends the last two hex digits of a number.
 pub(crate) fn push_two(text: &mut Text, number: u32) -> Result<(), OutOfMemory>
     ensures { IfOk result (λ _. text.new ≡ text.old ++ two number) }
 {
@@ -39,6 +41,7 @@ pub(crate) fn push_two(text: &mut Text, number: u32) -> Result<(), OutOfMemory>
     text.push_str(digit(number))
 }
 
+/// Appends the last six hex digits of a number.
 #[tactic(auto, unfolding(crate::specs::Printed::six))]
 pub(crate) fn push_six(text: &mut Text, number: u32) -> Result<(), OutOfMemory>
     ensures { IfOk result (λ _. text.new ≡ text.old ++ six number) }
@@ -48,6 +51,7 @@ pub(crate) fn push_six(text: &mut Text, number: u32) -> Result<(), OutOfMemory>
     push_two(text, number)
 }
 
+/// Appends `e`, the number in hex and `:`.
 fn push_number(alloc: Global, text: &mut Text, number: u32) -> Result<(), OutOfMemory>
     ensures { IfOk result (λ _. text.new ≡ text.old ++ (101 ∷ (digits 16 true number ++ 58 ∷ []))) }
 {
@@ -57,6 +61,7 @@ fn push_number(alloc: Global, text: &mut Text, number: u32) -> Result<(), OutOfM
     }
 }
 
+/// Appends the letter of a type, for an enumeration with its number.
 pub(crate) fn push_mark(alloc: Global, text: &mut Text, mark: Mark) -> Result<(), OutOfMemory>
     ensures { IfOk result (λ _. text.new ≡ text.old ++ printed_mark mark) }
 {
@@ -75,6 +80,7 @@ pub(crate) fn push_mark(alloc: Global, text: &mut Text, mark: Mark) -> Result<()
 }
 
 impl PrettyPrinter {
+    /// Whether the upper 16 bits of the tag are the prefix.
     fn has_prefix(&self, tag: Tag) -> bool
         ensures { result ≡ has_prefix self.now tag }
     {
@@ -84,6 +90,7 @@ impl PrettyPrinter {
         }
     }
 
+    /// Appends a tag: two digits under the prefix, else six.
     pub(crate) fn push_tag(&self, text: &mut Text, tag: Tag) -> Result<(), OutOfMemory>
         ensures { IfOk result (λ _. text.new ≡ text.old ++ printed_tag self.now tag) }
     {
@@ -94,6 +101,7 @@ impl PrettyPrinter {
         }
     }
 
+    /// Appends a piece.
     pub(crate) fn push_token(
         &self,
         alloc: Global,

@@ -1,4 +1,4 @@
-// The printer, seen as its prefix.
+//! The printer. To contracts it is its prefix.
 ghost use Rattle.std.specs.Prelude.{◌≡◌, ℕ, Option, Some, None};
 
 use std::marker::Model;
@@ -19,14 +19,14 @@ impl Model for PrettyPrinter {
 }
 
 impl PrettyPrinter {
-    /// A printer without a prefix, which writes each tag with six digits. Takes no memory.
+    /// A printer without a prefix, which writes each tag with six digits. It takes no memory.
     pub fn new() -> PrettyPrinter
         ensures { result ≡ None }
     {
         PrettyPrinter { prefix: None }
     }
 
-    /// Sets the prefix, from 0 to 0xFFFF, in place of an earlier one. Takes no memory.
+    /// Sets the prefix, from 0 to 0xFFFF, in place of an earlier one. It takes no memory.
     pub fn with_tag_prefix(&mut self, prefix: u16)
         ensures { self.new ≡ Some prefix }
     {

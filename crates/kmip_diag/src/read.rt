@@ -1,4 +1,5 @@
-// Reading the pieces of a printed text. What is read is compared with the text afterwards.
+//! Reads the pieces of a printed text. The caller prints them again and compares, so a piece that
+//! is read from another text does no harm.
 ghost use Rattle.std.specs.Prelude.{◌≡◌, ◌≤◌, ◌<◌, IfSome, length, option_map};
 ghost use Rattle.kmip_diag.specs.Reading.{hex_value, numeral, tag_of, mark_at, number_token};
 ghost use Rattle.kmip_diag.specs.Reading.{by_letter, read_token};
@@ -8,7 +9,7 @@ use crate::printer::PrettyPrinter;
 use crate::token::{Mark, Token};
 use kmip_wire::Tag;
 
-// What an upper-case hex digit is worth.
+/// The number of an upper-case hex digit.
 fn hex_value(letter: u8) -> Option<u32>
     ensures value { result ≡ hex_value letter }
     ensures range { IfSome result (λ digit. digit < 16) }
@@ -26,7 +27,7 @@ fn hex_value(letter: u8) -> Option<u32>
     }
 }
 
-// The number of the digits at the front, while they fit, and the rest.
+/// The number of the hex digits at the front, as many as fit 32 bits, and the rest.
 fn numeral(text: &[u8]) -> (u32, &[u8])
     ensures value { (result.0, result.1.now) ≡ numeral 0 text.now }
     ensures shorter { length result.1.now ≤ length text.now }
@@ -46,6 +47,7 @@ fn numeral(text: &[u8]) -> (u32, &[u8])
     (number, rest)
 }
 
+/// The mark of a letter, which is not `e`.
 fn mark_at(letter: u8) -> Option<Mark>
     ensures { result ≡ mark_at letter }
 {
@@ -62,7 +64,8 @@ fn mark_at(letter: u8) -> Option<Mark>
     }
 }
 
-// An enumeration's number, and what ends it.
+/// The piece of an enumeration, whose number and one letter after it are at the front, and the
+/// rest.
 fn number_token(tag: Tag, text: &[u8]) -> Option<(Token, &[u8])>
     ensures value { option_map (λ p. (p.0, p.1.now)) result ≡
         number_token tag (numeral 0 text.now) }
@@ -75,7 +78,7 @@ fn number_token(tag: Tag, text: &[u8]) -> Option<(Token, &[u8])>
     Some((Token::Scalar(tag, Mark::Enumeration(number)), rest))
 }
 
-// The piece of the tag and the letter after it.
+/// The piece with the tag and the letter after it, and the rest.
 fn by_letter(tag: Tag, letter: u8, rest: &[u8]) -> Option<(Token, &[u8])>
     ensures value { option_map (λ p. (p.0, p.1.now)) result ≡ by_letter tag letter rest.now }
     ensures shorter { IfSome result (λ p. length p.1.now ≤ length rest.now) }
@@ -88,7 +91,7 @@ fn by_letter(tag: Tag, letter: u8, rest: &[u8]) -> Option<(Token, &[u8])>
 }
 
 impl PrettyPrinter {
-    // Two digits are under the prefix.
+    /// The tag of a number that has so many digits: two digits are under the prefix.
     fn tag_of(&self, digits: usize, number: u32) -> u32
         ensures { result ≡ tag_of self.now digits number }
     {
@@ -98,7 +101,7 @@ impl PrettyPrinter {
         }
     }
 
-    // The piece at the front of a printed text, and the rest.
+    /// The piece at the front of a printed text, and the rest.
     pub(crate) fn read_token<'a>(&self, text: &'a [u8]) -> Option<(Token, &'a [u8])>
         ensures value { option_map (λ p. (p.0, p.1.now)) result ≡ read_token self.now text.now }
         ensures range { IfSome result (λ p. IsToken p.0) }

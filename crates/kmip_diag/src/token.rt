@@ -1,4 +1,4 @@
-// The pieces of a diagnostic.
+//! The pieces of a diagnostic.
 use kmip_wire::Tag;
 
 /// What a diagnostic shows of an item that is no structure.
@@ -10,7 +10,7 @@ pub enum Mark {
     LongInteger,
     /// A signed number of any size.
     BigInteger,
-    /// A number of an enumeration, which is kept.
+    /// A number of an enumeration, the only value that is shown.
     Enumeration(u32),
     /// A truth value.
     Boolean,
@@ -24,7 +24,7 @@ pub enum Mark {
     Interval,
 }
 
-/// A diagnostic is a list of these, one after another.
+/// A piece of a diagnostic, which is a list of them.
 #[derive(Clone, Copy)]
 pub enum Token {
     /// An item with a value: its tag, and its type without the value.

@@ -21,7 +21,7 @@ use Rattle.kmip_server.specs.Joined.{Settings, Between, Expected, AsTold, Unsent
 use Rattle.kmip_server.specs.Link.{ServerLinkState, IsOpen, IsKnown}
 use Rattle.kmip_server.specs.Machine.{first_for}
 use Rattle.kmip_server.specs.declared.answers.CallAnswer.{CallAnswer}
-use Rattle.kmip_words.specs.Exchange.{Settings as LineSettings, Asked as LineAsked, Step, step_of, request_asked, asked_of, value_styled, or_empty}
+use Rattle.kmip_words.specs.Exchange.{Settings as LineSettings, Asked as LineAsked, Step, step_of, request_asked, asked_of, value_in_style, or_empty}
 use Rattle.kmip_joined.specs.Lines.{line_call}
 use Rattle.kmip_joined.specs.World.{World, Joined, next_made, after_request, after_sending, joined_step, world_of}
 use Rattle.kmip_joined.specs.Told.{IsJoined, IsPlain, IsMade, IsMadeSo, IsSuited, Tells, makes_pair, is_pair}
@@ -147,7 +147,7 @@ line_settings settings = record { credential = settings.credential; limit = sett
 abbrev step_for : LineSettings → Call → World → LineAsked → Joined
 step_for settings call world it =
     let now : World = after_sending world it.message in
-    let s : Step = step_of (λ payload. value_styled (line_call call) payload Bare) Bare settings.buffered now.rest (outcome_of it.message it.operation settings.limit now.rest) in
+    let s : Step = step_of (λ payload. value_in_style (line_call call) payload Bare) Bare settings.buffered now.rest (outcome_of it.message it.operation settings.limit now.rest) in
     record { step = s; after = record now { rest = drop s.taken now.rest } }
 
 step_is : (settings : LineSettings) (call : Call) (world : World) → joined_step settings (line_call call) world ≡ step_for settings call world (asked_of (request_of call) settings.credential)

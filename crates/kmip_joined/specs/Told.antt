@@ -1,6 +1,6 @@
 -- What a call of a client over a server in memory did.
 use Rattle.std.specs.Prelude.{◌≡◌, ℕ, ◌<◌, pos, List, [], ◌∷◌, ◌++◌, map, Bool, true, false, Option, Result, Ok, Err, IfOk}
-use Rattle.kmip_shape.specs.Shown.{shown_as}
+use Rattle.kmip_shape.specs.Shown.{shown_in_style}
 use Rattle.kmip_shape.specs.declared.style.Style.TheVariants.{Bare}
 use Rattle.kmip_response.specs.Tables.{query_payload, rng_retrieve_payload, sign_payload, attribute_edit_payload, get_payload}
 use Rattle.kmip_response.specs.Values.{query_payload_val, rng_retrieve_payload_val, sign_payload_val, attribute_edit_payload_val, get_payload_val}
@@ -18,7 +18,7 @@ use Rattle.kmip_server.specs.Link.{ServerLinkState, IsKnown, IsOpen}
 use Rattle.kmip_server.specs.declared.answers.Answered.{Answered}
 use Rattle.kmip_server.specs.declared.answers.Answered.TheVariants as answered
 use Rattle.kmip_server.specs.declared.answers.CallAnswer.{CallAnswer}
-use Rattle.kmip_words.specs.Exchange.{settings_of as line_settings, Step, answer_line, call_text, done_styled, is_error, pair_styled, told_lines}
+use Rattle.kmip_words.specs.Exchange.{settings_of as line_settings, Step, answer_line, call_text, done_in_style, is_error, pair_in_style, told_lines}
 use Rattle.kmip_joined.specs.Lines.{line_call}
 use Rattle.kmip_joined.specs.World.{World, Joined, joined_step, world_of}
 
@@ -33,15 +33,15 @@ IsPlain link = link.server.maker.given ≡ plain_answers 0 link.server.maker.ask
 
 -- what a helper returned, as it is shown
 abbrev pub answered_shown : Answered → List ℕ
-answered_shown answered.Unit = done_styled Bare
-answered_shown (answered.Pair first second) = pair_styled first second Bare
-answered_shown (answered.Query payload) = shown_as query_payload (query_payload_val payload) Bare
+answered_shown answered.Unit = done_in_style Bare
+answered_shown (answered.Pair first second) = pair_in_style first second Bare
+answered_shown (answered.Query payload) = shown_in_style query_payload (query_payload_val payload) Bare
 answered_shown (answered.Random payload) =
-    shown_as rng_retrieve_payload (rng_retrieve_payload_val payload) Bare
-answered_shown (answered.Signed payload) = shown_as sign_payload (sign_payload_val payload) Bare
+    shown_in_style rng_retrieve_payload (rng_retrieve_payload_val payload) Bare
+answered_shown (answered.Signed payload) = shown_in_style sign_payload (sign_payload_val payload) Bare
 answered_shown (answered.Renamed payload) =
-    shown_as attribute_edit_payload (attribute_edit_payload_val payload) Bare
-answered_shown (answered.Got payload) = shown_as get_payload (get_payload_val payload) Bare
+    shown_in_style attribute_edit_payload (attribute_edit_payload_val payload) Bare
+answered_shown (answered.Got payload) = shown_in_style get_payload (get_payload_val payload) Bare
 
 -- whether it is the one call that returns two identifiers
 abbrev pub makes_pair : Call → Bool

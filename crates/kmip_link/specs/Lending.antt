@@ -1,4 +1,4 @@
--- What a link with planned failures ends as, once the borrow of its link in memory has ended.
+-- A link with planned failures, after the borrow of its link in memory has ended.
 use Rattle.std.specs.Borrow.{Lends, Fml, MutBor}
 use Rattle.kmip_link.specs.contracts.planned_link.PlannedLink.{the_row}
 use Rattle.kmip_link.specs.Plan.{MemoryState, PlannedState}

@@ -1,4 +1,4 @@
--- The forms in memory: what they hold, and how many bytes a planned call moves.
+-- The forms in memory: their content, and how many bytes a planned call moves.
 use Rattle.std.specs.Prelude.{◌≡◌, ℕ, ◌+◌, ◌-◌, ◌^◌, ◌%◌, min, max, List, [], ◌∷◌, length, true, slice_index}
 use Rattle.kmip_link.specs.State.{LinkState, SourceState, SinkState}
 

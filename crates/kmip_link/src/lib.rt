@@ -8,9 +8,9 @@
 //!
 //! A contract can name the bytes and the faults of each. A [`Link`] carries a client's requests and
 //! responses, a [`Source`] is what a program reads, a [`Sink`] is what it writes. The forms in
-//! memory show their whole content to contracts, cut it into planned pieces and fail at planned
-//! calls. The forms over std's readers and writers ([`StreamLink`], [`StdSource`], [`StdSink`])
-//! show nothing of it: they are the trusted edge.
+//! memory show their whole content to contracts, move it in planned pieces and fail at planned
+//! calls. Of the content of the forms over std's readers and writers ([`StreamLink`],
+//! [`StdSource`], [`StdSink`]) contracts know nothing: they are the trusted edge.
 #![tactic(auto)]
 
 mod link;

@@ -1,4 +1,4 @@
-//! A link in memory, which cuts what it moves into planned pieces.
+//! A link in memory, which moves bytes in planned pieces.
 ghost use Rattle.std.specs.Prelude.{◌≡◌, ◌⊎◌, ◌+◌, ◌-◌, ◌<◌, ◌≤◌, ◌++◌, [], ℕ, length, take, drop};
 ghost use Rattle.std.specs.Prelude.{min, IsOk, IfOk, IfErr, OnErr, OnOk, IsErrOf, IsTrue};
 ghost use Rattle.kmip_link.specs.State.{Keeps, IsIdle, Reads, Writes, FaultCountRose, left};
@@ -82,9 +82,9 @@ impl MemoryLink {
         &self.ever[self.pos..]
     }
 
-    /// Plans the sizes of the calls from now on, over and over, in bytes; the next call is number
-    /// 0. An empty list ends the plan. Its only error is that memory ran out, which changes
-    ///    nothing.
+    /// Plans how many bytes each call moves at most. The next call has number 0 and the first size;
+    /// after the last size the first comes again. An empty list ends the plan. Its only error is
+    /// that memory ran out, which changes nothing.
     pub fn plan_pieces(&mut self, sizes: &[usize]) -> Result<(), LinkError>
         ensures ok { OnOk result (self.new ≡ record self.old { sizes = sizes.now; place = 0 }) }
         ensures starts { OnOk result (IsCallNumber self.new 0) }
@@ -99,7 +99,7 @@ impl MemoryLink {
     }
 }
 
-/// The most that the call at this place moves, of what it could.
+/// The most that the call at this place moves, of `most` bytes that it could.
 fn planned_size(sizes: &[usize], place: usize, most: usize) -> usize
     requires { (length sizes.now ≡ 0) ⊎ (place < length sizes.now) }
     ensures planned_size { (k : ℕ) → place ≡ place_of sizes.now k → result ≡
@@ -114,7 +114,7 @@ fn planned_size(sizes: &[usize], place: usize, most: usize) -> usize
     }
 }
 
-/// The place after this one, round and round.
+/// The place after this one; after the last place the first.
 #[tactic(auto, using(crate::proofs::Places::next_place))]
 fn place_after(sizes: &[usize], place: usize) -> usize
     requires { (length sizes.now ≡ 0) ⊎ (place < length sizes.now) }

@@ -62,7 +62,7 @@ impl MemorySource {
 impl Source for MemorySource {
     ghost state = { source_state };
 
-    /// Moves the smaller of the room and the bytes left, but at a planned failure. It takes no
+    /// Moves the smaller of the room and the bytes left, except at a planned failure. It takes no
     /// memory.
     fn read(&mut self, into: &mut [u8]) -> Result<usize, LinkError>
         ensures keeps { SourceKeeps (source_state self.old) (source_state self.new) }
@@ -70,7 +70,8 @@ impl Source for MemorySource {
         ensures moved { IfOk result
             (λ n. SourceReads (source_state self.old) (source_state self.new) into.new n) }
         ensures idle { OnErr result (SourceIsIdle (source_state self.old) (source_state self.new)) }
-        ensures cause { IsErrOf result LinkError.Fault → FaultCountRose self.old.faults self.new.faults }
+        ensures cause { IsErrOf result LinkError.Fault →
+            FaultCountRose self.old.faults self.new.faults }
         ensures fails { IsErrOf result LinkError.Fault ↔ Contains self.old.failing self.old.number }
         ensures other { IfErr result (λ e. e ≡ LinkError.Fault) }
         ensures size { IfOk result (λ n. n ≡
@@ -144,14 +145,15 @@ impl MemorySink {
 impl Sink for MemorySink {
     ghost state = { sink_state };
 
-    /// Takes the whole piece, but at a planned failure.
+    /// Takes the whole piece, except at a planned failure.
     fn write(&mut self, bytes: &[u8]) -> Result<usize, LinkError>
         ensures keeps { SinkKeeps (sink_state self.old) (sink_state self.new) }
         ensures bound { IfOk result (λ n. n ≤ length bytes.now) }
         ensures some { IfOk result (λ n. 0 < length bytes.now → 0 < n) }
         ensures moved { IfOk result (λ n. self.new.sent ≡ self.old.sent ++ take n bytes.now) }
         ensures idle { OnErr result (self.new.sent ≡ self.old.sent) }
-        ensures cause { IsErrOf result LinkError.Fault → FaultCountRose self.old.faults self.new.faults }
+        ensures cause { IsErrOf result LinkError.Fault →
+            FaultCountRose self.old.faults self.new.faults }
         ensures fails { IsErrOf result LinkError.Fault ↔ Contains self.old.failing self.old.number }
         ensures number { self.new.number ≡ next_count self.old.number }
         ensures size { IfOk result (λ n. n ≡ length bytes.now) }

@@ -37,7 +37,7 @@ impl PlannedLink {
     ghost use Rattle.std.specs.Borrow.{sem};
     ghost use Rattle.kmip_link.specs.Lending.{lends_memory};
 
-    /// Puts the plan of failures over a link. Its only error is that memory ran out.
+    /// The link, with a plan of failures. Its only error is that memory ran out.
     pub fn new(alloc: Global, link: MemoryLink, failing: &[u64]) -> Result<PlannedLink, LinkError>
         ensures ok { IfOk result (λ it. it ≡
             record { link = link; failing = failing.now; number = 0; faults = 0 }) }
@@ -53,7 +53,7 @@ impl PlannedLink {
         })
     }
 
-    /// Lends the link in memory. It takes no memory; what the borrower does to the link stays done.
+    /// Borrows the link in memory, for reads and changes. It takes no memory.
     pub fn inner(&mut self) -> &mut MemoryLink
         ensures* writes_back { sem 𝓛 (lends_memory self.entry result) }
         ensures value { result.now ≡ self.old.link }
@@ -61,7 +61,7 @@ impl PlannedLink {
         &mut self.link
     }
 
-    /// Counts a call, and fails where it is to fail.
+    /// Counts a call, and fails if the call's number is in `failing`.
     fn begin(&mut self) -> Result<(), LinkError>
         ensures ok { OnOk result
             (self.new ≡ record self.old { number = next_count self.old.number }) }
@@ -88,14 +88,15 @@ impl PlannedLink {
 impl Link for PlannedLink {
     ghost state = { planned_state };
 
-    /// Reads from the link in memory, but at a planned failure. It takes no memory.
+    /// Reads from the link in memory, except at a planned failure. It takes no memory.
     fn read(&mut self, into: &mut [u8]) -> Result<usize, LinkError>
         ensures keeps { Keeps (planned_state self.old) (planned_state self.new) }
         ensures bound { IfOk result (λ n. n ≤ length into.new) }
         ensures moved { IfOk result (λ n. Reads (planned_state self.old) (planned_state self.new)
             into.new n) }
         ensures idle { OnErr result (IsIdle (planned_state self.old) (planned_state self.new)) }
-        ensures cause { IsErrOf result LinkError.Fault → FaultCountRose self.old.faults self.new.faults }
+        ensures cause { IsErrOf result LinkError.Fault →
+            FaultCountRose self.old.faults self.new.faults }
         ensures fails { IsErrOf result LinkError.Fault ↔ Contains self.old.failing self.old.number }
         ensures other { IfErr result (λ e. e ≡ LinkError.Fault) }
         ensures below { OnErr result (self.new.link ≡ self.old.link) }
@@ -112,7 +113,7 @@ impl Link for PlannedLink {
         self.link.read(into)
     }
 
-    /// Writes to the link in memory, but at a planned failure.
+    /// Writes to the link in memory, except at a planned failure.
     fn write(&mut self, bytes: &[u8]) -> Result<usize, LinkError>
         ensures keeps { Keeps (planned_state self.old) (planned_state self.new) }
         ensures bound { IfOk result (λ n. n ≤ length bytes.now) }
@@ -120,7 +121,8 @@ impl Link for PlannedLink {
         ensures moved { IfOk result (λ n. Writes (planned_state self.old) (planned_state self.new)
             (take n bytes.now)) }
         ensures idle { OnErr result (IsIdle (planned_state self.old) (planned_state self.new)) }
-        ensures cause { IsErrOf result LinkError.Fault → FaultCountRose self.old.faults self.new.faults }
+        ensures cause { IsErrOf result LinkError.Fault →
+            FaultCountRose self.old.faults self.new.faults }
         ensures fails { IsErrOf result LinkError.Fault ↔ Contains self.old.failing self.old.number }
         ensures below { OnErr result (self.new.link ≡ self.old.link) }
         ensures size { IfOk result (λ n. HasSize self.old.link (length bytes.now) n) }

@@ -1,8 +1,8 @@
 //! The trusted edge: a link, a source and a sink over any reader and writer of std.
 //!
-//! They tell nothing of their content. Each has a count of faults, which rises at each error of the
-//! reader or writer, and at a write that takes nothing of a piece that is not empty, up to the
-//! greatest `u64`.
+//! Contracts know nothing of their content. Each has a count of faults, which rises at each error
+//! of the reader or writer, and at a write that takes nothing of a piece that is not empty, up to
+//! the greatest `u64`.
 ghost use Rattle.std.specs.Prelude.{◌≡◌, ◌<◌, ◌≤◌, false, [], length, take, IfOk, IfErr, OnOk};
 ghost use Rattle.std.specs.Prelude.{OnErr, IsErrOf, IsTrue};
 ghost use Rattle.kmip_link.specs.State.{Keeps, IsIdle, Reads, Writes, FaultCountRose, SourceKeeps};
@@ -55,7 +55,8 @@ impl<R: Read, W: Write> Link for StreamLink<R, W> {
             Reads (silent_link self.old.faults) (silent_link self.new.faults) into.new n) }
         ensures idle { OnErr result (IsTrue (silent_link self.old.faults).tells →
             IsIdle (silent_link self.old.faults) (silent_link self.new.faults)) }
-        ensures cause { IsErrOf result LinkError.Fault → FaultCountRose self.old.faults self.new.faults }
+        ensures cause { IsErrOf result LinkError.Fault →
+            FaultCountRose self.old.faults self.new.faults }
         ensures steady { OnOk result (self.new.faults ≡ self.old.faults) }
         ensures rises { OnErr result (self.new.faults ≡ next_count self.old.faults) }
         ensures other { IfErr result (λ e. e ≡ LinkError.Fault) }
@@ -75,7 +76,8 @@ impl<R: Read, W: Write> Link for StreamLink<R, W> {
             Writes (silent_link self.old.faults) (silent_link self.new.faults) (take n bytes.now)) }
         ensures idle { OnErr result (IsTrue (silent_link self.old.faults).tells →
             IsIdle (silent_link self.old.faults) (silent_link self.new.faults)) }
-        ensures cause { IsErrOf result LinkError.Fault → FaultCountRose self.old.faults self.new.faults }
+        ensures cause { IsErrOf result LinkError.Fault →
+            FaultCountRose self.old.faults self.new.faults }
         ensures steady { OnOk result (self.new.faults ≡ self.old.faults) }
         ensures rises { OnErr result (self.new.faults ≡ next_count self.old.faults) }
         ensures other { IfErr result (λ e. e ≡ LinkError.Fault) }
@@ -116,7 +118,8 @@ impl<R: Read> Source for StdSource<R> {
             n) }
         ensures idle { OnErr result (IsTrue (silent_source self.old.faults).tells →
             SourceIsIdle (silent_source self.old.faults) (silent_source self.new.faults)) }
-        ensures cause { IsErrOf result LinkError.Fault → FaultCountRose self.old.faults self.new.faults }
+        ensures cause { IsErrOf result LinkError.Fault →
+            FaultCountRose self.old.faults self.new.faults }
         ensures steady { OnOk result (self.new.faults ≡ self.old.faults) }
         ensures rises { OnErr result (self.new.faults ≡ next_count self.old.faults) }
         ensures other { IfErr result (λ e. e ≡ LinkError.Fault) }
@@ -156,7 +159,8 @@ impl<W: Write> Sink for StdSink<W> {
             (silent_sink self.new.faults).sent ≡ take n bytes.now) }
         ensures idle { OnErr result (IsTrue (silent_sink self.old.faults).tells →
             (silent_sink self.new.faults).sent ≡ (silent_sink self.old.faults).sent) }
-        ensures cause { IsErrOf result LinkError.Fault → FaultCountRose self.old.faults self.new.faults }
+        ensures cause { IsErrOf result LinkError.Fault →
+            FaultCountRose self.old.faults self.new.faults }
         ensures steady { OnOk result (self.new.faults ≡ self.old.faults) }
         ensures rises { OnErr result (self.new.faults ≡ next_count self.old.faults) }
         ensures other { IfErr result (λ e. e ≡ LinkError.Fault) }

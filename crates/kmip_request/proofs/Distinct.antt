@@ -18,13 +18,13 @@ use Rattle.kmip_request.specs.declared.payload.RequestPayload.TheVariants.{Creat
 use Rattle.kmip_request.specs.Tables.{request_payload}
 use Rattle.kmip_request.specs.Values.{request_payload_val}
 use Rattle.kmip_request.specs.Message.{operation_of, minor_of, password_trees, authentication_trees, header_tree, message_tree, request_tree, request_bytes}
-use Rattle.kmip_request.specs.Held.{AreTexts, IsHeld}
+use Rattle.kmip_request.specs.Fits.{FitsCredential, FitsRequest}
 use Rattle.kmip_request.proofs.Tables.{payload_in_range, payload_depth}
 use Rattle.kmip_shape.proofs.Ranges.{depth, Keeps, AllKeep, keeps_more, then_keeps, fits_ranges}
 
 -- ---- the table of a payload
 
-payload_keeps : (p : RequestPayload) (c : Option CredentialType) → IsHeld p c → Keeps (tree_of request_payload REQUEST_PAYLOAD (request_payload_val p)) 32
+payload_keeps : (p : RequestPayload) (c : Option CredentialType) → FitsRequest p c → Keeps (tree_of request_payload REQUEST_PAYLOAD (request_payload_val p)) 32
 payload_keeps p c h =
     keeps_more (tree_of request_payload REQUEST_PAYLOAD (request_payload_val p)) (depth request_payload) 32 payload_depth
     (fits_ranges request_payload (request_payload_val p) REQUEST_PAYLOAD payload_in_range (omega arith) h.0)
@@ -83,7 +83,7 @@ password_keeps : (password : Option (List ℕ)) → IfSome password (λ p. IsUtf
 password_keeps None h = (tt, omega arith)
 password_keeps (Some p) h = (((omega arith, h), tt), omega arith)
 
-authentication_keeps : (c : Option CredentialType) → AreTexts c → AllKeep (Some (authentication_trees c)) 4
+authentication_keeps : (c : Option CredentialType) → FitsCredential c → AllKeep (Some (authentication_trees c)) 4
 authentication_keeps None h = (tt, omega arith)
 authentication_keeps (Some (UsernameAndPassword c)) h =
     let p = password_keeps c.password h.1 in
@@ -109,7 +109,7 @@ message_keeps header operation None h o k = tt
 message_keeps header operation (Some t) h o k =
     ((omega arith, (h.0, ((omega arith, ((omega arith, o), (k.0, tt))), tt))), omega (arith, h.1, k.1))
 
-request_keeps : (p : RequestPayload) (c : Option CredentialType) → IsHeld p c → Keeps (request_tree p c) 64
+request_keeps : (p : RequestPayload) (c : Option CredentialType) → FitsRequest p c → Keeps (request_tree p c) 64
 request_keeps p c h =
     message_keeps (header_tree (minor_of p) (authentication_trees c)) (operation_line (operation_of p)).number (tree_of request_payload REQUEST_PAYLOAD (request_payload_val p))
     (header_keeps (minor_of p) (authentication_trees c) (minor_fits p) (authentication_keeps c h.1)) (operation_fits p) (payload_keeps p c h)
@@ -129,8 +129,8 @@ no_more (Some t) (Some u) b rest h k e f =
 
 -- ---- requests
 
-pub equal : (p q : RequestPayload) (c d : Option CredentialType) (b : List ℕ) → IsHeld p c → IsHeld q d → request_bytes p c ≡ Some b → request_bytes q d ≡ Some b → request_tree p c ≡ request_tree q d
+pub equal : (p q : RequestPayload) (c d : Option CredentialType) (b : List ℕ) → FitsRequest p c → FitsRequest q d → request_bytes p c ≡ Some b → request_bytes q d ≡ Some b → request_tree p c ≡ request_tree q d
 equal p q c d b h k e f = same_bytes (request_tree p c) (request_tree q d) b (request_keeps p c h) (request_keeps q d k) e f
 
-pub apart : (p q : RequestPayload) (c d : Option CredentialType) (b rest : List ℕ) → IsHeld p c → IsHeld q d → request_bytes p c ≡ Some b → request_bytes q d ≡ Some (b ++ rest) → rest ≡ []
+pub apart : (p q : RequestPayload) (c d : Option CredentialType) (b rest : List ℕ) → FitsRequest p c → FitsRequest q d → request_bytes p c ≡ Some b → request_bytes q d ≡ Some (b ++ rest) → rest ≡ []
 apart p q c d b rest h k e f = no_more (request_tree p c) (request_tree q d) b rest (request_keeps p c h) (request_keeps q d k) e f

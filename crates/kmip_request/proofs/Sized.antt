@@ -1,4 +1,4 @@
--- What the length of a value tells: that it has a form and of which size, or that it has no bytes.
+-- What follows from the length of a value: its form and its size, or that it has no bytes.
 use Rattle.std.proofs.Common.{◌≡◌, ℕ, List, [], ◌++◌, length, Option, Some, None, refl, sym, ◌∙◌, ap}
 use Rattle.std.specs.Prelude.{IfSome}
 use Rattle.std.specs.Option.{option_map}
@@ -26,7 +26,7 @@ pub size_of_length : (shape : Shape) (val : Val) (len : Option ℕ) → len ≡ 
 size_of_length shape val None h = tt
 size_of_length shape val (Some n) h = sym ((value_known val NoCase shape n (sym h)).1)
 
--- what was appended to no bytes are the canonical bytes
+-- what was appended to an empty buffer are the canonical bytes
 pub bytes_appended : (shape : Shape) (tag : ℕ) (val : Val) (a b : Room) (n : ℕ) → HasForm shape val → a.bytes ≡ [] → Appends a b (text_of shape tag val) n → bytes_of shape tag val ≡ Some b.bytes
 bytes_appended shape tag val a b n f empty w =
     (written val NoCase shape tag f).0 ∙ ap Some (sym (w.bytes ∙ ap (λ x. x ++ text_of shape tag val) empty))

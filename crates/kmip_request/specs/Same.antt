@@ -1,4 +1,4 @@
--- Equal values make equal typed values.
+-- Typed values of the same meaning are equal.
 use Rattle.std.specs.Prelude.{ℕ, ℤ, List, Option, ◌≡◌}
 use Rattle.std.proofs.Common.{ap}
 use Rattle.kmip_shape.specs.Same.{IsFaithful, same_record, same_number, same_text, same_case, one_row, optional_row, list_row, optional_list_row, and_row, no_row}

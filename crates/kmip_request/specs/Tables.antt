@@ -236,17 +236,16 @@ request_message_of payload = Rows
 abbrev pub request_message : Shape
 request_message = request_message_of request_payload
 
--- the tables of a request: its message, the structures in it, and each payload
+-- the tables above: of a message, of the structures in it, and of each payload
 abbrev pub root_tables : List Shape
 root_tables =
-    request_message ∷ batch_item ∷ request_header ∷ authentication ∷ credential ∷ request_payload
-    ∷ create ∷ create_key_pair ∷ register ∷ locate ∷ get ∷ get_attributes ∷ get_attribute_list ∷
-    add_attribute
-    ∷ modify_attribute ∷ delete_attribute ∷ activate ∷ revoke ∷ destroy ∷ query ∷
-    discover_versions ∷ sign
-    ∷ rng_retrieve ∷ []
+    request_message ∷ batch_item ∷ request_header ∷ protocol_version ∷ authentication ∷ credential ∷
+    username_and_password ∷ request_payload ∷ create ∷ create_key_pair ∷ register ∷ locate ∷ get ∷
+    get_attributes ∷ get_attribute_list ∷ add_attribute ∷ modify_attribute ∷ delete_attribute ∷
+    activate ∷ revoke ∷ destroy ∷ query ∷ discover_versions ∷ sign ∷ rng_retrieve ∷ []
 
--- in each table no tag appears twice, at any depth, and choosers are above what they choose
+-- In each table no tag appears twice, at any depth, and at most one of its own fields chooses, above
+-- what it chooses. So a table with a field that chooses is in a list itself, wherever it is used.
 abbrev pub all_stand : List Shape → Bool
 all_stand [] = true
 all_stand (table ∷ tables) = tags_once table && (choosers_stand table && all_stand tables)

@@ -1,5 +1,5 @@
--- The typed values of a request, as contracts see them: each a record of its fields in the order of
--- its table.
+-- The meaning of the typed values of a request: each is a record of its fields in the order of its
+-- table.
 use Rattle.std.specs.Prelude.{pos, Option, None}
 use Rattle.kmip_shape.specs.Val.{Val, Number, Text, Record, Case, AndField, NoField, Absent, One, Many, NoVal, AndVal}
 use Rattle.kmip_shape.specs.Writes.{optional, optional_list, vals}

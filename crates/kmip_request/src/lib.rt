@@ -11,6 +11,7 @@
 
 mod authentication;
 mod header;
+mod helpers;
 mod laws;
 mod message;
 mod numbers;
@@ -19,6 +20,10 @@ mod writing;
 
 pub use authentication::{Authentication, Credential, CredentialValue, Password, Username};
 pub use header::{ProtocolVersion, RequestHeader};
+pub use helpers::{
+    activate_request, destroy_request, get_request, key_pair_request, query_request,
+    rename_request, revoke_request, sign_request,
+};
 pub use kmip_request_objects::{
     Attribute, CommonTemplateAttribute, EncryptionKeyInformation, IVOrCounterOrNonce, KeyBlock,
     KeyValue, KeyWrappingData, KeyWrappingSpecification, MACOrSignature,

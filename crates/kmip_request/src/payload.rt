@@ -8,36 +8,26 @@ ghost use Rattle.kmip_request_objects.specs.Tables.{template};
 ghost use Rattle.kmip_request.specs.Values.{request_payload_val};
 ghost use Rattle.kmip_request.specs.Same.{request_payload_same};
 
+mod copy;
+mod known;
+mod len;
 mod read;
 mod rows;
+mod write;
 
 use crate::header::ProtocolVersion;
 use crate::numbers::{ProtocolVersionMajor, ProtocolVersionMinor};
-use crate::payload::read::{
-    read_activate, read_add_attribute, read_create, read_create_key_pair, read_delete_attribute,
-    read_destroy, read_discover_versions, read_get, read_get_attribute_list, read_get_attributes,
-    read_locate, read_modify_attribute, read_query, read_register, read_revoke, read_rng_retrieve,
-    read_sign,
-};
-use crate::payload::rows::{
-    CreateKeyPairRows, CreateRows, DeleteAttributeRows, DiscoverVersionsRows, EditRows,
-    GetAttributesRows, GetRows, IdentifierRows, LocateRows, QueryRows, RNGRetrieveRows,
-    RegisterRows, RevokeRows, SignRows,
-};
 use kmip_enums::{ObjectType, Operation, QueryFunction};
 use kmip_request_objects::{
     Attribute, CommonTemplateAttribute, KeyWrappingSpecification, ManagedObject,
     PrivateKeyTemplateAttribute, PublicKeyTemplateAttribute, RevocationReason, TemplateAttribute,
 };
-use kmip_shape::{
-    Item, Outer, ReadError, ReadItem, WriteItem, copy_list, fields, fits_record, record_len,
-    write_record,
-};
+use kmip_shape::{Item, Outer, ReadError, ReadItem, WriteItem};
 use kmip_types::{
     AttributeIndex, AttributeName, CompromiseOccurrenceDate, CryptographicParameters, Data,
     DataLength, KeyCompressionType, KeyFormatType, UniqueIdentifier,
 };
-use kmip_wire::{Boxed, Buffer, ItemRef, List, OutOfMemory, Tag, TryClone, clone_optional};
+use kmip_wire::{Boxed, Buffer, ItemRef, List, OutOfMemory, Tag, TryClone};
 use std::alloc::Global;
 
 /// What a request asks for: a variant for each operation, with the operation's fields in order.
@@ -134,66 +124,44 @@ impl RequestPayload {
     }
 }
 
-/// A call by rows on the fields of a payload, in the order of the rows of its operation.
-macro_rules! by_rows {
-    ($payload:expr, $call:ident $(, $more:expr)*) => {
-        match $payload {
-            RequestPayload::Create(object_type, template) => {
-                $call::<CreateRows>(fields![object_type, template] $(, $more)*)
-            }
-            RequestPayload::CreateKeyPair(common, private_key, public_key) => {
-                $call::<CreateKeyPairRows>(fields![common, private_key, public_key] $(, $more)*)
-            }
-            RequestPayload::Register(object_type, template, object) => {
-                $call::<RegisterRows>(fields![object_type, template, object] $(, $more)*)
-            }
-            RequestPayload::Locate(attributes) => {
-                $call::<LocateRows>(fields![attributes] $(, $more)*)
-            }
-            RequestPayload::Get(id, format, compression, specification) => {
-                $call::<GetRows>(fields![id, format, compression, specification] $(, $more)*)
-            }
-            RequestPayload::GetAttributes(id, names) => {
-                $call::<GetAttributesRows>(fields![id, names] $(, $more)*)
-            }
-            RequestPayload::GetAttributeList(id) => {
-                $call::<IdentifierRows>(fields![id] $(, $more)*)
-            }
-            RequestPayload::AddAttribute(id, attribute) => {
-                $call::<EditRows>(fields![id, attribute] $(, $more)*)
-            }
-            RequestPayload::ModifyAttribute(id, attribute) => {
-                $call::<EditRows>(fields![id, attribute] $(, $more)*)
-            }
-            RequestPayload::DeleteAttribute(id, name, index) => {
-                $call::<DeleteAttributeRows>(fields![id, name, index] $(, $more)*)
-            }
-            RequestPayload::Activate(id) => $call::<IdentifierRows>(fields![id] $(, $more)*),
-            RequestPayload::Revoke(id, reason, date) => {
-                $call::<RevokeRows>(fields![id, reason, date] $(, $more)*)
-            }
-            RequestPayload::Destroy(id) => $call::<IdentifierRows>(fields![id] $(, $more)*),
-            RequestPayload::Query(functions) => $call::<QueryRows>(fields![functions] $(, $more)*),
-            RequestPayload::DiscoverVersions(versions) => {
-                $call::<DiscoverVersionsRows>(fields![versions] $(, $more)*)
-            }
-            RequestPayload::Sign(id, parameters, data) => {
-                $call::<SignRows>(fields![id, parameters, data] $(, $more)*)
-            }
-            RequestPayload::RNGRetrieve(length) => {
-                $call::<RNGRetrieveRows>(fields![length] $(, $more)*)
-            }
-        }
-    };
-}
-
 impl Item for RequestPayload {
     ghost shape = { request_payload };
 
     ghost val = { request_payload_val };
 
     fn known(&self) {
-        by_rows!(self, fits_record)
+        match self {
+            Self::Create(object_type, template) => known::create(object_type, template),
+            Self::CreateKeyPair(common, private_key, public_key) => known::create_key_pair(
+                common,
+                private_key,
+                public_key,
+            ),
+            Self::Register(object_type, template, object) => known::register(
+                object_type,
+                template,
+                object,
+            ),
+            Self::Locate(attributes) => known::locate(attributes),
+            Self::Get(id, format, compression, specification) => known::get(
+                id,
+                format,
+                compression,
+                specification,
+            ),
+            Self::GetAttributes(id, names) => known::get_attributes(id, names),
+            Self::GetAttributeList(id) => known::identifier(id),
+            Self::AddAttribute(id, attribute) => known::edit(id, attribute),
+            Self::ModifyAttribute(id, attribute) => known::edit(id, attribute),
+            Self::DeleteAttribute(id, name, index) => known::delete_attribute(id, name, index),
+            Self::Activate(id) => known::identifier(id),
+            Self::Revoke(id, reason, date) => known::revoke(id, reason, date),
+            Self::Destroy(id) => known::identifier(id),
+            Self::Query(functions) => known::query(functions),
+            Self::DiscoverVersions(versions) => known::discover_versions(versions),
+            Self::Sign(id, parameters, data) => known::sign(id, parameters, data),
+            Self::RNGRetrieve(length) => known::rng_retrieve(length),
+        }
     }
 
     ghost faithful = { request_payload_same };
@@ -201,34 +169,104 @@ impl Item for RequestPayload {
 
 impl WriteItem for RequestPayload {
     fn wire_len(&self, _tag: Tag) -> Option<u64> {
-        by_rows!(self, record_len)
+        match self {
+            Self::Create(object_type, template) => len::create(object_type, template),
+            Self::CreateKeyPair(common, private_key, public_key) => len::create_key_pair(
+                common,
+                private_key,
+                public_key,
+            ),
+            Self::Register(object_type, template, object) => len::register(
+                object_type,
+                template,
+                object,
+            ),
+            Self::Locate(attributes) => len::locate(attributes),
+            Self::Get(id, format, compression, specification) => len::get(
+                id,
+                format,
+                compression,
+                specification,
+            ),
+            Self::GetAttributes(id, names) => len::get_attributes(id, names),
+            Self::GetAttributeList(id) => len::identifier(id),
+            Self::AddAttribute(id, attribute) => len::edit(id, attribute),
+            Self::ModifyAttribute(id, attribute) => len::edit(id, attribute),
+            Self::DeleteAttribute(id, name, index) => len::delete_attribute(id, name, index),
+            Self::Activate(id) => len::identifier(id),
+            Self::Revoke(id, reason, date) => len::revoke(id, reason, date),
+            Self::Destroy(id) => len::identifier(id),
+            Self::Query(functions) => len::query(functions),
+            Self::DiscoverVersions(versions) => len::discover_versions(versions),
+            Self::Sign(id, parameters, data) => len::sign(id, parameters, data),
+            Self::RNGRetrieve(length) => len::rng_retrieve(length),
+        }
     }
 
     fn write_into(&self, tag: Tag, out: &mut Buffer) {
-        by_rows!(self, write_record, tag, out)
+        match self {
+            Self::Create(object_type, template) => write::create(object_type, template, tag, out),
+            Self::CreateKeyPair(common, private_key, public_key) => write::create_key_pair(
+                common,
+                private_key,
+                public_key,
+                tag,
+                out,
+            ),
+            Self::Register(object_type, template, object) => write::register(
+                object_type,
+                template,
+                object,
+                tag,
+                out,
+            ),
+            Self::Locate(attributes) => write::locate(attributes, tag, out),
+            Self::Get(id, format, compression, specification) => write::get(
+                id,
+                format,
+                compression,
+                specification,
+                tag,
+                out,
+            ),
+            Self::GetAttributes(id, names) => write::get_attributes(id, names, tag, out),
+            Self::GetAttributeList(id) => write::identifier(id, tag, out),
+            Self::AddAttribute(id, attribute) => write::edit(id, attribute, tag, out),
+            Self::ModifyAttribute(id, attribute) => write::edit(id, attribute, tag, out),
+            Self::DeleteAttribute(id, name, index) => write::delete_attribute(
+                id, name, index, tag, out,
+            ),
+            Self::Activate(id) => write::identifier(id, tag, out),
+            Self::Revoke(id, reason, date) => write::revoke(id, reason, date, tag, out),
+            Self::Destroy(id) => write::identifier(id, tag, out),
+            Self::Query(functions) => write::query(functions, tag, out),
+            Self::DiscoverVersions(versions) => write::discover_versions(versions, tag, out),
+            Self::Sign(id, parameters, data) => write::sign(id, parameters, data, tag, out),
+            Self::RNGRetrieve(length) => write::rng_retrieve(length, tag, out),
+        }
     }
 }
 
 impl ReadItem for RequestPayload {
     fn read(alloc: Global, outer: Outer<'_>, item: ItemRef<'_>) -> Result<Self, ReadError> {
         match outer.number {
-            Some(1) => read_create(alloc, outer, item),
-            Some(2) => read_create_key_pair(alloc, outer, item),
-            Some(3) => read_register(alloc, outer, item),
-            Some(8) => read_locate(alloc, outer, item),
-            Some(10) => read_get(alloc, outer, item),
-            Some(11) => read_get_attributes(alloc, outer, item),
-            Some(12) => read_get_attribute_list(alloc, outer, item),
-            Some(13) => read_add_attribute(alloc, outer, item),
-            Some(14) => read_modify_attribute(alloc, outer, item),
-            Some(15) => read_delete_attribute(alloc, outer, item),
-            Some(18) => read_activate(alloc, outer, item),
-            Some(19) => read_revoke(alloc, outer, item),
-            Some(20) => read_destroy(alloc, outer, item),
-            Some(24) => read_query(alloc, outer, item),
-            Some(30) => read_discover_versions(alloc, outer, item),
-            Some(33) => read_sign(alloc, outer, item),
-            Some(37) => read_rng_retrieve(alloc, outer, item),
+            Some(1) => read::create(alloc, outer, item),
+            Some(2) => read::create_key_pair(alloc, outer, item),
+            Some(3) => read::register(alloc, outer, item),
+            Some(8) => read::locate(alloc, outer, item),
+            Some(10) => read::get(alloc, outer, item),
+            Some(11) => read::get_attributes(alloc, outer, item),
+            Some(12) => read::get_attribute_list(alloc, outer, item),
+            Some(13) => read::add_attribute(alloc, outer, item),
+            Some(14) => read::modify_attribute(alloc, outer, item),
+            Some(15) => read::delete_attribute(alloc, outer, item),
+            Some(18) => read::activate(alloc, outer, item),
+            Some(19) => read::revoke(alloc, outer, item),
+            Some(20) => read::destroy(alloc, outer, item),
+            Some(24) => read::query(alloc, outer, item),
+            Some(30) => read::discover_versions(alloc, outer, item),
+            Some(33) => read::sign(alloc, outer, item),
+            Some(37) => read::rng_retrieve(alloc, outer, item),
             _ => Err(ReadError::Unread),
         }
     }
@@ -237,74 +275,41 @@ impl ReadItem for RequestPayload {
 impl TryClone for RequestPayload {
     fn try_clone(&self, alloc: Global) -> Result<RequestPayload, OutOfMemory> {
         match self {
-            RequestPayload::Create(object_type, template) => Ok(RequestPayload::Create(
-                *object_type,
-                template.try_clone(alloc)?,
-            )),
-            RequestPayload::CreateKeyPair(common, private_key, public_key) => Ok(
-                RequestPayload::CreateKeyPair(
-                    clone_optional(common, alloc)?,
-                    clone_optional(private_key, alloc)?,
-                    clone_optional(public_key, alloc)?,
-                ),
-            ),
-            RequestPayload::Register(object_type, template, object) => Ok(
-                RequestPayload::Register(
-                    *object_type,
-                    template.try_clone(alloc)?,
-                    clone_optional(object, alloc)?,
-                ),
-            ),
-            RequestPayload::Locate(attributes) => Ok(RequestPayload::Locate(attributes.try_clone(
+            Self::Create(object_type, template) => copy::create(object_type, template, alloc),
+            Self::CreateKeyPair(common, private_key, public_key) => copy::create_key_pair(
+                common,
+                private_key,
+                public_key,
                 alloc,
-            )?)),
-            RequestPayload::Get(id, format, compression, specification) => Ok(RequestPayload::Get(
-                clone_optional(id, alloc)?,
-                *format,
-                *compression,
-                clone_optional(specification, alloc)?,
-            )),
-            RequestPayload::GetAttributes(id, names) => Ok(RequestPayload::GetAttributes(
-                clone_optional(id, alloc)?,
-                clone_optional(names, alloc)?,
-            )),
-            RequestPayload::GetAttributeList(id) => Ok(RequestPayload::GetAttributeList(
-                clone_optional(id, alloc)?,
-            )),
-            RequestPayload::AddAttribute(id, attribute) => Ok(RequestPayload::AddAttribute(
-                clone_optional(id, alloc)?,
-                attribute.try_clone(alloc)?,
-            )),
-            RequestPayload::ModifyAttribute(id, attribute) => Ok(RequestPayload::ModifyAttribute(
-                clone_optional(id, alloc)?,
-                attribute.try_clone(alloc)?,
-            )),
-            RequestPayload::DeleteAttribute(id, name, index) => Ok(RequestPayload::DeleteAttribute(
-                clone_optional(id, alloc)?,
-                name.try_clone(alloc)?,
-                *index,
-            )),
-            RequestPayload::Activate(id) => Ok(RequestPayload::Activate(clone_optional(
-                id, alloc,
-            )?)),
-            RequestPayload::Revoke(id, reason, date) => Ok(RequestPayload::Revoke(
-                clone_optional(id, alloc)?,
-                reason.try_clone(alloc)?,
-                *date,
-            )),
-            RequestPayload::Destroy(id) => Ok(RequestPayload::Destroy(clone_optional(id, alloc)?)),
-            RequestPayload::Query(functions) => Ok(RequestPayload::Query(copy_list(
-                functions, alloc,
-            )?)),
-            RequestPayload::DiscoverVersions(versions) => Ok(RequestPayload::DiscoverVersions(
-                copy_list(versions, alloc)?,
-            )),
-            RequestPayload::Sign(id, parameters, data) => Ok(RequestPayload::Sign(
-                clone_optional(id, alloc)?,
-                *parameters,
-                data.try_clone(alloc)?,
-            )),
-            RequestPayload::RNGRetrieve(length) => Ok(RequestPayload::RNGRetrieve(*length)),
+            ),
+            Self::Register(object_type, template, object) => copy::register(
+                object_type,
+                template,
+                object,
+                alloc,
+            ),
+            Self::Locate(attributes) => copy::locate(attributes, alloc),
+            Self::Get(id, format, compression, specification) => copy::get(
+                id,
+                format,
+                compression,
+                specification,
+                alloc,
+            ),
+            Self::GetAttributes(id, names) => copy::get_attributes(id, names, alloc),
+            Self::GetAttributeList(id) => copy::get_attribute_list(id, alloc),
+            Self::AddAttribute(id, attribute) => copy::add_attribute(id, attribute, alloc),
+            Self::ModifyAttribute(id, attribute) => copy::modify_attribute(id, attribute, alloc),
+            Self::DeleteAttribute(id, name, index) => copy::delete_attribute(
+                id, name, index, alloc,
+            ),
+            Self::Activate(id) => copy::activate(id, alloc),
+            Self::Revoke(id, reason, date) => copy::revoke(id, reason, date, alloc),
+            Self::Destroy(id) => copy::destroy(id, alloc),
+            Self::Query(functions) => copy::query(functions, alloc),
+            Self::DiscoverVersions(versions) => copy::discover_versions(versions, alloc),
+            Self::Sign(id, parameters, data) => copy::sign(id, parameters, data, alloc),
+            Self::RNGRetrieve(length) => Ok(Self::RNGRetrieve(*length)),
         }
     }
 }

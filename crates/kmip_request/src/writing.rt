@@ -76,7 +76,8 @@ fn write_item<P: WriteItem>(operation: &Operation, payload: &P, out: &mut Buffer
     );
 }
 
-/// The length in bytes of the message of these parts, and `None` exactly without canonical bytes.
+/// The length in bytes of the message of these parts, and `None` exactly where it has no canonical
+/// bytes.
 fn message_len<P: WriteItem>(
     version: &ProtocolVersion,
     authentication: &Option<Authentication>,
@@ -207,8 +208,8 @@ fn write_empty(
 /// and the capacity of `out` is reused.
 ///
 /// `NoForm` means that the request is not valid: an item's length reaches 2^32, or a
-/// value has no wire form. `Malformed` never comes. Memory is asked for once, before the first byte
-/// is written, and only where the capacity of `out` is too small. After an error `out` has no
+/// value has no wire form. `Malformed` is never returned. Memory is taken once at most, before the
+/// first byte is written, where the capacity of `out` is too small. After an error `out` has no
 /// bytes.
 pub fn write_request_into(
     payload: &RequestPayload,
@@ -245,8 +246,8 @@ pub fn write_request(
 /// there is one, no maximum response size, batch count 1 and no batch item identifier.
 ///
 /// `NoForm` means that the request is not valid: an item's length reaches 2^32, or a
-/// value has no wire form. `Malformed` never comes. Memory is taken once, before the first byte is
-/// written.
+/// value has no wire form. `Malformed` is never returned. Memory is taken once, before the first
+/// byte is written.
 pub fn to_vec(
     alloc: Global,
     payload: RequestPayload,

@@ -2,3 +2,4 @@ pub mod Tables
 pub mod Values
 pub mod Same
 pub mod Constructors
+pub mod Roots

@@ -1,6 +1,5 @@
 -- The tables of the objects in requests: each type's fields in order, with tags, marks and types.
--- A table that a field names is unfolded only where a proof looks into it, so a proof over one
--- table does not see the others.
+-- A table within another one is unfolded only in proofs that look into it.
 use Rattle.std.specs.Prelude.{Some, codes}
 use Rattle.kmip_tags.specs.Tags.{ATTRIBUTE, ATTRIBUTE_INDEX, ATTRIBUTE_NAME, ATTRIBUTE_VALUE, CRYPTOGRAPHIC_ALGORITHM, CRYPTOGRAPHIC_LENGTH, CRYPTOGRAPHIC_PARAMETERS, ENCRYPTION_KEY_INFORMATION, IV_COUNTER_NONCE, KEY_BLOCK, KEY_COMPRESSION_TYPE, KEY_FORMAT_TYPE, KEY_MATERIAL, KEY_VALUE, KEY_WRAPPING_DATA, MAC_SIGNATURE, MAC_SIGNATURE_KEY_INFORMATION, NAME, NAME_TYPE, NAME_VALUE, PRIVATE_KEY, PUBLIC_KEY, REVOCATION_MESSAGE, REVOCATION_REASON_CODE, SYMMETRIC_KEY, TEMPLATE, UNIQUE_IDENTIFIER, WRAPPING_METHOD}
 use Rattle.kmip_wire.specs.declared.kind.Kind.TheVariants.{Integer, TextString, ByteString}

@@ -1,5 +1,5 @@
--- The typed values of the objects in requests, as contracts see them: each a record of its fields
--- in the order of its table.
+-- The meaning of the typed values of the objects in requests: each is a record of its fields in the
+-- order of its table.
 use Rattle.kmip_shape.specs.Val.{Val, Bytes, Record, Case, AndField, NoField, One, Many}
 use Rattle.kmip_shape.specs.Writes.{optional, optional_list, vals}
 use Rattle.kmip_types.specs.Texts.{name_value_val, unique_identifier_val, revocation_message_val}

@@ -37,11 +37,11 @@ use Rattle.kmip_request.specs.Tables.{request_payload, request_header, request_m
 use Rattle.kmip_request.specs.Values.{request_payload_val, request_header_val, request_message_val, authentication_val}
 use Rattle.kmip_request.specs.Same.{request_message_same}
 use Rattle.kmip_request.specs.Message.{operation_of, minor_of, version_of, credential_of, request_bytes}
-use Rattle.kmip_request.specs.Held.{AreTexts, IsHeld}
+use Rattle.kmip_request.specs.Fits.{FitsCredential, FitsRequest}
 use Rattle.kmip_request.proofs.Messages.{bytes_are}
 use Rattle.kmip_request.proofs.Tables.{message_once, message_in_range, message_depth}
 use Rattle.kmip_request_read.specs.Matched.{under_operation, IsMatched}
-use Rattle.kmip_request_read.specs.Message.{message_of, IsPlain, IsCanonical}
+use Rattle.kmip_request_read.specs.Message.{message_of, IsClientMessage, IsCanonical}
 use Rattle.kmip_shape.proofs.Selected.{selected}
 
 -- ---- the tree of canonical bytes
@@ -102,7 +102,7 @@ matched payload a message root b e p c =
 -- ---- the message of a matched request
 
 -- the item of a credential
-abbrev password_of : List ℕ → Password
+abbrev pub password_of : List ℕ → Password
 password_of text = record { 0 = text }
 
 abbrev pub item_of : CredentialType → Authentication
@@ -142,7 +142,7 @@ one_high = omega (arith, ints)
 operation_fits : (p : RequestPayload) → in_table (operation_line (operation_of p)).number operations ≡ true
 operation_fits p = found_in_table operation_line operation_variants (operation_line (operation_of p)).number (operation_of p) (operation_found (operation_of p))
 
-authentication_fits : (c : CredentialType) → AreTexts (Some c) → fits_in (authentication_val (item_of c)) NoCase authentication
+authentication_fits : (c : CredentialType) → FitsCredential (Some c) → fits_in (authentication_val (item_of c)) NoCase authentication
 authentication_fits (UsernameAndPassword c) h = go c.password h.1
   where
     go : (o : Option (List ℕ)) → IfSome o (λ text. IsUtf8 text)
@@ -153,11 +153,11 @@ authentication_fits (UsernameAndPassword c) h = go c.password h.1
 abbrev header_of : RequestPayload → Option Authentication → RequestHeader
 header_of p a = record { 0 = version_of p; 1 = None; 2 = a; 3 = record { 0 = pos 1 } }
 
-header_fits : (p : RequestPayload) (c : Option CredentialType) → AreTexts c → fits_in (request_header_val (header_of p (option_map item_of c))) NoCase request_header
+header_fits : (p : RequestPayload) (c : Option CredentialType) → FitsCredential c → fits_in (request_header_val (header_of p (option_map item_of c))) NoCase request_header
 header_fits p None h = (tt, (tt, (one_low, one_high), (tt, (minor_low p, minor_high p), tt)), (tt, tt, (tt, tt, (tt, (one_low, one_high), tt))))
 header_fits p (Some c) h = (tt, (tt, (one_low, one_high), (tt, (minor_low p, minor_high p), tt)), (tt, tt, (tt, authentication_fits c h, (tt, (one_low, one_high), tt))))
 
-message_fits : (p : RequestPayload) (c : Option CredentialType) → IsHeld p c → Fits request_message (request_message_val (message_of p (option_map item_of c)))
+message_fits : (p : RequestPayload) (c : Option CredentialType) → FitsRequest p c → Fits request_message (request_message_val (message_of p (option_map item_of c)))
 message_fits p c h = (tt, header_fits p c h.1, (tt, ((tt, operation_fits p, (tt, tt, (tt, h.0, tt))), tt), tt))
 
 authentication_selected : (c : CredentialType) → selected_in (authentication_val (item_of c)) NoCase authentication no_outer AUTHENTICATION
@@ -179,7 +179,7 @@ read_root shape tag t val e h =
     let k : (tag_of t == tag) ≡ true = eq-eqb (tag_of t) tag e in rw k h
 
 -- the message round a matched request is read from the tree of its bytes
-pub canonical_of : (p : RequestPayload) (c : Option CredentialType) (root : Tree) (b : List ℕ) → IsHeld p c → IsMatched p → request_bytes p c ≡ Some b → Parses root 1 b → IsCanonical request_message REQUEST_MESSAGE root b (request_message_val (message_of p (option_map item_of c)))
+pub canonical_of : (p : RequestPayload) (c : Option CredentialType) (root : Tree) (b : List ℕ) → FitsRequest p c → IsMatched p → request_bytes p c ≡ Some b → Parses root 1 b → IsCanonical request_message REQUEST_MESSAGE root b (request_message_val (message_of p (option_map item_of c)))
 canonical_of p c root b h m e parses =
     let val = request_message_val (message_of p (option_map item_of c)) in
     let f : Fits request_message val = message_fits p c h in
@@ -189,12 +189,12 @@ canonical_of p c root b h m e parses =
     (f, read_root request_message REQUEST_MESSAGE root val (tag_plain val NoCase request_message REQUEST_MESSAGE root refl tree) read, of)
 
 -- the tree of a matched request's bytes
-pub parsed : (p : RequestPayload) (c : Option CredentialType) (b : List ℕ) → IsHeld p c → request_bytes p c ≡ Some b → (root : Tree) × Parses root 1 b
+pub parsed : (p : RequestPayload) (c : Option CredentialType) (b : List ℕ) → FitsRequest p c → request_bytes p c ≡ Some b → (root : Tree) × Parses root 1 b
 parsed p c b h e =
     let w = written (request_message_val (message_of p (option_map item_of c))) b (message_fits p c h) (bytes_are p (option_map item_of c) ∙ (ap (λ d. request_bytes p d) (credentials_back c) ∙ e)) in
     (w.0, w.2)
 
-pub ranged : (p : RequestPayload) (c : Option CredentialType) (b : List ℕ) (root : Tree) → IsHeld p c → request_bytes p c ≡ Some b → Parses root 1 b → HasRanges root
+pub ranged : (p : RequestPayload) (c : Option CredentialType) (b : List ℕ) (root : Tree) → FitsRequest p c → request_bytes p c ≡ Some b → Parses root 1 b → HasRanges root
 ranged p c b root h e parses =
     written_ranges (request_message_val (message_of p (option_map item_of c))) root b (message_fits p c h) (bytes_are p (option_map item_of c) ∙ (ap (λ d. request_bytes p d) (credentials_back c) ∙ e)) parses
 
@@ -228,7 +228,7 @@ same_parts p q a d h = (
   ap (λ (m : RequestMessage). (m.0).2) h,
 )
 
-pub one_request : (p q : RequestPayload) (c d : Option CredentialType) (b : List ℕ) → IsHeld p c → IsHeld q d → IsMatched p → IsMatched q → request_bytes p c ≡ Some b → request_bytes q d ≡ Some b → (p ≡ q) × (c ≡ d)
+pub one_request : (p q : RequestPayload) (c d : Option CredentialType) (b : List ℕ) → FitsRequest p c → FitsRequest q d → IsMatched p → IsMatched q → request_bytes p c ≡ Some b → request_bytes q d ≡ Some b → (p ≡ q) × (c ≡ d)
 one_request p q c d b h k m n e f =
     let root = parsed p c b h e in
     let same = one_message (message_of p (option_map item_of c)) (message_of q (option_map item_of d)) root.0 b (canonical_of p c root.0 b h m e root.1) (canonical_of q d root.0 b k n f root.1) in
@@ -237,7 +237,7 @@ one_request p q c d b h k m n e f =
 
 -- what is read of a matched request's bytes
 pub read_parts : (p q : RequestPayload) (a : Option Authentication) (c : Option CredentialType) (message : RequestMessage) (root : Tree) (b : List ℕ) → message ≡ message_of q a → IsCanonical request_message REQUEST_MESSAGE root b (request_message_val message)
-    → IsHeld p c → IsMatched p → request_bytes p c ≡ Some b → Parses root 1 b → (q ≡ p) × (option_map credential_of a ≡ c)
+    → FitsRequest p c → IsMatched p → request_bytes p c ≡ Some b → Parses root 1 b → (q ≡ p) × (option_map credential_of a ≡ c)
 read_parts p q a c message root b e k h m f parses =
     let same = one_message message (message_of p (option_map item_of c)) root b k (canonical_of p c root b h m f parses) in
     let parts = same_parts q p a (option_map item_of c) (sym e ∙ same) in
@@ -250,10 +250,10 @@ err_same (Ok a) x y h k = absurd (cc)
 err_same (Err e) x y h k = let i : e ≡ x = cc in let j : e ≡ y = cc in sym i ∙ j
 
 -- where no value is canonical, the bytes are those of no matched request
-pub none_canonical : (root : Tree) (b : List ℕ) → Parses root 1 b → ((val : Val) → IsCanonical request_message REQUEST_MESSAGE root b val → ⊥) → (p : RequestPayload) (c : Option CredentialType) → IsHeld p c → IsMatched p → request_bytes p c ≡ Some b → ⊥
+pub none_canonical : (root : Tree) (b : List ℕ) → Parses root 1 b → ((val : Val) → IsCanonical request_message REQUEST_MESSAGE root b val → ⊥) → (p : RequestPayload) (c : Option CredentialType) → FitsRequest p c → IsMatched p → request_bytes p c ≡ Some b → ⊥
 none_canonical root b parses none p c h m e = none (request_message_val (message_of p (option_map item_of c))) (canonical_of p c root b h m e parses)
 
 -- nor are they where the message that is read has other parts
-pub other_parts : (message : RequestMessage) (root : Tree) (b : List ℕ) → Parses root 1 b → IsCanonical request_message REQUEST_MESSAGE root b (request_message_val message) → (IsPlain message → ⊥) → (p : RequestPayload) (c : Option CredentialType) → IsHeld p c → IsMatched p → request_bytes p c ≡ Some b → ⊥
+pub other_parts : (message : RequestMessage) (root : Tree) (b : List ℕ) → Parses root 1 b → IsCanonical request_message REQUEST_MESSAGE root b (request_message_val message) → (IsClientMessage message → ⊥) → (p : RequestPayload) (c : Option CredentialType) → FitsRequest p c → IsMatched p → request_bytes p c ≡ Some b → ⊥
 other_parts message root b parses k other p c h m e =
     other (p, option_map item_of c, one_message message (message_of p (option_map item_of c)) root b k (canonical_of p c root b h m e parses))

@@ -1,5 +1,7 @@
+mod Options
 pub mod Canonical
 pub mod Read
+mod Authentications
 mod Examples
 pub mod Matching
 mod Framed

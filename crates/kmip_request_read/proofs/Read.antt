@@ -34,13 +34,13 @@ use Rattle.kmip_request.specs.declared.payload.RequestPayload.TheVariants.{Creat
 use Rattle.kmip_request.specs.Tables.{request_message, request_payload}
 use Rattle.kmip_request.specs.Values.{request_payload_val, request_header_val, batch_item_val, request_message_val}
 use Rattle.kmip_request.specs.Message.{operation_of, minor_of, version_of, request_bytes, authentication_trees, header_tree, message_tree}
-use Rattle.kmip_request_read.specs.Message.{message_of, IsPlain, IsCanonical, IsWrittenAs}
-use Rattle.kmip_request.specs.Held.{IsHeld}
+use Rattle.kmip_request_read.specs.Message.{message_of, IsClientMessage, IsCanonical, IsWrittenAs}
+use Rattle.kmip_request.specs.Fits.{FitsRequest}
 use Rattle.kmip_request_read.specs.declared.reading.RequestReadError.{RequestReadError}
 use Rattle.kmip_request_read.specs.declared.reading.RequestReadError.TheVariants.{Malformed, NotCanonical}
 use Rattle.kmip_request_read.specs.Matched.{IsMatched}
 use Rattle.kmip_request_read.proofs.Canonical.{err_same, canonical_of, written_as, item_of as credential_item, parsed as root_of_request}
-use Rattle.kmip_request_read.specs.Reading.{Request, request_for, minor_for, message_bytes, item_request, is_plain_header, under_header, request_in, are_bytes, is_tree, canonical_in, request_read}
+use Rattle.kmip_request_read.specs.Reading.{Request, request_for, minor_for, message_bytes, item_request, is_client_header, under_header, request_in, are_bytes, is_tree, canonical_in, request_read}
 
 -- ---- a payload and its operation
 
@@ -147,7 +147,7 @@ plain_says minor major own count h =
 plain_request : (p : RequestPayload) (a : Option Authentication) → request_in (request_message_val (message_of p a)) ≡ Some (request_for p)
 plain_request p a =
     let header : Val = request_header_val (record { 0 = version_of p; 1 = None; 2 = a; 3 = record { 0 = pos 1 } }) in
-    let plain : is_plain_header (minor_for (operation_of p)) header ≡ true =
+    let plain : is_client_header (minor_for (operation_of p)) header ≡ true =
     subst (λ (n : ℕ). plain_test n (pos 1) (pos (minor_of p)) (pos 1) ≡ true) (sym (minor_same p)) (plain_passes (minor_of p)) in
     let under : under_header header (Some (request_for p)) ≡ Some (request_for p) = rw plain refl in
     ap (under_header header) (own_item p) ∙ under
@@ -156,11 +156,11 @@ plain_request p a =
 abbrev parts_of : ProtocolVersion → Option MaximumResponseSize → Option Authentication → BatchCount → Operation → Option UniqueBatchItemID → RequestPayload → RequestMessage
 parts_of version size a count o id p = record { 0 = record { 0 = version; 1 = size; 2 = a; 3 = count }; 1 = record { 0 = o; 1 = id; 2 = p } ∷ [] }
 
-not_under : (header : Val) (request : Request) → is_plain_header (minor_for request.operation) header ≡ false → under_header header (Some request) ≡ None
+not_under : (header : Val) (request : Request) → is_client_header (minor_for request.operation) header ≡ false → under_header header (Some request) ≡ None
 not_under header request h = rw h refl
 
 -- the header does not pass, where the message is not plain
-not_plain : (version : ProtocolVersion) (a : Option Authentication) (count : BatchCount) (p : RequestPayload) → (IsPlain (parts_of version None a count (operation_of p) None p) → ⊥)
+not_plain : (version : ProtocolVersion) (a : Option Authentication) (count : BatchCount) (p : RequestPayload) → (IsClientMessage (parts_of version None a count (operation_of p) None p) → ⊥)
     → (b : Bool) → plain_test (minor_for (operation_of p)) (version.0).0 (version.1).0 count.0 ≡ b → b ≡ false
 not_plain version a count p other false h = refl
 not_plain version a count p other true h =
@@ -169,7 +169,7 @@ not_plain version a count p other true h =
     absurd (other (p, a, λ i. parts_of (record { 0 = record { 0 = s.0 i }; 1 = record { 0 = minor i } }) None a (record { 0 = s.2 i }) (operation_of p) None p))
 
 other_parts : (version : ProtocolVersion) (size : Option MaximumResponseSize) (a : Option Authentication) (count : BatchCount) (o : Operation) (id : Option UniqueBatchItemID) (p : RequestPayload)
-    → (IsPlain (parts_of version size a count o id p) → ⊥) → ((o ≡ operation_of p) ⊎ (o ≡ operation_of p → ⊥)) → request_in (request_message_val (parts_of version size a count o id p)) ≡ None
+    → (IsClientMessage (parts_of version size a count o id p) → ⊥) → ((o ≡ operation_of p) ⊎ (o ≡ operation_of p → ⊥)) → request_in (request_message_val (parts_of version size a count o id p)) ≡ None
 other_parts version size a count o (Some id) p other same = refl
 other_parts version size a count o None p other (inr differs) =
     ap (under_header (request_header_val (record { 0 = version; 1 = size; 2 = a; 3 = count }))) (other_item o p differs)
@@ -180,7 +180,7 @@ other_parts version (Some size) a count o None p other (inl same) =
 other_parts version None a count o None p other (inl same) =
     let header : Val = request_header_val (record { 0 = version; 1 = None; 2 = a; 3 = count }) in
     let own : item_request (item_with (operation_line o).number (request_payload_val p)) ≡ Some (request_for p) = subst (λ (x : Operation). item_request (item_with (operation_line x).number (request_payload_val p)) ≡ Some (request_for p)) (sym same) (own_item p) in
-    let other' : IsPlain (parts_of version None a count (operation_of p) None p) → ⊥ = subst (λ (x : Operation). IsPlain (parts_of version None a count x None p) → ⊥) same other in
+    let other' : IsClientMessage (parts_of version None a count (operation_of p) None p) → ⊥ = subst (λ (x : Operation). IsClientMessage (parts_of version None a count x None p) → ⊥) same other in
     let fails = not_plain version a count p other' (plain_test (minor_for (operation_of p)) (version.0).0 (version.1).0 count.0) refl in
     ap (under_header header) own ∙ not_under header (request_for p) fails
 
@@ -191,17 +191,17 @@ same_or_not o p = go ((operation_line o).number == (operation_line p).number) re
     go true h = inl (operation_same o p (ap (λ (n : ℕ). Number (pos n)) ((Decides-eqb (operation_line o).number (operation_line p).number).0 h)))
     go false h = inr (λ is. let k : true ≡ false = sym ((Decides-eqb (operation_line o).number (operation_line p).number).1 (ap (λ (x : Operation). (operation_line x).number) is)) ∙ h in cc)
 
-other_items : (header : RequestHeader) (items : List BatchItem) → (IsPlain (record { 0 = header; 1 = items }) → ⊥) → request_in (request_message_val (record { 0 = header; 1 = items })) ≡ None
+other_items : (header : RequestHeader) (items : List BatchItem) → (IsClientMessage (record { 0 = header; 1 = items }) → ⊥) → request_in (request_message_val (record { 0 = header; 1 = items })) ≡ None
 other_items header [] other = refl
 other_items header (item ∷ []) other = other_parts header.0 header.1 header.2 header.3 item.0 item.1 item.2 other (same_or_not item.0 (operation_of item.2))
 other_items header (item ∷ next ∷ items) other = refl
 
-other_request : (m : RequestMessage) → (IsPlain m → ⊥) → request_in (request_message_val m) ≡ None
+other_request : (m : RequestMessage) → (IsClientMessage m → ⊥) → request_in (request_message_val m) ≡ None
 other_request m other = other_items m.0 m.1 other
 
 -- ---- the bytes
 
-first_level : IsLevel 1
+pub first_level : IsLevel 1
 first_level = (omega arith, omega arith)
 
 parsed : (root : Tree) (b : List ℕ) → Parses root 1 b → item_of 64 b ≡ Some root
@@ -229,7 +229,7 @@ held root b message p c =
 pub plain_read : (m : RequestMessage) (p : RequestPayload) (a : Option Authentication) (root : Tree) (b : List ℕ) → m ≡ message_of p a → Parses root 1 b → IsCanonical request_message REQUEST_MESSAGE root b (request_message_val m) → request_read b ≡ Some (request_for p)
 plain_read m p a root b is parses c = held root b (request_message_val m) parses c ∙ (ap (λ (x : RequestMessage). request_in (request_message_val x)) is ∙ plain_request p a)
 
-pub other_read : (m : RequestMessage) (root : Tree) (b : List ℕ) → Parses root 1 b → IsCanonical request_message REQUEST_MESSAGE root b (request_message_val m) → (IsPlain m → ⊥) → request_read b ≡ None
+pub other_read : (m : RequestMessage) (root : Tree) (b : List ℕ) → Parses root 1 b → IsCanonical request_message REQUEST_MESSAGE root b (request_message_val m) → (IsClientMessage m → ⊥) → request_read b ≡ None
 other_read m root b parses c other = held root b (request_message_val m) parses c ∙ other_request m other
 
 pub are_bytes_says : (b : List ℕ) (o : Option (List ℕ)) → are_bytes b o ≡ true → o ≡ Some b
@@ -274,7 +274,7 @@ pub refusal : {A : Type 0} (r : Result A RequestReadError) (x e : RequestReadErr
 refusal r x e was same other (inl is) = absurd (other (sym same ∙ err_same r x Malformed was is))
 refusal r x e was same other (inr is) = sym same ∙ err_same r x NotCanonical was is
 
-pub request_is_read : (p : RequestPayload) (c : Option CredentialType) (b : List ℕ) → IsHeld p c → IsMatched p → request_bytes p c ≡ Some b → request_read b ≡ Some (request_for p)
+pub request_is_read : (p : RequestPayload) (c : Option CredentialType) (b : List ℕ) → FitsRequest p c → IsMatched p → request_bytes p c ≡ Some b → request_read b ≡ Some (request_for p)
 request_is_read p c b h m e =
     let root = root_of_request p c b h e in
     plain_read (message_of p (option_map credential_item c)) p (option_map credential_item c) root.0 b refl root.1 (canonical_of p c root.0 b h m e root.1)

@@ -20,8 +20,8 @@ message_of payload authentication = record {
 }
 
 -- the message is one that is written for a payload
-abbrev pub IsPlain : RequestMessage → Type 0
-IsPlain message = (payload : RequestPayload) × (authentication : Option Authentication) ×
+abbrev pub IsClientMessage : RequestMessage → Type 0
+IsClientMessage message = (payload : RequestPayload) × (authentication : Option Authentication) ×
     (message ≡ message_of payload authentication)
 
 -- the value is read from the tree, and written as the bytes

@@ -37,17 +37,13 @@ minor_for Sign = 2
 minor_for RNGRetrieve = 2
 minor_for _ = 0
 
--- the one canonical message of a request, with these items in its header in the place of a
--- credential's, where it has one
-abbrev pub message_with : Request → List Tree → Option (List ℕ)
-message_with request authentication = option_and_then bytes (option_map
-    (message_tree (header_tree (minor_for request.operation) authentication)
-    (operation_line request.operation).number)
-    (tree_of request_payload REQUEST_PAYLOAD request.payload))
-
 -- the one canonical message of a request and a credential, where it has one
 abbrev pub message_bytes : Request → Option CredentialType → Option (List ℕ)
-message_bytes request credential = message_with request (authentication_trees credential)
+message_bytes request credential = option_and_then bytes (option_map
+    (message_tree
+    (header_tree (minor_for request.operation) (authentication_trees credential))
+    (operation_line request.operation).number)
+    (tree_of request_payload REQUEST_PAYLOAD request.payload))
 
 -- the request in a batch item that has no identifier, and whose operation is that of its payload
 -- (KMIP 1.0, 7.2)
@@ -60,18 +56,18 @@ item_request item = None
 
 -- The header is that of a message with one batch item in this minor version of KMIP 1, without a
 -- maximum response size (KMIP 1.0, 7.2).
-abbrev pub is_plain_header : ℕ → Val → Bool
-is_plain_header minor
+abbrev pub is_client_header : ℕ → Val → Bool
+is_client_header minor
     (Record (AndField (One
     (Record (AndField (One (Number major)) (AndField (One (Number own)) NoField))))
     (AndField Absent (AndField credential (AndField (One (Number count)) NoField))))) =
     int_eq major (pos 1) && (int_eq own (pos minor) && int_eq count (pos 1))
-is_plain_header minor header = false
+is_client_header minor header = false
 
 abbrev pub under_header : Val → Option Request → Option Request
 under_header header None = None
 under_header header (Some request) =
-    if is_plain_header (minor_for request.operation) header then Some request else None
+    if is_client_header (minor_for request.operation) header then Some request else None
 
 -- the request in a message that is as a client writes it
 abbrev pub request_in : Val → Option Request

@@ -10,9 +10,9 @@ ghost use Rattle.kmip_types.specs.declared.auth.CredentialType.{CredentialType};
 ghost use Rattle.kmip_request.specs.declared.authentication.Authentication.{Authentication as CredentialItem};
 ghost use Rattle.kmip_request.specs.declared.payload.RequestPayload.{RequestPayload as Payload};
 ghost use Rattle.kmip_request.specs.Message.{request_bytes, credential_of, operation_of};
-ghost use Rattle.kmip_request.specs.Held.{IsHeld};
+ghost use Rattle.kmip_request.specs.Fits.{FitsRequest};
 ghost use Rattle.kmip_request_read.specs.Matched.{IsMatched};
-ghost use Rattle.kmip_request_read.specs.Message.{message_of, IsPlain, IsCanonical, IsWrittenAs};
+ghost use Rattle.kmip_request_read.specs.Message.{message_of, IsClientMessage, IsCanonical, IsWrittenAs};
 ghost use Rattle.kmip_request_read.specs.Reading.{request_for, request_read};
 
 use kmip_request::{
@@ -35,7 +35,7 @@ pub enum RequestReadError {
     OutOfMemory,
 }
 
-/// The value that an item is read as, where that is written as `bytes` again.
+/// The value that an item is read as, where that value is written as `bytes`.
 fn read_canonical<T: ReadRoot + WriteItem>(
     alloc: Global,
     item: ItemRef<'_>,
@@ -66,7 +66,7 @@ fn read_canonical<T: ReadRoot + WriteItem>(
 }
 
 /// Whether a header is one that a client writes in this version.
-fn is_plain_header(header: &RequestHeader, version: ProtocolVersion) -> bool
+fn is_client_header(header: &RequestHeader, version: ProtocolVersion) -> bool
     ensures { IsTrue result ↔ (header.now ≡
         record { 0 = version; 1 = None; 2 = header.now.2; 3 = record { 0 = pos 1 } }) }
 {
@@ -75,7 +75,7 @@ fn is_plain_header(header: &RequestHeader, version: ProtocolVersion) -> bool
 }
 
 /// Whether a batch item is the one that a client writes round its payload.
-fn is_plain_item(item: &BatchItem) -> bool
+fn is_client_item(item: &BatchItem) -> bool
     ensures { IsTrue result ↔ (item.now ≡
         record { 0 = operation_of item.now.2; 1 = None; 2 = item.now.2 }) }
 {
@@ -84,20 +84,20 @@ fn is_plain_item(item: &BatchItem) -> bool
 }
 
 /// Whether a message is the one that a client writes round its payload and Authentication.
-fn is_plain(message: &RequestMessage) -> bool
-    ensures plain { IsTrue result → IsPlain message.now }
-    ensures other { result ≡ false → IsPlain message.now → ⊥ }
+fn is_client_message(message: &RequestMessage) -> bool
+    ensures plain { IsTrue result → IsClientMessage message.now }
+    ensures other { result ≡ false → IsClientMessage message.now → ⊥ }
 {
     let RequestMessage(header, items) = message;
     match items.as_slice() {
-        [item] => is_plain_header(header, item.2.protocol_version()) && is_plain_item(item),
+        [item] => is_client_header(header, item.2.protocol_version()) && is_client_item(item),
         _ => false,
     }
 }
 
 /// The payload of a message, and its Authentication where there is one.
 fn parts(message: RequestMessage) -> (RequestPayload, Option<Authentication>)
-    requires { IsPlain message }
+    requires { IsClientMessage message }
     ensures { message ≡ message_of result.0 result.1 }
 {
     let RequestMessage(RequestHeader(_, _, authentication, _), items) = message;
@@ -127,8 +127,8 @@ fn credential(authentication: Authentication) -> auth::CredentialType
 /// unless memory runs out. What is read has the operation and the payload that `request_read`
 /// defines for the bytes.
 ///
-/// `Malformed` comes exactly where the bytes are not one well-formed item. `NotCanonical` comes
-/// only where they are one, and no matched request is written as them.
+/// It returns `Malformed` exactly where the bytes are not one well-formed item. It returns
+/// `NotCanonical` only where they are one, and no matched request is written as them.
 pub fn from_slice(
     alloc: Global,
     bytes: &[u8],
@@ -138,21 +138,21 @@ pub fn from_slice(
         ((tree : Tree) → Parses tree 1 bytes.now → ⊥) }
     ensures not_canonical { result ≡ Err RequestReadError.NotCanonical →
         (p : Payload) (c : Option CredentialType) →
-        IsHeld p c → IsMatched p → request_bytes p c ≡ Some bytes.now → ⊥ }
+        FitsRequest p c → IsMatched p → request_bytes p c ≡ Some bytes.now → ⊥ }
     ensures item { result ≡ Err RequestReadError.NotCanonical → (tree : Tree) ×
         Parses tree 1 bytes.now }
     ensures value { IfOk result (λ r. request_read bytes.now ≡ Some (request_for r.0)) }
     ensures unread { (result ≡ Err RequestReadError.Malformed) ⊎
         (result ≡ Err RequestReadError.NotCanonical) →
         request_read bytes.now ≡ None }
-    ensures back { (p : Payload) (c : Option CredentialType) → IsHeld p c → IsMatched p →
+    ensures back { (p : Payload) (c : Option CredentialType) → FitsRequest p c → IsMatched p →
         request_bytes p c ≡ Some bytes.now → IfOk result (λ r. (r.0 ≡ p) × (r.1 ≡ c)) }
 {
     let Some(item) = ItemRef::root(bytes) else {
         return Err(RequestReadError::Malformed);
     };
     let message = read_canonical::<RequestMessage>(alloc, item, bytes)?;
-    if !is_plain(&message) {
+    if !is_client_message(&message) {
         return Err(RequestReadError::NotCanonical);
     }
     let (payload, authentication) = parts(message);

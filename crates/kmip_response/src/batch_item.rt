@@ -11,13 +11,16 @@ use crate::payload::ResponsePayload;
 use kmip_enums::{Operation, ResultReason, ResultStatus};
 use kmip_shape::record::{Choosing, End, Row};
 use kmip_shape::row_readers::{ChosenOpt, One, Opt};
-use kmip_shape::{Item, Outer, ReadError, ReadItem, ReadRoot, fields, fits_record, read_record};
+use kmip_shape::{
+    Item, Outer, ReadError, ReadItem, ReadRoot, WriteItem, fields, fits_record, read_record,
+    record_len, write_record,
+};
 use kmip_tags::tags::{
     BATCH_ITEM, MESSAGE_EXTENSION, OPERATION, RESPONSE_PAYLOAD, RESULT_MESSAGE, RESULT_REASON,
     RESULT_STATUS, UNIQUE_BATCH_ITEM_ID,
 };
 use kmip_types::UniqueBatchItemID;
-use kmip_wire::{ItemRef, OutOfMemory, Tag, Text, TryClone, clone_optional};
+use kmip_wire::{Buffer, ItemRef, OutOfMemory, Tag, Text, TryClone, clone_optional};
 use std::alloc::Global;
 
 /// The result of one operation: KMIP 1.0, 7.2.
@@ -78,6 +81,36 @@ impl Item for BatchItem {
     }
 
     ghost faithful = { batch_item_same };
+}
+
+impl WriteItem for BatchItem {
+    fn wire_len(&self, _tag: Tag) -> Option<u64> {
+        record_len::<BatchItemRows<'_>>(fields![
+            &self.operation,
+            &self.unique_batch_item_id,
+            &self.result_status,
+            &self.result_reason,
+            &self.result_message,
+            &self.payload,
+            &self.message_extension
+        ])
+    }
+
+    fn write_into(&self, tag: Tag, out: &mut Buffer) {
+        write_record::<BatchItemRows<'_>>(
+            fields![
+                &self.operation,
+                &self.unique_batch_item_id,
+                &self.result_status,
+                &self.result_reason,
+                &self.result_message,
+                &self.payload,
+                &self.message_extension
+            ],
+            tag,
+            out,
+        );
+    }
 }
 
 type BatchItemRows<'a> = Choosing<

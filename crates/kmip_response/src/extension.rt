@@ -8,9 +8,12 @@ ghost use Rattle.kmip_response.specs.Same.{message_extension_same};
 
 use kmip_shape::record::{End, Row};
 use kmip_shape::row_readers::One;
-use kmip_shape::{Item, Outer, ReadError, ReadItem, ReadRoot, fields, fits_record, read_record};
+use kmip_shape::{
+    Item, Outer, ReadError, ReadItem, ReadRoot, WriteItem, fields, fits_record, read_record,
+    record_len, write_record,
+};
 use kmip_tags::tags::{CRITICALITY_INDICATOR, MESSAGE_EXTENSION, VENDOR_IDENTIFICATION};
-use kmip_wire::{ItemRef, OutOfMemory, Tag, Text, TryClone};
+use kmip_wire::{Buffer, ItemRef, OutOfMemory, Tag, Text, TryClone};
 use std::alloc::Global;
 
 /// The contents of a vendor's extension, which are skipped.
@@ -51,6 +54,23 @@ impl Item for MessageExtension {
     }
 
     ghost faithful = { message_extension_same };
+}
+
+impl WriteItem for MessageExtension {
+    fn wire_len(&self, _tag: Tag) -> Option<u64> {
+        record_len::<MessageExtensionRows>(fields![
+            &self.vendor_identification,
+            &self.criticality_indicator
+        ])
+    }
+
+    fn write_into(&self, tag: Tag, out: &mut Buffer) {
+        write_record::<MessageExtensionRows>(
+            fields![&self.vendor_identification, &self.criticality_indicator],
+            tag,
+            out,
+        );
+    }
 }
 
 type MessageExtensionRows = Row<

@@ -9,14 +9,14 @@ ghost use Rattle.kmip_response.specs.Same.{protocol_version_same, response_heade
 use kmip_shape::record::{End, Row};
 use kmip_shape::row_readers::One;
 use kmip_shape::{
-    Item, Outer, ReadError, ReadItem, ReadRoot, ShowItem, TextWriter, Timestamp, fields,
-    fits_record, read_record, show_record,
+    Item, Outer, ReadError, ReadItem, ReadRoot, ShowItem, TextWriter, Timestamp, WriteItem, fields,
+    fits_record, read_record, record_len, show_record, write_record,
 };
 use kmip_tags::tags::{
     BATCH_COUNT, PROTOCOL_VERSION, PROTOCOL_VERSION_MAJOR, PROTOCOL_VERSION_MINOR, RESPONSE_HEADER,
     TIME_STAMP,
 };
-use kmip_wire::{ItemRef, Tag};
+use kmip_wire::{Buffer, ItemRef, Tag};
 use std::alloc::Global;
 
 /// A version of KMIP: KMIP 1.0, 6.1.
@@ -43,6 +43,16 @@ impl Item for ProtocolVersion {
     }
 
     ghost faithful = { protocol_version_same };
+}
+
+impl WriteItem for ProtocolVersion {
+    fn wire_len(&self, _tag: Tag) -> Option<u64> {
+        record_len::<ProtocolVersionRows>(fields![&self.major, &self.minor])
+    }
+
+    fn write_into(&self, tag: Tag, out: &mut Buffer) {
+        write_record::<ProtocolVersionRows>(fields![&self.major, &self.minor], tag, out);
+    }
 }
 
 impl ReadItem for ProtocolVersion {
@@ -101,6 +111,26 @@ impl Item for ResponseHeader {
     }
 
     ghost faithful = { response_header_same };
+}
+
+impl WriteItem for ResponseHeader {
+    fn wire_len(&self, _tag: Tag) -> Option<u64> {
+        let timestamp = Timestamp(self.timestamp);
+        record_len::<ResponseHeaderRows>(fields![
+            &self.protocol_version,
+            &timestamp,
+            &self.batch_count
+        ])
+    }
+
+    fn write_into(&self, tag: Tag, out: &mut Buffer) {
+        let timestamp = Timestamp(self.timestamp);
+        write_record::<ResponseHeaderRows>(
+            fields![&self.protocol_version, &timestamp, &self.batch_count],
+            tag,
+            out,
+        );
+    }
 }
 
 impl ReadItem for ResponseHeader {

@@ -10,9 +10,12 @@ use crate::batch_item::BatchItem;
 use crate::header::ResponseHeader;
 use kmip_shape::record::{End, Row};
 use kmip_shape::row_readers::{NonEmpty, One};
-use kmip_shape::{Item, Outer, ReadError, ReadItem, ReadRoot, fields, fits_record, read_record};
+use kmip_shape::{
+    Item, Outer, ReadError, ReadItem, ReadRoot, WriteItem, fields, fits_record, read_record,
+    record_len, write_record,
+};
 use kmip_tags::tags::{BATCH_ITEM, RESPONSE_HEADER, RESPONSE_MESSAGE};
-use kmip_wire::{ItemRef, List, OutOfMemory, Tag, TryClone};
+use kmip_wire::{Buffer, ItemRef, List, OutOfMemory, Tag, TryClone};
 use std::alloc::Global;
 
 /// A response: KMIP 1.0, 7.1.
@@ -43,6 +46,16 @@ impl Item for ResponseMessage {
     }
 
     ghost faithful = { response_message_same };
+}
+
+impl WriteItem for ResponseMessage {
+    fn wire_len(&self, _tag: Tag) -> Option<u64> {
+        record_len::<ResponseMessageRows>(fields![&self.header, &self.batch_items])
+    }
+
+    fn write_into(&self, tag: Tag, out: &mut Buffer) {
+        write_record::<ResponseMessageRows>(fields![&self.header, &self.batch_items], tag, out);
+    }
 }
 
 type ResponseMessageRows = Row<

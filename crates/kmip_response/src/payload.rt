@@ -16,8 +16,8 @@ use crate::payloads::identifiers::{
 };
 use crate::payloads::query::QueryResponsePayload;
 use crate::payloads::server::DiscoverVersionsResponsePayload;
-use kmip_shape::{Item, Outer, ReadError, ReadItem, ShowItem, TextWriter, show_case};
-use kmip_wire::{Boxed, ItemRef, OutOfMemory, TryClone};
+use kmip_shape::{Item, Outer, ReadError, ReadItem, ShowItem, TextWriter, WriteItem, show_case};
+use kmip_wire::{Boxed, Buffer, ItemRef, OutOfMemory, Tag, TryClone};
 use std::alloc::Global;
 
 /// What an operation returned. The operation of its batch item selects the variant.
@@ -141,6 +141,52 @@ impl Item for ResponsePayload {
     }
 
     ghost faithful = { response_payload_same };
+}
+
+impl WriteItem for ResponsePayload {
+    fn wire_len(&self, tag: Tag) -> Option<u64> {
+        match self {
+            ResponsePayload::Create(payload) => payload.wire_len(tag),
+            ResponsePayload::CreateKeyPair(payload) => payload.wire_len(tag),
+            ResponsePayload::Register(payload) => payload.wire_len(tag),
+            ResponsePayload::Locate(payload) => payload.wire_len(tag),
+            ResponsePayload::Get(payload) => payload.wire_len(tag),
+            ResponsePayload::GetAttributes(payload) => payload.wire_len(tag),
+            ResponsePayload::GetAttributeList(payload) => payload.wire_len(tag),
+            ResponsePayload::AddAttribute(payload) => payload.wire_len(tag),
+            ResponsePayload::ModifyAttribute(payload) => payload.wire_len(tag),
+            ResponsePayload::DeleteAttribute(payload) => payload.wire_len(tag),
+            ResponsePayload::Activate(payload) => payload.wire_len(tag),
+            ResponsePayload::Revoke(payload) => payload.wire_len(tag),
+            ResponsePayload::Destroy(payload) => payload.wire_len(tag),
+            ResponsePayload::Query(payload) => payload.wire_len(tag),
+            ResponsePayload::DiscoverVersions(payload) => payload.wire_len(tag),
+            ResponsePayload::Sign(payload) => payload.wire_len(tag),
+            ResponsePayload::RNGRetrieve(payload) => payload.wire_len(tag),
+        }
+    }
+
+    fn write_into(&self, tag: Tag, out: &mut Buffer) {
+        match self {
+            ResponsePayload::Create(payload) => payload.write_into(tag, out),
+            ResponsePayload::CreateKeyPair(payload) => payload.write_into(tag, out),
+            ResponsePayload::Register(payload) => payload.write_into(tag, out),
+            ResponsePayload::Locate(payload) => payload.write_into(tag, out),
+            ResponsePayload::Get(payload) => payload.write_into(tag, out),
+            ResponsePayload::GetAttributes(payload) => payload.write_into(tag, out),
+            ResponsePayload::GetAttributeList(payload) => payload.write_into(tag, out),
+            ResponsePayload::AddAttribute(payload) => payload.write_into(tag, out),
+            ResponsePayload::ModifyAttribute(payload) => payload.write_into(tag, out),
+            ResponsePayload::DeleteAttribute(payload) => payload.write_into(tag, out),
+            ResponsePayload::Activate(payload) => payload.write_into(tag, out),
+            ResponsePayload::Revoke(payload) => payload.write_into(tag, out),
+            ResponsePayload::Destroy(payload) => payload.write_into(tag, out),
+            ResponsePayload::Query(payload) => payload.write_into(tag, out),
+            ResponsePayload::DiscoverVersions(payload) => payload.write_into(tag, out),
+            ResponsePayload::Sign(payload) => payload.write_into(tag, out),
+            ResponsePayload::RNGRetrieve(payload) => payload.write_into(tag, out),
+        }
+    }
 }
 
 impl ReadItem for ResponsePayload {

@@ -9,12 +9,12 @@ ghost use Rattle.kmip_response_objects.specs.Same.{attribute_same};
 use kmip_shape::record::{Choosing, End, Row};
 use kmip_shape::row_readers::{ChosenOne, One, Opt};
 use kmip_shape::{
-    Item, Outer, ReadError, ReadItem, ReadRoot, ShowItem, TextWriter, fields, fits_record,
-    read_record, show_record,
+    Item, Outer, ReadError, ReadItem, ReadRoot, ShowItem, TextWriter, WriteItem, fields,
+    fits_record, read_record, record_len, show_record, write_record,
 };
 use kmip_tags::tags::{ATTRIBUTE, ATTRIBUTE_INDEX, ATTRIBUTE_NAME, ATTRIBUTE_VALUE};
 use kmip_types::{AttributeIndex, AttributeName, AttributeValue};
-use kmip_wire::{ItemRef, OutOfMemory, Tag, TryClone};
+use kmip_wire::{Buffer, ItemRef, OutOfMemory, Tag, TryClone};
 use std::alloc::Global;
 
 /// An attribute of an object: KMIP 1.0, 2.1.1.
@@ -57,6 +57,16 @@ impl Item for Attribute {
     }
 
     ghost faithful = { attribute_same };
+}
+
+impl WriteItem for Attribute {
+    fn wire_len(&self, _tag: Tag) -> Option<u64> {
+        record_len::<AttributeRows<'_>>(fields![&self.name, &self.index, &self.value])
+    }
+
+    fn write_into(&self, tag: Tag, out: &mut Buffer) {
+        write_record::<AttributeRows<'_>>(fields![&self.name, &self.index, &self.value], tag, out);
+    }
 }
 
 impl ReadItem for Attribute {

@@ -11,15 +11,15 @@ use crate::key_wrapping::KeyWrappingData;
 use kmip_shape::record::{Choosing, End, Row};
 use kmip_shape::row_readers::{ChosenOne, One, Opt, OptMany};
 use kmip_shape::{
-    Item, Outer, ReadError, ReadItem, ReadRoot, ShowItem, TextWriter, fields, fits_record,
-    read_record, show_record,
+    Item, Outer, ReadError, ReadItem, ReadRoot, ShowItem, TextWriter, WriteItem, fields,
+    fits_record, read_record, record_len, show_record, write_record,
 };
 use kmip_tags::tags::{
     ATTRIBUTE, CRYPTOGRAPHIC_ALGORITHM, CRYPTOGRAPHIC_LENGTH, KEY_BLOCK, KEY_COMPRESSION_TYPE,
     KEY_FORMAT_TYPE, KEY_MATERIAL, KEY_VALUE, KEY_WRAPPING_DATA,
 };
 use kmip_types::{CryptographicAlgorithm, KeyCompressionType, KeyFormatType, KeyMaterial};
-use kmip_wire::{Blob, ItemRef, List, OutOfMemory, Tag, TryClone, clone_optional};
+use kmip_wire::{Blob, Buffer, ItemRef, List, OutOfMemory, Tag, TryClone, clone_optional};
 use std::alloc::Global;
 
 /// Key material, and attributes of the key: KMIP 1.0, 2.1.4.
@@ -53,6 +53,23 @@ impl Item for KeyValue {
     }
 
     ghost faithful = { key_value_same };
+}
+
+impl WriteItem for KeyValue {
+    fn wire_len(&self, tag: Tag) -> Option<u64> {
+        if let (KeyMaterial::Wrapped(bytes), None) = (&self.key_material, &self.attributes) {
+            return bytes.wire_len(tag);
+        }
+        record_len::<KeyValueRows>(fields![&self.key_material, &self.attributes])
+    }
+
+    fn write_into(&self, tag: Tag, out: &mut Buffer) {
+        if let (KeyMaterial::Wrapped(bytes), None) = (&self.key_material, &self.attributes) {
+            bytes.write_into(tag, out);
+            return;
+        }
+        write_record::<KeyValueRows>(fields![&self.key_material, &self.attributes], tag, out);
+    }
 }
 
 impl ReadItem for KeyValue {
@@ -145,6 +162,34 @@ impl Item for KeyBlock {
     }
 
     ghost faithful = { key_block_same };
+}
+
+impl WriteItem for KeyBlock {
+    fn wire_len(&self, _tag: Tag) -> Option<u64> {
+        record_len::<KeyBlockRows<'_>>(fields![
+            &self.key_format_type,
+            &self.key_compression_type,
+            &self.key_value,
+            &self.cryptographic_algorithm,
+            &self.cryptographic_length,
+            &self.key_wrapping_data
+        ])
+    }
+
+    fn write_into(&self, tag: Tag, out: &mut Buffer) {
+        write_record::<KeyBlockRows<'_>>(
+            fields![
+                &self.key_format_type,
+                &self.key_compression_type,
+                &self.key_value,
+                &self.cryptographic_algorithm,
+                &self.cryptographic_length,
+                &self.key_wrapping_data
+            ],
+            tag,
+            out,
+        );
+    }
 }
 
 impl ReadItem for KeyBlock {

@@ -15,15 +15,15 @@ ghost use Rattle.kmip_response_objects.specs.Same.{key_wrapping_data_same};
 use kmip_shape::record::{End, Row};
 use kmip_shape::row_readers::{One, Opt};
 use kmip_shape::{
-    Item, Outer, ReadError, ReadItem, ReadRoot, ShowItem, TextWriter, fields, fits_record,
-    read_record, show_record,
+    Item, Outer, ReadError, ReadItem, ReadRoot, ShowItem, TextWriter, WriteItem, fields,
+    fits_record, read_record, record_len, show_record, write_record,
 };
 use kmip_tags::tags::{
     CRYPTOGRAPHIC_PARAMETERS, ENCRYPTION_KEY_INFORMATION, IV_COUNTER_NONCE, KEY_WRAPPING_DATA,
     MAC_SIGNATURE, MAC_SIGNATURE_KEY_INFORMATION, UNIQUE_IDENTIFIER, WRAPPING_METHOD,
 };
 use kmip_types::{CryptographicParameters, UniqueIdentifier, WrappingMethod};
-use kmip_wire::{Blob, ItemRef, OutOfMemory, Tag, TryClone, clone_optional};
+use kmip_wire::{Blob, Buffer, ItemRef, OutOfMemory, Tag, TryClone, clone_optional};
 use std::alloc::Global;
 
 /// The key that encrypts a wrapped key, and how: KMIP 1.0, 2.1.5.
@@ -62,6 +62,23 @@ impl Item for EncryptionKeyInformation {
     }
 
     ghost faithful = { encryption_key_information_same };
+}
+
+impl WriteItem for EncryptionKeyInformation {
+    fn wire_len(&self, _tag: Tag) -> Option<u64> {
+        record_len::<EncryptionKeyInformationRows>(fields![
+            &self.unique_identifier,
+            &self.cryptographic_parameters
+        ])
+    }
+
+    fn write_into(&self, tag: Tag, out: &mut Buffer) {
+        write_record::<EncryptionKeyInformationRows>(
+            fields![&self.unique_identifier, &self.cryptographic_parameters],
+            tag,
+            out,
+        );
+    }
 }
 
 impl ReadItem for EncryptionKeyInformation {
@@ -130,6 +147,23 @@ impl Item for MACOrSignatureKeyInformation {
     }
 
     ghost faithful = { mac_or_signature_key_information_same };
+}
+
+impl WriteItem for MACOrSignatureKeyInformation {
+    fn wire_len(&self, _tag: Tag) -> Option<u64> {
+        record_len::<MACOrSignatureKeyInformationRows>(fields![
+            &self.unique_identifier,
+            &self.cryptographic_parameters
+        ])
+    }
+
+    fn write_into(&self, tag: Tag, out: &mut Buffer) {
+        write_record::<MACOrSignatureKeyInformationRows>(
+            fields![&self.unique_identifier, &self.cryptographic_parameters],
+            tag,
+            out,
+        );
+    }
 }
 
 impl ReadItem for MACOrSignatureKeyInformation {
@@ -219,6 +253,32 @@ impl Item for KeyWrappingData {
     }
 
     ghost faithful = { key_wrapping_data_same };
+}
+
+impl WriteItem for KeyWrappingData {
+    fn wire_len(&self, _tag: Tag) -> Option<u64> {
+        record_len::<KeyWrappingDataRows>(fields![
+            &self.wrapping_method,
+            &self.encryption_key_information,
+            &self.mac_or_signature_key_information,
+            &self.mac_or_signature,
+            &self.iv_or_counter_or_nonce
+        ])
+    }
+
+    fn write_into(&self, tag: Tag, out: &mut Buffer) {
+        write_record::<KeyWrappingDataRows>(
+            fields![
+                &self.wrapping_method,
+                &self.encryption_key_information,
+                &self.mac_or_signature_key_information,
+                &self.mac_or_signature,
+                &self.iv_or_counter_or_nonce
+            ],
+            tag,
+            out,
+        );
+    }
 }
 
 impl ReadItem for KeyWrappingData {

@@ -17,14 +17,14 @@ use kmip_enums::CertificateType;
 use kmip_shape::record::{End, Row};
 use kmip_shape::row_readers::One;
 use kmip_shape::{
-    Item, Outer, ReadError, ReadItem, ReadRoot, ShowItem, TextWriter, fields, fits_record,
-    read_record, show_case, show_record,
+    Item, Outer, ReadError, ReadItem, ReadRoot, ShowItem, TextWriter, WriteItem, fields,
+    fits_record, read_record, record_len, show_case, show_record, write_record,
 };
 use kmip_tags::tags::{
     CERTIFICATE, CERTIFICATE_TYPE, CERTIFICATE_VALUE, KEY_BLOCK, PRIVATE_KEY, PUBLIC_KEY,
     SYMMETRIC_KEY,
 };
-use kmip_wire::{Blob, ItemRef, OutOfMemory, Tag, TryClone};
+use kmip_wire::{Blob, Buffer, ItemRef, OutOfMemory, Tag, TryClone};
 use std::alloc::Global;
 
 /// A certificate: KMIP 1.0, 2.2.1.
@@ -60,6 +60,20 @@ impl Item for Certificate {
     }
 
     ghost faithful = { certificate_same };
+}
+
+impl WriteItem for Certificate {
+    fn wire_len(&self, _tag: Tag) -> Option<u64> {
+        record_len::<CertificateRows>(fields![&self.certificate_type, &self.certificate_value])
+    }
+
+    fn write_into(&self, tag: Tag, out: &mut Buffer) {
+        write_record::<CertificateRows>(
+            fields![&self.certificate_type, &self.certificate_value],
+            tag,
+            out,
+        );
+    }
 }
 
 impl ReadItem for Certificate {
@@ -121,6 +135,16 @@ impl Item for SymmetricKey {
     ghost faithful = { symmetric_key_same };
 }
 
+impl WriteItem for SymmetricKey {
+    fn wire_len(&self, _tag: Tag) -> Option<u64> {
+        record_len::<SymmetricKeyRows>(fields![&self.key_block])
+    }
+
+    fn write_into(&self, tag: Tag, out: &mut Buffer) {
+        write_record::<SymmetricKeyRows>(fields![&self.key_block], tag, out);
+    }
+}
+
 impl ReadItem for SymmetricKey {
     fn read(alloc: Global, outer: Outer<'_>, item: ItemRef<'_>) -> Result<Self, ReadError> {
         let fields![key_block] = read_record::<SymmetricKeyRows>(alloc, outer, item)?;
@@ -171,6 +195,16 @@ impl Item for PublicKey {
     ghost faithful = { public_key_same };
 }
 
+impl WriteItem for PublicKey {
+    fn wire_len(&self, _tag: Tag) -> Option<u64> {
+        record_len::<PublicKeyRows>(fields![&self.key_block])
+    }
+
+    fn write_into(&self, tag: Tag, out: &mut Buffer) {
+        write_record::<PublicKeyRows>(fields![&self.key_block], tag, out);
+    }
+}
+
 impl ReadItem for PublicKey {
     fn read(alloc: Global, outer: Outer<'_>, item: ItemRef<'_>) -> Result<Self, ReadError> {
         let fields![key_block] = read_record::<PublicKeyRows>(alloc, outer, item)?;
@@ -219,6 +253,16 @@ impl Item for PrivateKey {
     }
 
     ghost faithful = { private_key_same };
+}
+
+impl WriteItem for PrivateKey {
+    fn wire_len(&self, _tag: Tag) -> Option<u64> {
+        record_len::<PrivateKeyRows>(fields![&self.key_block])
+    }
+
+    fn write_into(&self, tag: Tag, out: &mut Buffer) {
+        write_record::<PrivateKeyRows>(fields![&self.key_block], tag, out);
+    }
 }
 
 impl ReadItem for PrivateKey {
@@ -289,6 +333,26 @@ impl Item for ManagedObject {
     }
 
     ghost faithful = { managed_object_same };
+}
+
+impl WriteItem for ManagedObject {
+    fn wire_len(&self, _tag: Tag) -> Option<u64> {
+        match self {
+            ManagedObject::Certificate(object) => object.wire_len(Tag::of(CERTIFICATE)),
+            ManagedObject::SymmetricKey(object) => object.wire_len(Tag::of(SYMMETRIC_KEY)),
+            ManagedObject::PublicKey(object) => object.wire_len(Tag::of(PUBLIC_KEY)),
+            ManagedObject::PrivateKey(object) => object.wire_len(Tag::of(PRIVATE_KEY)),
+        }
+    }
+
+    fn write_into(&self, _tag: Tag, out: &mut Buffer) {
+        match self {
+            ManagedObject::Certificate(object) => object.write_into(Tag::of(CERTIFICATE), out),
+            ManagedObject::SymmetricKey(object) => object.write_into(Tag::of(SYMMETRIC_KEY), out),
+            ManagedObject::PublicKey(object) => object.write_into(Tag::of(PUBLIC_KEY), out),
+            ManagedObject::PrivateKey(object) => object.write_into(Tag::of(PRIVATE_KEY), out),
+        }
+    }
 }
 
 impl ShowItem for ManagedObject {

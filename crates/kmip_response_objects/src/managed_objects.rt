@@ -17,11 +17,11 @@ ghost use Rattle.kmip_response_objects.specs.Values.{managed_object_val};
 
 use crate::managed_object::{Certificate, ManagedObject, PrivateKey, PublicKey, SymmetricKey};
 use kmip_shape::row_readers::{Case, ReadRow};
-use kmip_shape::row_writers::{FieldRow, ShowRow};
+use kmip_shape::row_writers::{FieldRow, ShowRow, WriteRow};
 use kmip_shape::show::show_one;
-use kmip_shape::{Item, Outer, ReadError, TextWriter};
+use kmip_shape::{Item, Outer, ReadError, TextWriter, WriteItem};
 use kmip_tags::tags::{CERTIFICATE, PRIVATE_KEY, PUBLIC_KEY, SYMMETRIC_KEY};
-use kmip_wire::ItemRef;
+use kmip_wire::{Buffer, ItemRef, Tag};
 use std::alloc::Global;
 
 /// The items under the tags of managed objects. The object type says under which of them the object
@@ -75,16 +75,16 @@ impl<'a> ReadRow<'a> for ManagedObjects<'a> {
         }
     }
 
-    fn take(
+    fn offer_child(
         &mut self,
         _alloc: Global,
         _outer: Outer<'_>,
         child: ItemRef<'a>,
     ) -> Result<(), ReadError> {
-        self.certificate.take(child);
-        self.symmetric_key.take(child);
-        self.public_key.take(child);
-        self.private_key.take(child);
+        self.certificate.offer_child(child);
+        self.symmetric_key.offer_child(child);
+        self.public_key.offer_child(child);
+        self.private_key.offer_child(child);
         Ok(())
     }
 
@@ -123,6 +123,16 @@ impl<'b> FieldRow<'b> for ManagedObjects<'b> {
 
     fn known(lent: &'b ManagedObject) {
         lent.known();
+    }
+}
+
+impl<'b> WriteRow<'b> for ManagedObjects<'b> {
+    fn len(lent: &'b ManagedObject) -> Option<u64> {
+        lent.wire_len(Tag::of(0))
+    }
+
+    fn write(lent: &'b ManagedObject, out: &mut Buffer) {
+        lent.write_into(Tag::of(0), out);
     }
 }
 

@@ -10,12 +10,12 @@ use kmip_enums::NameType;
 use kmip_shape::record::{End, Row};
 use kmip_shape::row_readers::One;
 use kmip_shape::{
-    Item, Outer, ReadError, ReadItem, ReadRoot, ShowItem, TextWriter, fields, fits_record,
-    read_record, show_record,
+    Item, Outer, ReadError, ReadItem, ReadRoot, ShowItem, TextWriter, WriteItem, fields,
+    fits_record, read_record, record_len, show_record, write_record,
 };
 use kmip_tags::tags::{NAME, NAME_TYPE, NAME_VALUE};
 use kmip_types::NameValue;
-use kmip_wire::{ItemRef, OutOfMemory, Tag, TryClone};
+use kmip_wire::{Buffer, ItemRef, OutOfMemory, Tag, TryClone};
 use std::alloc::Global;
 
 /// The name of an object: KMIP 1.0, 3.2.
@@ -48,6 +48,16 @@ impl Item for Name {
     }
 
     ghost faithful = { name_same };
+}
+
+impl WriteItem for Name {
+    fn wire_len(&self, _tag: Tag) -> Option<u64> {
+        record_len::<NameRows>(fields![&self.name, &self.name_type])
+    }
+
+    fn write_into(&self, tag: Tag, out: &mut Buffer) {
+        write_record::<NameRows>(fields![&self.name, &self.name_type], tag, out);
+    }
 }
 
 impl ReadItem for Name {

@@ -11,11 +11,11 @@ use crate::name::Name;
 use kmip_shape::record::{End, Row};
 use kmip_shape::row_readers::OptMany;
 use kmip_shape::{
-    Item, Outer, ReadError, ReadItem, ReadRoot, ShowItem, TextWriter, fields, fits_record,
-    read_record, show_record,
+    Item, Outer, ReadError, ReadItem, ReadRoot, ShowItem, TextWriter, WriteItem, fields,
+    fits_record, read_record, record_len, show_record, write_record,
 };
 use kmip_tags::tags::{ATTRIBUTE, NAME, TEMPLATE_ATTRIBUTE};
-use kmip_wire::{ItemRef, List, OutOfMemory, Tag, TryClone, clone_optional};
+use kmip_wire::{Buffer, ItemRef, List, OutOfMemory, Tag, TryClone, clone_optional};
 use std::alloc::Global;
 
 /// A Template-Attribute: attributes, and names of templates that hold more: KMIP 1.0, 2.1.8.
@@ -48,6 +48,16 @@ impl Item for TemplateAttribute {
     }
 
     ghost faithful = { template_attribute_same };
+}
+
+impl WriteItem for TemplateAttribute {
+    fn wire_len(&self, _tag: Tag) -> Option<u64> {
+        record_len::<TemplateAttributeRows>(fields![&self.name, &self.attributes])
+    }
+
+    fn write_into(&self, tag: Tag, out: &mut Buffer) {
+        write_record::<TemplateAttributeRows>(fields![&self.name, &self.attributes], tag, out);
+    }
 }
 
 impl ReadItem for TemplateAttribute {

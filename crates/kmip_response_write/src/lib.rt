@@ -7,12 +7,7 @@
 //!     let again = from_slice::<ResponseMessage>(alloc, bytes.as_slice())?;
 #![tactic(auto)]
 
-mod item;
 mod laws;
-mod message;
-mod objects;
-mod payloads;
-mod rows;
 mod writing;
 
 pub use laws::{

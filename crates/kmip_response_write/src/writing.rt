@@ -8,23 +8,22 @@ ghost use Rattle.kmip_shape.specs.Writes.{bytes_of};
 ghost use Rattle.kmip_response.specs.Values.{response_message_val};
 ghost use Rattle.kmip_response_write.specs.Settled.{IsSettled, response_bytes, response_read};
 
-use crate::item::WriteResponse;
 use kmip_response::ResponseMessage;
-use kmip_shape::Item;
+use kmip_shape::{Item, WriteItem};
 use kmip_tags::tags::RESPONSE_MESSAGE;
 use kmip_wire::{Blob, Buffer, Tag, WireError};
 use std::alloc::Global;
 
 /// How many canonical bytes an item has, where it has any.
 #[tactic(auto, using(kmip_shape::proofs::Lengths::wire_len_law))]
-fn item_len<T: WriteResponse>(item: &T, tag: Tag) -> Option<u64>
+fn item_len<T: WriteItem>(item: &T, tag: Tag) -> Option<u64>
     ensures { result ≡ option_map length (bytes_of T.shape tag (T.val item.now)) }
 {
     item.wire_len(tag)
 }
 
 /// Appends the canonical bytes of an item.
-fn write_item<T: WriteResponse>(item: &T, tag: Tag, out: &mut Buffer)
+fn write_item<T: WriteItem>(item: &T, tag: Tag, out: &mut Buffer)
     requires { IsSomeAnd (bytes_of T.shape tag (T.val item.now))
         (λ bytes. length bytes ≤ out.old.spare) }
     ensures { IfSome (bytes_of T.shape tag (T.val item.now))
@@ -35,7 +34,7 @@ fn write_item<T: WriteResponse>(item: &T, tag: Tag, out: &mut Buffer)
 
 /// The canonical bytes of an item. `NoForm` comes exactly where there are none, and `Malformed`
 /// never.
-fn to_blob<T: WriteResponse>(alloc: Global, item: &T, tag: Tag) -> Result<Blob, WireError>
+fn to_blob<T: WriteItem>(alloc: Global, item: &T, tag: Tag) -> Result<Blob, WireError>
     ensures { GivesBytes result (bytes_of T.shape tag (T.val item.now)) }
 {
     let Some(len) = item_len(item, tag) else {

@@ -7,7 +7,7 @@ use Rattle.kmip_enums.specs.declared.operation.Operation.{Operation}
 use Rattle.kmip_shape.specs.Shape.{NoCase}
 use Rattle.kmip_shape.specs.Fits.{vals_fit}
 use Rattle.kmip_shape.specs.Writes.{vals}
-use Rattle.kmip_request.specs.Held.{AreTexts as AreCredentialTexts, IsHeld}
+use Rattle.kmip_request.specs.Fits.{FitsCredential, FitsRequest}
 use Rattle.kmip_request.specs.Tables.{request_payload}
 use Rattle.kmip_request.specs.Values.{request_payload_val}
 use Rattle.kmip_request.specs.Message.{request_bytes, operation_of}
@@ -51,7 +51,7 @@ joined (payload ∷ payloads) credential limit rest =
 -- ---- they parse
 
 abbrev RequestsParse : Type 0
-RequestsParse = (p : RequestPayload) (c : Option CredentialType) (b : List ℕ) → IsHeld p c → request_bytes p c ≡ Some b → (t : Tree) × Parses t 1 b
+RequestsParse = (p : RequestPayload) (c : Option CredentialType) (b : List ℕ) → FitsRequest p c → request_bytes p c ≡ Some b → (t : Tree) × Parses t 1 b
 
 abbrev DoParse : List Turn → Type 0
 DoParse turns = AreTexts 1 (messages_of turns)
@@ -103,12 +103,12 @@ requests (payload ∷ payloads) credential limit rest =
 -- ---- what is read of them
 
 abbrev IsFound : RequestPayload → Option CredentialType → List ℕ → Type 0
-IsFound payload credential text = IsHeld payload credential × (request_bytes payload credential ≡ Some text)
+IsFound payload credential text = FitsRequest payload credential × (request_bytes payload credential ≡ Some text)
 
 abbrev Finds : RequestPayload → Option CredentialType → List ℕ → List RequestPayload → List Turn → Type 0
 Finds payload credential text payloads turns = IsSent payload text turns payloads → IsFound payload credential text
 
-found_first : (p payload : RequestPayload) (payloads : List RequestPayload) (credential : Option CredentialType) (limit : Option ℕ) (rest text : List ℕ) (later : List Turn) → IsHeld p credential →
+found_first : (p payload : RequestPayload) (payloads : List RequestPayload) (credential : Option CredentialType) (limit : Option ℕ) (rest text : List ℕ) (later : List Turn) → FitsRequest p credential →
     Finds payload credential text payloads later → Finds payload credential text (p ∷ payloads) (turn_of p credential limit rest ∷ later)
 found_first p payload payloads credential limit rest text later held next (inl here) =
     subst (λ (q : RequestPayload). IsFound q credential text) here.0 (held, here.1)
@@ -137,6 +137,6 @@ gives_back payload credential (Err OutOfMemory) back malformed other = refl
 
 -- ---- what Rust holds
 
-pub held_all : (payloads : List RequestPayload) (credential : Option CredentialType) → vals_fit (vals request_payload_val payloads) NoCase request_payload → AreCredentialTexts credential → AreHeld payloads credential
+pub held_all : (payloads : List RequestPayload) (credential : Option CredentialType) → vals_fit (vals request_payload_val payloads) NoCase request_payload → FitsCredential credential → AreHeld payloads credential
 held_all [] credential fit texts = tt
 held_all (payload ∷ payloads) credential fit texts = ((fit.0, texts), held_all payloads credential fit.1 texts)

@@ -10,7 +10,7 @@ use Rattle.kmip_wire.specs.Reading.{item_of}
 use Rattle.kmip_wire.proofs.Ranges.{bytes_take}
 use Rattle.kmip_diag.specs.Skeleton.{Skeleton, skeleton}
 use Rattle.kmip_types.specs.declared.auth.CredentialType.{CredentialType}
-use Rattle.kmip_request.specs.Held.{IsHeld}
+use Rattle.kmip_request.specs.Fits.{FitsRequest}
 use Rattle.kmip_request.specs.Message.{request_bytes}
 use Rattle.kmip_request.specs.declared.payload.RequestPayload.{RequestPayload}
 use Rattle.kmip_client.specs.Client.{loses_connection}
@@ -23,10 +23,10 @@ use Rattle.kmip_run.specs.Told.{AllAnswered, skeleton_in, skeletons_in}
 
 -- the laws that it stands on
 abbrev RequestsParse : Type 0
-RequestsParse = (p : RequestPayload) (c : Option CredentialType) (b : List ℕ) → IsHeld p c → request_bytes p c ≡ Some b → (t : Tree) × Parses t 1 b
+RequestsParse = (p : RequestPayload) (c : Option CredentialType) (b : List ℕ) → FitsRequest p c → request_bytes p c ≡ Some b → (t : Tree) × Parses t 1 b
 
 abbrev RequestsRange : Type 0
-RequestsRange = (p : RequestPayload) (c : Option CredentialType) (b : List ℕ) (t : Tree) → IsHeld p c → request_bytes p c ≡ Some b → Parses t 1 b → HasRanges t
+RequestsRange = (p : RequestPayload) (c : Option CredentialType) (b : List ℕ) (t : Tree) → FitsRequest p c → request_bytes p c ≡ Some b → Parses t 1 b → HasRanges t
 
 abbrev Computed : Type 0
 Computed = (t : Tree) (level : ℕ) (b : List ℕ) → IsLevel level → (item_of (65 - level) b ≡ Some t) ↔ Parses t level b

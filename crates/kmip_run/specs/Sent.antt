@@ -1,7 +1,7 @@
 -- What a session sends, message by message.
 use Rattle.std.specs.Prelude.{◌≡◌, ℕ, List, [], ◌∷◌, Option, Some, None, Result, Ok, Err, ◌⊎◌}
 use Rattle.kmip_types.specs.declared.auth.CredentialType.{CredentialType}
-use Rattle.kmip_request.specs.Held.{IsHeld}
+use Rattle.kmip_request.specs.Fits.{FitsRequest}
 use Rattle.kmip_request.specs.declared.payload.RequestPayload.{RequestPayload}
 use Rattle.kmip_request_read.specs.declared.reading.RequestReadError.{RequestReadError}
 use Rattle.kmip_request_read.specs.declared.reading.RequestReadError.TheVariants.{OutOfMemory}
@@ -19,7 +19,7 @@ messages_of (turn ∷ turns) = with_message turn.request (messages_of turns)
 -- The payloads and the credential are such as Rust can hold.
 abbrev pub AreHeld : List RequestPayload → Option CredentialType → Type 0
 AreHeld [] credential = Unit {0}
-AreHeld (payload ∷ payloads) credential = IsHeld payload credential × AreHeld payloads credential
+AreHeld (payload ∷ payloads) credential = FitsRequest payload credential × AreHeld payloads credential
 
 -- The text is the message of this request, which is one of these whose calls were made.
 abbrev pub IsSent : RequestPayload → List ℕ → List Turn → List RequestPayload → Type 0

@@ -5,7 +5,7 @@ ghost use Rattle.std.specs.Prelude.{◌≡◌, ◌↔◌, ℕ, List, Option, map
 ghost use Rattle.kmip_wire.specs.Bytes.{AreBytes};
 ghost use Rattle.kmip_wire.specs.Parses.{AreTexts, joined_texts};
 ghost use Rattle.kmip_types.specs.declared.auth.CredentialType.{CredentialType as Credential};
-ghost use Rattle.kmip_request.specs.Held.{AreTexts as AreCredentialTexts};
+ghost use Rattle.kmip_request.specs.Fits.{FitsCredential};
 ghost use Rattle.kmip_request.specs.Message.{request_bytes};
 ghost use Rattle.kmip_request.specs.declared.payload.RequestPayload.{RequestPayload as Payload};
 ghost use Rattle.kmip_request_read.specs.Matched.{IsMatched};
@@ -70,7 +70,7 @@ pub fn sent_requests_are_read(
 
 /// The texts of a credential are UTF-8.
 fn known_credential(credential: &Option<CredentialType>)
-    ensures { AreCredentialTexts credential.now }
+    ensures { FitsCredential credential.now }
 {
     if let Some(CredentialType::UsernameAndPassword(known)) = credential {
         known.username.known();

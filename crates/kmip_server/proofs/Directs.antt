@@ -7,7 +7,7 @@ use Rattle.kmip_request_read.specs.Reading.{Request, request_read, request_for, 
 use Rattle.kmip_server.specs.Split.{IsMessage}
 use Rattle.kmip_server.proofs.Responses.{AreReadBack, ReadsBack, reads_back}
 use Rattle.kmip_server.proofs.Readings.{answer_is, taken_is}
-use Rattle.kmip_request.specs.Held.{IsHeld}
+use Rattle.kmip_request.specs.Fits.{FitsRequest}
 use Rattle.kmip_response_write.specs.Settled.{IsHeld as IsHeldResponse, IsSettled, response_bytes}
 use Rattle.kmip_request_read.specs.Matched.{IsMatched}
 use Rattle.kmip_request.specs.Message.{request_bytes, operation_of}

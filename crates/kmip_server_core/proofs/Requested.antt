@@ -7,7 +7,7 @@ use Rattle.kmip_shape.specs.Fits.{Fits}
 use Rattle.kmip_shape.proofs.Parts.{none_some, some_same}
 use Rattle.kmip_types.specs.SameValues.{same_val, same_val-sound, same_val-refl}
 use Rattle.kmip_types.specs.declared.auth.CredentialType.{CredentialType}
-use Rattle.kmip_request.specs.Held.{AreTexts, IsHeld}
+use Rattle.kmip_request.specs.Fits.{FitsCredential, FitsRequest}
 use Rattle.kmip_request.specs.Message.{request_bytes}
 use Rattle.kmip_request.specs.Same.{request_payload_same}
 use Rattle.kmip_request.specs.Tables.{request_payload}
@@ -90,8 +90,8 @@ other_bytes b p credential c some written other = other_request p c some (λ h. 
 -- ---- what the code writes
 
 -- a call's request was written as these bytes
-pub made_read : ((p : RequestPayload) (c : Option CredentialType) (b : List ℕ) → IsHeld p c → IsMatched p → request_bytes p c ≡ Some b → request_read b ≡ Some (request_for p)) →
-    (call : Call) (p : RequestPayload) (credential : Option CredentialType) (b : List ℕ) → p ≡ request_of call → Fits request_payload (request_payload_val p) → AreTexts credential → request_bytes p credential ≡ Some b →
+pub made_read : ((p : RequestPayload) (c : Option CredentialType) (b : List ℕ) → FitsRequest p c → IsMatched p → request_bytes p c ≡ Some b → request_read b ≡ Some (request_for p)) →
+    (call : Call) (p : RequestPayload) (credential : Option CredentialType) (b : List ℕ) → p ≡ request_of call → Fits request_payload (request_payload_val p) → FitsCredential credential → request_bytes p credential ≡ Some b →
     request_read b ≡ Some (request_for (request_of call))
 made_read reads call p credential b is fits texts written =
     reads (request_of call) credential b (subst (λ x. Fits request_payload (request_payload_val x)) is fits, texts) (helper_is_matched call) (subst (λ x. request_bytes x credential ≡ Some b) is written)

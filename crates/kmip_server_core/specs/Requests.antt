@@ -9,7 +9,7 @@ use Rattle.kmip_request.specs.Message.{operation_of}
 use Rattle.kmip_request.specs.Values.{request_payload_val}
 use Rattle.kmip_request.specs.declared.payload.RequestPayload.{RequestPayload}
 use Rattle.kmip_request_read.specs.Reading.{Request}
-use Rattle.kmip_helpers.specs.Requests.{query_request, key_pair_request, rng_request, sign_request, activate_request, revoke_request, destroy_request, rename_request, get_request}
+use Rattle.kmip_request.specs.Requests.{query_request, key_pair_request, rng_request, sign_request, activate_request, revoke_request, destroy_request, rename_request, get_request}
 use Rattle.kmip_store.specs.declared.call.Call.{Call}
 use Rattle.kmip_store.specs.declared.call.Call.TheVariants.{Query, CreateRsaKeyPair, RngRetrieve, Sign, ActivateKey, RevokeKey, DestroyKey, RenameKey, GetKey}
 

@@ -2,18 +2,17 @@
 
 ghost use Rattle.std.specs.Prelude.{◌≡◌, true, false, Some, IfOk};
 ghost use Rattle.kmip_shape.specs.Fits.{Fits};
-ghost use Rattle.kmip_request.specs.Held.{AreTexts};
+ghost use Rattle.kmip_request.specs.Fits.{FitsCredential};
 ghost use Rattle.kmip_request.specs.Message.{request_bytes};
 ghost use Rattle.kmip_request.specs.Tables.{request_payload};
 ghost use Rattle.kmip_request.specs.Values.{request_payload_val};
 ghost use Rattle.kmip_request_read.specs.Reading.{request_for, request_read};
 ghost use Rattle.kmip_server_core.specs.Requests as calls;
 
-use kmip_helpers::{
-    activate_request, destroy_request, get_request, key_pair_request, query_request,
-    rename_request, revoke_request, sign_request,
+use kmip_request::{
+    RequestPayload, activate_request, destroy_request, get_request, key_pair_request,
+    query_request, rename_request, revoke_request, sign_request, to_vec,
 };
-use kmip_request::{RequestPayload, to_vec};
 use kmip_request_read::{RequestReadError, from_slice, request_is_read};
 use kmip_shape::Item;
 use kmip_store::Call;
@@ -60,7 +59,7 @@ pub fn call_known(alloc: Global, call: &Call) -> Result<(), OutOfMemory>
 
 /// The texts of a credential are UTF-8.
 fn texts_known(credential: &Option<CredentialType>)
-    ensures { AreTexts credential.now }
+    ensures { FitsCredential credential.now }
 {
     match credential {
         Some(CredentialType::UsernameAndPassword(credential)) => {

@@ -1,4 +1,4 @@
--- A required row by its case.
+-- A required row under the tag of its case.
 use Rattle.std.proofs.Common.{◌≡◌, ℕ, Bool, true, false, cond, List, [], ◌∷◌, Option, Some, None, filter, refl, ap}
 use Rattle.std.specs.Option.{option_map, option_and_then}
 use Rattle.kmip_wire.specs.Tree.{Tree}
@@ -36,7 +36,7 @@ by_number (AndCase k name selector fixed shape cases) around outer n ts = go (ma
     go true h = ap (marked_field Required (λ tree. option_map (Case k) (read_in shape around outer tree))) (one_tag (tag_or fixed 0) ts)
     go false h = h
 
--- what a row by its case reads is what the case of the chooser's number reads under its tag
+-- such a row is read as the case of the chooser's number reads the item under its tag
 pub case_field_law : (cases : Cases) (outer : OuterValue) (ts : List Tree)
     → marked_field Required (read_of (Choice OfNumber cases) outer) (filter (in_place ByCase (Choice OfNumber cases) outer) ts) ≡ option_and_then (λ n. case_field cases cases outer n ts) outer.number
 case_field_law cases outer ts = go outer.number

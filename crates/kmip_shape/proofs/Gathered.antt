@@ -1,4 +1,4 @@
--- One more item of a row of many.
+-- One more item of a row that holds several.
 use Rattle.std.proofs.Common.{◌≡◌, Option, Some, None, List, [], ◌∷◌, ◌++◌, refl, ap, map, arith, length, ◌<◌}
 use Rattle.std.proofs.lemmas.List.{map-append}
 use Rattle.std.specs.Option.{option_map, option_and_then}

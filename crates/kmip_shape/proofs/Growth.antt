@@ -6,7 +6,7 @@ use Rattle.kmip_shape.specs.declared.style.Style.TheVariants.{Bare, Json}
 use Rattle.kmip_shape.specs.Val.{Val}
 use Rattle.kmip_shape.specs.Shape.{Shape, NoCase}
 use Rattle.kmip_shape.specs.Writes.{vals}
-use Rattle.kmip_shape.specs.Shown.{Growing, Grows, AddsPart, always, comma, styled_in, list_styled, text_styled, beside, in_brackets, case_opening, case_closing, brackets_opening, brackets_closing}
+use Rattle.kmip_shape.specs.Shown.{Growing, Grows, AddsPart, always, comma, val_in_style, list_in_style, text_in_style, beside, in_brackets, case_opening, case_closing, brackets_opening, brackets_closing}
 
 none_added : (old text : List ℕ) → AddsPart old old text
 none_added old text = record { part = []; rest = text; whole = refl; added = sym (append-nil old) }
@@ -77,14 +77,14 @@ case_grown {a} {b} {c} {d} name {text} p q r = in_style {x = λ s. case_opening 
   where
     same : (s : Style) → case_opening name s ++ (text s ++ case_closing s) ≡ beside name text s
     same Bare = ap (λ z. name ++ z) (append-nil (text Bare))
-    same Json = ap (λ z. 123 ∷ z) (append_assoc (text_styled name Json) (58 ∷ []) (text Json ++ 125 ∷ []))
+    same Json = ap (λ z. 123 ∷ z) (append_assoc (text_in_style name Json) (58 ∷ []) (text Json ++ 125 ∷ []))
 
 pub brackets_grown : {a b c d : Growing} (name : List ℕ) {text : Style → List ℕ} → Grows a b (brackets_opening name) → Grows b c text → Grows c d brackets_closing → Grows a d (in_brackets name text)
 brackets_grown {a} {b} {c} {d} name {text} p q r = in_style {x = λ s. brackets_opening name s ++ (text s ++ brackets_closing s)} {y = in_brackets name text} (same a.style) (grown p (grown q r))
   where
     same : (s : Style) → brackets_opening name s ++ (text s ++ brackets_closing s) ≡ in_brackets name text s
     same Bare = append_assoc name (40 ∷ []) (text Bare ++ 41 ∷ [])
-    same Json = ap (λ z. 123 ∷ z) (append_assoc (text_styled name Json) (58 ∷ []) (text Json ++ 125 ∷ []))
+    same Json = ap (λ z. 123 ∷ z) (append_assoc (text_in_style name Json) (58 ∷ []) (text Json ++ 125 ∷ []))
 
 -- a text of several parts: what shows the parts after the first shows all
 pub bytes_done : {a : Growing} (show : Style → ℕ → List ℕ) (xs : List ℕ) → length xs ≡ 0 → Grows a a (λ s. flat_map (show s) xs)
@@ -98,9 +98,9 @@ bytes_step {a} {b} {c} show xs first tail e p q =
     (sym (ap (flat_map (show a.style)) e ∙ flat_map-append (show a.style) first tail)) (grown p q)
 
 pub items_step : {A : Type 0} {a b c d : Growing} (f : A → Val) (shape : Shape) (xs : List A) (x : A) (tail : List A) (after : Bool) → xs ≡ x ∷ tail
-    → Grows a b (always (comma after)) → Grows b c (styled_in (f x) NoCase shape) → Grows c d (list_styled (vals f tail) NoCase shape true) → Grows a d (list_styled (vals f xs) NoCase shape after)
+    → Grows a b (always (comma after)) → Grows b c (val_in_style (f x) NoCase shape) → Grows c d (list_in_style (vals f tail) NoCase shape true) → Grows a d (list_in_style (vals f xs) NoCase shape after)
 items_step {A} {a} {b} {c} {d} f shape xs x tail after e p q r =
-    subst (λ (ys : List A). Grows a d (list_styled (vals f ys) NoCase shape after)) (sym e) (grown p (grown q r))
+    subst (λ (ys : List A). Grows a d (list_in_style (vals f ys) NoCase shape after)) (sym e) (grown p (grown q r))
 
-pub items_done : {A : Type 0} {a : Growing} (f : A → Val) (shape : Shape) (xs : List A) (after : Bool) → xs ≡ [] → Grows a a (list_styled (vals f xs) NoCase shape after)
-items_done {A} {a} f shape xs after h = subst (λ (ys : List A). Grows a a (list_styled (vals f ys) NoCase shape after)) (sym h) nothing
+pub items_done : {A : Type 0} {a : Growing} (f : A → Val) (shape : Shape) (xs : List A) (after : Bool) → xs ≡ [] → Grows a a (list_in_style (vals f xs) NoCase shape after)
+items_done {A} {a} f shape xs after h = subst (λ (ys : List A). Grows a a (list_in_style (vals f ys) NoCase shape after)) (sym h) nothing

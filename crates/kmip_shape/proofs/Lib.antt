@@ -21,3 +21,4 @@ pub mod Dated
 pub mod Examples
 pub mod Ranges
 pub mod Digits
+pub mod Json

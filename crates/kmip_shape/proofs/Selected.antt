@@ -1,4 +1,4 @@
--- What reads as the value that it was written for holds, in each choice, the case that is selected there.
+-- A value whose tree is read as itself has, in each choice, the case that is selected there.
 use Rattle.std.proofs.Common.{◌≡◌, ℕ, Bool, true, false, cond, List, [], ◌∷◌, ◌++◌, Option, Some, None, IfSome, filter, refl, sym, ◌∙◌, ap, subst, append_assoc}
 use Rattle.std.specs.Option.{option_map, option_and_then}
 use Rattle.kmip_wire.specs.Tree.{Scalar as Leaf, Tree, scalar, structure, trees_of, list_of, list_of-trees_of}
@@ -14,7 +14,7 @@ use Rattle.kmip_shape.proofs.Parts.{none_some, some_same, found_some, one_some, 
 use Rattle.kmip_shape.proofs.Cases.{among_same, read_selected, case_once, case_tag_among, selected_tag_among, fixed_none, choice_parts, row_within}
 use Rattle.kmip_shape.proofs.Inside.{row_apart}
 
--- ---- what a field was counted from
+-- ---- the items that a field was read from
 
 map_one : (o : Option Val) (v : Val) → option_map One o ≡ Some (One v) → o ≡ Some v
 map_one None v h = none_some _ h
@@ -57,7 +57,7 @@ each_more (Some w) (Some ws) v vs h =
     let e : w ≡ v = cc in
     let f : ws ≡ vs = cc in (ap Some e, ap Some f)
 
--- a list that is wanted is not empty
+-- at least one item gives at least one value
 not_empty : (read : Tree → Option Val) (t : Tree) (ts : List Tree) (vs : Vals) (P : Vals → Type 0) → ((v : Val) (ws : Vals) → P (AndVal v ws)) → each read (t ∷ ts) ≡ Some vs → P vs
 not_empty read t ts NoVal P f h = absurd (each_none (read t) (each read ts) h)
 not_empty read t ts (AndVal v ws) P f h = f v ws
@@ -142,7 +142,7 @@ at_case rule cases n v outer tag t c e h sel inner =
     subst (λ (o : Option Found). elim o as (λ _. Type 0) [ None ↦ Unit {0} | Some d ↦ IfSome (tree_in v cases d.shape (tag_or d.tag tag)) (λ u. selected_case (key_of rule cases outer u) cases ≡ Some n) × selected_in v cases d.shape outer (tag_or d.tag tag) ])
     (sym e) (here, inner)
 
--- ---- the tags that what is read stands under
+-- ---- the tags of the items that are read
 
 -- the value was read from some item
 abbrev Reads : Shape → OuterValue → Val → Type 0

@@ -8,7 +8,7 @@ use Rattle.std.proofs.lemmas.Slice.Eq.{bytes_eq-Decides}
 use Rattle.kmip_shape.specs.Val.{Number}
 use Rattle.kmip_shape.specs.Shape.{Entry, in_table}
 use Rattle.kmip_shape.specs.declared.style.Style.{Style}
-use Rattle.kmip_shape.specs.Shown.{entry_styled, word}
+use Rattle.kmip_shape.specs.Shown.{entry_in_style, word}
 use Rattle.kmip_shape.specs.Enumerations.{variant_at, enumeration_val, has_name, are_distinct, AreFound, AreDistinct, some_same}
 
 pub entry_read : {T : Type 0} (line : T → Entry) (xs : List T) (n : ℕ) → (if in_table n (map line xs) then Some (Number (pos n)) else None) ≡ option_map (enumeration_val line) (variant_at line xs n)
@@ -19,9 +19,9 @@ pub found_in_table : {T : Type 0} (line : T → Entry) (xs : List T) (n : ℕ) (
 found_in_table line [] n x h = cc
 found_in_table line (y ∷ xs) n x h = grind (arith, nat_tests, found_in_table line xs n x)
 
-pub found_styled : {T : Type 0} (line : T → Entry) (xs : List T) (n : ℕ) (x : T) → variant_at line xs n ≡ Some x → (o : Style) → entry_styled (map line xs) n o ≡ word (line x).name o
-found_styled line [] n x h o = cc
-found_styled line (y ∷ xs) n x h o = grind (arith, nat_tests, found_styled line xs n x)
+pub found_in_style : {T : Type 0} (line : T → Entry) (xs : List T) (n : ℕ) (x : T) → variant_at line xs n ≡ Some x → (o : Style) → entry_in_style (map line xs) n o ≡ word (line x).name o
+found_in_style line [] n x h o = cc
+found_in_style line (y ∷ xs) n x h o = grind (arith, nat_tests, found_in_style line xs n x)
 
 -- the first of the variants that has the name
 abbrev named : {T : Type 0} → (T → Entry) → List T → List ℕ → Option T

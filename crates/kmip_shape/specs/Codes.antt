@@ -1,4 +1,4 @@
--- The code of a value, by which a proof tells values apart.
+-- An injective code of values, by which a proof tells them apart.
 use Rattle.std.specs.Prelude.{ℕ, ◌≡◌, refl}
 use Rattle.std.proofs.Common.{ap, ◌∙◌}
 use base.Stored.{Gv, gnil, gcons, Coded, coded_ℕ, coded_ℤ, coded_bool, coded_list}

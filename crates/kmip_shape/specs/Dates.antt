@@ -1,11 +1,11 @@
--- A date of a signed 64-bit number of seconds.
+-- A Date-Time held as a signed number of seconds (KMIP 1.0, 9.1.1.4).
 use Rattle.std.specs.Prelude.{◌+◌, ◌-◌, ◌^◌, ◌<◌, ◌≤◌, ℤ, pos, negsuc, suc, Bool, true, false, cond, nat_lt, ◌≡◌, refl}
 use Rattle.std.proofs.Common.{ap, sym, ◌∙◌, arith, lt-ltb, le-ltb, ltb-true, ltb-false}
 use Rattle.kmip_shape.specs.Val.{Val, Number}
 use Rattle.kmip_shape.specs.Same.{same_number}
 
--- The unsigned number of the same 64 bits. A number that is none of the signed ones is put past
--- them all.
+-- The unsigned number of the same 64 bits. A number outside the signed range, which no `i64` is, is
+-- moved past 2^64, so that no two numbers become one.
 abbrev pub date_number : ℤ → ℤ
 date_number (pos n) = cond (nat_lt n (2 ^ 63)) (pos n) (pos (n + 2 ^ 63))
 date_number (negsuc n) = cond (nat_lt n (2 ^ 63)) (pos (2 ^ 64 - suc n)) (negsuc n)

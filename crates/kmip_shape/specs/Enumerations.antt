@@ -10,7 +10,7 @@ use Rattle.kmip_shape.specs.Same.{IsFaithful, same_unsigned}
 abbrev pub entry : ℕ → List ℕ → Entry
 entry number name = record { number = number; name = name }
 
--- the first of the variants that has the number, and none where no line has it
+-- the first variant with the number, and none where there is none
 abbrev pub variant_at : {T : Type 0} → (T → Entry) → List T → ℕ → Option T
 variant_at line [] n = None
 variant_at line (x ∷ xs) n = cond (nat_eq (line x).number n) (Some x) (variant_at line xs n)
@@ -44,7 +44,7 @@ pub same_variant : {T : Type 0} (line : T → Entry) (variants : List T) → Are
 same_variant line variants found x y h =
     some_same (sym (found x) ∙ (ap (variant_at line variants) (same_unsigned h) ∙ found y))
 
--- two variants are one where the numbers are, or the names are
+-- variants with the same number are equal, and so are variants with the same name
 abbrev pub AreDistinct : {T : Type 0} → (T → Entry) → Type 0
 AreDistinct {T} line =
     ((x y : T) → (line x).number ≡ (line y).number → x ≡ y) ×

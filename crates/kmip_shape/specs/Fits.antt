@@ -72,7 +72,7 @@ abbrev mutual
   vals_fit NoVal around shape = Unit {0}
   vals_fit (AndVal val vals) around shape = fits_in val around shape × vals_fit vals around shape
 
--- the value is of the shape, with its numbers in range
+-- a value without parts fits the shape, with its numbers in range
 abbrev pub Fits : Shape → Val → Type 0
 Fits shape val = fits_in val NoCase shape
 
@@ -141,7 +141,7 @@ abbrev mutual
   vals_selected (AndVal val vals) around shape outer tag =
       selected_in val around shape outer tag × vals_selected vals around shape outer tag
 
--- No tag twice.
+-- No tag stands twice in a record.
 
 -- the tags under which the items of a row may stand, whatever is around them
 abbrev pub all_tags : Place → Shape → List ℕ
@@ -166,8 +166,8 @@ fixes_none NoCase = true
 fixes_none (AndCase n name selector None shape cases) = fixes_none cases
 fixes_none (AndCase n name selector (Some t) shape cases) = false
 
--- under a tag stands no choice whose cases fix one, and by its cases only a choice by number or by
--- tag
+-- a row under a tag is no choice whose cases have tags of their own, and a row by its cases is a
+-- choice by number or by tag
 abbrev pub place_stands : Place → Shape → Bool
 place_stands (Under tag) (Choice rule cases) = fixes_none cases
 place_stands (Under tag) _ = true
@@ -200,7 +200,7 @@ abbrev mutual
       not (among n (numbers cases)) &&
       (not (is_choice shape) && (tags_once shape && cases_once cases))
 
--- Choosers stand where they can be used.
+-- Choosers stand where their values can be used.
 
 abbrev pub gives_outer : Shape → Bool
 gives_outer (OneOf entries) = true
@@ -212,7 +212,7 @@ is_single Required = true
 is_single Optional = true
 is_single _ = false
 
--- at most one chooser, a single field of an enumeration or a text, and above what it chooses
+-- at most one chooser, which is a single field of an enumeration or a text, before the chosen rows
 abbrev pub rows_choose : Bool → RowList → Bool
 rows_choose seen NoRow = true
 rows_choose seen (AndRow name place mark Plain shape rows) = rows_choose seen rows
@@ -225,7 +225,7 @@ choosers_stand (Rows rows) = rows_choose false rows
 choosers_stand (RowsOrBytes n rows) = rows_choose false rows
 choosers_stand _ = true
 
--- the tags of the rows are tags
+-- the tags of the rows are below 2^24
 abbrev pub are_tags : RowList → Bool
 are_tags NoRow = true
 are_tags (AndRow name place mark role shape rows) =

@@ -10,3 +10,4 @@ pub mod Resume
 pub mod Shown
 pub mod Enumerations
 pub mod Dates
+pub mod Json

@@ -14,7 +14,7 @@ each read [] = Some NoVal
 each read (tree ∷ trees) =
     option_and_then (λ val. option_map (AndVal val) (each read trees)) (read tree)
 
--- the field that the items of a row make, counted by its mark
+-- the field that the items of a row are read as, where their number is one that the mark allows
 abbrev pub marked_field : Mark → (Tree → Option Val) → List Tree → Option Field
 marked_field Required read [] = None
 marked_field Required read (tree ∷ []) = option_map One (read tree)
@@ -28,12 +28,12 @@ marked_field AtLeastOne read (tree ∷ trees) = option_map Many (each read (tree
 marked_field OptionalList read [] = Some Absent
 marked_field OptionalList read (tree ∷ trees) = option_map Many (each read (tree ∷ trees))
 
--- a field, and the fields of the rows after it
+-- a field before the fields of the rows after it, where both are read
 abbrev pub with_field : Option Field → (Field → Option Fields) → Option Fields
 with_field None rest = None
 with_field (Some field) rest = option_map (AndField field) (rest field)
 
--- what an item of the kind holds
+-- the value of an item of the kind
 abbrev pub read_kind : Kind → Tree → Option Val
 read_kind Structure tree = None
 read_kind Integer tree = option_map Number (int_in tree)
@@ -85,7 +85,8 @@ abbrev mutual
       option_and_then (λ trees. option_map (λ vals. Record (AndField (Many vals) NoField))
       (each (read_plain around) trees)) (children_in tree)
 
-  -- the fields of rows, of which the chooser seen so far gives the second outer value
+  -- the fields of rows: `outer` is the chooser around the record, `chosen` that of the record itself
+  -- as far as its rows were read
   pub read_rows : RowList → OuterValue → OuterValue → List Tree → Option Fields
   read_rows NoRow outer chosen trees = Some NoField
   read_rows (AndRow name place mark role shape rows) outer chosen trees =
@@ -93,17 +94,17 @@ abbrev mutual
       (filter (in_place place shape (outer_for role outer chosen)) trees))
       (λ field. read_rows rows outer (chosen_after role field chosen) trees)
 
-  -- the first case that the key selects
+  -- an item read by the first case that the key selects
   pub read_case : Cases → Cases → Key → OuterValue → Tree → Option Val
   read_case NoCase around key outer tree = None
   read_case (AndCase n name selector fixed shape cases) around key outer tree =
       if matches key selector then option_map (Case n) (read_in shape around outer tree)
       else read_case cases around key outer tree
 
--- the value that a tree reads as, where it reads as one
+-- the value that a tree is read as, and none where it is no encoding of a value of the shape
 abbrev pub read_of : Shape → OuterValue → Tree → Option Val
 read_of shape outer tree = read_in shape NoCase outer tree
 
--- the value of a structure that stands alone, under its tag
+-- the value of an outermost structure, which has this tag
 abbrev pub root_read : Shape → ℕ → Tree → Option Val
 root_read shape tag tree = if tag_of tree == tag then read_of shape no_outer tree else None

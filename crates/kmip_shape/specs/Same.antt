@@ -3,7 +3,7 @@ use Rattle.std.proofs.Common.{ap, ◌∙◌}
 use Rattle.kmip_shape.specs.Val.{Val, Field, Fields, Number, Text, Bytes, Truth, Record, Case, One, Many, NoField, AndField}
 use Rattle.kmip_shape.specs.Writes.{optional, vals, optional_list}
 
--- Equal fields, one row after the other.
+-- Equal records have equal fields, row by row.
 
 pub same_record : {fs gs : Fields} → Record fs ≡ Record gs → fs ≡ gs
 same_record h = cc
@@ -29,7 +29,7 @@ same_number h = cc
 pub same_unsigned : {x y : ℕ} → Number (pos x) ≡ Number (pos y) → x ≡ y
 same_unsigned h = cc
 
--- values that are seen alike are equal
+-- values of the same meaning are equal
 abbrev pub IsFaithful : {T V : Type 0} → (T → V) → Type 0
 IsFaithful {T} {V} val = (x y : T) → val x ≡ val y → x ≡ y
 

@@ -7,17 +7,17 @@ use Rattle.kmip_wire.specs.declared.kind.Kind.TheVariants.{Integer, LongInteger,
 use Rattle.std.specs.Str.{bytes_eq}
 use Rattle.kmip_shape.specs.Val.{Val, Field, Number, Text, Bytes, Truth, Absent, One, Many}
 
--- how often a field's tag may stand
+-- how many items of a row there may be
 pub data Mark : Type 0 where
   Required Optional AnyNumber AtLeastOne OptionalList : Mark
 
--- what a row has to do with choosing: the rows after a chooser that are chosen are read with its
--- value as
--- their outer value, the others with that of the record; a record has at most one chooser
+-- what a row has to do with choosing: the value of a chooser selects the cases of the chosen rows
+-- after it; those of the other rows are selected by the chooser around the record. A record has at
+-- most one chooser.
 pub data Role : Type 0 where
   Plain Chooser Chosen : Role
 
--- the tag of a row's items, or that the cases of its choice fix it
+-- where a row's items are found: under a tag, or under the tags of the cases of its choice
 pub data Place : Type 0 where
   Under : ℕ → Place
   ByCase : Place
@@ -33,11 +33,11 @@ pub data Selector : Type 0 where
   ByNames : List (List ℕ) → Selector
   ByKind : Kind → Selector
   ByTag : ℕ → Selector
-  -- never selected, and without a wire form
+  -- by nothing: the case is never selected and has no wire form
   Formless : Selector
 
--- by what a choice selects: the outer number, the outer text and else the item's type, or the
--- item's tag
+-- by what a case is selected: the chooser's number; the chooser's text, or else the item's type; or
+-- the item's tag
 pub data Rule : Type 0 where
   OfNumber OfName OfTag : Rule
 
@@ -46,7 +46,8 @@ mutual
     Scalar : Kind → Shape
     OneOf : List Entry → Shape
     Rows : RowList → Shape
-    -- rows with a byte form, whose case of the first field's choice is named
+    -- rows, or the bytes alone of the first field, where it is of the case of this number and the
+    -- other fields are absent
     RowsOrBytes : ℕ → RowList → Shape
     Choice : Rule → Cases → Shape
     -- a list of values of the choice around it
@@ -59,14 +60,14 @@ mutual
 
   pub data Cases : Type 0 where
     NoCase : Cases
-    -- number, name, selector, the item's tag where the case fixes it, shape
+    -- number, name, selector, the item's tag where the case has its own, shape
     AndCase : ℕ → List ℕ → Selector → Option ℕ → Shape → Cases → Cases
 
 -- the tag of every child of a custom structure
 abbrev pub attribute_value : ℕ
 attribute_value = 0x42000B
 
--- a case of a choice, looked up by its number
+-- a case of a choice, found by its number
 pub record Found : Type 0 where
   pub name : List ℕ
   pub selector : Selector
@@ -115,7 +116,7 @@ abbrev pub in_table : ℕ → List Entry → Bool
 in_table n [] = false
 in_table n (entry ∷ entries) = nat_eq entry.number n || in_table n entries
 
--- the chooser values of the structures around an item
+-- the chooser around an item: the value by which its cases are selected
 pub record OuterValue : Type 0 where
   pub number : Option ℕ
   pub name : Option (List ℕ)
@@ -123,7 +124,7 @@ pub record OuterValue : Type 0 where
 abbrev pub no_outer : OuterValue
 no_outer = record { number = None; name = None }
 
--- what a choice looks for in its cases
+-- what the selectors of a choice's cases are compared with
 pub data Key : Type 0 where
   NumberKey : ℕ → Key
   NameKey : List ℕ → Key
@@ -152,7 +153,7 @@ abbrev pub number_key : Option ℕ → Key
 number_key None = NoKey
 number_key (Some n) = NumberKey n
 
--- the name where it is in the table, and else the item's type
+-- the name, where it selects a case, and else the item's type
 abbrev pub name_key : Option (List ℕ) → Cases → Tree → Key
 name_key None cases tree = type_key tree
 name_key (Some s) cases tree =
@@ -167,12 +168,12 @@ abbrev pub tag_or : Option ℕ → ℕ → ℕ
 tag_or None tag = tag
 tag_or (Some t) tag = t
 
--- the tags that the cases fix
+-- the tags of the cases
 abbrev pub case_tags : Cases → List ℕ
 case_tags NoCase = []
 case_tags (AndCase n name selector fixed shape cases) = tag_or fixed 0 ∷ case_tags cases
 
--- the tag that the selected case fixes: none where none is selected
+-- the tag of the selected case, and none where none is selected
 abbrev pub selected_tags : Key → Cases → List ℕ
 selected_tags key NoCase = []
 selected_tags key (AndCase n name selector fixed shape cases) =
@@ -183,7 +184,7 @@ own_tags (Choice OfTag cases) outer = case_tags cases
 own_tags (Choice OfNumber cases) outer = selected_tags (number_key outer.number) cases
 own_tags _ outer = []
 
--- the tag that a row's items are written under, where their case fixes none
+-- the tag that a row's items are written under, where their case has none of its own
 abbrev pub place_tag : Place → ℕ
 place_tag (Under tag) = tag
 place_tag ByCase = 0
@@ -191,18 +192,18 @@ place_tag ByCase = 0
 abbrev pub has_tag : ℕ → Tree → Bool
 has_tag tag tree = tag_of tree == tag
 
--- whether an item is one of a row's
+-- whether an item is one of the row's
 abbrev pub in_place : Place → Shape → OuterValue → Tree → Bool
 in_place (Under tag) shape outer = has_tag tag
 in_place ByCase shape outer = λ tree. among (tag_of tree) (own_tags shape outer)
 
--- the outer value of a row's items, from that of the record and that of its chooser
+-- the chooser of a row's items, from the one around the record and the record's own
 abbrev pub outer_for : Role → OuterValue → OuterValue → OuterValue
 outer_for Plain outer chosen = outer
 outer_for Chooser outer chosen = outer
 outer_for Chosen outer chosen = chosen
 
--- the outer value that a value gives
+-- a value as a chooser
 abbrev pub val_outer : Val → OuterValue
 val_outer (Number (pos n)) = record { number = Some n; name = None }
 val_outer (Text s) = record { number = None; name = Some s }
@@ -213,7 +214,7 @@ chosen_by Absent = no_outer
 chosen_by (One val) = val_outer val
 chosen_by (Many vals) = no_outer
 
--- the outer value of the chosen rows after a row
+-- the chooser of the chosen rows after a row
 abbrev pub chosen_after : Role → Field → OuterValue → OuterValue
 chosen_after Plain field chosen = chosen
 chosen_after Chooser field chosen = chosen_by field

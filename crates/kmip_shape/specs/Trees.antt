@@ -22,13 +22,13 @@ abbrev pub one_tree : Option Tree → Option (List Tree)
 one_tree None = None
 one_tree (Some tree) = Some (tree ∷ [])
 
--- both lists, one after the other
+-- both lists, one after the other, where there are both
 abbrev pub then_trees : Option (List Tree) → Option (List Tree) → Option (List Tree)
 then_trees None more = None
 then_trees (Some trees) None = None
 then_trees (Some trees) (Some more) = Some (trees ++ more)
 
--- a child of a custom structure has a tree where it is a leaf
+-- the tree of a child of a custom structure, which has one where it is a leaf
 abbrev pub plain_tree : Cases → Val → Option Tree
 plain_tree cases (Case n val) =
     elim (case_at cases n) [ None ↦ None | Some c ↦ leaf_tree c.shape attribute_value val ]
@@ -48,7 +48,7 @@ all_absent NoField = true
 all_absent (AndField Absent fields) = all_absent fields
 all_absent (AndField _ fields) = false
 
--- the bytes of a record in its byte form
+-- the bytes of the first field, where it is of the case n and the other fields are absent
 abbrev pub byte_form : ℕ → Fields → Option (List ℕ)
 byte_form n (AndField (One (Case m (Bytes b))) fields) =
     cond (nat_eq m n && all_absent fields) (Some b) None
@@ -101,6 +101,6 @@ abbrev mutual
   list_trees (AndVal val vals) around shape tag =
       then_trees (one_tree (tree_in val around shape tag)) (list_trees vals around shape tag)
 
--- the tree of a value of the shape under the tag
+-- the tree of a value of the shape, with this tag where no case has its own
 abbrev pub tree_of : Shape → ℕ → Val → Option Tree
 tree_of shape tag val = tree_in val NoCase shape tag

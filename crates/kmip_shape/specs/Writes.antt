@@ -1,4 +1,5 @@
--- What a value is written as, how long that is and whether it has a form, field by field.
+-- The text that a value is written as, its length, and whether it has a wire form, field by field.
+-- By `laws::written` this says of a value what `bytes_of` says of its tree.
 use Rattle.std.specs.Prelude.{ℕ, ◌+◌, ◌%◌, ◌^◌, ◌<◌, Bool, true, false, cond, ◌&&◌, List, [], ◌∷◌, ◌++◌, length, map, Option, Some, None, nat_lt, ◌≡◌}
 use Rattle.kmip_wire.specs.Tree.{Scalar as Leaf, integer, long_integer, big_integer, enumeration, boolean, text_string, byte_string, date_time, interval}
 use Rattle.kmip_wire.specs.declared.kind.Kind.TheVariants.{Enumeration}
@@ -22,7 +23,7 @@ len_of (byte_string b) = length b
 len_of (date_time n) = 8
 len_of (interval n) = 4
 
--- the item of a leaf, whatever its length, and how long it is
+-- the bytes of a leaf's item, whatever its length, and how many there are
 abbrev pub leaf_text : ℕ → Leaf → List ℕ
 leaf_text tag leaf = item_bytes tag (code_of (kind_of_scalar leaf)) (value_bytes leaf)
 
@@ -33,7 +34,7 @@ leaf_size leaf = 8 + len_of leaf + pads (len_of leaf)
 unfoldable pub structure_head : ℕ → ℕ → List ℕ
 structure_head tag size = head_bytes tag 1 size
 
--- whether an item of it has a form
+-- whether a leaf's item has canonical bytes
 abbrev pub leaf_form : Leaf → Type 0
 leaf_form (big_integer b) = (length b < 2 ^ 32) × (length b % 8 ≡ 0)
 leaf_form leaf = len_of leaf < 2 ^ 32
@@ -41,7 +42,7 @@ leaf_form leaf = len_of leaf < 2 ^ 32
 abbrev pub leaf_has_form : Leaf → Bool
 leaf_has_form leaf = has_form leaf && nat_lt (len_of leaf) (2 ^ 32)
 
--- The leaf that a value without parts writes.
+-- the leaf that a value without parts is written as
 abbrev pub leaf_at : Shape → Val → Option Leaf
 leaf_at (Scalar kind) val = leaf_of kind val
 leaf_at (OneOf entries) val = leaf_of Enumeration val
@@ -63,7 +64,7 @@ abbrev pub maybe_len : Option Leaf → Option ℕ
 maybe_len None = None
 maybe_len (Some leaf) = cond (leaf_has_form leaf) (Some (leaf_size leaf)) None
 
--- a child of a custom structure
+-- the leaf that a child of a custom structure is written as
 abbrev pub plain_leaf : Cases → Val → Option Leaf
 plain_leaf around (Case n val) =
     elim (case_at around n) [ None ↦ None | Some c ↦ leaf_at c.shape val ]
@@ -82,7 +83,7 @@ plains_text around NoVal = []
 plains_text around (AndVal val vals) =
     maybe_text attribute_value (plain_leaf around val) ++ plains_text around vals
 
--- both lengths together, which are below what a length field holds
+-- the sum of both lengths, where a length field can hold it
 abbrev pub plus_len : Option ℕ → Option ℕ → Option ℕ
 plus_len None more = None
 plus_len (Some len) None = None
@@ -92,7 +93,7 @@ abbrev pub structure_len : Option ℕ → Option ℕ
 structure_len None = None
 structure_len (Some len) = Some (8 + len)
 
--- the length of several rows together
+-- the sum of the lengths of several rows
 abbrev pub sum_len : List (Option ℕ) → Option ℕ
 sum_len [] = Some 0
 sum_len (len ∷ lens) = plus_len len (sum_len lens)
@@ -115,7 +116,7 @@ abbrev pub custom_len : Cases → Fields → Option ℕ
 custom_len around (AndField (Many vals) NoField) = structure_len (plains_len around vals)
 custom_len around _ = None
 
--- How many bytes a value is written in.
+-- how many bytes a value is written in
 abbrev mutual
   pub size_in : Val → Cases → Shape → ℕ
   size_in (Number z) around shape = maybe_size (leaf_at shape (Number z))
@@ -153,7 +154,7 @@ abbrev mutual
   list_size NoVal shape = 0
   list_size (AndVal val vals) shape = size_in val NoCase shape + list_size vals shape
 
--- Whether a value has a wire form.
+-- whether a value has a wire form
 abbrev mutual
   pub form_in : Val → Cases → Shape → Type 0
   form_in (Number z) around shape = maybe_form (leaf_at shape (Number z))
@@ -196,7 +197,7 @@ abbrev mutual
   list_form NoVal shape = Unit {0}
   list_form (AndVal val vals) shape = form_in val NoCase shape × list_form vals shape
 
--- What a value is written as, where it has a form.
+-- the bytes that a value is written as, where it has a form
 abbrev mutual
   pub text_in : Val → Cases → Shape → ℕ → List ℕ
   text_in (Number z) around shape tag = maybe_text tag (leaf_at shape (Number z))
@@ -237,7 +238,7 @@ abbrev mutual
   list_text NoVal shape tag = []
   list_text (AndVal val vals) shape tag = text_in val NoCase shape tag ++ list_text vals shape tag
 
--- The number of its bytes, where it has a wire form.
+-- the number of those bytes, and none where a value has no wire form
 abbrev mutual
   pub len_in : Val → Cases → Shape → Option ℕ
   len_in (Number z) around shape = maybe_len (leaf_at shape (Number z))
@@ -283,7 +284,7 @@ abbrev mutual
 abbrev pub bytes_of : Shape → ℕ → Val → Option (List ℕ)
 bytes_of shape tag val = option_and_then bytes (tree_of shape tag val)
 
--- The words by which writers are proved; they say no more than `bytes_of` (laws::written).
+-- The same of a value that is no member of a custom structure: what contracts cite.
 
 abbrev pub HasForm : Shape → Val → Type 0
 HasForm shape val = form_in val NoCase shape
@@ -297,7 +298,7 @@ text_of shape tag val = text_in val NoCase shape tag
 abbrev pub wire_len_of : Shape → Val → Option ℕ
 wire_len_of shape val = len_in val NoCase shape
 
--- the field of an option, of a list, and of an optional list
+-- the fields of an option, of a list, and of an optional list
 abbrev pub optional : {T : Type 0} → (T → Val) → Option T → Field
 optional val None = Absent
 optional val (Some x) = One (val x)

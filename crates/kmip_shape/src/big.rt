@@ -1,4 +1,4 @@
-//! Rows of Big Integers that Rust holds as bytes.
+//! Rows of Big Integers whose fields are `Blob`s.
 
 ghost use Rattle.std.specs.Prelude.{◌≡◌, ℕ, IfOk, Some, None, Err, [], ◌∷◌, filter};
 ghost use Rattle.std.specs.Option.{option_map};
@@ -48,7 +48,7 @@ impl<'a, const TAG: u32> ReadRow<'a> for BigOne<TAG> {
         BigOne { slot: None }
     }
 
-    fn take(
+    fn offer_child(
         &mut self,
         alloc: Global,
         outer: Outer<'_>,
@@ -131,7 +131,7 @@ impl<'a, const TAG: u32> ReadRow<'a> for BigOpt<TAG> {
         BigOpt { slot: None }
     }
 
-    fn take(
+    fn offer_child(
         &mut self,
         alloc: Global,
         outer: Outer<'_>,

@@ -1,4 +1,4 @@
-//! Items in blocks of their own: each is as the item in it.
+//! `Boxed<T>` as an item: in every respect the item of the `T` in it.
 
 use crate::item::{Item, WriteItem};
 use crate::read::{Outer, ReadError, ReadItem};

@@ -1,4 +1,4 @@
-//! A row whose items choose their case by their own tag.
+//! Rows whose items choose their case by their own tag.
 
 ghost use Rattle.std.specs.Prelude.{◌≡◌, ℕ, IfOk, Some, None, Err, [], ◌∷◌, filter};
 ghost use Rattle.std.specs.Prelude as p;
@@ -23,20 +23,20 @@ use crate::text_writer::TextWriter;
 use kmip_wire::{Buffer, ItemRef, Tag};
 use std::alloc::Global;
 
-/// A choice whose cases fix the tags of their items and are chosen by them.
+/// A choice whose cases each have a tag of their own, by which they are chosen.
 pub trait OfTag: ReadItem {
-    /// The tags of its cases.
+    /// The tags of the cases.
     ghost tags: { p.List ℕ };
 
     /// Whether a case has the tag.
     fn has_case(tag: Tag) -> bool
         ensures { result ≡ among tag tags };
 
-    /// They are the tags of the shape.
+    /// Lemma: `tags` are those of the shape's cases.
     ghost own: { (o : OuterValue) → own_tags Self.shape o ≡ tags };
 }
 
-/// At most one item, under one of the tags of its cases.
+/// An optional item, under the tag of one of the cases.
 #[derive(Drop)]
 pub struct TagOpt<T> {
     slot: Option<T>,
@@ -65,7 +65,7 @@ impl<'a, T: OfTag> ReadRow<'a> for TagOpt<T> {
         TagOpt { slot: None }
     }
 
-    fn take(
+    fn offer_child(
         &mut self,
         alloc: Global,
         outer: Outer<'_>,

@@ -1,4 +1,5 @@
-//! The children of one tag.
+//! Reading the children of a structure that have one tag.
+
 ghost use Rattle.std.specs.Prelude.{◌≡◌, ℕ, IfOk, Some, None, Err, map};
 ghost use Rattle.kmip_wire.specs.Items.{item_tree};
 ghost use Rattle.kmip_shape.specs.Val.{One as one, Many as many};
@@ -11,8 +12,8 @@ use crate::row_readers::push_item;
 use kmip_wire::{ItemRef, List, Tag};
 use std::alloc::Global;
 
-/// The one child of the tag. `Unread` comes exactly where the parent does not have exactly one
-/// child of the tag, or that child is not read.
+/// The value of the one child with the tag. `Unread` comes exactly where the parent is no Structure
+/// with exactly one such child, or that child is no encoding of a value of the type.
 pub fn read_one<T: ReadItem>(
     alloc: Global,
     outer: Outer<'_>,
@@ -38,8 +39,9 @@ pub fn read_one<T: ReadItem>(
     found.ok_or(ReadError::Unread)
 }
 
-/// The child of the tag, where there is one. `Unread` comes exactly where the parent is no
-/// Structure, or there are two or more children of the tag, or the one is not read.
+/// The value of the child with the tag, where there is one. `Unread` comes exactly where the parent
+/// is no Structure, or has two or more such children, or the one child is no encoding of a value of
+/// the type.
 pub fn read_opt<T: ReadItem>(
     alloc: Global,
     outer: Outer<'_>,
@@ -65,8 +67,8 @@ pub fn read_opt<T: ReadItem>(
     Ok(single)
 }
 
-/// All children of the tag, in order. `Unread` comes exactly where the parent is no Structure or
-/// one is not read.
+/// The values of all children with the tag, in order. `Unread` comes exactly where the parent is no
+/// Structure, or one such child is no encoding of a value of the type.
 #[tactic(auto, using(crate::proofs::Gathered::gathering))]
 pub fn read_list<T: ReadItem>(
     alloc: Global,

@@ -1,11 +1,11 @@
-//! Copies of lists whose items are plain.
+//! Copies of lists whose items are `Copy`.
 
 ghost use Rattle.std.specs.Prelude.{◌≡◌, IfOk};
 
 use kmip_wire::{List, OutOfMemory};
 use std::alloc::Global;
 
-/// A list of the same items, which are `Copy`.
+/// A copy of a list whose items are `Copy`.
 pub fn copy_list<T: Copy + Drop>(list: &List<T>, alloc: Global) -> Result<List<T>, OutOfMemory>
     ensures { IfOk result (λ made. made ≡ list.now) }
 {
@@ -17,7 +17,7 @@ pub fn copy_list<T: Copy + Drop>(list: &List<T>, alloc: Global) -> Result<List<T
     Ok(List::of_vec(made))
 }
 
-/// The same for a list that may be absent.
+/// A copy of such a list, or none where there is none.
 pub fn copy_optional_list<T: Copy + Drop>(
     list: &Option<List<T>>,
     alloc: Global,

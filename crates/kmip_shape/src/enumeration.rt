@@ -1,4 +1,4 @@
-//! Enumerations: items that hold a number of a table.
+//! Enumerations: items that hold one of the numbers of a table.
 
 ghost use Rattle.std.specs.Prelude.{◌≡◌, List, map, true};
 ghost use Rattle.kmip_shape.specs.Shape.{Entry, OneOf};
@@ -33,10 +33,10 @@ pub trait Enumeration: Copy + Drop {
     fn name(self) -> &'static str
         ensures { result.now ≡ (line self).name };
 
-    /// Each variant is found by its number.
+    /// Lemma: each variant is found by its number.
     ghost found: { AreFound line variants };
 
-    /// No number and no name stands twice.
+    /// Lemma: no number and no name stands twice in the table.
     ghost distinct: { are_distinct (map line variants) ≡ true };
 }
 
@@ -76,8 +76,8 @@ impl<T: Enumeration> ShowItem for T {
     }
 }
 
-/// No two variants of an enumeration have one number or one name, and each is found by its number.
-/// It does nothing.
+/// Law: no two variants of an enumeration have one number or one name, and each is found by its
+/// number. The call does nothing.
 pub fn distinct<T: Enumeration>()
     ensures distinct { AreDistinct T.line }
     ensures table { are_distinct (map T.line T.variants) ≡ true }

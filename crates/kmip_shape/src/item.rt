@@ -1,4 +1,4 @@
-//! What each type of an item knows of itself.
+//! The traits of a type of items: its shape, the meaning of its values, and how they are written.
 
 ghost use Rattle.std.specs.Prelude.{◌≡◌, ◌≤◌};
 ghost use Rattle.kmip_wire.specs.Room.{Appends};
@@ -14,24 +14,24 @@ pub trait Item {
     /// The shape of its items.
     ghost shape: { Shape };
 
-    /// A value as contracts see it.
+    /// The meaning of a value, by which contracts speak of it.
     ghost val: { Self → Val };
 
-    /// A value fits the shape. It does nothing.
+    /// Lemma: a value fits the shape. The call does nothing.
     fn known(&self)
         ensures { Fits shape (val self.now) };
 
-    /// Two values that contracts see as one are equal.
+    /// Values of the same meaning are equal.
     ghost faithful: { (x y : Self) → val x ≡ val y → x ≡ y };
 }
 
-/// An item that is written. By `laws::written` its clauses say what `bytes_of` is.
+/// A type of items that can be written. By `laws::written` its clauses are those of `bytes_of`.
 pub trait WriteItem: Item {
-    /// The length of its canonical bytes, and `None` exactly where there are none.
+    /// The length of the value's canonical bytes, and `None` exactly where it has none.
     fn wire_len(&self, tag: Tag) -> Option<u64>
         ensures { result ≡ wire_len_of Self.shape (Self.val self.now) };
 
-    /// Appends its canonical bytes.
+    /// Appends the value's canonical bytes.
     fn write_into(&self, tag: Tag, out: &mut Buffer)
         requires form { HasForm Self.shape (Self.val self.now) }
         requires room { size_of Self.shape (Self.val self.now) ≤ out.old.spare }

@@ -1,4 +1,5 @@
-//! Lists of items and items that may be absent, for every type: known, measured and written.
+//! Lists of items, and items that may be absent, for every type of items: that they fit their rows,
+//! how long they are, and how they are written.
 
 ghost use Rattle.std.specs.Prelude.{ℕ, ◌≡◌, ◌+◌, ◌-◌, ◌≤◌, ◌<◌, ◌^◌, Option, map};
 ghost use Rattle.kmip_wire.specs.Room.{Appends};
@@ -33,7 +34,7 @@ pub fn write_list<T: WriteItem>(items: &List<T>, tag: Tag, out: &mut Buffer)
     write_items(items.as_slice(), tag, out);
 }
 
-/// The items of a list fit their shape. It does nothing.
+/// Lemma: the items of a list fit their shape. The call does nothing.
 pub(crate) fn fits_list<T: Item>(items: &List<T>)
     ensures { vals_fit (vals T.val items.now) NoCase T.shape }
 {
@@ -62,7 +63,7 @@ pub(crate) fn write_optional<T: WriteItem>(item: &Option<T>, tag: Tag, out: &mut
     }
 }
 
-/// The length of several items together, where it is below 2^32.
+/// The sum of two lengths, where both are known and the sum is below 2^32.
 #[inline(always)]
 pub fn plus_len(len: Option<u64>, more: Option<u64>) -> Option<u64>
     ensures { result ≡ plus_len len more }
@@ -114,7 +115,7 @@ pub fn structure_len(rows: &[Option<u64>]) -> Option<u64>
     Some(8 + sum)
 }
 
-/// Appends the head of a structure, for an item with a form and its length.
+/// Appends the head of a structure whose item has this whole length.
 #[tactic(auto, using(crate::proofs::Forms::len_law))]
 pub fn begin_structure<T: Item>(item: &T, len: Option<u64>, tag: Tag, out: &mut Buffer)
     requires form { HasForm T.shape (T.val item.now) }
@@ -133,7 +134,7 @@ pub fn begin_structure<T: Item>(item: &T, len: Option<u64>, tag: Tag, out: &mut 
     }
 }
 
-/// An item that may be absent fits an optional row. It does nothing.
+/// Lemma: an item that may be absent fits an optional row. The call does nothing.
 pub(crate) fn fits_optional<T: Item>(item: &Option<T>)
     ensures mark { mark_fits Optional (optional T.val item.now) }
     ensures field { field_fits (optional T.val item.now) NoCase T.shape }
@@ -143,7 +144,7 @@ pub(crate) fn fits_optional<T: Item>(item: &Option<T>)
     }
 }
 
-/// The items of a list fit. It does nothing.
+/// Lemma: a list fits a row of lists. The call does nothing.
 pub fn fits_items<T: Item>(items: &[T])
     ensures { vals_fit (vals T.val items.now) NoCase T.shape }
 {
@@ -176,7 +177,7 @@ pub(crate) fn write_optional_list<T: WriteItem>(items: &Option<List<T>>, tag: Ta
     }
 }
 
-/// The items of a list that may be absent fit. It does nothing.
+/// Lemma: a list that may be absent fits its row. The call does nothing.
 pub(crate) fn fits_optional_list<T: Item>(items: &Option<List<T>>)
     ensures mark { mark_fits OptionalList (optional_list T.val items.now) }
     ensures field { field_fits (optional_list T.val items.now) NoCase T.shape }
@@ -186,7 +187,7 @@ pub(crate) fn fits_optional_list<T: Item>(items: &Option<List<T>>)
     }
 }
 
-/// The bytes of a slice are below 256. It does nothing.
+/// Lemma: the bytes of a slice are below 256. The call does nothing.
 pub(crate) fn fits_bytes(bytes: &[u8])
     ensures { AreBytes bytes.now }
 {

@@ -1,5 +1,5 @@
-//! Typed values as items: what a value of a type means, how the type stands in a tree, and the
-//! traits by which types of items are written, read and shown.
+//! Typed values as items: what a value of a type means, how it is encoded as a tree of items, and
+//! the traits by which types of items are written, read and shown.
 //!
 //! A type implements `Item`, and then what it needs of `WriteItem`, `ReadItem` and `ShowItem`. The
 //! rows of a record are one type, as `Row<One<AttributeName, ATTRIBUTE_NAME>,
@@ -36,7 +36,7 @@ pub use enumeration::{Enumeration, distinct};
 pub use item::{Item, WriteItem};
 pub use item_lists::{begin_structure, fits_items, plus_len, structure_len, write_list};
 pub use kmip_wire::{Blob, Boxed, Buffer, List, OutOfMemory, Text, TryClone};
-pub use laws::{read_back, read_selected, written};
+pub use laws::{json_is_json, read_back, read_selected, shown_as_json, written};
 pub use read::{Outer, ReadError, ReadItem, ReadRoot, read_root};
 pub use record::read_record;
 pub use row_writers::{fits_record, record_len, show_record, write_record};

@@ -244,7 +244,7 @@ impl ReadItem for u64 {
 
 impl ShowItem for u64 {
     fn show_into(&self, out: &mut TextWriter) {
-        out.put_unsigned(*self);
+        out.put_date(*self);
     }
 }
 

@@ -1,4 +1,5 @@
-//! The items of one row, gathered in a walk over the children of a record.
+//! The rows of a record as they are read, in one walk over the record's children.
+
 ghost use Rattle.std.specs.Prelude.{◌≡◌, ℕ, IfOk, Some, None, Err, Option, [], ◌∷◌, filter, map};
 ghost use Rattle.std.specs.Prelude.{refl, Ok, ◌&&◌, if◌then◌else◌};
 ghost use Rattle.std.specs.Prelude as p;
@@ -21,39 +22,44 @@ use kmip_wire::{ItemRef, List};
 use std::alloc::Global;
 use std::marker::PhantomData;
 
-/// The items of one row, gathered while a record's children are walked over.
+/// One row of a record, and the items of it that were found so far.
 pub trait ReadRow<'a>: Drop {
-    /// The field that the row makes.
+    /// The field that is read.
     type Out: Drop;
 
-    /// The row, above the rows that follow it.
+    /// The table of this row and of those that follow it.
     ghost row_above: { RowList → RowList };
 
-    /// The field of these children, from the outer value of the record and the one that its chooser
-    /// gives.
+    /// The field that these children hold, where the chooser around the record and that of the
+    /// record itself have these values.
     ghost reads: { OuterValue → OuterValue → p.List Tree → Option Field };
 
-    /// The field, where some children were taken already and these are left.
+    /// The same field, where the children offered so far were followed by these.
     ghost resume: { Self → OuterValue → OuterValue → p.List Tree → Option Field };
 
-    /// A field as contracts see it.
+    /// The meaning of a field.
     ghost shows: { Self.Out → Field };
 
-    /// Nothing taken yet.
+    /// The row before the first child.
     fn new(alloc: Global) -> Self
         ensures { (o c : OuterValue) (xs : p.List Tree) → resume result o c xs ≡ reads o c xs };
 
-    /// Takes a child, if it is one of the row's. `Unread` comes where the row makes no field of
-    /// whatever follows.
-    fn take(&mut self, alloc: Global, outer: Outer<'_>, child: ItemRef<'a>) -> Result<(), ReadError>
+    /// Offers a child to the row, which reads or keeps it where it is one of its items. `Unread`
+    /// comes only where no further children could make a field.
+    fn offer_child(
+        &mut self,
+        alloc: Global,
+        outer: Outer<'_>,
+        child: ItemRef<'a>,
+    ) -> Result<(), ReadError>
         ensures ok { IfOk result (λ _. (c : OuterValue) (xs : p.List Tree) →
             resume self.old (outer_of outer.entry) c (item_tree child.entry ∷ xs)
             ≡ resume self.new (outer_of outer.entry) c xs) }
         ensures unread { result ≡ Err ReadError.Unread → (c : OuterValue) (xs : p.List Tree) →
             resume self.old (outer_of outer.entry) c (item_tree child.entry ∷ xs) ≡ None };
 
-    /// The field, once all children were taken. `Unread` comes exactly where the row makes none of
-    /// them.
+    /// The field, once every child was offered. `Unread` comes exactly where the children hold no
+    /// field of the row. A row that is chosen is read with `chosen`.
     fn finish(
         self,
         alloc: Global,
@@ -65,14 +71,14 @@ pub trait ReadRow<'a>: Drop {
         ensures unread { result ≡ Err ReadError.Unread →
             resume self (outer_of outer.entry) (outer_of chosen.entry) [] ≡ None };
 
-    /// It reads what the row reads.
+    /// Lemma: `reads` is how the table's row is read.
     ghost row_reads: { (rest : RowList) (o c : OuterValue) (xs : p.List Tree) →
         read_rows (row_above rest) o c xs
         ≡ with_field (reads o c xs) (λ f. read_rows rest o c xs) };
 }
 
-/// Whether a row of at most one item takes a child: where it is the row's and none was taken.
-/// `Unread` comes where it is a second one.
+/// Whether a child is the item of a row that holds at most one. `Unread` comes where the row has an
+/// item already.
 #[inline(always)]
 pub(crate) fn takes(of_row: bool, full: bool) -> Result<bool, ReadError>
     ensures { result ≡ (if of_row && full then Err ReadError.Unread else Ok of_row) }
@@ -107,7 +113,7 @@ impl<'a, T: ReadItem, const TAG: u32> ReadRow<'a> for One<T, TAG> {
         One { slot: None }
     }
 
-    fn take(
+    fn offer_child(
         &mut self,
         alloc: Global,
         outer: Outer<'_>,
@@ -148,7 +154,7 @@ impl<'a, T: ReadItem, const TAG: u32> ReadRow<'a> for Opt<T, TAG> {
         Opt { slot: None }
     }
 
-    fn take(
+    fn offer_child(
         &mut self,
         alloc: Global,
         outer: Outer<'_>,
@@ -170,7 +176,7 @@ impl<'a, T: ReadItem, const TAG: u32> ReadRow<'a> for Opt<T, TAG> {
     }
 }
 
-/// An optional item that is read once its chooser is known.
+/// An optional item, which is kept until the chooser of the record is known and then read with it.
 #[derive(Drop)]
 pub struct ChosenOpt<'a, T, const TAG: u32> {
     kept: Option<ItemRef<'a>>,
@@ -198,7 +204,7 @@ impl<'a, T: ReadItem, const TAG: u32> ReadRow<'a> for ChosenOpt<'a, T, TAG> {
         }
     }
 
-    fn take(
+    fn offer_child(
         &mut self,
         _alloc: Global,
         _outer: Outer<'_>,
@@ -223,7 +229,7 @@ impl<'a, T: ReadItem, const TAG: u32> ReadRow<'a> for ChosenOpt<'a, T, TAG> {
     }
 }
 
-/// A required item that is read once its chooser is known.
+/// A required item, which is kept until the chooser of the record is known and then read with it.
 #[derive(Drop)]
 pub struct ChosenOne<'a, T, const TAG: u32> {
     kept: Option<ItemRef<'a>>,
@@ -251,7 +257,7 @@ impl<'a, T: ReadItem, const TAG: u32> ReadRow<'a> for ChosenOne<'a, T, TAG> {
         }
     }
 
-    fn take(
+    fn offer_child(
         &mut self,
         _alloc: Global,
         _outer: Outer<'_>,
@@ -271,7 +277,7 @@ impl<'a, T: ReadItem, const TAG: u32> ReadRow<'a> for ChosenOne<'a, T, TAG> {
     }
 }
 
-/// Reads a further item of a row of many.
+/// Reads one more item of a row that holds several.
 #[tactic(auto, using(crate::proofs::Gathered::gathering))]
 #[inline(never)]
 pub(crate) fn push_item<T: ReadItem>(
@@ -323,7 +329,7 @@ impl<'a, T: ReadItem, const TAG: u32> ReadRow<'a> for Many<T, TAG> {
         }
     }
 
-    fn take(
+    fn offer_child(
         &mut self,
         alloc: Global,
         outer: Outer<'_>,
@@ -373,7 +379,7 @@ impl<'a, T: ReadItem, const TAG: u32> ReadRow<'a> for NonEmpty<T, TAG> {
         }
     }
 
-    fn take(
+    fn offer_child(
         &mut self,
         alloc: Global,
         outer: Outer<'_>,
@@ -398,7 +404,7 @@ impl<'a, T: ReadItem, const TAG: u32> ReadRow<'a> for NonEmpty<T, TAG> {
     }
 }
 
-/// A list that is absent where no item stands.
+/// A list, which is absent where there is no item.
 #[derive(Drop)]
 pub struct OptMany<T, const TAG: u32> {
     items: Vec<T>,
@@ -426,7 +432,7 @@ impl<'a, T: ReadItem, const TAG: u32> ReadRow<'a> for OptMany<T, TAG> {
         }
     }
 
-    fn take(
+    fn offer_child(
         &mut self,
         alloc: Global,
         outer: Outer<'_>,
@@ -451,23 +457,24 @@ impl<'a, T: ReadItem, const TAG: u32> ReadRow<'a> for OptMany<T, TAG> {
     }
 }
 
-/// A type whose value chooses.
+/// A type whose values choose the cases of other rows of their record.
 pub trait Chooses: Item {
-    /// The value that chooses.
+    /// The number or the text that chooses.
     fn outer(&self) -> Outer<'_>
         ensures { outer_of result ≡ chosen_by (one (Self.val self.now)) };
 }
 
-/// A row whose value chooses.
+/// A row whose value chooses the cases of rows after it.
 pub trait Chooser<'a>: ReadRow<'a> {
-    /// The row as a chooser, above the rows that follow it.
+    /// The table of this row, as the chooser, and of those that follow it.
     ghost chooser_above: { RowList → RowList };
 
-    /// The outer value of the rows below that are chosen.
+    /// The chooser's value, with which the chosen rows are read.
     fn outer(out: &Self::Out) -> Outer<'_>
         ensures { outer_of result ≡ chosen_by (Self.shows out.now) };
 
-    /// It reads what the row reads, and the rows below are chosen by that.
+    /// Lemma: `reads` is how the table's row is read, and the chosen rows after it are read with its
+    /// value.
     ghost chooser_reads: { (rest : RowList) (o c : OuterValue) (xs : p.List Tree) →
         read_rows (chooser_above rest) o c xs
         ≡ with_field (Self.reads o c xs) (λ f. read_rows rest o (chosen_by f) xs) };
@@ -496,20 +503,20 @@ impl<'a, T: ReadItem + Chooses, const TAG: u32> Chooser<'a> for Opt<T, TAG> {
     }
 }
 
-/// A case of a choice that fixes its tag: the items under the tag, of which one is wanted if the
-/// case is chosen.
+/// A case whose items have a tag of their own: what stood under that tag. If the case is chosen,
+/// exactly one item is wanted there.
 #[derive(Drop)]
 pub struct Case<'a, T, const NUMBER: u32, const TAG: u32> {
-    /// The item, where there is one.
+    /// The first item, where there is one.
     pub item: Option<ItemRef<'a>>,
-    /// Whether there is more than one.
+    /// Whether there was a second one.
     pub several: bool,
     /// The type that it is read as.
     pub read: PhantomData<T>,
 }
 
 impl<'a, T: ReadItem, const NUMBER: u32, const TAG: u32> Case<'a, T, NUMBER, TAG> {
-    /// No item yet.
+    /// The case before the first child.
     pub fn new() -> Self
         ensures { (r : Tree → Option Val) (xs : p.List Tree) →
             resume_only r result.several (option_map item_tree result.item)
@@ -522,8 +529,8 @@ impl<'a, T: ReadItem, const NUMBER: u32, const TAG: u32> Case<'a, T, NUMBER, TAG
         }
     }
 
-    /// Keeps a child under the tag.
-    pub fn take(&mut self, child: ItemRef<'a>)
+    /// Offers a child to the case, which keeps it where it has the case's tag.
+    pub fn offer_child(&mut self, child: ItemRef<'a>)
         ensures { (r : Tree → Option Val) (xs : p.List Tree) →
             resume_only r self.old.several (option_map item_tree self.old.item)
             (filter (has_tag TAG) (item_tree child.entry ∷ xs))
@@ -539,7 +546,8 @@ impl<'a, T: ReadItem, const NUMBER: u32, const TAG: u32> Case<'a, T, NUMBER, TAG
         }
     }
 
-    /// What the one item under the tag reads as.
+    /// The value of the one item under the tag. `Unread` comes exactly where there is not exactly
+    /// one, or it is no encoding of a value of the type.
     pub fn read(self, alloc: Global, outer: Outer<'_>) -> Result<T, ReadError>
         ensures ok { IfOk result (λ v. resume_only
             (λ x. option_map (case NUMBER) (read_of T.shape (outer_of outer.entry) x))

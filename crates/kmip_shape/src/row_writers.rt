@@ -1,12 +1,9 @@
-//! The fields of a record by its rows: known, written and shown, each in one call.
+//! The fields of a record by its rows: that they fit the rows, how long they are, and how they are
+//! written and shown.
 //!
 //! A record's rows are one type, for reading as for these calls, as `Row<One<AttributeName,
-//! ATTRIBUTE_NAME>, ..>`. Its fields are lent as nested pairs in the order of the rows:
+//! ATTRIBUTE_NAME>, ..>`. Its fields are borrowed as nested pairs in the order of the rows:
 //! `(&self.name, (&self.index, ()))`.
-//!
-//! `FieldRows`, `WriteRows` and `ShowRows` each name what lends the fields and what they are, with
-//! no trait above them and no bound on what lends: either is looked up anew at every row, more
-//! often with each row more, so that a check of thirteen rows would take minutes.
 
 ghost use Rattle.std.specs.Prelude.{◌≡◌, ◌≤◌, ◌<◌, ◌+◌, ◌^◌, ◌++◌, ◌||◌, ◌∷◌, ℕ, Bool, false};
 ghost use Rattle.std.specs.Prelude.{IfSome, [], true};
@@ -22,7 +19,7 @@ ghost use Rattle.kmip_shape.specs.Writes.{structure_head, optional, optional_lis
 ghost use Rattle.kmip_shape.specs.Writes.{field_form, field_len, field_size, field_text};
 ghost use Rattle.kmip_shape.specs.Writes.{fields_form, fields_len, fields_size, fields_text};
 ghost use Rattle.kmip_shape.specs.Writes.{structure_len as len_of_structure};
-ghost use Rattle.kmip_shape.specs.Shown.{Grows, row_styled, fields_styled, record_styled, stands};
+ghost use Rattle.kmip_shape.specs.Shown.{Grows, row_in_style, fields_in_style, record_in_style, stands};
 
 use crate::item::{Item, WriteItem};
 use crate::item_lists::{
@@ -36,36 +33,36 @@ use crate::show::{ShowItem, show_list, show_one, show_optional, show_optional_li
 use crate::text_writer::TextWriter;
 use kmip_wire::{Buffer, List, Tag};
 
-/// A row, and the field that it stands for.
+/// A row of a record, and the field that it describes.
 pub trait FieldRow<'b> {
-    /// What lends the field.
+    /// The field as it is borrowed.
     type Lent: Copy + Drop;
 
-    /// The tag of its items, their shape, and how many there may be.
+    /// The tag of the row's items, their shape, and how many there may be.
     ghost tag: { ℕ };
 
     ghost shape: { Shape };
 
     ghost mark: { Mark };
 
-    /// The field as contracts see it.
+    /// The meaning of the field.
     ghost field: { Self.Lent → Field };
 
-    /// The field fits the row. It does nothing.
+    /// Lemma: the field fits the row. The call does nothing.
     fn known(lent: Self::Lent)
         ensures mark { mark_fits mark (field lent) }
         ensures field { field_fits (field lent) NoCase shape };
 }
 
-/// A row whose field is written.
+/// A row whose field can be written.
 pub trait WriteRow<'b>: FieldRow<'b> {
-    /// The length of its items, and `None` exactly where one has no canonical bytes or they reach
-    /// 2^32 bytes.
+    /// The length of the field's items, and `None` exactly where one has no canonical bytes or they
+    /// reach 2^32 bytes.
     fn len(lent: Self::Lent) -> Option<u64>
         requires { Self.tag < 2 ^ 24 }
         ensures { result ≡ field_len (Self.field lent) Self.shape };
 
-    /// Appends its items.
+    /// Appends the canonical bytes of the field's items.
     fn write(lent: Self::Lent, out: &mut Buffer)
         requires tag { Self.tag < 2 ^ 24 }
         requires form { field_form (Self.field lent) Self.shape }
@@ -74,48 +71,51 @@ pub trait WriteRow<'b>: FieldRow<'b> {
             (field_size (Self.field lent) Self.shape) };
 }
 
-/// A row whose field is shown.
+/// A row whose field can be shown.
 pub trait ShowRow<'b>: FieldRow<'b> {
-    /// Appends the name and what the field shows, after others or not; says whether a field stands
-    /// now.
+    /// Appends the field under this name, with a comma before it where a field was shown already
+    /// (`after`), and nothing where the field is absent. Returns whether a field was shown by now.
     fn show(lent: Self::Lent, name: &str, after: bool, out: &mut TextWriter) -> bool
         ensures after { (a : Bool) → after ≡ a → result ≡ (a || stands (Self.field lent)) }
         ensures text { (a : Bool) → after ≡ a →
-            Grows out.old out.new (row_styled (Self.field lent) NoCase name.now Self.shape a) };
+            Grows out.old out.new (row_in_style (Self.field lent) NoCase name.now Self.shape a) };
 }
 
-/// The rows of a record, and its fields.
+/// The rows of a record, and the fields that they describe.
 pub trait FieldRows<'b> {
-    /// What lends the fields.
+    /// The fields as they are borrowed.
     type Lent;
 
+    /// The table of the rows, without the names.
     ghost row_list: { RowList };
 
-    /// The fields as contracts see them.
+    /// The meaning of the fields.
     ghost fields: { Self.Lent → Fields };
 
-    /// The fields fit the rows. It does nothing.
+    /// Lemma: the fields fit the rows. The call does nothing.
     fn known(lent: Self::Lent)
         ensures { fields_fit (fields lent) NoCase row_list };
 }
 
-/// Rows whose fields are written.
+/// Rows whose fields can be written.
 pub trait WriteRows<'b> {
-    /// What lends the fields.
+    /// The fields as they are borrowed.
     type Lent;
 
+    /// The table of the rows, without the names.
     ghost row_list: { RowList };
 
-    /// The fields as contracts see them.
+    /// The meaning of the fields.
     ghost fields: { Self.Lent → Fields };
 
-    /// The length of all items.
+    /// The length of the items of all fields, and `None` exactly where one has no canonical bytes
+    /// or they reach 2^32 bytes.
     fn len(lent: Self::Lent) -> Option<u64>
         requires { are_tags Self.row_list ≡ true }
         ensures len { result ≡ fields_len (Self.fields lent) Self.row_list }
         ensures below { IfSome result (λ n. n < 2 ^ 32) };
 
-    /// Appends all items.
+    /// Appends the canonical bytes of the items of all fields.
     fn write(lent: Self::Lent, out: &mut Buffer)
         requires tags { are_tags Self.row_list ≡ true }
         requires form { fields_form (Self.fields lent) Self.row_list }
@@ -124,24 +124,25 @@ pub trait WriteRows<'b> {
             (fields_size (Self.fields lent) Self.row_list) };
 }
 
-/// Rows whose fields are shown, each under a name.
+/// Rows whose fields can be shown, each under a name.
 pub trait ShowRows<'b> {
-    /// What lends the fields.
+    /// The fields as they are borrowed.
     type Lent;
 
-    /// What names them.
+    /// The names, as nested pairs in the order of the rows.
     type Names;
 
-    /// The fields as contracts see them.
+    /// The meaning of the fields.
     ghost fields: { Self.Lent → Fields };
 
-    /// The rows with these names.
+    /// The table of the rows with these names.
     ghost named: { Self.Names → RowList };
 
-    /// Appends what the fields show, after others or not.
+    /// Appends the fields that stand, with a comma before the first where a field was shown already
+    /// (`after`).
     fn show(lent: Self::Lent, names: Self::Names, after: bool, out: &mut TextWriter)
         ensures { (a : Bool) → after ≡ a →
-            Grows out.old out.new (fields_styled (Self.fields lent) NoCase (named names) a) };
+            Grows out.old out.new (fields_in_style (Self.fields lent) NoCase (named names) a) };
 }
 
 impl<'b, T: Item + 'b, const TAG: u32> FieldRow<'b> for One<T, TAG> {
@@ -526,14 +527,15 @@ impl<'b, A: ShowRow<'b>, B: ShowRows<'b>> ShowRows<'b> for Choosing<A, B> {
     }
 }
 
-/// A record's fields fit its rows. It does nothing.
+/// Lemma: a record's fields fit its rows. The call does nothing.
 pub fn fits_record<'b, R: FieldRows<'b>>(lent: R::Lent)
     ensures { fields_fit (R.fields lent) NoCase R.row_list }
 {
     R::known(lent);
 }
 
-/// The whole length of a record's structure, and `None` exactly where it has no canonical bytes.
+/// The length of a record's structure with its head, and `None` exactly where it has no canonical
+/// bytes.
 #[inline(always)]
 pub fn record_len<'b, R: WriteRows<'b>>(lent: R::Lent) -> Option<u64>
     requires { are_tags R.row_list ≡ true }
@@ -564,10 +566,10 @@ where
     }
 }
 
-/// Appends the text of a record, its fields under their names.
+/// Appends the text of a record: its fields under their names, in braces.
 pub fn show_record<'b, R: ShowRows<'b>>(lent: R::Lent, names: R::Names, out: &mut TextWriter)
     ensures { Grows out.old out.new
-        (record_styled (R.fields lent) (R.named names)) }
+        (record_in_style (R.fields lent) (R.named names)) }
 {
     out.put("{");
     R::show(lent, names, false, out);

@@ -1,4 +1,4 @@
-//! Scalars written as whole items, and the lengths of those items.
+//! Values without parts, written as whole items, and the lengths of those items.
 
 ghost use Rattle.std.specs.Prelude.{◌≡◌, ◌≤◌, ◌<◌, ◌^◌, ◌%◌, length};
 ghost use Rattle.kmip_wire.specs.Room.{Appends};
@@ -9,7 +9,7 @@ ghost use Rattle.std.specs.Prelude.{Some as some};
 
 use kmip_wire::{Buffer, Kind, Tag};
 
-/// The length of every item whose value has 4 or 8 bytes.
+/// The length of an item whose value has 4 or 8 bytes, with its head and its padding.
 pub const SCALAR_LEN: u64 = 16;
 
 /// Appends the head of a structure of so many bytes.
@@ -88,7 +88,7 @@ pub fn put_bytes(tag: Tag, value: &[u8], out: &mut Buffer)
     out.put_item(tag, Kind::ByteString, value);
 }
 
-/// Appends a Date-Time, the eight bytes of the number.
+/// Appends a Date-Time, whose eight bytes are those of the number.
 pub fn put_date(tag: Tag, value: u64, out: &mut Buffer)
     requires { leaf_size (date_time value) ≤ out.old.spare }
     ensures { Appends out.old out.new (leaf_text tag (date_time value))
@@ -106,7 +106,7 @@ pub fn put_interval(tag: Tag, value: u32, out: &mut Buffer)
     out.put_four(tag, Kind::Interval, value);
 }
 
-/// The whole length of a Text String, and `None` from 2^32 bytes on.
+/// The length of a Text String's item, and `None` where the text has 2^32 bytes or more.
 pub fn text_len(value: &str) -> Option<u64>
     ensures { result ≡ maybe_len (some (text_string value.now)) }
 {
@@ -118,7 +118,7 @@ pub fn text_len(value: &str) -> Option<u64>
     }
 }
 
-/// The whole length of a Byte String, and `None` from 2^32 bytes on.
+/// The length of a Byte String's item, and `None` where there are 2^32 bytes or more.
 pub fn bytes_len(value: &[u8]) -> Option<u64>
     ensures { result ≡ maybe_len (some (byte_string value.now)) }
 {
@@ -130,8 +130,8 @@ pub fn bytes_len(value: &[u8]) -> Option<u64>
     }
 }
 
-/// The whole length of a Big Integer, and `None` from 2^32 bytes on or where the length is no
-/// multiple of 8.
+/// The length of a Big Integer's item, and `None` where there are 2^32 bytes or more, or their
+/// number is no multiple of 8.
 pub fn big_integer_len(value: &[u8]) -> Option<u64>
     ensures { result ≡ maybe_len (some (big_integer value.now)) }
 {

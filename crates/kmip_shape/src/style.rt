@@ -3,8 +3,8 @@
 /// How a value is shown.
 #[derive(Clone, Copy, PartialEq, Eq, Drop)]
 pub enum Style {
-    /// Names stand bare, and a case is its name before its value: `{name=Name{name_value="a"}}`.
+    /// Names without quotes, and a case as its name before its value: `{name=Name{name_value="a"}}`.
     Bare,
-    /// JSON: RFC 8259.
+    /// JSON (RFC 8259).
     Json,
 }

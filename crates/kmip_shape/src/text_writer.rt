@@ -1,12 +1,12 @@
-//! What values are shown into.
+//! The writer of the texts of values.
 
 ghost use Rattle.std.specs.Prelude.{◌≡◌, ◌++◌, ◌*◌, ◌<◌, ◌≤◌, ◌∷◌, [], true, flat_map, length};
 ghost use Rattle.std.specs.Prelude.{take, IsAscii, OnOk};
 ghost use Rattle.std.specs.Fmt.{decimal, signed_decimal};
 ghost use Rattle.std.specs.Char.{encode_utf8};
 ghost use Rattle.kmip_shape.specs.Shown.{Grows, always, comma, escape, hex_byte, hex_digit};
-ghost use Rattle.kmip_shape.specs.Shown.{control_mark, text_styled, bytes_mark, bytes_styled};
-ghost use Rattle.kmip_shape.specs.Shown.{truth_shown, word, name_mark, member_opening};
+ghost use Rattle.kmip_shape.specs.Shown.{control_mark, text_in_style, bytes_mark, bytes_in_style};
+ghost use Rattle.kmip_shape.specs.Shown.{date_in_style, truth_shown, word, name_mark, member_opening};
 ghost use Rattle.kmip_shape.specs.Shown.{case_opening, case_closing, brackets_opening};
 ghost use Rattle.kmip_shape.specs.Shown.{brackets_closing};
 
@@ -16,7 +16,7 @@ use kmip_wire::{OutOfMemory, Text};
 use std::marker::Model;
 use std::str;
 
-/// How many bytes are shown at once.
+/// How many bytes are put into hex digits at once.
 const BLOCK: usize = 32;
 
 /// A digit in upper-case hex.
@@ -33,7 +33,7 @@ fn hex_digit(digit: u8) -> u8
     }
 }
 
-/// Writes the digits of bytes from the start on.
+/// Writes the hex digits of bytes to the start of `out`.
 fn write_digits(bytes: &[u8], out: &mut [u8])
     requires { 2 * length bytes.now ≤ length out.old }
     ensures digits { take (2 * length bytes.now) out.new ≡ flat_map hex_byte bytes.now }
@@ -45,7 +45,7 @@ fn write_digits(bytes: &[u8], out: &mut [u8])
     }
 }
 
-/// A text that grows until memory runs out, and then no more.
+/// A text that is appended to, in one style, until memory runs out and then no more.
 #[derive(Drop)]
 pub struct TextWriter {
     text: Text,
@@ -62,7 +62,7 @@ impl Model for TextWriter {
 }
 
 impl TextWriter {
-    /// A text that grows further, in a style that stays.
+    /// A writer that appends to this text.
     pub(crate) fn over(text: Text, style: Style) -> TextWriter
         ensures { result ≡ record { text = text; live = true; style = style } }
     {
@@ -73,7 +73,7 @@ impl TextWriter {
         }
     }
 
-    /// Hands out the text, and `Err` where memory ran out.
+    /// Puts the text into `out`. `Err` says that memory ran out.
     pub(crate) fn finish(self, out: &mut Text) -> Result<(), OutOfMemory>
         ensures text { out.new ≡ self.text }
         ensures live { OnOk result (self.live ≡ true) }
@@ -107,7 +107,7 @@ impl TextWriter {
         }
     }
 
-    /// A comma, after other text.
+    /// Appends a comma, where others were shown already (`after`).
     #[tactic(auto, using(crate::proofs::Growth::growth))]
     pub fn put_comma(&mut self, after: bool)
         ensures { Grows self.old self.new (always (comma after)) }
@@ -117,7 +117,7 @@ impl TextWriter {
         }
     }
 
-    /// A signed number, in decimal.
+    /// Appends a signed number in decimal.
     #[tactic(auto, using(crate::proofs::Growth::growth))]
     pub fn put_signed(&mut self, number: i64)
         ensures { Grows self.old self.new (always (signed_decimal number)) }
@@ -125,7 +125,7 @@ impl TextWriter {
         self.put(Digits::new().format(number));
     }
 
-    /// An unsigned number, in decimal.
+    /// Appends an unsigned number in decimal.
     #[tactic(auto, using(crate::proofs::Growth::growth))]
     pub fn put_unsigned(&mut self, number: u64)
         ensures { Grows self.old self.new (always (decimal number)) }
@@ -133,14 +133,25 @@ impl TextWriter {
         self.put(Digits::new().format(number));
     }
 
-    /// A truth value.
+    /// Appends a Date-Time (KMIP 1.0, 9.1.1.4) of these 64 bits: their unsigned number, or in JSON
+    /// the signed number of seconds that they are.
+    pub fn put_date(&mut self, seconds: u64)
+        ensures { Grows self.old self.new (date_in_style seconds) }
+    {
+        match self.style {
+            Style::Bare => self.put_unsigned(seconds),
+            Style::Json => self.put_signed(seconds.cast_signed()),
+        }
+    }
+
+    /// Appends a truth value.
     pub fn put_truth(&mut self, truth: bool)
         ensures { Grows self.old self.new (always (truth_shown truth)) }
     {
         self.put(if truth { "true" } else { "false" });
     }
 
-    /// Room for so many bytes more, if memory suffices.
+    /// Makes room for so many bytes more, if memory suffices.
     #[tactic(auto, using(crate::proofs::Growth::growth))]
     fn reserve(&mut self, more: usize)
         ensures { Grows self.old self.new (always []) }
@@ -150,7 +161,7 @@ impl TextWriter {
         }
     }
 
-    /// What stands before the digits of a control character.
+    /// Appends what stands before the digits of a control character: `\x`, or in JSON `\u00`.
     fn put_control_mark(&mut self)
         ensures { Grows self.old self.new control_mark }
     {
@@ -160,7 +171,7 @@ impl TextWriter {
         }
     }
 
-    /// A byte as `\x` and two digits, or as `\u00` and two digits.
+    /// Appends a control character: `\x` and two hex digits, or in JSON `\u00` and two.
     fn put_control(&mut self, byte: u8)
         ensures { Grows self.old self.new (λ style. control_mark style ++ hex_byte byte) }
     {
@@ -168,7 +179,7 @@ impl TextWriter {
         self.put_block(&[byte]);
     }
 
-    /// A character of a text in double quotes.
+    /// Appends a character of a text in double quotes.
     #[tactic(auto, using(crate::proofs::Growth::growth))]
     fn put_escaped(&mut self, ch: char)
         ensures { Grows self.old self.new (λ style. flat_map (escape style) (encode_utf8 ch)) }
@@ -182,7 +193,7 @@ impl TextWriter {
         }
     }
 
-    /// The characters of a text.
+    /// Appends the characters of a text in double quotes.
     fn put_characters(&mut self, text: &str)
         ensures { Grows self.old self.new (λ style. flat_map (escape style) text.now) }
     {
@@ -191,17 +202,17 @@ impl TextWriter {
         }
     }
 
-    /// A text in double quotes, `"` and `\` after a backslash, control characters as `\x` and two
-    /// digits, or as `\u00` and two digits.
+    /// Appends a text in double quotes: `"` and `\` after a backslash, control characters as `\x`
+    /// and two hex digits, or in JSON as `\u00` and two.
     pub fn put_text(&mut self, text: &str)
-        ensures { Grows self.old self.new (text_styled text.now) }
+        ensures { Grows self.old self.new (text_in_style text.now) }
     {
         self.put("\"");
         self.put_characters(text);
         self.put("\"");
     }
 
-    /// The digits of bytes that are shown at once.
+    /// Appends the hex digits of at most `BLOCK` bytes.
     fn put_block(&mut self, bytes: &[u8])
         requires { length bytes.now ≤ 32 }
         ensures { Grows self.old self.new (always (flat_map hex_byte bytes.now)) }
@@ -214,7 +225,7 @@ impl TextWriter {
         }
     }
 
-    /// The digits of bytes.
+    /// Appends the hex digits of bytes.
     fn put_digits(&mut self, bytes: &[u8])
         ensures { Grows self.old self.new (always (flat_map hex_byte bytes.now)) }
     {
@@ -227,7 +238,7 @@ impl TextWriter {
         self.put_block(rest);
     }
 
-    /// What stands before the digits of bytes.
+    /// Appends what stands before the digits of bytes: `x"`, or in JSON `"`.
     fn put_bytes_mark(&mut self)
         ensures { Grows self.old self.new bytes_mark }
     {
@@ -237,9 +248,9 @@ impl TextWriter {
         }
     }
 
-    /// Bytes as `x"` hex `"`, or as `"` hex `"`.
+    /// Appends bytes as hex digits in double quotes, with an `x` before them but in JSON.
     pub fn put_bytes(&mut self, bytes: &[u8])
-        ensures { Grows self.old self.new (bytes_styled bytes.now) }
+        ensures { Grows self.old self.new (bytes_in_style bytes.now) }
     {
         self.reserve(bytes.len().saturating_mul(2));
         self.put_bytes_mark();
@@ -247,7 +258,7 @@ impl TextWriter {
         self.put("\"");
     }
 
-    /// A name: itself, or in double quotes.
+    /// Appends a name: itself, or in JSON a string.
     #[inline(always)]
     pub fn put_word(&mut self, name: &str)
         ensures { Grows self.old self.new (word name.now) }
@@ -258,7 +269,7 @@ impl TextWriter {
         }
     }
 
-    /// What stands between the name of a field and its value.
+    /// Appends what stands between the name of a field and its value: `=`, or in JSON `:`.
     #[inline(always)]
     pub(crate) fn put_name_mark(&mut self)
         ensures { Grows self.old self.new name_mark }
@@ -269,7 +280,7 @@ impl TextWriter {
         }
     }
 
-    /// The head of an object of one member.
+    /// Appends the start of a JSON object of one member, up to the member's value.
     fn open_member(&mut self, name: &str)
         ensures { Grows self.old self.new (member_opening name.now) }
     {
@@ -278,7 +289,7 @@ impl TextWriter {
         self.put(":");
     }
 
-    /// What stands before a case's record or list.
+    /// Appends what stands before a case's record or list: the case's name.
     #[inline(always)]
     pub fn open_case(&mut self, name: &str)
         ensures { Grows self.old self.new (case_opening name.now) }
@@ -289,7 +300,7 @@ impl TextWriter {
         }
     }
 
-    /// What stands after a case's record or list.
+    /// Appends what stands after a case's record or list.
     #[inline(always)]
     pub fn close_case(&mut self)
         ensures { Grows self.old self.new case_closing }
@@ -300,7 +311,7 @@ impl TextWriter {
         }
     }
 
-    /// What stands before a case's value that is no record or list.
+    /// Appends what stands before another value of a case: its name and a bracket.
     #[inline(always)]
     pub fn open_brackets(&mut self, name: &str)
         ensures { Grows self.old self.new (brackets_opening name.now) }
@@ -314,7 +325,7 @@ impl TextWriter {
         }
     }
 
-    /// What stands after a case's value that is no record or list.
+    /// Appends what stands after another value of a case.
     #[inline(always)]
     pub fn close_brackets(&mut self)
         ensures { Grows self.old self.new brackets_closing }

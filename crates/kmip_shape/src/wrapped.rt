@@ -1,4 +1,5 @@
-//! Values that Rust holds in another form than the plain one of their item type.
+//! Types for the items that another Rust type stands for already: Big Integer beside Byte String
+//! (`Blob`), and a signed Date-Time beside the unsigned `u64`.
 
 ghost use Rattle.std.specs.Prelude.{◌≡◌, ℕ, ℤ, List};
 ghost use Rattle.std.proofs.Common.{ap};
@@ -18,8 +19,8 @@ use crate::text_writer::TextWriter;
 use kmip_wire::{Blob, Buffer, ItemRef, OutOfMemory, Tag, TryClone};
 use std::alloc::Global;
 
-/// The bytes of a Big Integer, the highest first. It is written where their number is a multiple of
-/// 8.
+/// The bytes of a Big Integer, the highest first. It has canonical bytes exactly where their number
+/// is a multiple of 8 below 2^32.
 #[derive(PartialEq, Eq, Drop)]
 pub struct BigInteger(pub Blob);
 
@@ -66,8 +67,8 @@ impl ShowItem for BigInteger {
     }
 }
 
-/// A Date-Time that Rust holds as signed seconds since 1970. It is shown as the unsigned number of
-/// the same 64 bits.
+/// A Date-Time that Rust holds as signed seconds since 1970 (KMIP 1.0, 9.1.1.4). It is shown as the
+/// unsigned number of the same 64 bits, and in JSON as the signed one.
 #[derive(Clone, Copy, PartialEq, Eq, Drop)]
 pub struct Timestamp(pub i64);
 
@@ -109,6 +110,6 @@ impl ReadItem for Timestamp {
 #[tactic(auto, using(crate::proofs::Dated::dated))]
 impl ShowItem for Timestamp {
     fn show_into(&self, out: &mut TextWriter) {
-        out.put_unsigned(self.0.cast_unsigned());
+        out.put_date(self.0.cast_unsigned());
     }
 }

@@ -1,4 +1,4 @@
-//! Items of every type, written as the canonical bytes of their trees.
+//! Writing items of every type as their canonical bytes.
 
 ghost use Rattle.std.specs.Prelude.{◌≡◌, ◌≤◌, ℕ, List, Some, length, IsSomeAnd, IfSome};
 ghost use Rattle.std.specs.Option.{option_map};
@@ -10,7 +10,7 @@ use crate::item::WriteItem;
 use kmip_wire::{Blob, Buffer, Tag, WireError};
 use std::alloc::Global;
 
-/// The length of the canonical bytes of an item, where there are any.
+/// The length of the canonical bytes of an item, and `None` exactly where it has none.
 #[tactic(auto, using(crate::proofs::Lengths::wire_len_law))]
 pub fn item_len<T: WriteItem>(item: &T, tag: Tag) -> Option<u64>
     ensures { result ≡ option_map length (bytes_of T.shape tag (T.val item.now)) }

@@ -23,6 +23,7 @@ use table::{FIRST, NAMES};
 
 static TABLE: [&str; 292] = NAMES;
 
+/// The name at `index`, if the list has one there.
 pub(crate) fn nth(names: &'static [&'static str], index: usize) -> Option<&'static str>
     ensures { option_map (λ name. name.now) result ≡
         slice_get (map (λ name. name.now) names.now) index }
@@ -34,6 +35,7 @@ pub(crate) fn nth(names: &'static [&'static str], index: usize) -> Option<&'stat
     }
 }
 
+/// All names, in tag order.
 pub(crate) fn all_names() -> &'static [&'static str]
     ensures table { map (λ name. name.now) result.now ≡ names }
     ensures length { length result.now ≡ 292 }
@@ -41,7 +43,7 @@ pub(crate) fn all_names() -> &'static [&'static str]
     &TABLE
 }
 
-/// The name of the tag: `Some` exactly for the tags from 0x420001 to 0x420124. Takes no memory.
+/// The name of the tag: `Some` exactly for the tags from 0x420001 to 0x420124. It takes no memory.
 pub fn name_of(tag: Tag) -> Option<&'static str>
     ensures { option_map (λ name. name.now) result ≡ name_of tag }
 {

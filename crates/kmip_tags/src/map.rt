@@ -1,4 +1,4 @@
-// The table, entry by entry.
+//! The table of tags and names, entry by entry.
 ghost use Rattle.std.specs.Prelude.{◌≡◌, ℕ, List, MatchResult, length, map, option_map, slice_get};
 ghost use Rattle.kmip_tags.specs.Table.{first_tag, names as table_names};
 ghost use Rattle.kmip_tags.specs.Names.{name_of, entries_from, entries};
@@ -24,8 +24,8 @@ impl Model for TagMap {
         (length t.names.now ≡ 292) };
 }
 
-/// The whole table, which stands in the program: the allocator is not used, and `OutOfMemory` never
-/// comes.
+/// The whole table, which is part of the program: the allocator is not used, and `OutOfMemory` is
+/// never returned.
 pub fn make_kmip_tag_map(_alloc: Global) -> Result<TagMap, OutOfMemory>
     ensures { MatchResult result (λ made. made ≡ entries) (λ _. ⊥) }
 {
@@ -41,8 +41,7 @@ impl TagMap {
         self.names.len()
     }
 
-    /// The tag and the name at the place `index`, counted from 0 in tag order. `None` exactly from
-    /// `len` on.
+    /// The tag and its name at `index`, counted from 0 in tag order. `None` exactly from `len` on.
     pub fn at(&self, index: usize) -> Option<(Tag, &'static str)>
         ensures { option_map (λ entry. (entry.0, entry.1.now)) result ≡ slice_get self.now index }
     {

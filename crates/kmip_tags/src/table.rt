@@ -1,4 +1,4 @@
-// The names of the tags, in tag order from FIRST. Two of them hold two spaces in a row.
+//! The names of the tags, in tag order from FIRST. Two names have two spaces in a row.
 
 pub(crate) const FIRST: u32 = 0x42_0001;
 

@@ -3,6 +3,7 @@
 use kmip_client::{Client, ClientBuilder, Result};
 use kmip_link::MemoryLink;
 use kmip_shape::{Outer, ReadItem, ShowItem, WriteItem, to_blob};
+use kmip_test_messages::message;
 use kmip_wire::{ItemRef, Text, TryClone};
 use std::alloc::Global;
 use std::process::Abort;
@@ -12,9 +13,9 @@ pub fn text(rt: &impl Abort, alloc: Global, text: &str) -> Text {
     Text::of(alloc, text).expect(rt, "memory")
 }
 
-/// The bytes of a text in hex.
-pub fn bytes_of(rt: &impl Abort, alloc: Global, hex: &str) -> Vec<u8> {
-    hex::decode(alloc, hex).expect(rt, "hex")
+/// The bytes of items in the notation of kmip_test_messages.
+pub fn bytes_of(rt: &impl Abort, alloc: Global, notation: &str) -> Vec<u8> {
+    message(alloc, notation).expect(rt, "the notation of messages")
 }
 
 /// The two are equal.
@@ -36,23 +37,23 @@ pub fn is_shown<T: ShowItem>(rt: &impl Abort, alloc: Global, value: &T, expected
 }
 
 /// The value is written as this item.
-fn is_item<T: WriteItem>(rt: &impl Abort, alloc: Global, value: &T, hex: &str) {
-    let bytes = bytes_of(rt, alloc, hex);
+fn is_item<T: WriteItem>(rt: &impl Abort, alloc: Global, value: &T, notation: &str) {
+    let bytes = bytes_of(rt, alloc, notation);
     let item = ItemRef::root(&bytes).expect(rt, "an item");
     let written = to_blob(alloc, value, item.tag()).expect(rt, "a blob");
     assert!(rt; written.as_slice() == bytes.as_slice());
 }
 
 /// The value of one item, whose shape is chosen by a number or not.
-fn value_of<T: ReadItem>(rt: &impl Abort, alloc: Global, number: Option<u32>, hex: &str) -> T {
-    let bytes = bytes_of(rt, alloc, hex);
+fn value_of<T: ReadItem>(rt: &impl Abort, alloc: Global, number: Option<u32>, notation: &str) -> T {
+    let bytes = bytes_of(rt, alloc, notation);
     let item = ItemRef::root(&bytes).expect(rt, "an item");
     T::read(alloc, Outer { number, name: None }, item).expect(rt, "a value")
 }
 
 /// The value of one item.
-pub fn is_read_alone<T: ReadItem>(rt: &impl Abort, alloc: Global, hex: &str) -> T {
-    value_of::<T>(rt, alloc, None, hex)
+pub fn is_read_alone<T: ReadItem>(rt: &impl Abort, alloc: Global, notation: &str) -> T {
+    value_of::<T>(rt, alloc, None, notation)
 }
 
 /// The value of one item, which has a copy that equals it.
@@ -60,9 +61,9 @@ pub fn is_read<T: ReadItem + TryClone + PartialEq>(
     rt: &impl Abort,
     alloc: Global,
     number: Option<u32>,
-    hex: &str,
+    notation: &str,
 ) -> T {
-    let value = value_of::<T>(rt, alloc, number, hex);
+    let value = value_of::<T>(rt, alloc, number, notation);
     is_copied::<T>(rt, alloc, &value);
     value
 }
@@ -72,10 +73,10 @@ pub fn shows<T: ReadItem + ShowItem + TryClone + PartialEq>(
     rt: &impl Abort,
     alloc: Global,
     number: Option<u32>,
-    hex: &str,
+    notation: &str,
     expected: &str,
 ) {
-    let value = is_read::<T>(rt, alloc, number, hex);
+    let value = is_read::<T>(rt, alloc, number, notation);
     is_shown::<T>(rt, alloc, &value, expected);
 }
 
@@ -84,46 +85,47 @@ pub fn is_written<T: ReadItem + WriteItem + TryClone + PartialEq>(
     rt: &impl Abort,
     alloc: Global,
     number: Option<u32>,
-    hex: &str,
+    notation: &str,
 ) {
-    let value = is_read::<T>(rt, alloc, number, hex);
-    is_item::<T>(rt, alloc, &value, hex);
+    let value = is_read::<T>(rt, alloc, number, notation);
+    is_item::<T>(rt, alloc, &value, notation);
 }
 
 /// The item is read as a value that is shown as this text, is written as the same bytes and has a copy that equals it.
 pub fn shows_what_is_written<T: ReadItem + ShowItem + WriteItem + TryClone + PartialEq>(
     rt: &impl Abort,
     alloc: Global,
-    hex: &str,
+    notation: &str,
     expected: &str,
 ) {
-    let value = is_read::<T>(rt, alloc, None, hex);
-    is_item::<T>(rt, alloc, &value, hex);
+    let value = is_read::<T>(rt, alloc, None, notation);
+    is_item::<T>(rt, alloc, &value, notation);
     is_shown::<T>(rt, alloc, &value, expected);
 }
 
 /// The item is read as a value, copied without memory, that is written as the same bytes.
-pub fn is_written_alone<T: ReadItem + WriteItem>(rt: &impl Abort, alloc: Global, hex: &str) {
-    let value = value_of::<T>(rt, alloc, None, hex);
-    is_item::<T>(rt, alloc, &value, hex);
+pub fn is_written_alone<T: ReadItem + WriteItem>(rt: &impl Abort, alloc: Global, notation: &str) {
+    let value = value_of::<T>(rt, alloc, None, notation);
+    is_item::<T>(rt, alloc, &value, notation);
 }
 
 /// The same, with what it is shown as.
 pub fn is_plain<T: ReadItem + WriteItem + ShowItem>(
     rt: &impl Abort,
     alloc: Global,
-    hex: &str,
+    notation: &str,
     expected: &str,
 ) {
-    let value = value_of::<T>(rt, alloc, None, hex);
-    is_item::<T>(rt, alloc, &value, hex);
+    let value = value_of::<T>(rt, alloc, None, notation);
+    is_item::<T>(rt, alloc, &value, notation);
     is_shown::<T>(rt, alloc, &value, expected);
 }
 
 /// A client over a link that holds these bytes.
-pub fn client_fed(rt: &impl Abort, alloc: Global, hex: &str) -> Client<MemoryLink> {
+pub fn client_fed(rt: &impl Abort, alloc: Global, notation: &str) -> Client<MemoryLink> {
     let mut link = MemoryLink::new(alloc);
-    link.feed(&bytes_of(rt, alloc, hex)).expect(rt, "memory");
+    link.feed(&bytes_of(rt, alloc, notation))
+        .expect(rt, "memory");
     ClientBuilder::new(link).build()
 }
 

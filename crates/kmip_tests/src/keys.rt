@@ -10,51 +10,38 @@ use kmip_keys::{
 fn transparent_keys(rt: HostRuntime) {
     let alloc = rt.alloc();
     // 43{3F xAA}
-    let hex = "420043010000001042003F0800000001AA00000000000000";
+    let notation = "43{3F xAA}";
     let shown = "{key=x\"AA\"}";
-    shows_what_is_written::<TransparentSymmetricKey>(&rt, alloc, hex, shown);
+    shows_what_is_written::<TransparentSymmetricKey>(&rt, alloc, notation, shown);
     // 43{5E b0000000000000017,71 b000000000000000B,37 b0000000000000004,9F b0000000000000003}
-    let hex = concat!(
-        "420043010000004042005E040000000800000000000000174200710400000008000000000000000B",
-        "4200370400000008000000000000000442009F04000000080000000000000003",
-    );
+    let notation =
+        "43{5E b0000000000000017,71 b000000000000000B,37 b0000000000000004,9F b0000000000000003}";
     let shown =
         "{p=x\"0000000000000017\",q=x\"000000000000000B\",g=x\"0000000000000004\",x=x\"0000000000000003\"}";
-    shows_what_is_written::<TransparentDSAPrivateKey>(&rt, alloc, hex, shown);
+    shows_what_is_written::<TransparentDSAPrivateKey>(&rt, alloc, notation, shown);
     // 43{5E b0000000000000017,71 b000000000000000B,37 b0000000000000004,A0 b0000000000000012}
-    let hex = concat!(
-        "420043010000004042005E040000000800000000000000174200710400000008000000000000000B",
-        "420037040000000800000000000000044200A004000000080000000000000012",
-    );
+    let notation =
+        "43{5E b0000000000000017,71 b000000000000000B,37 b0000000000000004,A0 b0000000000000012}";
     let shown =
         "{p=x\"0000000000000017\",q=x\"000000000000000B\",g=x\"0000000000000004\",y=x\"0000000000000012\"}";
-    shows_what_is_written::<TransparentDSAPublicKey>(&rt, alloc, hex, shown);
+    shows_what_is_written::<TransparentDSAPublicKey>(&rt, alloc, notation, shown);
     // 43{52 b0000000000000021,63 b0000000000000007,6C b0000000000000003}
-    let hex = concat!(
-        "42004301000000304200520400000008000000000000002142006304000000080000000000000007",
-        "42006C04000000080000000000000003",
-    );
+    let notation = "43{52 b0000000000000021,63 b0000000000000007,6C b0000000000000003}";
     let shown =
         "{modulus=x\"0000000000000021\",private_exponent=x\"0000000000000007\",public_exponent=x\"0000000000000003\"}";
-    shows_what_is_written::<TransparentRSAPrivateKey>(&rt, alloc, hex, shown);
+    shows_what_is_written::<TransparentRSAPrivateKey>(&rt, alloc, notation, shown);
     // 43{52 b0000000000000021,6C b0000000000000003}
-    let hex = "42004301000000204200520400000008000000000000002142006C04000000080000000000000003";
+    let notation = "43{52 b0000000000000021,6C b0000000000000003}";
     let shown = "{modulus=x\"0000000000000021\",public_exponent=x\"0000000000000003\"}";
-    shows_what_is_written::<TransparentRSAPublicKey>(&rt, alloc, hex, shown);
+    shows_what_is_written::<TransparentRSAPublicKey>(&rt, alloc, notation, shown);
     // 43{5E b0000000000000017,37 b0000000000000005,9F b0000000000000003}
-    let hex = concat!(
-        "420043010000003042005E0400000008000000000000001742003704000000080000000000000005",
-        "42009F04000000080000000000000003",
-    );
+    let notation = "43{5E b0000000000000017,37 b0000000000000005,9F b0000000000000003}";
     let shown = "{p=x\"0000000000000017\",g=x\"0000000000000005\",x=x\"0000000000000003\"}";
-    shows_what_is_written::<TransparentDHPrivateKey>(&rt, alloc, hex, shown);
+    shows_what_is_written::<TransparentDHPrivateKey>(&rt, alloc, notation, shown);
     // 43{5E b0000000000000017,71 b000000000000000B,37 b0000000000000004,3E b0000000000000002,A0 b0000000000000012}
-    let hex = concat!(
-        "420043010000005042005E040000000800000000000000174200710400000008000000000000000B",
-        "4200370400000008000000000000000442003E040000000800000000000000024200A00400000008",
-        "0000000000000012",
-    );
+    let notation =
+        "43{5E b0000000000000017,71 b000000000000000B,37 b0000000000000004,3E b0000000000000002,A0 b0000000000000012}";
     let shown =
         "{p=x\"0000000000000017\",q=x\"000000000000000B\",g=x\"0000000000000004\",j=x\"0000000000000002\",y=x\"0000000000000012\"}";
-    shows_what_is_written::<TransparentDHPublicKey>(&rt, alloc, hex, shown);
+    shows_what_is_written::<TransparentDHPublicKey>(&rt, alloc, notation, shown);
 }

@@ -19,38 +19,38 @@ use std::process::Abort;
 fn plain_values(rt: HostRuntime) {
     let alloc = rt.alloc();
     // 09 i-5
-    let hex = "4200090200000004FFFFFFFB00000000";
-    is_plain::<i32>(&rt, alloc, hex, "-5");
+    let notation = "09 i-5";
+    is_plain::<i32>(&rt, alloc, notation, "-5");
     // 0B l-5
-    let hex = "42000B0300000008FFFFFFFFFFFFFFFB";
-    is_plain::<i64>(&rt, alloc, hex, "-5");
+    let notation = "0B l-5";
+    is_plain::<i64>(&rt, alloc, notation, "-5");
     // 26 t1
-    let hex = "42002606000000080000000000000001";
-    is_plain::<bool>(&rt, alloc, hex, "true");
+    let notation = "26 o1";
+    is_plain::<bool>(&rt, alloc, notation, "true");
     // 92 d5
-    let hex = "42009209000000080000000000000005";
-    is_plain::<u64>(&rt, alloc, hex, "5");
+    let notation = "92 d5";
+    is_plain::<u64>(&rt, alloc, notation, "5");
     // 49 n5
-    let hex = "4200490A000000040000000500000000";
-    is_plain::<u32>(&rt, alloc, hex, "5");
+    let notation = "49 n5";
+    is_plain::<u32>(&rt, alloc, notation, "5");
     // 92 d5
-    let hex = "42009209000000080000000000000005";
-    is_plain::<Timestamp>(&rt, alloc, hex, "5");
+    let notation = "92 d5";
+    is_plain::<Timestamp>(&rt, alloc, notation, "5");
     // 94 "a"
-    let hex = "42009407000000016100000000000000";
-    is_plain::<Text>(&rt, alloc, hex, "\"a\"");
+    let notation = "94 \"a\"";
+    is_plain::<Text>(&rt, alloc, notation, "\"a\"");
     // C2 xAA
-    let hex = "4200C20800000001AA00000000000000";
-    is_plain::<Blob>(&rt, alloc, hex, "x\"AA\"");
+    let notation = "C2 xAA";
+    is_plain::<Blob>(&rt, alloc, notation, "x\"AA\"");
     // 52 b0000000000000005
-    let hex = "42005204000000080000000000000005";
-    is_plain::<BigInteger>(&rt, alloc, hex, "x\"0000000000000005\"");
+    let notation = "52 b0000000000000005";
+    is_plain::<BigInteger>(&rt, alloc, notation, "x\"0000000000000005\"");
     // 57 e2
-    let hex = "42005705000000040000000200000000";
-    is_plain::<ObjectType>(&rt, alloc, hex, "SymmetricKey");
+    let notation = "57 e2";
+    is_plain::<ObjectType>(&rt, alloc, notation, "SymmetricKey");
     // 2B{11 e1}
-    let hex = "42002B010000001042001105000000040000000100000000";
-    is_plain::<CryptographicParameters>(&rt, alloc, hex, "{block_cipher_mode=CBC}");
+    let notation = "2B{11 e1}";
+    is_plain::<CryptographicParameters>(&rt, alloc, notation, "{block_cipher_mode=CBC}");
 }
 
 /// A list of one value.
@@ -93,11 +93,8 @@ fn copies(rt: HostRuntime) {
 fn copies_of_trees(rt: HostRuntime) {
     let alloc = rt.alloc();
     // 36{94 "k",2B{11 e1}}
-    let hex = concat!(
-        "420036010000002842009407000000016B0000000000000042002B01000000104200110500000004",
-        "0000000100000000",
-    );
-    let bytes = bytes_of(&rt, alloc, hex);
+    let notation = "36{94 \"k\",2B{11 e1}}";
+    let bytes = bytes_of(&rt, alloc, notation);
     let (tree, size) = read_tree(alloc, &bytes).expect(&rt, "a tree");
     assert_eq!(&rt; size, 48);
     is_copied::<Tree>(&rt, alloc, &tree);
@@ -107,11 +104,7 @@ fn copies_of_trees(rt: HostRuntime) {
 }
 
 // 7C{57 e4,94 "k",64{40{42 e1,45{43 xAA}}}}
-const OBJECT: &str = concat!(
-    "42007C01000000584200570500000004000000040000000042009407000000016B00000000000000",
-    "42006401000000304200400100000028420042050000000400000001000000004200450100000010",
-    "4200430800000001AA00000000000000",
-);
+const OBJECT: &str = "7C{57 e4,94 \"k\",64{40{42 e1,45{43 xAA}}}}";
 
 #[test]
 fn an_object(rt: HostRuntime) {
@@ -147,8 +140,8 @@ fn lists(rt: HostRuntime) {
 fn a_record(rt: HostRuntime) {
     let alloc = rt.alloc();
     // 08{09 i5}
-    let hex = "420008010000001042000902000000040000000500000000";
-    let bytes = bytes_of(&rt, alloc, hex);
+    let notation = "08{09 i5}";
+    let bytes = bytes_of(&rt, alloc, notation);
     let item = ItemRef::root(&bytes).expect(&rt, "an item");
     let read = read_record::<Row<One<i32, ATTRIBUTE_INDEX>, End>>(alloc, Outer::none(), item);
     let fields![number] = read.expect(&rt, "a record");
@@ -167,15 +160,11 @@ fn a_root(rt: HostRuntime) {
 #[test]
 fn a_request(rt: HostRuntime) {
     // 78{77{69{6A i1,6B i2},0D i1},0F{5C e37,79{C4 i16}}}
-    let hex = concat!(
-        "42007801000000704200770100000038420069010000002042006A02000000040000000100000000",
-        "42006B0200000004000000020000000042000D0200000004000000010000000042000F0100000028",
-        "42005C0500000004000000250000000042007901000000104200C402000000040000001000000000",
-    );
+    let notation = "REQ2(25, C4 i16)";
     let payload = RequestPayload::RNGRetrieve(DataLength(16));
     let authentication = None;
     let written = write_request(rt.alloc(), &payload, &authentication).expect(&rt, "a request");
-    let bytes = bytes_of(&rt, rt.alloc(), hex);
+    let bytes = bytes_of(&rt, rt.alloc(), notation);
     assert!(&rt; written.as_slice() == bytes.as_slice());
     drop(payload);
     drop(authentication);

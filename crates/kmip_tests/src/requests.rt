@@ -14,200 +14,126 @@ use kmip_request::{
 fn attributes_and_templates(rt: HostRuntime) {
     let alloc = rt.alloc();
     // 53{55 "n",54 e1}
-    let hex = "420053010000002042005507000000016E0000000000000042005405000000040000000100000000";
-    is_written::<Name>(&rt, alloc, None, hex);
+    let notation = "53{55 \"n\",54 e1}";
+    is_written::<Name>(&rt, alloc, None, notation);
     // 08{0A "x-a",09 i1,0B i5}
-    let hex = concat!(
-        "420008010000003042000A0700000003782D61000000000042000902000000040000000100000000",
-        "42000B02000000040000000500000000",
-    );
-    is_written::<Attribute>(&rt, alloc, None, hex);
+    let notation = "08{0A \"x-a\",09 i1,0B i5}";
+    is_written::<Attribute>(&rt, alloc, None, notation);
     // 91{53{55 "n",54 e1},08{0A "x-a",09 i1,0B i5}}
-    let hex = concat!(
-        "4200910100000060420053010000002042005507000000016E000000000000004200540500000004",
-        "0000000100000000420008010000003042000A0700000003782D6100000000004200090200000004",
-        "000000010000000042000B02000000040000000500000000",
-    );
-    is_written::<TemplateAttribute>(&rt, alloc, None, hex);
+    let notation = "91{53{55 \"n\",54 e1},08{0A \"x-a\",09 i1,0B i5}}";
+    is_written::<TemplateAttribute>(&rt, alloc, None, notation);
     // 1F{53{55 "n",54 e1},08{0A "x-a",09 i1,0B i5}}
-    let hex = concat!(
-        "42001F0100000060420053010000002042005507000000016E000000000000004200540500000004",
-        "0000000100000000420008010000003042000A0700000003782D6100000000004200090200000004",
-        "000000010000000042000B02000000040000000500000000",
-    );
-    is_written::<CommonTemplateAttribute>(&rt, alloc, None, hex);
+    let notation = "1F{53{55 \"n\",54 e1},08{0A \"x-a\",09 i1,0B i5}}";
+    is_written::<CommonTemplateAttribute>(&rt, alloc, None, notation);
     // 65{53{55 "n",54 e1},08{0A "x-a",09 i1,0B i5}}
-    let hex = concat!(
-        "4200650100000060420053010000002042005507000000016E000000000000004200540500000004",
-        "0000000100000000420008010000003042000A0700000003782D6100000000004200090200000004",
-        "000000010000000042000B02000000040000000500000000",
-    );
-    is_written::<PrivateKeyTemplateAttribute>(&rt, alloc, None, hex);
+    let notation = "65{53{55 \"n\",54 e1},08{0A \"x-a\",09 i1,0B i5}}";
+    is_written::<PrivateKeyTemplateAttribute>(&rt, alloc, None, notation);
     // 6E{53{55 "n",54 e1},08{0A "x-a",09 i1,0B i5}}
-    let hex = concat!(
-        "42006E0100000060420053010000002042005507000000016E000000000000004200540500000004",
-        "0000000100000000420008010000003042000A0700000003782D6100000000004200090200000004",
-        "000000010000000042000B02000000040000000500000000",
-    );
-    is_written::<PublicKeyTemplateAttribute>(&rt, alloc, None, hex);
+    let notation = "6E{53{55 \"n\",54 e1},08{0A \"x-a\",09 i1,0B i5}}";
+    is_written::<PublicKeyTemplateAttribute>(&rt, alloc, None, notation);
     // 81{82 e1,80 "why"}
-    let hex = "42008101000000204200820500000004000000010000000042008007000000037768790000000000";
-    is_written::<RevocationReason>(&rt, alloc, None, hex);
+    let notation = "81{82 e1,80 \"why\"}";
+    is_written::<RevocationReason>(&rt, alloc, None, notation);
 }
 
 #[test]
 fn wrapping(rt: HostRuntime) {
     let alloc = rt.alloc();
     // 36{94 "k",2B{11 e1}}
-    let hex = concat!(
-        "420036010000002842009407000000016B0000000000000042002B01000000104200110500000004",
-        "0000000100000000",
-    );
-    is_written::<EncryptionKeyInformation>(&rt, alloc, None, hex);
+    let notation = "36{94 \"k\",2B{11 e1}}";
+    is_written::<EncryptionKeyInformation>(&rt, alloc, None, notation);
     // 4E{94 "m"}
-    let hex = "42004E010000001042009407000000016D00000000000000";
-    is_written::<MACOrSignatureKeyInformation>(&rt, alloc, None, hex);
+    let notation = "4E{94 \"m\"}";
+    is_written::<MACOrSignatureKeyInformation>(&rt, alloc, None, notation);
     // 4D xAA
-    let hex = "42004D0800000001AA00000000000000";
-    is_written::<MACOrSignature>(&rt, alloc, None, hex);
+    let notation = "4D xAA";
+    is_written::<MACOrSignature>(&rt, alloc, None, notation);
     // 3D xBB
-    let hex = "42003D0800000001BB00000000000000";
-    is_written::<IVOrCounterOrNonce>(&rt, alloc, None, hex);
+    let notation = "3D xBB";
+    is_written::<IVOrCounterOrNonce>(&rt, alloc, None, notation);
     // 46{9E e1,36{94 "k"},4E{94 "m"},4D xAA,3D xBB,08{0A "x-a",09 i1,0B i5}}
-    let hex = concat!(
-        "420046010000009842009E0500000004000000010000000042003601000000104200940700000001",
-        "6B0000000000000042004E010000001042009407000000016D0000000000000042004D0800000001",
-        "AA0000000000000042003D0800000001BB00000000000000420008010000003042000A0700000003",
-        "782D6100000000004200090200000004000000010000000042000B02000000040000000500000000",
-    );
-    is_written::<KeyWrappingData>(&rt, alloc, None, hex);
+    let notation = "46{9E e1,36{94 \"k\"},4E{94 \"m\"},4D xAA,3D xBB,08{0A \"x-a\",09 i1,0B i5}}";
+    is_written::<KeyWrappingData>(&rt, alloc, None, notation);
     // 47{9E e1,36{94 "k"},4E{94 "m"},08{0A "x-a",09 i1,0B i5}}
-    let hex = concat!(
-        "420047010000007842009E0500000004000000010000000042003601000000104200940700000001",
-        "6B0000000000000042004E010000001042009407000000016D000000000000004200080100000030",
-        "42000A0700000003782D6100000000004200090200000004000000010000000042000B0200000004",
-        "0000000500000000",
-    );
-    is_written::<KeyWrappingSpecification>(&rt, alloc, None, hex);
+    let notation = "47{9E e1,36{94 \"k\"},4E{94 \"m\"},08{0A \"x-a\",09 i1,0B i5}}";
+    is_written::<KeyWrappingSpecification>(&rt, alloc, None, notation);
 }
 
 #[test]
 fn objects(rt: HostRuntime) {
     let alloc = rt.alloc();
     // 45{43 xAA,08{0A "x-a",09 i1,0B i5}}
-    let hex = concat!(
-        "42004501000000484200430800000001AA00000000000000420008010000003042000A0700000003",
-        "782D6100000000004200090200000004000000010000000042000B02000000040000000500000000",
-    );
-    is_written::<KeyValue>(&rt, alloc, Some(1), hex);
+    let notation = "45{43 xAA,08{0A \"x-a\",09 i1,0B i5}}";
+    is_written::<KeyValue>(&rt, alloc, Some(1), notation);
     // 40{42 e1,45{43 xAA},28 e3,2A i128,46{9E e1}}
-    let hex = concat!(
-        "42004001000000604200420500000004000000010000000042004501000000104200430800000001",
-        "AA000000000000004200280500000004000000030000000042002A02000000040000008000000000",
-        "420046010000001042009E05000000040000000100000000",
-    );
-    is_written::<KeyBlock>(&rt, alloc, None, hex);
+    let notation = "40{42 e1,45{43 xAA},28 e3,2A i128,46{9E e1}}";
+    is_written::<KeyBlock>(&rt, alloc, None, notation);
     // 8F{40{42 e1,45{43 xAA}}}
-    let hex = concat!(
-        "42008F01000000304200400100000028420042050000000400000001000000004200450100000010",
-        "4200430800000001AA00000000000000",
-    );
-    is_written::<SymmetricKey>(&rt, alloc, None, hex);
+    let notation = "8F{40{42 e1,45{43 xAA}}}";
+    is_written::<SymmetricKey>(&rt, alloc, None, notation);
     // 6D{40{42 e1,45{43 xAA}}}
-    let hex = concat!(
-        "42006D01000000304200400100000028420042050000000400000001000000004200450100000010",
-        "4200430800000001AA00000000000000",
-    );
-    is_written::<PublicKey>(&rt, alloc, None, hex);
+    let notation = "6D{40{42 e1,45{43 xAA}}}";
+    is_written::<PublicKey>(&rt, alloc, None, notation);
     // 64{40{42 e1,45{43 xAA}}}
-    let hex = concat!(
-        "42006401000000304200400100000028420042050000000400000001000000004200450100000010",
-        "4200430800000001AA00000000000000",
-    );
-    is_written::<PrivateKey>(&rt, alloc, None, hex);
+    let notation = "64{40{42 e1,45{43 xAA}}}";
+    is_written::<PrivateKey>(&rt, alloc, None, notation);
     // 90{08{0A "x-a",09 i1,0B i5}}
-    let hex = concat!(
-        "4200900100000038420008010000003042000A0700000003782D6100000000004200090200000004",
-        "000000010000000042000B02000000040000000500000000",
-    );
-    is_written::<Template>(&rt, alloc, None, hex);
+    let notation = "90{08{0A \"x-a\",09 i1,0B i5}}";
+    is_written::<Template>(&rt, alloc, None, notation);
     // 8F{40{42 e1,45{43 xAA}}}
-    let hex = concat!(
-        "42008F01000000304200400100000028420042050000000400000001000000004200450100000010",
-        "4200430800000001AA00000000000000",
-    );
-    is_written::<ManagedObject>(&rt, alloc, None, hex);
+    let notation = "8F{40{42 e1,45{43 xAA}}}";
+    is_written::<ManagedObject>(&rt, alloc, None, notation);
 }
 
 #[test]
 fn messages_and_credentials(rt: HostRuntime) {
     let alloc = rt.alloc();
     // 99 "alice"
-    let hex = "4200990700000005616C696365000000";
-    is_written::<Username>(&rt, alloc, None, hex);
+    let notation = "99 \"alice\"";
+    is_written::<Username>(&rt, alloc, None, notation);
     // A1 "secret"
-    let hex = "4200A107000000067365637265740000";
-    is_written::<Password>(&rt, alloc, None, hex);
+    let notation = "A1 \"secret\"";
+    is_written::<Password>(&rt, alloc, None, notation);
     // 25{99 "alice",A1 "secret"}
-    let hex = "42002501000000204200990700000005616C6963650000004200A107000000067365637265740000";
-    is_written::<CredentialValue>(&rt, alloc, Some(1), hex);
+    let notation = "25{99 \"alice\",A1 \"secret\"}";
+    is_written::<CredentialValue>(&rt, alloc, Some(1), notation);
     // 23{24 e1,25{99 "alice",A1 "secret"}}
-    let hex = concat!(
-        "42002301000000384200240500000004000000010000000042002501000000204200990700000005",
-        "616C6963650000004200A107000000067365637265740000",
-    );
-    is_written::<Credential>(&rt, alloc, None, hex);
+    let notation = "23{24 e1,25{99 \"alice\",A1 \"secret\"}}";
+    is_written::<Credential>(&rt, alloc, None, notation);
     // 0C{23{24 e1,25{99 "alice",A1 "secret"}}}
-    let hex = concat!(
-        "42000C01000000404200230100000038420024050000000400000001000000004200250100000020",
-        "4200990700000005616C6963650000004200A107000000067365637265740000",
-    );
-    is_written::<Authentication>(&rt, alloc, None, hex);
+    let notation = "0C{23{24 e1,25{99 \"alice\",A1 \"secret\"}}}";
+    is_written::<Authentication>(&rt, alloc, None, notation);
     // 77{69{6A i1,6B i2},50 i256,0C{23{24 e1,25{99 "alice",A1 "secret"}}},0D i1}
-    let hex = concat!(
-        "4200770100000090420069010000002042006A0200000004000000010000000042006B0200000004",
-        "00000002000000004200500200000004000001000000000042000C01000000404200230100000038",
-        "4200240500000004000000010000000042002501000000204200990700000005616C696365000000",
-        "4200A10700000006736563726574000042000D02000000040000000100000000",
-    );
-    is_written::<RequestHeader>(&rt, alloc, None, hex);
+    let notation = "77{69{6A i1,6B i2},50 i256,0C{23{24 e1,25{99 \"alice\",A1 \"secret\"}}},0D i1}";
+    is_written::<RequestHeader>(&rt, alloc, None, notation);
     // 79{C4 i16}
-    let hex = "42007901000000104200C402000000040000001000000000";
-    is_written::<RequestPayload>(&rt, alloc, Some(37), hex);
+    let notation = "79{C4 i16}";
+    is_written::<RequestPayload>(&rt, alloc, Some(37), notation);
     // 0F{5C e37,93 xAA,79{C4 i16}}
-    let hex = concat!(
-        "42000F010000003842005C050000000400000025000000004200930800000001AA00000000000000",
-        "42007901000000104200C402000000040000001000000000",
-    );
-    is_written::<BatchItem>(&rt, alloc, None, hex);
+    let notation = "0F{5C e25,93 xAA,79{C4 i16}}";
+    is_written::<BatchItem>(&rt, alloc, None, notation);
     // 78{77{69{6A i1,6B i2},50 i256,0C{23{24 e1,25{99 "alice",A1 "secret"}}},0D i1},0F{5C e37,93 xAA,79{C4 i16}}}
-    let hex = concat!(
-        "42007801000000D84200770100000090420069010000002042006A02000000040000000100000000",
-        "42006B020000000400000002000000004200500200000004000001000000000042000C0100000040",
-        "42002301000000384200240500000004000000010000000042002501000000204200990700000005",
-        "616C6963650000004200A10700000006736563726574000042000D02000000040000000100000000",
-        "42000F010000003842005C050000000400000025000000004200930800000001AA00000000000000",
-        "42007901000000104200C402000000040000001000000000",
-    );
-    is_written::<RequestMessage>(&rt, alloc, None, hex);
+    let notation =
+        "78{77{69{6A i1,6B i2},50 i256,0C{23{24 e1,25{99 \"alice\",A1 \"secret\"}}},0D i1},0F{5C e25,93 xAA,79{C4 i16}}}";
+    is_written::<RequestMessage>(&rt, alloc, None, notation);
 }
 
 #[test]
 fn numbers(rt: HostRuntime) {
     let alloc = rt.alloc();
     // 69{6A i1,6B i2}
-    let hex = "420069010000002042006A0200000004000000010000000042006B02000000040000000200000000";
-    is_written_alone::<ProtocolVersion>(&rt, alloc, hex);
+    let notation = "69{6A i1,6B i2}";
+    is_written_alone::<ProtocolVersion>(&rt, alloc, notation);
     // 0D i1
-    let hex = "42000D02000000040000000100000000";
-    is_written_alone::<BatchCount>(&rt, alloc, hex);
+    let notation = "0D i1";
+    is_written_alone::<BatchCount>(&rt, alloc, notation);
     // 50 i256
-    let hex = "42005002000000040000010000000000";
-    is_written_alone::<MaximumResponseSize>(&rt, alloc, hex);
+    let notation = "50 i256";
+    is_written_alone::<MaximumResponseSize>(&rt, alloc, notation);
     // 6A i1
-    let hex = "42006A02000000040000000100000000";
-    is_written_alone::<ProtocolVersionMajor>(&rt, alloc, hex);
+    let notation = "6A i1";
+    is_written_alone::<ProtocolVersionMajor>(&rt, alloc, notation);
     // 6B i2
-    let hex = "42006B02000000040000000200000000";
-    is_written_alone::<ProtocolVersionMinor>(&rt, alloc, hex);
+    let notation = "6B i2";
+    is_written_alone::<ProtocolVersionMinor>(&rt, alloc, notation);
 }

@@ -11,20 +11,10 @@ use std::alloc::Global;
 use std::process::Abort;
 
 /// The request for 16 random bytes: 120 bytes.
-const REQUEST: &str = concat!(
-    "42007801000000704200770100000038420069010000002042006A02000000040000000100000000",
-    "42006B0200000004000000020000000042000D0200000004000000010000000042000F0100000028",
-    "42005C0500000004000000250000000042007901000000104200C402000000040000001000000000",
-);
+const REQUEST: &str = "REQ2(25, C4 i16)";
 
 /// The response with a text at the end of its batch item that is not UTF-8: 168 bytes.
-const BROKEN: &str = concat!(
-    "42007B01000000A042007A0100000048420069010000002042006A02000000040000000100000000",
-    "42006B020000000400000002000000004200920900000008000000000000000142000D0200000004",
-    "000000010000000042000F010000004842005C0500000004000000250000000042007F0500000004",
-    "000000000000000042007C01000000104200C20800000004DEADBEEF000000005400010700000001",
-    "FF00000000000000",
-);
+const BROKEN: &str = "RES2(5C e25,7F e0,7C{C2 xDEADBEEF},!5400010700000001FF00000000000000)";
 
 /// How an exchange with the response, and one with the broken message, is told without diagnostics.
 pub(crate) const ANSWERED: &str = "RNGRetrieve{random_bytes=x\"DEADBEEF\"} | - | -\n";
@@ -34,8 +24,9 @@ pub(crate) const REFUSED: &str = "Deserialize error: malformed TTLV | - | -\n";
 /// A link with these pieces that is fed with the response, the broken message and the response.
 pub(crate) fn link_of(rt: &impl Abort, alloc: Global, pieces: usize) -> MemoryLink {
     let mut link = MemoryLink::new(alloc);
-    for hex in [RESPONSE, BROKEN, RESPONSE] {
-        link.feed(&bytes_of(rt, alloc, hex)).expect(rt, "memory");
+    for notation in [RESPONSE, BROKEN, RESPONSE] {
+        link.feed(&bytes_of(rt, alloc, notation))
+            .expect(rt, "memory");
     }
     link.plan_pieces(&[pieces]).expect(rt, "memory");
     link

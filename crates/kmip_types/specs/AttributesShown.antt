@@ -2,7 +2,7 @@
 use Rattle.std.specs.Prelude.{ℕ, List, [], codes}
 use Rattle.std.specs.Fmt.{decimal, signed_decimal}
 use Rattle.kmip_shape.specs.declared.style.Style.{Style}
-use Rattle.kmip_shape.specs.Shown.{always, word, text_styled, bytes_styled, truth_shown}
+use Rattle.kmip_shape.specs.Shown.{always, word, text_in_style, bytes_in_style, date_in_style, truth_shown}
 use Rattle.kmip_enums.specs.ObjectTypes.{object_type_line}
 use Rattle.kmip_enums.specs.States.{state_line}
 use Rattle.kmip_codes.specs.CryptographicAlgorithms.{cryptographic_algorithm_line}
@@ -34,31 +34,32 @@ case_name (DateTime x) = codes "DateTime"
 case_name (Interval x) = codes "Interval"
 
 -- the text of the value, and none for a record
-abbrev pub plain_styled : AttributeValue → Style → List ℕ
-plain_styled (Name x y) = word []
-plain_styled (ObjectType x) = word (object_type_line x).name
-plain_styled (CryptographicAlgorithm x) = word (cryptographic_algorithm_line x).name
-plain_styled (CryptographicParameters x) = word []
-plain_styled (State x) = word (state_line x).name
-plain_styled (ObjectGroup x) = text_styled x
-plain_styled (Link x y) = word []
-plain_styled (ApplicationSpecificInformation x y) = word []
-plain_styled (ContactInformation x) = text_styled x
-plain_styled (Structure x) = word []
-plain_styled (Integer x) = always (signed_decimal x)
-plain_styled (LongInteger x) = always (signed_decimal x)
-plain_styled (BigInteger x) = bytes_styled x
-plain_styled (Enumeration x) = always (decimal x)
-plain_styled (Boolean x) = always (truth_shown x)
-plain_styled (TextString x) = text_styled x
-plain_styled (ByteString x) = bytes_styled x
-plain_styled (DateTime x) = always (decimal x)
-plain_styled (Interval x) = always (decimal x)
+abbrev pub plain_in_style : AttributeValue → Style → List ℕ
+plain_in_style (Name x y) = word []
+plain_in_style (ObjectType x) = word (object_type_line x).name
+plain_in_style (CryptographicAlgorithm x) = word (cryptographic_algorithm_line x).name
+plain_in_style (CryptographicParameters x) = word []
+plain_in_style (State x) = word (state_line x).name
+plain_in_style (ObjectGroup x) = text_in_style x
+plain_in_style (Link x y) = word []
+plain_in_style (ApplicationSpecificInformation x y) = word []
+plain_in_style (ContactInformation x) = text_in_style x
+plain_in_style (Structure x) = word []
+plain_in_style (Integer x) = always (signed_decimal x)
+plain_in_style (LongInteger x) = always (signed_decimal x)
+plain_in_style (BigInteger x) = bytes_in_style x
+plain_in_style (Enumeration x) = always (decimal x)
+plain_in_style (Boolean x) = always (truth_shown x)
+plain_in_style (TextString x) = text_in_style x
+plain_in_style (ByteString x) = bytes_in_style x
+plain_in_style (DateTime x) = date_in_style x
+plain_in_style (Interval x) = always (decimal x)
 
 abbrev pub plain_text : Piece → Style → List ℕ
 plain_text (piece.Word w) = word w.now
-plain_text (piece.Chars s) = text_styled s.now
-plain_text (piece.Octets b) = bytes_styled b.now
+plain_text (piece.Chars s) = text_in_style s.now
+plain_text (piece.Octets b) = bytes_in_style b.now
 plain_text (piece.Signed z) = always (signed_decimal z)
 plain_text (piece.Unsigned n) = always (decimal n)
+plain_text (piece.Date n) = date_in_style n
 plain_text (piece.Truth b) = always (truth_shown b)

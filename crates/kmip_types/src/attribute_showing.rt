@@ -3,9 +3,9 @@
 ghost use Rattle.std.specs.Prelude.{◌≡◌, false};
 ghost use Rattle.kmip_shape.specs.Val.{vals_of, Case as case};
 ghost use Rattle.kmip_shape.specs.Shape.{NoCase};
-ghost use Rattle.kmip_shape.specs.Shown.{Grows, shown_as, list_styled, in_brackets};
+ghost use Rattle.kmip_shape.specs.Shown.{Grows, shown_in_style, list_in_style, in_brackets};
 ghost use Rattle.kmip_types.specs.AttributeValues.{attribute_value, attribute_value_val};
-ghost use Rattle.kmip_types.specs.AttributesShown.{case_name, plain_styled, plain_text};
+ghost use Rattle.kmip_types.specs.AttributesShown.{case_name, plain_in_style, plain_text};
 ghost use Rattle.kmip_types.specs.Parameters.{cryptographic_parameters_val};
 ghost use Rattle.kmip_types.specs.declared.attribute_value.AttributeValue.TheVariants.{Name, Link};
 ghost use Rattle.kmip_types.specs.declared.attribute_value.AttributeValue.TheVariants.{ApplicationSpecificInformation};
@@ -21,7 +21,7 @@ use kmip_shape::{Enumeration, ShowItem, TextWriter, fields, show_record};
 #[cycle(show_attribute)]
 fn show_each(values: &Values, out: &mut TextWriter)
     ensures { Grows out.old out.new
-        (list_styled (vals_of values.now) NoCase attribute_value false) }
+        (list_in_style (vals_of values.now) NoCase attribute_value false) }
 {
     let mut after = false;
     let mut rest = values.as_slice();
@@ -37,7 +37,7 @@ fn show_each(values: &Values, out: &mut TextWriter)
 #[cycle(show_attribute)]
 fn show_structure(values: &Values, out: &mut TextWriter)
     ensures { Grows out.old out.new
-        (shown_as attribute_value (attribute_value_val (Structure values.now))) }
+        (shown_in_style attribute_value (attribute_value_val (Structure values.now))) }
 {
     out.open_case("Structure");
     out.put("[");
@@ -54,6 +54,7 @@ enum Piece<'a> {
     Octets(&'a [u8]),
     Signed(i64),
     Unsigned(u64),
+    Date(u64),
     Truth(bool),
 }
 
@@ -86,7 +87,7 @@ fn name_of(value: &AttributeValue) -> &'static str
 
 /// The value of a variant that holds no record.
 fn piece_of(value: &AttributeValue) -> Piece<'_>
-    ensures { plain_text result ≡ plain_styled value.now }
+    ensures { plain_text result ≡ plain_in_style value.now }
 {
     match value {
         AttributeValue::Name(_, _) => Piece::Word(""),
@@ -106,7 +107,7 @@ fn piece_of(value: &AttributeValue) -> Piece<'_>
         AttributeValue::Boolean(truth) => Piece::Truth(*truth),
         AttributeValue::TextString(text) => Piece::Chars(text.as_str()),
         AttributeValue::ByteString(bytes) => Piece::Octets(bytes.as_slice()),
-        AttributeValue::DateTime(seconds) => Piece::Unsigned(*seconds),
+        AttributeValue::DateTime(seconds) => Piece::Date(*seconds),
         AttributeValue::Interval(seconds) => Piece::Unsigned(u64::from(*seconds)),
     }
 }
@@ -121,13 +122,14 @@ fn show_piece(piece: Piece<'_>, out: &mut TextWriter)
         Piece::Octets(bytes) => out.put_bytes(bytes),
         Piece::Signed(number) => out.put_signed(number),
         Piece::Unsigned(number) => out.put_unsigned(number),
+        Piece::Date(seconds) => out.put_date(seconds),
         Piece::Truth(truth) => out.put_truth(truth),
     }
 }
 
 /// Appends the name of a variant, and its value in parentheses.
 fn show_plain(value: &AttributeValue, out: &mut TextWriter)
-    ensures { Grows out.old out.new (in_brackets (case_name value.now) (plain_styled value.now)) }
+    ensures { Grows out.old out.new (in_brackets (case_name value.now) (plain_in_style value.now)) }
 {
     out.open_brackets(name_of(value));
     show_piece(piece_of(value), out);
@@ -137,7 +139,7 @@ fn show_plain(value: &AttributeValue, out: &mut TextWriter)
 /// Appends a Name.
 fn show_name(value: &NameValue, kind: &NameType, out: &mut TextWriter)
     ensures { Grows out.old out.new
-        (shown_as attribute_value (attribute_value_val (Name value.now kind.now))) }
+        (shown_in_style attribute_value (attribute_value_val (Name value.now kind.now))) }
 {
     out.open_case("Name");
     show_record::<NameRows>(
@@ -151,7 +153,7 @@ fn show_name(value: &NameValue, kind: &NameType, out: &mut TextWriter)
 /// Appends a Link.
 fn show_link(kind: &LinkType, identifier: &LinkedObjectIdentifier, out: &mut TextWriter)
     ensures { Grows out.old out.new
-        (shown_as attribute_value (attribute_value_val (Link kind.now identifier.now))) }
+        (shown_in_style attribute_value (attribute_value_val (Link kind.now identifier.now))) }
 {
     out.open_case("Link");
     show_record::<LinkRows>(
@@ -169,7 +171,7 @@ fn show_information(
     out: &mut TextWriter,
 )
     ensures { Grows out.old out.new
-        (shown_as attribute_value (attribute_value_val
+        (shown_in_style attribute_value (attribute_value_val
         (ApplicationSpecificInformation namespace.now contents.now))) }
 {
     out.open_case("ApplicationSpecificInformation");
@@ -184,7 +186,7 @@ fn show_information(
 /// Appends Cryptographic Parameters.
 fn show_parameters(parameters: &CryptographicParameters, out: &mut TextWriter)
     ensures { Grows out.old out.new
-        (shown_as attribute_value (case 4 (cryptographic_parameters_val parameters.now))) }
+        (shown_in_style attribute_value (case 4 (cryptographic_parameters_val parameters.now))) }
 {
     out.open_case("CryptographicParameters");
     parameters.show_into(out);

@@ -1,8 +1,7 @@
 use crate::support::Under::{self, Name, Nothing, Number};
 use kmip_codes::PaddingMethod;
-use kmip_json::{json_is_json, shown_as_json};
 use kmip_keys::KeyMaterial;
-use kmip_shape::{ReadItem, ShowItem, Timestamp};
+use kmip_shape::{ReadItem, ShowItem, Timestamp, json_is_json, shown_as_json};
 use kmip_types::{AttributeValue, CryptographicParameters};
 use kmip_wire::{Blob, ItemRef, Text};
 use std::alloc::Global;
@@ -32,7 +31,7 @@ fn are_json<T: ReadItem + ShowItem>(
     Ok(())
 }
 
-const ATTRIBUTES: [Case; 9] = [
+const ATTRIBUTES: [Case; 11] = [
     // 0B{55 "my key",54 e1}
     Case {
         under: Name("Name"),
@@ -80,6 +79,18 @@ const ATTRIBUTES: [Case; 9] = [
         under: Name("x-a"),
         hex: "42000B0800000002AABB000000000000",
         json: r#"{"ByteString":"AABB"}"#,
+    },
+    // 0B d0
+    Case {
+        under: Name("x-a"),
+        hex: "42000B09000000080000000000000000",
+        json: r#"{"DateTime":0}"#,
+    },
+    // 0B d-5, five seconds before 1970
+    Case {
+        under: Name("x-a"),
+        hex: "42000B0900000008FFFFFFFFFFFFFFFB",
+        json: r#"{"DateTime":-5}"#,
     },
     // 0B with a line feed, a quote and a backslash
     Case {
@@ -129,7 +140,18 @@ fn plain(rt: HostRuntime) -> Result<(), Fail> {
     is_json(&rt, alloc, &none, "{}")?;
     let padded = none.with_padding_method(PaddingMethod::OAEP);
     is_json(&rt, alloc, &padded, "{\"padding_method\":\"OAEP\"}")?;
-    is_json(&rt, alloc, &Timestamp(-1), "18446744073709551615")?;
+    is_json(&rt, alloc, &Timestamp(-1), "-1")?;
+    is_json(&rt, alloc, &Timestamp(-5), "-5")?;
+    is_json(&rt, alloc, &Timestamp(0), "0")?;
+    is_json(&rt, alloc, &0xFFFF_FFFF_FFFF_FFFBu64, "-5")?;
+    is_json(&rt, alloc, &0u64, "0")?;
+    is_json(&rt, alloc, &0x7FFF_FFFF_FFFF_FFFFu64, "9223372036854775807")?;
+    is_json(
+        &rt,
+        alloc,
+        &0x8000_0000_0000_0000u64,
+        "-9223372036854775808",
+    )?;
     is_json(&rt, alloc, &Blob::of(alloc, &[0x0A, 0xFF])?, "\"0AFF\"")?;
     let text = Text::of(alloc, "\0\"b\\c\n\u{1f}\u{7f}\u{e9}")?;
     let expected = "\"\\u0000\\\"b\\\\c\\u000A\\u001F\\u007F\u{e9}\"";
@@ -145,7 +167,7 @@ fn after_other_text(rt: HostRuntime) -> Result<(), Fail> {
     Ok(())
 }
 
-/// The laws of kmip_json hold of any value that is at hand.
+/// The laws of JSON hold of any value that is at hand.
 #[test]
 fn of_the_grammar(rt: HostRuntime) -> Result<(), Fail> {
     let text = Text::of(rt.alloc(), "a\"b")?;

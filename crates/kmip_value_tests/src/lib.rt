@@ -1,5 +1,6 @@
-//! Tests of the crates whose types are values of a message: kmip_shape, kmip_json, kmip_enums, kmip_codes, kmip_names,
-//! kmip_keys and kmip_types. They stand above those crates, so that each crate is proved once.
+//! Tests of the crates whose types are values of a message: kmip_shape, kmip_enums, kmip_codes,
+//! kmip_names, kmip_keys and kmip_types. They stand above those crates, so that each crate is
+//! proved once.
 #![tactic(auto)]
 
 #[cfg(test)]

@@ -38,6 +38,14 @@ fn shown_and_written(rt: HostRuntime) -> Result<(), Fail> {
     let alloc = rt.alloc();
     is_shown(&rt, alloc, &-5i32, "-5")?;
     is_shown(&rt, alloc, &Timestamp(-1), "18446744073709551615")?;
+    is_shown(&rt, alloc, &Timestamp(0), "0")?;
+    is_shown(
+        &rt,
+        alloc,
+        &0xFFFF_FFFF_FFFF_FFFBu64,
+        "18446744073709551611",
+    )?;
+    is_shown(&rt, alloc, &0u64, "0")?;
     is_shown(&rt, alloc, &true, "true")?;
     is_shown(&rt, alloc, &Blob::of(alloc, &[0x0A, 0xFF])?, "x\"0AFF\"")?;
     is_written(&rt, alloc, &1i32, ITEM)?;

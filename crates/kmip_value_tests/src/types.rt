@@ -8,7 +8,7 @@ use std::alloc::Global;
 use std::test::Fail;
 
 /// By the name, where it is one of the table's, and else by the type of the item.
-const VALUES: [Case; 25] = [
+const VALUES: [Case; 26] = [
     // 0B{55 "my key",54 e1}
     Case {
         under: Name("Name"),
@@ -148,6 +148,12 @@ const VALUES: [Case; 25] = [
         under: Name("x-a"),
         hex: "42000B09000000080000000000000005",
         shown: Some("DateTime(5)"),
+    },
+    // 0B d-5, five seconds before 1970
+    Case {
+        under: Name("x-a"),
+        hex: "42000B0900000008FFFFFFFFFFFFFFFB",
+        shown: Some("DateTime(18446744073709551611)"),
     },
     // 0B n60
     Case {

@@ -12,7 +12,7 @@ use Rattle.kmip_wire.specs.Tree.{Tree, Trees, scalar, structure, none, more, Sca
 use Rattle.kmip_wire.specs.Kinds.{code_of, kind_of, kind_of_scalar}
 use Rattle.kmip_wire.specs.Head.{head_tag, head_code, head_length, size_at, value_of}
 use Rattle.kmip_wire.specs.Parses.{IsValue, IsLevel, Parses, ParseAll, IsFront, NoFront, AreTexts, joined_texts}
-use Rattle.kmip_wire.specs.Reading.{well_formed, scalar_at, trees_with, items_by, is_whole, node_at, item_of, items_of, front_of}
+use Rattle.kmip_wire.specs.Reading.{well_formed, scalar_at, trees_with, items_by, is_whole, node_at, item_of, items_of, front_at, front_of}
 use Rattle.kmip_wire.proofs.Values.{kind_of-code_of, code_of-kind_of, chosen, scalar_at-sound, scalar_at-complete}
 
 -- ---- the head of a front
@@ -225,24 +225,48 @@ pub some_of : {A : Type 0} (o : Option A) → is_some o ≡ true → (x : A) × 
 some_of None e = absurd cc
 some_of (Some x) e = (x, refl)
 
+-- an item at the front is as long as its head says
+pub front_size : (t : Tree) (level n : ℕ) (b : List ℕ) → n ≤ length b → Parses t level (take n b) → size_at b ≡ n
+front_size t level n b le p =
+    let s = sized t level (take n b) p in
+    let long : length (take n b) ≡ n = length-take-le n b le in
+    sym (size_at-take n b (omega (arith, s.head, long))) ∙ sym s.whole ∙ long
+
+front_within : (t : Tree) (level : ℕ) (b : List ℕ) → Parses t level (take (size_at b) b) → size_at b ≤ length b
+front_within t level b p =
+    let m : ℕ = size_at b in
+    let s = sized t level (take m b) p in
+    omega (arith, s.whole, size_at-take m b (omega (arith, s.head, length-take m b)), length-take m b)
+
+-- the tree at the front is the one that some first bytes parse as
+pub front_computed : (t : Tree) (level : ℕ) (b : List ℕ) → IsLevel level
+    → (front_at level b ≡ Some t) ↔ ((n : ℕ) × (n ≤ length b) × Parses t level (take n b))
+front_computed t level b l = (read, found)
+  where
+    read : front_at level b ≡ Some t → (n : ℕ) × (n ≤ length b) × Parses t level (take n b)
+    read e =
+        let p : Parses t level (take (size_at b) b) = item_of-sound (65 - level) level l.0 (omega (arith, l.1)) (take (size_at b) b) t e in
+        (size_at b, front_within t level b p, p)
+
+    found : ((n : ℕ) × (n ≤ length b) × Parses t level (take n b)) → front_at level b ≡ Some t
+    found (n, le, p) =
+        ap (λ k. item_of (65 - level) (take k b)) (front_size t level n b le p)
+        ∙ item_of-complete t level (65 - level) (take n b) (omega (arith, l.0, l.1)) p
+
 pub front_of-sound : (level n : ℕ) (b : List ℕ) → IsLevel level → front_of (65 - level) b ≡ Some n → IsFront level b n
 front_of-sound level n b l e =
     let m : ℕ = size_at b in
     let p = cond_some (is_some (item_of (65 - level) (take m b))) m n e in
     let t = some_of (item_of (65 - level) (take m b)) p.0 in
     let h : Parses t.0 level (take m b) = item_of-sound (65 - level) level l.0 (omega (arith, l.1)) (take m b) t.0 t.1 in
-    let s = sized t.0 level (take m b) h in
-    let same : size_at (take m b) ≡ m = size_at-take m b (omega (arith, s.head, length-take m b)) in
     let P : ℕ → Type 0 = λ k. IsFront level b k in
-    subst P p.1 (omega (arith, s.whole, same, length-take m b), (t.0, h))
+    subst P p.1 (front_within t.0 level b h, (t.0, h))
 
 pub front_of-complete : (level n : ℕ) (b : List ℕ) → IsFront level b n → front_of (65 - level) b ≡ Some n
 front_of-complete level n b (le, (t, p)) =
-    let s = sized t level (take n b) p in
-    let long : length (take n b) ≡ n = length-take-le n b le in
-    let same : size_at b ≡ n = sym (size_at-take n b (omega (arith, s.head, long))) ∙ sym s.whole ∙ long in
-    let l = s.level_is in
-    ap (λ k. cond (is_some (item_of (65 - level) (take k b))) (Some k) None) same ∙ ap (λ o. cond (is_some o) (Some n) None) (item_of-complete t level (65 - level) (take n b) (omega (arith, l.0, l.1)) p)
+    let l = (sized t level (take n b) p).level_is in
+    ap (λ k. cond (is_some (item_of (65 - level) (take k b))) (Some k) None) (front_size t level n b le p)
+    ∙ ap (λ o. cond (is_some o) (Some n) None) (item_of-complete t level (65 - level) (take n b) (omega (arith, l.0, l.1)) p)
 
 head_code-take : (n : ℕ) (b : List ℕ) → 8 ≤ n → head_code (take n b) ≡ head_code b
 head_code-take n b h = get_or-take n b 3 0 (omega arith)
@@ -296,7 +320,7 @@ no_short (suc levels) b h e =
       | inr p ↦ none-some item.0 p.1
     ]
 
--- where all the bytes are there, the item at the front is told by its type and its value
+-- where all the bytes are there, its type and its value decide whether there is an item at the front
 pub item_step_says : (levels : ℕ) (b : List ℕ) → 8 ≤ length b → size_at b ≤ length b
     → is_some (item_of (suc levels) (take (size_at b) b)) ≡ well_formed (is_some (items_of levels (value_of b))) (kind_of (head_code b)) (value_of b)
 unfolding item_of

@@ -102,7 +102,7 @@ none_left (x ∷ xs) = not_true (eqb (length (x ∷ xs)) 0) (λ t. omega (arith,
 pub value_length : (b : List ℕ) → size_at b ≤ length b → length (value_of b) ≡ head_length b
 value_length b le = omega (arith, length-take (head_length b) (drop 8 b), length-drop 8 b)
 
--- ---- what a step tells
+-- ---- what a step shows
 
 module _ (b : List ℕ) (some : 0 < length b) where
   pub tells_short : length b < size_at b → NoItems b

@@ -26,7 +26,7 @@ kind_of-code_of ByteString = refl
 kind_of-code_of DateTime = refl
 kind_of-code_of Interval = refl
 
--- one number of a chain: it is this one, or the rest of the chain tells
+-- one number of a chain: it is this one, or the rest of the chain decides
 one_more : (n c : ℕ) (k x : Kind) (rest : Option Kind) → c ≡ code_of k → (rest ≡ Some x → n ≡ code_of x) → cond (eqb n c) (Some k) rest ≡ Some x → n ≡ code_of x
 one_more n c k x rest at below e =
     let P : Bool → Type 0 = λ b. eqb n c ≡ b → cond b (Some k) rest ≡ Some x → n ≡ code_of x in

@@ -97,7 +97,7 @@ lowest (suc (suc n)) t b low h =
 
 -- the front at a level is a tree of its own
 pub a_front : (level n : ℕ) (b : List ℕ) → IsLevel level → front_of (65 - level) b ≡ Some n
-    → (is_tree (take n b) ≡ true) × (Some (the_tree (take n b)) ≡ front_at level b) × (n ≡ size_at b) × (n ≤ length b)
+    → (is_tree (take n b) ≡ true) × (Some (the_tree (take n b)) ≡ front_at level b) × (n ≡ size_at b) × (n ≤ length b) × Parses (the_tree (take n b)) level (take n b)
 a_front level n b l e =
     let f = front_of-sound level n b l e in
     let p : Parses f.1.0 1 (take n b) = lowest level f.1.0 (take n b) l.0 f.1.1 in
@@ -107,6 +107,7 @@ a_front level n b l e =
       ap (λ t. Some t) (the_tree-is (take n b) f.1.0 p) ∙ sym there ∙ ap (λ k. item_of (65 - level) (take k b)) same,
       same,
       f.0,
+      subst (λ t. Parses t level (take n b)) (sym (the_tree-is (take n b) f.1.0 p)) f.1.1,
     )
 
 pub no_front : (level : ℕ) (b : List ℕ) → front_of (65 - level) b ≡ None → None ≡ front_at level b

@@ -5,7 +5,7 @@ use Rattle.kmip_wire.specs.Tree.{Tree, Trees, Scalar, scalar, structure, none, m
 use Rattle.kmip_wire.specs.Kinds.{code_of, kind_of_scalar}
 use Rattle.kmip_wire.specs.Head.{pads}
 
--- the bytes of a value, pads aside
+-- the bytes of a value, without pads
 abbrev pub value_bytes : Scalar → List ℕ
 value_bytes (integer z) = to_be_bytes w32 (cast_unsigned w32 z)
 value_bytes (long_integer z) = to_be_bytes w64 (cast_unsigned w64 z)
@@ -30,7 +30,7 @@ head_bytes tag code n = drop 1 (to_be_bytes w32 tag) ++ (code ∷ to_be_bytes w3
 unfoldable pub item_bytes : ℕ → ℕ → List ℕ → List ℕ
 item_bytes tag code v = head_bytes tag code (length v) ++ (v ++ replicate (pads (length v)) 0)
 
--- a structure of the contents, where there are such and their length has a form
+-- a structure of the contents, if there are some and their length fits its field
 abbrev pub structure_bytes : ℕ → Option (List ℕ) → Option (List ℕ)
 structure_bytes tag None = None
 structure_bytes tag (Some v) =

@@ -1,4 +1,4 @@
--- The values of trees, by whose lengths writing begins.
+-- The bytes of the values of trees, whose lengths are computed before they are written.
 use Rattle.std.specs.Prelude.{ℕ, ◌^◌, ◌&&◌, nat_lt, List, length, Option, Some, None, if◌then◌else◌}
 use Rattle.kmip_wire.specs.Tree.{Tree, scalar, structure}
 use Rattle.kmip_wire.specs.Bytes.{value_bytes, has_form, all_bytes}

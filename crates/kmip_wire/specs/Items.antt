@@ -1,4 +1,4 @@
--- The tree that a view shows, and the trees that are still to come.
+-- The tree of a view's bytes, and the trees of the children that are left.
 use Rattle.std.specs.Prelude.{List}
 use Rattle.kmip_wire.specs.Tree.{Tree}
 use Rattle.kmip_wire.specs.Whole.{the_tree, the_trees}

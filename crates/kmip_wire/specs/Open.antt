@@ -1,19 +1,19 @@
--- Open structures: what is still to be found before each of them closes.
+-- Open structures, those that are not ended yet: what is still to be found in each of them.
 use Rattle.std.specs.Prelude.{◌≡◌, ℕ, zero, suc, ◌+◌, ◌-◌, ◌≤◌, ◌<◌, ◌&&◌, Bool, true, false, Some, List, length, take, drop, slice_index}
 use Rattle.std.specs.Option.{is_some}
 use Rattle.kmip_wire.specs.declared.kind.Kind.{Kind}
 use Rattle.kmip_wire.specs.Kinds.{kind_of}
 use Rattle.kmip_wire.specs.Reading.{items_of, scalar_at}
 
--- once the innermost is closed: `lefts` has at `d` what is then left of the structure `d` deep,
--- whose items have so many levels
+-- after the end of the innermost: `lefts` has at `d` how many bytes are then left of the structure
+-- `d` deep, and they are items of at most `levels` levels
 abbrev pub are_after : ℕ → List ℕ → ℕ → List ℕ → Bool
 are_after levels lefts zero rest = true
 are_after levels lefts (suc d) rest =
     is_some (items_of levels (take (slice_index lefts d) rest)) && are_after (levels + 1) lefts d
     (drop (slice_index lefts d) rest)
 
--- the first `left` bytes are items of so many levels, and then each open structure closes
+-- the first `left` bytes are items of at most `levels` levels, and then each open structure ends
 abbrev pub are_open : ℕ → List ℕ → ℕ → ℕ → List ℕ → Bool
 are_open levels lefts depth left rest =
     is_some (items_of levels (take left rest)) && are_after (levels + 1) lefts depth
@@ -24,24 +24,24 @@ abbrev pub total : List ℕ → ℕ → ℕ
 total lefts zero = 0
 total lefts (suc d) = slice_index lefts d + total lefts d
 
--- where the check of `bytes` as items of so many levels stands, `depth` structures being open: what
--- is left decides
+-- how far the check of `bytes` as items of `levels` levels has come, while `depth` structures are
+-- open: what is left decides
 pub record State (levels : ℕ) (bytes lefts : List ℕ) (depth left : ℕ) (rest : List ℕ) : Type 0 where
   pub room : length lefts ≡ 64
   pub within : depth < levels
   pub sum : left + total lefts depth ≡ length rest
   pub same : are_open (levels - depth) lefts depth left rest ≡ is_some (items_of levels bytes)
 
--- what the item at the front says of bytes that are to be items: that they are none
+-- the bytes are no items
 abbrev pub NoItems : List ℕ → Type 0
 NoItems b = (levels : ℕ) → is_some (items_of levels b) ≡ false
 
--- that an item of n bytes stands there, after which the rest decides
+-- an item of n bytes is at the front, and the rest decides whether the bytes are items
 abbrev pub Passes : ℕ → List ℕ → Type 0
 Passes n b = (8 ≤ n) × (n ≤ length b) ×
     ((levels : ℕ) → is_some (items_of (suc levels) b) ≡ is_some (items_of (suc levels) (drop n b)))
 
--- that a structure stands there with contents of n bytes, which come first
+-- a structure with contents of n bytes is at the front: the contents and the rest decide
 abbrev pub Opens : ℕ → List ℕ → Type 0
 Opens n b =
     (8 + n ≤ length b)

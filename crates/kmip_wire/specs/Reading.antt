@@ -1,5 +1,5 @@
--- The tree of some bytes, computed: the twin of the relation in Parses, by the levels that are
--- left.
+-- The tree of some bytes, computed. Parses states the same as a relation. Here the levels that are
+-- left count down.
 use Rattle.std.specs.Prelude.{◌-◌, ℕ, zero, suc, ◌%◌, ◌==◌, ◌&&◌, Bool, true, false, List, [], ◌∷◌, length, take, drop, Option, Some, None, if◌then◌else◌, nat_le}
 use Rattle.std.specs.Option.{option_map, is_some}
 use Rattle.std.specs.Int.{w32, w64, from_be_bytes, cast_signed}
@@ -59,15 +59,15 @@ item_of (suc levels) b =
 abbrev pub items_of : ℕ → List ℕ → Option Trees
 items_of levels b = items_by (item_of levels) (length b) b
 
--- the tree of the item at the front that stands at the level, or none
+-- the tree of the item at the front that parses at the level, if there is one
 abbrev pub front_at : ℕ → List ℕ → Option Tree
 front_at level b = item_of (65 - level) (take (size_at b) b)
 
--- how long the item at the front is
+-- how many bytes the item at the front has
 abbrev pub front_of : ℕ → List ℕ → Option ℕ
 front_of levels b = if is_some (item_of levels (take (size_at b) b)) then Some (size_at b) else None
 
--- whether a value of the type stands there, where it is said whether the value is some items
+-- whether v is a value of the type, given whether v is items
 abbrev pub well_formed : Bool → Option Kind → List ℕ → Bool
 well_formed items None v = false
 well_formed items (Some Structure) v = items

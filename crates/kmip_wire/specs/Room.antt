@@ -5,7 +5,7 @@ pub record Room : Type 0 where
   pub bytes : List ℕ
   pub spare : ℕ
 
--- the text of that size was appended, into spare room
+-- the text of that size was appended into the spare room
 pub record Appends (old : Room) (new : Room) (text : List ℕ) (size : ℕ) : Type 0 where
   pub bytes : new.bytes ≡ old.bytes ++ text
   pub spare : new.spare + size ≡ old.spare

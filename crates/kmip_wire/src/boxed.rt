@@ -1,4 +1,4 @@
-// A value in a block of its own, seen as the value.
+//! A value in a block of memory of its own. To contracts it is the value.
 ghost use Rattle.std.specs.Prelude.{◌≡◌, IfOk};
 ghost use Rattle.std.proofs.Common.{rules};
 ghost use Rattle.std.specs.Cmp.Rules.{comparing};
@@ -7,7 +7,7 @@ use crate::memory::{OutOfMemory, TryClone};
 use std::alloc::Global;
 use std::marker::Model;
 
-/// A value in a block of its own, so that what holds it is small.
+/// A value in a block of memory of its own, so that a struct with it stays small.
 #[derive(Drop)]
 pub struct Boxed<T> {
     block: Box<T>,

@@ -1,4 +1,4 @@
-// The buffer that writers write into, seen as its bytes and its spare room.
+//! The buffer that writers append to. To contracts it is its bytes and its spare room.
 ghost use Rattle.std.specs.Prelude.{◌≡◌, ◌++◌, take, drop, ◌+◌, ◌≤◌, ◌<◌, ◌^◌, [], length};
 ghost use Rattle.std.specs.Prelude.{replicate, OnOk, OnErr};
 ghost use Rattle.std.specs.Int.{w32, w64, to_be_bytes};
@@ -14,12 +14,12 @@ use crate::text::Blob;
 use std::alloc::Global;
 use std::marker::Model;
 
-/// Bytes, and room reserved for more.
+/// Bytes, and spare room for more.
 #[derive(Drop)]
 pub struct Buffer {
-    // The bytes, and after them the room, whose own bytes mean nothing.
+    /// The bytes, and after them the spare room, whose content means nothing.
     room: Vec<u8>,
-    // How many are bytes.
+    /// How many of them are bytes of the buffer.
     len: usize,
 }
 
@@ -37,7 +37,7 @@ impl Model for Buffer {
     ghost invariant = { λ b. b.len ≤ vec_len b.room };
 }
 
-// Writes zero over each of the first bytes.
+/// Overwrites the first `len` bytes with zeros.
 fn overwrite_front(bytes: &mut [u8], len: usize)
     requires { len ≤ length bytes.old }
     ensures { bytes.new ≡ replicate len 0 ++ drop len bytes.old }
@@ -45,7 +45,7 @@ fn overwrite_front(bytes: &mut [u8], len: usize)
     overwrite(&mut bytes[..len]);
 }
 
-// Writes a length into the head that begins at a place.
+/// Overwrites the length in the head that begins at `at`.
 fn put_length(bytes: &mut [u8], at: usize, len: u32)
     requires { at + 8 ≤ length bytes.old }
     ensures { bytes.new ≡
@@ -67,7 +67,7 @@ impl Buffer {
         }
     }
 
-    /// How many more bytes it takes with no memory asked for.
+    /// How many more bytes fit before memory is asked for.
     pub fn spare(&self) -> usize
         ensures { result ≡ self.now.spare }
     {
@@ -104,15 +104,15 @@ impl Buffer {
         self.len = end;
     }
 
-    /// Its bytes.
+    /// The bytes in order.
     pub fn as_slice(&self) -> &[u8]
         ensures { result.now ≡ self.now.bytes }
     {
         &self.room[..self.len]
     }
 
-    /// Leaves no bytes. Its room stays, and so does in memory what it held, until that is written
-    /// over.
+    /// Removes all bytes. The room stays, and the old bytes stay in memory until others are written
+    /// over them.
     pub fn clear(&mut self)
         ensures bytes { self.new.bytes ≡ [] }
         ensures room { length self.old.bytes + self.old.spare ≤ self.new.spare }
@@ -120,8 +120,8 @@ impl Buffer {
         self.len = 0;
     }
 
-    /// Leaves no bytes and makes room for `room` of them: the buffer is ready for the next message.
-    /// It takes memory only where its room is smaller. Where memory runs out, it has no bytes and
+    /// Removes all bytes and makes room for `room` of them, for the next message. It asks for
+    /// memory only where its room is smaller. Where memory runs out, the buffer has no bytes and
     /// the room that it had.
     pub fn reset(&mut self, room: usize) -> Result<(), OutOfMemory>
         ensures bytes { self.new.bytes ≡ [] }
@@ -132,8 +132,8 @@ impl Buffer {
         self.reserve(room)
     }
 
-    /// Leaves no bytes, after it wrote zeros over those that it held. Its room stays. What stood in
-    /// memory before an earlier `clear`, or before the buffer grew, is not reached.
+    /// Overwrites the bytes with zeros and removes them. The room stays. Bytes that were in memory
+    /// before an earlier `clear`, or before the buffer grew, are not overwritten.
     pub fn wipe(&mut self)
         ensures bytes { self.new.bytes ≡ [] }
         ensures room { length self.old.bytes + self.old.spare ≤ self.new.spare }
@@ -142,7 +142,7 @@ impl Buffer {
         self.len = 0;
     }
 
-    /// Its bytes, with no copy made.
+    /// The bytes in order, with no copy made.
     pub fn into_blob(self) -> Blob
         ensures { result ≡ self.bytes }
     {
@@ -151,7 +151,7 @@ impl Buffer {
         Blob::of_vec(room)
     }
 
-    /// Appends the head of an item, which is 8 bytes.
+    /// Appends the head of an item, 8 bytes.
     #[inline(always)]
     pub fn put_head(&mut self, tag: Tag, kind: Kind, len: u32)
         requires { 8 ≤ self.old.spare }
@@ -178,7 +178,7 @@ impl Buffer {
         self.len
     }
 
-    /// Writes another length into the head that begins at a place.
+    /// Overwrites the length in the head that begins at `at`.
     pub(crate) fn set_length(&mut self, at: usize, len: u32)
         requires { at + 8 ≤ length self.old.bytes }
         ensures bytes { self.new.bytes ≡ take (at + 4) self.old.bytes ++
@@ -188,7 +188,7 @@ impl Buffer {
         put_length(self.room.as_mut_slice(), at, len);
     }
 
-    /// Appends an item of a value of four bytes, in one piece.
+    /// Appends a whole item with a value of four bytes: head, value and four pads.
     #[tactic(auto, using(std::proofs::lemmas::List::append_assoc), unfolding(crate::specs::Bytes::item_bytes))]
     #[inline(always)]
     pub fn put_four(&mut self, tag: Tag, kind: Kind, value: u32)
@@ -218,7 +218,7 @@ impl Buffer {
         ]);
     }
 
-    /// Appends an item of a value of eight bytes, in one piece.
+    /// Appends a whole item with a value of eight bytes: head and value.
     #[tactic(auto, using(std::proofs::lemmas::List::append_assoc), unfolding(crate::specs::Bytes::item_bytes))]
     #[inline(always)]
     pub fn put_eight(&mut self, tag: Tag, kind: Kind, value: u64)
@@ -248,7 +248,7 @@ impl Buffer {
         ]);
     }
 
-    // Appends the fewest zeros that bring a value of so many bytes to a multiple of 8.
+    /// Appends the pads of a value of `len` bytes: the fewest that reach a multiple of 8.
     fn put_pads(&mut self, len: usize)
         requires { pads len ≤ self.old.spare }
         ensures { Appends self.old self.new (replicate (pads len) 0) (pads len) }
@@ -256,7 +256,7 @@ impl Buffer {
         self.put(&[0; 8][..(8 - len % 8) % 8]);
     }
 
-    /// Appends an item of the value: its head, the value and its pads.
+    /// Appends a whole item: head, value and pads.
     #[tactic(auto, using(std::proofs::lemmas::List::append_assoc), unfolding(crate::specs::Bytes::item_bytes))]
     pub fn put_item(&mut self, tag: Tag, kind: Kind, value: &[u8])
         requires form { length value.now < 2 ^ 32 }

@@ -1,11 +1,11 @@
-// How a client reads messages, and what the head of one says.
+//! How a client reads messages, and the check of a message's head against the limit.
 ghost use Rattle.std.specs.Prelude.{◌≡◌, Some, None, true, false};
 ghost use Rattle.kmip_wire.specs.Heads.{head_says};
 
 use crate::error::HeadError;
 use crate::front::head_length;
 
-/// How messages are read: the most bytes that one may have, its head counted, and whether the bytes
+/// How messages are read: the most bytes that one may have, head included, and whether the bytes
 /// read are kept for diagnostics.
 #[derive(Clone, Copy)]
 pub struct Config {
@@ -25,7 +25,7 @@ impl Config {
         }
     }
 
-    /// The most bytes that a message may have, its head counted, where there is a limit.
+    /// The most bytes that a message may have, head included, if there is a limit.
     pub fn max_bytes(&self) -> Option<u32>
         ensures { result ≡ self.now.max_bytes }
     {
@@ -70,10 +70,10 @@ impl Default for Config {
     }
 }
 
-/// The length field of a message's head. It takes no memory.
+/// The length in a message's head. It takes no memory.
 ///
-/// `NotStructure` comes exactly where the type is not that of a Structure, and `TooLong` exactly
-/// where it is, a limit is set and the length plus 8 is greater.
+/// `NotStructure` is returned exactly where the type is not that of a Structure, and `TooLong`
+/// exactly where it is, a limit is set and the length plus 8 is greater.
 #[tactic(auto, unfolding(crate::specs::Head::head_length))]
 pub fn head(bytes: &[u8; 8], config: &Config) -> Result<u32, HeadError>
     ensures { result ≡ head_says bytes.now config.now.max_bytes }

@@ -1,4 +1,4 @@
-// Why bytes were not written or read.
+//! Why bytes were not written or read.
 ghost use Rattle.std.specs.Prelude.{◌≡◌};
 
 use crate::memory::OutOfMemory as NoMemory;
@@ -20,7 +20,7 @@ pub enum WireError {
 pub enum HeadError {
     /// The type is not that of a Structure.
     NotStructure,
-    /// The message would have `size` bytes, its head counted, which is more than `limit`.
+    /// The message would have `size` bytes, head included, which is more than `limit`.
     TooLong { size: u64, limit: u32 },
 }
 

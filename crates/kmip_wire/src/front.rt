@@ -1,4 +1,4 @@
-// Which items stand in some bytes, by one loop over the structures that stand open.
+//! Checks bytes for items, in one loop with a stack of the structures that are not ended yet.
 ghost use Rattle.std.specs.Prelude.{◌≡◌, ◌≢◌, ◌≤◌, ◌<◌, ◌^◌, ◌-◌, ◌↔◌, IsTrue, MatchOption, Some};
 ghost use Rattle.std.specs.Prelude.{length, take};
 ghost use Rattle.std.specs.Option.{is_some};
@@ -11,7 +11,7 @@ ghost use Rattle.kmip_wire.specs.Open.{NoItems, Passes};
 use crate::kind::Kind;
 use crate::value::is_value;
 
-// What the head says of the length of the value.
+/// The length of the value, as the head says it.
 #[tactic(auto, unfolding(crate::specs::Head::head_length))]
 pub(crate) fn head_length(bytes: &[u8]) -> u32
     requires { 8 ≤ length bytes.now }
@@ -20,7 +20,7 @@ pub(crate) fn head_length(bytes: &[u8]) -> u32
     u32::from_be_bytes([bytes[4], bytes[5], bytes[6], bytes[7]])
 }
 
-// The whole length that the head says.
+/// The length of the whole item, as its head says it: head, value and pads.
 pub(crate) fn whole_length(bytes: &[u8]) -> usize
     requires { 8 ≤ length bytes.now }
     ensures { result ≡ size_at bytes.now }
@@ -28,7 +28,7 @@ pub(crate) fn whole_length(bytes: &[u8]) -> usize
     (head_length(bytes) as usize + 15) / 8 * 8
 }
 
-// The whole length that the head says, where that many bytes are there.
+/// The length of the whole item, if that many bytes are there.
 fn size_at(bytes: &[u8]) -> Option<usize>
     ensures { MatchOption result (length bytes.now < size_at bytes.now)
         (λ n. (n ≡ size_at bytes.now) × (n ≤ length bytes.now)) }
@@ -44,7 +44,8 @@ fn size_at(bytes: &[u8]) -> Option<usize>
     Some(whole)
 }
 
-// For each number of a type, the length of its values where any bytes of that length are one.
+/// For each type's number, the one length of its values, if any bytes of that length are a value;
+/// `u64::MAX` for the other types.
 static WORD_SIZES: [u64; 11] = [
     u64::MAX,
     u64::MAX,
@@ -59,8 +60,8 @@ static WORD_SIZES: [u64; 11] = [
     4,
 ];
 
-// Whether an item of 16 bytes stands at the front whose value is any word: the next item is then
-// found before this one's length is computed.
+/// Whether an item of 16 bytes is at the front whose type and length allow any value. By this quick
+/// test the loop goes on to the next item without a length computed.
 fn is_word(bytes: &[u8]) -> bool
     requires { 16 ≤ length bytes.now }
     ensures { IsTrue result → Passes 16 bytes.now }
@@ -68,7 +69,7 @@ fn is_word(bytes: &[u8]) -> bool
     bytes[3] <= 10 && WORD_SIZES[bytes[3] as usize] == head_length(bytes) as u64
 }
 
-// The whole length of the scalar at the front, where there is one.
+/// The length of the whole item at the front, which is no Structure, if one is well-formed there.
 fn scalar_size(bytes: &[u8]) -> Option<usize>
     requires head { 8 ≤ length bytes.now }
     requires scalar { head_code bytes.now ≢ 1 }
@@ -89,7 +90,7 @@ fn scalar_size(bytes: &[u8]) -> Option<usize>
     }
 }
 
-// Whether the bytes are items of at most so many levels, one after another, and nothing more.
+/// Whether the bytes are items of at most `levels` levels, one after another, and nothing more.
 #[inline(never)]
 fn are_items(bytes: &[u8], levels: u32) -> bool
     requires levels { levels ≤ 64 }
@@ -143,8 +144,7 @@ fn are_items(bytes: &[u8], levels: u32) -> bool
     }
 }
 
-// Whether the first `size` bytes are the value of an item of the type, which has at most so many
-// levels inside.
+/// Whether the first `size` bytes are a value of the type, with at most `levels` levels inside.
 fn is_node(kind: Kind, padded: &[u8], size: usize, levels: u32) -> bool
     requires levels { levels ≤ 64 }
     requires within { size ≤ length padded.now }
@@ -158,7 +158,7 @@ fn is_node(kind: Kind, padded: &[u8], size: usize, levels: u32) -> bool
     }
 }
 
-// How long the item at the front is that stands at the level.
+/// The length of the whole item at the front, if one parses there at the level.
 pub(crate) fn front_size(bytes: &[u8], level: u32) -> Option<usize>
     requires { IsLevel level }
     ensures { result ≡ front_of (65 - level) bytes.now }
@@ -177,8 +177,8 @@ pub(crate) fn front_size(bytes: &[u8], level: u32) -> Option<usize>
     }
 }
 
-/// The whole length of the item at the front that parses at the level, from 1 to 64, and `None`
-/// exactly where there is none. It takes no memory.
+/// How many bytes the item at the front has, head and pads included, if one parses there at the
+/// level, from 1 to 64. `None` exactly where none does. It takes no memory.
 pub fn front_len_at(bytes: &[u8], level: u32) -> Option<usize>
     requires { IsLevel level }
     ensures { MatchOption result (NoFront level bytes.now) (IsFront level bytes.now) }
@@ -186,8 +186,8 @@ pub fn front_len_at(bytes: &[u8], level: u32) -> Option<usize>
     front_size(bytes, level)
 }
 
-/// The whole length of the well-formed item at the front, and `None` exactly where there is none.
-/// It takes no memory.
+/// How many bytes the well-formed item at the front has, head and pads included. `None` exactly
+/// where there is none. It takes no memory.
 pub fn front_len(bytes: &[u8]) -> Option<usize>
     ensures { MatchOption result (NoFront 1 bytes.now) (IsFront 1 bytes.now) }
 {
@@ -196,9 +196,9 @@ pub fn front_len(bytes: &[u8]) -> Option<usize>
 
 /// Whether the bytes are one well-formed item and nothing more. It takes no memory.
 ///
-/// It passes over the bytes once, and looks at each head, each Boolean and each text, pads
-/// included: not at other values. A text of ASCII is looked at once. Another is read as UTF-8 from
-/// its start, after its words of eight bytes up to the first character past ASCII were looked at.
+/// It goes over the bytes once and reads each head, each Boolean and each text with its pads, and
+/// no other value. A text that is ASCII, pads included, is read once. In any other text the words
+/// of eight bytes up to the first other character are read twice.
 pub fn check(bytes: &[u8]) -> bool
     ensures { IsTrue result ↔ ((tree : Tree) × Parses tree 1 bytes.now) }
 {

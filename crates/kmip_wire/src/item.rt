@@ -1,4 +1,4 @@
-// A view of checked bytes, which lends the item's parts.
+//! A view of checked bytes, which gives the item's parts without a copy.
 ghost use Rattle.std.specs.Prelude.{IsTrue};
 ghost use Rattle.kmip_wire.specs.Whole.{is_tree, are_trees};
 
@@ -8,8 +8,9 @@ use crate::tag::Tag;
 use crate::value::{number4, number8};
 use std::str;
 
-/// A view of a well-formed item, which lends its parts. None of its calls takes memory. Each looks
-/// again at the head and, where it returns a number, a truth value or a text, at the value.
+/// A view of the bytes of a well-formed item, which gives the item's parts without a copy. None of
+/// its calls takes memory. Each call reads the head again and, where it returns a number, a truth
+/// value or a text, the value too.
 #[derive(Clone, Copy)]
 pub struct ItemRef<'a> {
     bytes: &'a [u8],
@@ -25,10 +26,11 @@ pub struct Children<'a> {
 
 #[tactic(auto, unfolding(crate::specs::Items::item_tree, crate::specs::Items::trees_left))]
 impl<'a> ItemRef<'a> {
-    ghost use Rattle.std.specs.Prelude.{◌≡◌, MatchOption, IfSome, option_map, drop};
+    ghost use Rattle.std.specs.Prelude.{◌≡◌, ◌≤◌, ℕ, MatchOption, IfSome, option_map};
+    ghost use Rattle.std.specs.Prelude.{length, take, drop};
     ghost use Rattle.kmip_wire.specs.Tree.{Tree};
     ghost use Rattle.kmip_wire.specs.Head.{size_at, value_of};
-    ghost use Rattle.kmip_wire.specs.Parses.{IsLevel, Parses};
+    ghost use Rattle.kmip_wire.specs.Parses.{IsLevel, NoFront, Parses};
     ghost use Rattle.kmip_wire.specs.Reading.{item_of, front_at};
     ghost use Rattle.kmip_wire.specs.Parts.{tag_of, kind_of_tree, int_in, long_in, big_in};
     ghost use Rattle.kmip_wire.specs.Parts.{enumeration_in, flag_in, text_in, bytes_in, date_in};
@@ -49,11 +51,14 @@ impl<'a> ItemRef<'a> {
         }
     }
 
-    // The item at the front that stands at the level, and the bytes after it.
+    /// The item at the front that parses at the level, and the bytes after it.
     pub(crate) fn front(bytes: &'a [u8], level: u32) -> Option<(ItemRef<'a>, &'a [u8])>
         requires { IsLevel level }
         ensures tree { option_map (λ p. item_tree p.0) result ≡ front_at level bytes.now }
         ensures rest { IfSome result (λ p. p.1.now ≡ drop (size_at bytes.now) bytes.now) }
+        ensures parses { MatchOption result (NoFront level bytes.now) (λ p. (n : ℕ) ×
+            (n ≤ length bytes.now) × Parses (item_tree p.0) level (take n bytes.now) ×
+            (p.1.now ≡ drop n bytes.now)) }
     {
         let Some(size) = front_size(bytes, level) else {
             return None;
@@ -79,7 +84,7 @@ impl<'a> ItemRef<'a> {
         }
     }
 
-    // The bytes of the value, pads aside.
+    /// The bytes of the value, without the pads.
     pub(crate) fn value(self) -> &'a [u8]
         ensures { result.now ≡ value_of self.entry.bytes.now }
     {

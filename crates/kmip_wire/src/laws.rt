@@ -1,12 +1,13 @@
-// Laws over the definitions, each the contract of a function that does nothing.
+//! Laws over the definitions, each the contract of a function that does nothing.
 ghost use Rattle.std.specs.Prelude.{◌≡◌, ◌-◌, ◌≤◌, ◌↔◌, List, ℕ, [], ◌++◌, Some};
+ghost use Rattle.std.specs.Prelude.{length, take};
 ghost use Rattle.std.specs.Bool.{Decides};
 ghost use Rattle.std.specs.Str.{bytes_eq};
 ghost use Rattle.std.specs.Cmp.Lexicographic.{pointwise};
 ghost use Rattle.kmip_wire.specs.Tree.{Tree};
 ghost use Rattle.kmip_wire.specs.Same.{same_tree, same_items};
 ghost use Rattle.kmip_wire.specs.Parses.{IsLevel, Parses, AreTexts, joined_texts};
-ghost use Rattle.kmip_wire.specs.Reading.{item_of};
+ghost use Rattle.kmip_wire.specs.Reading.{item_of, front_at};
 ghost use Rattle.kmip_wire.specs.Bytes.{bytes, levels, AreBytes, HasRanges};
 
 /// A text parses as one tree at most, and no text that parses begins another that does. A list of
@@ -20,24 +21,31 @@ pub fn one_tree()
         joined_texts bs ≡ joined_texts cs → bs ≡ cs }
 {}
 
-/// The tree that the decoder gives is the tree as which the bytes parse.
+/// `item_of` computes what `Parses` states: it gives the tree as which the bytes parse, if any.
 pub fn tree_computed()
     ensures { (t : Tree) (level : ℕ) (b : List ℕ) → IsLevel level →
         (item_of (65 - level) b ≡ Some t) ↔ Parses t level b }
 {}
 
-/// What bytes parse as has its numbers, texts and bytes in their ranges.
+/// `front_at` gives the tree as which some of the first bytes parse, if any do.
+pub fn front_computed()
+    ensures { (t : Tree) (level : ℕ) (b : List ℕ) → IsLevel level →
+        (front_at level b ≡ Some t) ↔
+        ((n : ℕ) × (n ≤ length b) × Parses t level (take n b)) }
+{}
+
+/// A tree as which bytes parse has its numbers, texts and bytes in their ranges.
 pub fn parsed_ranges()
     ensures { (t : Tree) (level : ℕ) (b : List ℕ) → AreBytes b → Parses t level b → HasRanges t }
 {}
 
-/// Canonical bytes parse as the tree that they were written for, where no level passes 64.
+/// The canonical bytes of a tree parse as this tree, if it has at most 64 levels.
 pub fn written_parses()
     ensures { (t : Tree) (b : List ℕ) → HasRanges t → levels t ≤ 64 → bytes t ≡ Some b →
         Parses t 1 b }
 {}
 
-/// Trees of the same canonical bytes are equal, at any depth.
+/// Trees with the same canonical bytes are equal, at any depth.
 pub fn one_text()
     ensures { (t u : Tree) (b : List ℕ) → HasRanges t → HasRanges u → bytes t ≡ Some b →
         bytes u ≡ Some b → t ≡ u }

@@ -1,6 +1,10 @@
 //! The wire form of KMIP (KMIP 1.0, 9.1): items of a tag, a type, a length and a value, called
 //! TTLV.
 //!
+//! The *head* of an item is its first 8 bytes: the tag, the type and the length of the value.
+//! *Pads* are the zeros after a value, up to a multiple of 8 bytes. An item that stands in no
+//! Structure has *level* 1, and a child has its parent's level plus 1. No level is above 64.
+//!
 //! ```rust
 //! use kmip_wire::{ItemRef, Kind, Tag};
 //!
@@ -13,9 +17,9 @@
 //! }
 //! ```
 //!
-//! [`ItemRef::root`] checks the bytes once and then lends their parts; [`read_tree`] and
-//! [`write_tree`] read and write trees that own their parts; [`check`] and [`front_len`] take no
-//! memory.
+//! [`ItemRef::root`] checks the bytes once and then gives their parts without a copy. [`read_tree`]
+//! and [`write_tree`] read and write trees that own their parts. [`check`] and [`front_len`] take
+//! no memory.
 #![tactic(auto)]
 
 mod boxed;
@@ -43,7 +47,8 @@ pub use front::{check, front_len, front_len_at};
 pub use item::{Children, ItemRef};
 pub use kind::Kind;
 pub use laws::{
-    equality, list_equality, one_text, one_tree, parsed_ranges, tree_computed, written_parses,
+    equality, front_computed, list_equality, one_text, one_tree, parsed_ranges, tree_computed,
+    written_parses,
 };
 pub use list::{List, clone_items};
 pub use memory::{OutOfMemory, TryClone, clone_optional, wipe};

@@ -1,4 +1,4 @@
-// A list, seen as its items in order.
+//! A list. To contracts it is its items in order.
 ghost use Rattle.std.specs.Prelude.{◌≡◌, ◌∷◌, [], ◌++◌, length, IfOk, is_ok, if◌then◌else◌};
 ghost use Rattle.std.specs.Prelude.{option_copied, slice_get};
 ghost use Rattle.std.proofs.Common.{rules};

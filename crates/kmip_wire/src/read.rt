@@ -1,11 +1,12 @@
-// The tree of some bytes, owned.
-ghost use Rattle.std.specs.Prelude.{◌≡◌, IsTrue, IfOk, IfSome, Some, option_map, drop};
+//! Reads bytes into a tree that owns its parts.
+ghost use Rattle.std.specs.Prelude.{◌≡◌, ◌≤◌, ℕ, IsTrue, IfOk, IfSome, MatchOption, Some};
+ghost use Rattle.std.specs.Prelude.{option_map, length, take, drop};
 ghost use Rattle.std.specs.Option.{is_some};
 ghost use Rattle.kmip_wire.specs.Sees.{tree_of_node};
 ghost use Rattle.kmip_wire.specs.Tree.{scalar};
 ghost use Rattle.kmip_wire.specs.Reading.{scalar_at, front_at};
 ghost use Rattle.kmip_wire.specs.Head.{size_at};
-ghost use Rattle.kmip_wire.specs.Parses.{IsLevel};
+ghost use Rattle.kmip_wire.specs.Parses.{IsLevel, NoFront, Parses};
 ghost use Rattle.kmip_wire.specs.Items.{item_tree, trees_left};
 ghost use Rattle.kmip_wire.specs.Found.{Finds};
 ghost use Rattle.kmip_wire.specs.Bytes.{HasRanges};
@@ -21,7 +22,7 @@ use crate::value::{number4, number8};
 use std::alloc::Global;
 use std::str;
 
-// The value of a scalar's type.
+/// The scalar of the type that the bytes of a value stand for.
 fn read_scalar(alloc: Global, kind: Kind, value: &[u8]) -> Result<Node, OutOfMemory>
     requires { IsTrue (is_some (scalar_at kind value.now)) }
     ensures { IfOk result (λ node. option_map (scalar 0) (scalar_at kind value.now) ≡
@@ -72,20 +73,24 @@ fn read_items(alloc: Global, children: Children<'_>) -> Result<Trees, OutOfMemor
     Ok(items)
 }
 
-/// The item at the front that stands at the level, from 1 to 64, and the bytes after it. `None`
-/// exactly where no front parses at the level.
+/// The item at the front that parses at the level, from 1 to 64, and the bytes after it. `None`
+/// exactly where no front parses at the level. It takes no memory.
 pub fn split_front(bytes: &[u8], level: u32) -> Option<(ItemRef<'_>, &[u8])>
     requires { IsLevel level }
     ensures tree { option_map (λ p. item_tree p.0) result ≡ front_at level bytes.now }
     ensures rest { IfSome result (λ p. p.1.now ≡ drop (size_at bytes.now) bytes.now) }
+    ensures parses { MatchOption result (NoFront level bytes.now) (λ p. (n : ℕ) ×
+        (n ≤ length bytes.now) × Parses (item_tree p.0) level (take n bytes.now) ×
+        (p.1.now ≡ drop n bytes.now)) }
 {
     ItemRef::front(bytes, level)
 }
 
-/// The tree of the well-formed item at the front, and its whole length. Bytes after it are not
-/// looked at.
+/// The tree of the well-formed item at the front, and how many bytes the item has. Bytes after it
+/// are not read.
 ///
-/// `Malformed` comes exactly where no front is a well-formed item. `NoForm` never comes.
+/// `Malformed` is returned exactly where no front is a well-formed item. `NoForm` is never
+/// returned.
 pub fn read_tree(alloc: Global, bytes: &[u8]) -> Result<(Tree, usize), WireError>
     ensures found { Finds result bytes.now }
     ensures ranges { IfOk result (λ x. HasRanges x.0) }

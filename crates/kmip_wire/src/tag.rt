@@ -1,4 +1,4 @@
-// Tags, seen as numbers below 2^24.
+//! Tags. To contracts a tag is a number below 2^24.
 ghost use Rattle.std.specs.Prelude.{◌≡◌, ℕ, ◌<◌, ◌≤◌, ◌^◌, [], ◌∷◌, ◌↔◌, IsTrue, MatchOption};
 ghost use Rattle.std.specs.Int.{w32, from_be_bytes};
 
@@ -32,7 +32,7 @@ impl Tag {
         }
     }
 
-    /// The tag of a number that is known to be below 2^24, as `Tag::of(0x42000A)`.
+    /// The tag of a number below 2^24, as `Tag::of(0x42000A)`.
     pub const fn of(number: u32) -> Tag
         requires { number < 2 ^ 24 }
         ensures { result ≡ number }
@@ -40,8 +40,7 @@ impl Tag {
         Tag { number }
     }
 
-    /// The tag that the first three bytes of a word spell. A word is read at once, three bytes one
-    /// by one.
+    /// The tag of the first three of four bytes. Four bytes are read at once, three one by one.
     pub(crate) fn from_word(high: u8, middle: u8, low: u8, other: u8) -> Tag
         ensures { result ≡ from_be_bytes w32 (0 ∷ high ∷ middle ∷ low ∷ []) }
     {

@@ -1,4 +1,4 @@
-// A TTLV item, seen as a tree of the definitions.
+//! An item that owns its parts. To contracts it is a tree of tags and values.
 ghost use Rattle.kmip_wire.specs.Sees.{tree_of_node};
 ghost use Rattle.kmip_wire.specs.Same.{same_tree, same_trees};
 ghost use Rattle.kmip_wire.specs.Tree.{trees_of};
@@ -22,7 +22,7 @@ pub struct Tree {
     pub node: Node,
 }
 
-/// What an item holds, by its type.
+/// The value or the children of an item, by its type.
 #[cycle(tree)]
 #[derive(Drop)]
 pub enum Node {
@@ -32,7 +32,7 @@ pub enum Node {
     Integer(i32),
     /// A signed number of 64 bits.
     LongInteger(i64),
-    /// The bytes of the number. It has a wire form where they are a multiple of 8.
+    /// The bytes of the number. It has a wire form where there are a multiple of 8 of them.
     BigInteger(Blob),
     /// A number of an enumeration.
     Enumeration(u32),
@@ -149,12 +149,12 @@ impl Trees {
     }
 }
 
-// The numbers, texts and bytes of a tree are in their ranges.
-
+/// Does nothing. The bytes are in their range.
 fn byte_ranges(bytes: &[u8])
     ensures { AreBytes bytes.now }
 {}
 
+/// Changes nothing. The numbers, texts and bytes of the tree are in their ranges.
 #[cycle(ranges)]
 fn tree_ranges(tree: &Tree)
     ensures { HasRanges tree.now }
@@ -203,8 +203,9 @@ fn items_ranges(items: &Vec<Tree>)
 }
 
 impl Tree {
-    /// Does nothing but go through the tree: its contract says that the numbers, texts and bytes
-    /// are in their ranges, as the laws of canonical bytes ask. It takes no memory.
+    /// Goes through the tree and changes nothing. It is called for its contract: the numbers, texts
+    /// and bytes of the tree are in their ranges, as the laws of canonical bytes require. It takes
+    /// no memory.
     pub fn ranges(&self)
         ensures { HasRanges self.now }
     {

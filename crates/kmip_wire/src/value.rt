@@ -1,4 +1,4 @@
-// Which bytes are a value of a type.
+//! Which bytes are a value of a type.
 ghost use Rattle.std.specs.Prelude.{◌≡◌, ◌≢◌, ◌-◌, ◌≤◌, ◌<◌, ◌^◌, ◌%◌, ◌↔◌, ◌==◌, IsTrue, IsUtf8};
 ghost use Rattle.std.specs.Prelude.{length, take};
 ghost use Rattle.std.specs.Option.{is_some};
@@ -11,7 +11,7 @@ ghost use Rattle.kmip_wire.specs.declared.kind.Kind.TheVariants.{Structure};
 use crate::kind::Kind;
 use std::str;
 
-// For each number of a type, the bits of a value's length that the type fixes, and what they are.
+/// For each type's number, the bits of a value's length that the type fixes.
 static LENGTH_MASKS: [u64; 11] = [
     0,
     7,
@@ -26,9 +26,10 @@ static LENGTH_MASKS: [u64; 11] = [
     u64::MAX,
 ];
 
+/// For each type's number, what these bits are.
 static LENGTH_SIZES: [u64; 11] = [0, 0, 4, 8, 0, 4, 8, 0, 0, 8, 4];
 
-// In each byte the bit that no ASCII has.
+/// In each byte the highest bit, which is 0 in ASCII.
 const HIGH_BITS: u64 = 0x8080_8080_8080_8080;
 
 pub(crate) fn number4(bytes: &[u8]) -> u32
@@ -59,16 +60,16 @@ fn length_size(kind: Kind) -> u64
     LENGTH_SIZES[kind.code() as usize]
 }
 
-// Whether a value of the type may have the length: no branch on the type, since types are seldom to
-// be foreseen.
+/// Whether a value of the type may have the length. It does not branch on the type, which a
+/// processor can seldom predict.
 fn has_length(kind: Kind, length: usize) -> bool
     ensures { result ≡ (length % 2 ^ length_bits kind == length_size kind) }
 {
     length as u64 & length_mask(kind) == length_size(kind)
 }
 
-// Whether each byte is below 128, asked of eight at a time. `false` where the bytes are no whole
-// words.
+/// Whether each byte is below 128, tested eight at a time. `false` also where the number of bytes
+/// is no multiple of 8.
 fn are_ascii_words(bytes: &[u8]) -> bool
     ensures { IsTrue result → IsAscii bytes.now }
 {
@@ -82,8 +83,8 @@ fn are_ascii_words(bytes: &[u8]) -> bool
     rest.is_empty()
 }
 
-// Whether the first `size` bytes are text. The pads behind them are mostly zero, so that words of
-// text and pads are ASCII.
+/// Whether the first `size` bytes are UTF-8. The pads after them are mostly zeros, so the quick
+/// test for ASCII takes them along.
 fn is_text(padded: &[u8], size: usize) -> bool
     requires { size ≤ length padded.now }
     ensures { IsTrue result ↔ IsUtf8 (take size padded.now) }
@@ -91,7 +92,7 @@ fn is_text(padded: &[u8], size: usize) -> bool
     are_ascii_words(padded) || str::from_utf8(&padded[..size]).is_ok()
 }
 
-// Whether the first `size` bytes are a value of the scalar type.
+/// Whether the first `size` bytes are a value of the scalar type.
 pub(crate) fn is_value(kind: Kind, padded: &[u8], size: usize) -> bool
     requires scalar { kind ≢ Structure }
     requires within { size ≤ length padded.now }

@@ -1,4 +1,4 @@
-// The canonical bytes of a tree, written into one buffer after their lengths were summed.
+//! Writes the canonical bytes of a tree into one buffer, whose size is computed first.
 ghost use Rattle.std.specs.Prelude.{◌≡◌, ◌^◌, length, nat_lt, Option, Some, None, if◌then◌else◌};
 ghost use Rattle.std.specs.Prelude.{option_map};
 ghost use Rattle.kmip_wire.specs.Sees.{tree_of_node};
@@ -16,7 +16,7 @@ use crate::text::Blob;
 use crate::tree::{Node, Tree};
 use std::alloc::Global;
 
-// A length, where its field holds it.
+/// The length, if it fits the four bytes of its field.
 fn field_len(len: usize) -> Option<u64>
     ensures { result ≡ (if nat_lt len (2 ^ 32) then Some len else None) }
 {
@@ -27,7 +27,7 @@ fn field_len(len: usize) -> Option<u64>
     }
 }
 
-// The whole length of the tree's bytes, where there are any.
+/// The number of the tree's canonical bytes, if it has any.
 #[cycle(length)]
 fn tree_len(tree: &Tree) -> Option<u64>
     ensures { result ≡ option_map length (bytes tree.now) }
@@ -38,7 +38,7 @@ fn tree_len(tree: &Tree) -> Option<u64>
     Some(8 + len + (8 - len % 8) % 8)
 }
 
-// The length of the value of an item, where it has a form.
+/// The length of an item's value, if the value has canonical bytes.
 #[cycle(length)]
 fn value_len(node: &Node) -> Option<u64>
     ensures { result ≡ option_map length (value_of_tree (tree_of_node 0 node.now)) }
@@ -53,8 +53,8 @@ fn value_len(node: &Node) -> Option<u64>
     }
 }
 
-// The length of the items' bytes one after another, where there are such and their length has a
-// form.
+/// The number of the items' canonical bytes together, if each item has some and the number fits the
+/// field of a length.
 #[cycle(length)]
 fn contents_len(items: &[Tree]) -> Option<u64>
     ensures { result ≡ option_map length (fitting (all_bytes (trees_of items.now))) }
@@ -72,7 +72,7 @@ fn contents_len(items: &[Tree]) -> Option<u64>
     Some(total)
 }
 
-// Appends the tree's bytes, for which there is room.
+/// Appends the tree's canonical bytes, for which there is room.
 #[cycle(write)]
 fn put_tree(tree: &Tree, out: &mut Buffer)
     requires { HasRoom (bytes tree.now) out.old.spare }
@@ -93,7 +93,7 @@ fn put_tree(tree: &Tree, out: &mut Buffer)
     }
 }
 
-// Appends a structure of the items.
+/// Appends a structure of the items.
 #[cycle(write)]
 fn put_structure(tag: Tag, items: &[Tree], out: &mut Buffer)
     requires { HasRoom (bytes (structure tag (trees_of items.now))) out.old.spare }
@@ -110,8 +110,8 @@ fn put_structure(tag: Tag, items: &[Tree], out: &mut Buffer)
 
 /// The canonical bytes of the tree.
 ///
-/// `NoForm` comes exactly where there are none: the length of an item reaches 2^32, or that of a
-/// Big Integer is no multiple of 8. `Malformed` never comes.
+/// `NoForm` is returned exactly where there are none: the length of an item reaches 2^32, or that
+/// of a Big Integer is no multiple of 8. `Malformed` is never returned.
 pub fn write_tree(alloc: Global, tree: &Tree) -> Result<Blob, WireError>
     ensures { GivesBytes result (bytes tree.now) }
 {

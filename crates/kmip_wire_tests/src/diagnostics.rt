@@ -1,8 +1,9 @@
-// The tables that follow are worked rows: bytes or a text, and what is to be printed for them.
+//! Diagnostics and their expansions, in rows worked out by hand: bytes or a text, and what is to be
+//! printed for them.
 use kmip_diag::{DiagError, PrettyPrinter};
 use std::test::Fail;
 
-// A response of random bytes, as two servers send it: with 4 and with 43 of them.
+/// A response of random bytes, as two servers send it: with 4 and with 43 of them.
 const RESPONSE: &str = concat!(
     "42007B010000009042007A0100000048420069010000002042006A02000000040000000100000000",
     "42006B020000000400000002000000004200920900000008000000000000000142000D0200000004",
@@ -18,7 +19,7 @@ const LONGER_RESPONSE: &str = concat!(
     "ABABABABABABABABABABABABABABABABABABABABABABABABABABAB0000000000",
 );
 
-// A request with a credential, and an item with one of each type.
+/// A request with a credential, and an item with one of each type.
 const REQUEST: &str = concat!(
     "42007801000000D84200770100000080420069010000002042006A02000000040000000100000000",
     "42006B0200000004000000000000000042000C010000004042002301000000384200240500000004",
@@ -35,7 +36,7 @@ const KINDS: &str = concat!(
     "5400090900000008000000000000000154000A0A000000040000003C0000000042007C0100000000",
 );
 
-const TORN_HEAD: &str = "42007C01000000084200940700000001";
+const CUT_OFF: &str = "42007C01000000084200940700000001";
 
 #[test]
 fn bytes_have_their_diagnostics(rt: HostRuntime) -> Result<(), Fail> {
@@ -57,7 +58,7 @@ fn bytes_have_their_diagnostics(rt: HostRuntime) -> Result<(), Fail> {
             160,
             "7C[540002i540003l540004b540005e1F:540006o540007t540008x540009d54000An7C[]]",
         ),
-        (TORN_HEAD, 16, "7C[!"),
+        (CUT_OFF, 16, "7C[!"),
     ] {
         let bytes = hex::decode(rt.alloc(), hex)?;
         let mut printer = PrettyPrinter::new();
@@ -71,7 +72,7 @@ fn bytes_have_their_diagnostics(rt: HostRuntime) -> Result<(), Fail> {
 
 #[test]
 fn a_printer_has_its_prefix(rt: HostRuntime) -> Result<(), Fail> {
-    let torn = hex::decode(rt.alloc(), TORN_HEAD)?;
+    let cut_off = hex::decode(rt.alloc(), CUT_OFF)?;
     for (prefix, want) in [
         (None, "42007C[!"),
         (Some(0x4200), "7C[!"),
@@ -81,7 +82,7 @@ fn a_printer_has_its_prefix(rt: HostRuntime) -> Result<(), Fail> {
         if let Some(prefix) = prefix {
             printer.with_tag_prefix(prefix);
         }
-        let text = printer.to_diag_string(rt.alloc(), &torn)?;
+        let text = printer.to_diag_string(rt.alloc(), &cut_off)?;
         assert_eq!(rt; text.as_str(), want);
         let is_read = printer.expand(rt.alloc(), "420094t").is_ok();
         assert_eq!(rt; is_read, prefix != Some(0x4200));

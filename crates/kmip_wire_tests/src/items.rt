@@ -1,5 +1,5 @@
-// What no contract says: bytes made by another program, and that calls succeed where there is
-// memory.
+//! What no contract says: bytes made by another program are read and written, and calls succeed
+//! where there is memory.
 ghost use Rattle.std.specs.Prelude.{◌<◌};
 
 use kmip_wire::{
@@ -9,11 +9,11 @@ use kmip_wire::{
 use std::alloc::Global;
 use std::test::Fail;
 
-// A request for the objects whose Object Type is 4, 152 bytes.
+/// A request for the objects whose Object Type is 4, 152 bytes.
 const LOCATE: &str =
     "42007801000000904200770100000038420069010000002042006A0200000004000000010000000042006B0200000004000000000000000042000D0200000004000000010000000042000F010000004842005C050000000400000008000000004200790100000030420008010000002842000A070000000B4F626A6563742054797065000000000042000B05000000040000000400000000";
 
-// The bytes of `count` structures, each of which holds the next.
+/// The bytes of `count` structures, each the only child of the one before.
 fn nested(alloc: Global, count: u32) -> Result<Blob, OutOfMemory>
     requires { count < 100 }
 {
@@ -25,7 +25,7 @@ fn nested(alloc: Global, count: u32) -> Result<Blob, OutOfMemory>
     Ok(made)
 }
 
-// What an item of a test holds.
+/// The value or the children of an item in a test.
 #[derive(Clone, Copy)]
 enum Value {
     Structure(&'static [(u32, i32)]),
@@ -73,7 +73,7 @@ fn node_of(alloc: Global, value: Value) -> Result<Node, OutOfMemory> {
     }
 }
 
-// The bytes that are written for an item.
+/// The bytes that are written for an item.
 fn written(alloc: Global, number: u32, value: Value) -> Result<Blob, WireError> {
     let node = node_of(alloc, value)?;
     let tree = Tree {
@@ -84,7 +84,7 @@ fn written(alloc: Global, number: u32, value: Value) -> Result<Blob, WireError> 
 }
 
 #[test]
-fn canonical_bytes(rt: HostRuntime) -> Result<(), Fail> {
+fn trees_have_their_canonical_bytes(rt: HostRuntime) -> Result<(), Fail> {
     let alloc = rt.alloc();
     for (number, value, hex) in [
         (
@@ -218,7 +218,7 @@ fn stops_at_sixty_four_levels(rt: HostRuntime) -> Result<(), WireError> {
 }
 
 #[test]
-fn makes_texts(rt: HostRuntime) -> Result<(), OutOfMemory> {
+fn texts_grow_and_are_copied(rt: HostRuntime) -> Result<(), OutOfMemory> {
     let alloc = rt.alloc();
     let mut name = Text::of(alloc, "na")?;
     name.reserve(2)?;
@@ -234,7 +234,7 @@ fn makes_texts(rt: HostRuntime) -> Result<(), OutOfMemory> {
 }
 
 #[test]
-fn makes_blocks(rt: HostRuntime) -> Result<(), OutOfMemory> {
+fn boxed_values_are_copied(rt: HostRuntime) -> Result<(), OutOfMemory> {
     let alloc = rt.alloc();
     let boxed = Boxed::new(alloc, Text::of(alloc, "name")?)?;
     let copy = boxed.try_clone(alloc)?;
@@ -245,7 +245,7 @@ fn makes_blocks(rt: HostRuntime) -> Result<(), OutOfMemory> {
 }
 
 #[test]
-fn makes_lists(rt: HostRuntime) -> Result<(), OutOfMemory> {
+fn lists_are_copied(rt: HostRuntime) -> Result<(), OutOfMemory> {
     let alloc = rt.alloc();
     let mut names = List::new(alloc);
     names.push(Text::of(alloc, "name")?)?;
@@ -259,14 +259,14 @@ fn makes_lists(rt: HostRuntime) -> Result<(), OutOfMemory> {
     Ok(())
 }
 
-// Whether the buffer holds these bytes.
+/// Whether the buffer holds these bytes.
 fn holds(alloc: Global, out: &Buffer, hex: &str) -> Result<bool, Fail> {
     let bytes = hex::decode(alloc, hex)?;
     Ok(out.as_slice() == bytes.as_slice())
 }
 
 #[test]
-fn fills_a_buffer(rt: HostRuntime) -> Result<(), Fail> {
+fn a_buffer_has_the_items_put_into_it(rt: HostRuntime) -> Result<(), Fail> {
     let alloc = rt.alloc();
     let mut out = Buffer::new(alloc);
     out.reserve(16)?;
@@ -284,7 +284,7 @@ fn fills_a_buffer(rt: HostRuntime) -> Result<(), Fail> {
 }
 
 #[test]
-fn wipes_a_vector(rt: HostRuntime) -> Result<(), OutOfMemory> {
+fn a_wiped_vector_has_no_bytes(rt: HostRuntime) -> Result<(), OutOfMemory> {
     let mut bytes = Vec::from_array(rt.alloc(), [1u8, 2, 3])?;
     wipe(&mut bytes);
     assert!(rt; bytes.is_empty());

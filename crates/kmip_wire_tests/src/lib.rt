@@ -1,5 +1,5 @@
-//! Tests of the crates that know no typed values: kmip_wire, kmip_link, kmip_tags and kmip_diag.
-//! They stand above those crates, so that each crate is proved once.
+//! Tests of the crates below typed values: kmip_wire, kmip_link, kmip_tags and kmip_diag. They are
+//! in a crate of their own, so that those crates are proved without them.
 #![tactic(auto)]
 
 #[cfg(test)]

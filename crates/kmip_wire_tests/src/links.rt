@@ -65,7 +65,7 @@ fn moves_as_planned(
 }
 
 #[test]
-fn pieces(rt: HostRuntime) -> Result<(), Fail> {
+fn a_memory_link_moves_planned_pieces(rt: HostRuntime) -> Result<(), Fail> {
     let rows: [(&[usize], &[usize]); 8] = [
         (&[], &[10]),
         (&[1], &[1, 1, 1, 1, 1, 1, 1, 1, 1, 1]),
@@ -83,7 +83,7 @@ fn pieces(rt: HostRuntime) -> Result<(), Fail> {
 }
 
 #[test]
-fn long_pieces_and_one_count(rt: HostRuntime) -> Result<(), Fail> {
+fn reads_and_writes_follow_one_plan(rt: HostRuntime) -> Result<(), Fail> {
     let long = vec![in rt.alloc(); 7u8; 70_000]?;
     let mut link = MemoryLink::new(rt.alloc());
     link.plan_pieces(&[65536])?;
@@ -102,13 +102,13 @@ fn long_pieces_and_one_count(rt: HostRuntime) -> Result<(), Fail> {
     Ok(())
 }
 
-/// What the calls of a write, a read, a write and a read answer.
+/// What a write, a read, a write and a read return.
 type FourAnswers = [Result<usize, LinkError>; 4];
 
 const FAULT: Result<usize, LinkError> = Err(LinkError::Fault);
 
 #[test]
-fn planned_faults(rt: HostRuntime) -> Result<(), Fail> {
+fn a_planned_link_fails_at_the_planned_calls(rt: HostRuntime) -> Result<(), Fail> {
     let rows: [(&[u64], FourAnswers, &[u8]); 5] = [
         (&[], [Ok(5), Ok(3), Ok(3), Ok(0)], b"worldend"),
         (&[0], [FAULT, Ok(3), Ok(3), Ok(0)], b"end"),
@@ -135,7 +135,7 @@ fn planned_faults(rt: HostRuntime) -> Result<(), Fail> {
 }
 
 #[test]
-fn memory_streams(rt: HostRuntime) -> Result<(), Fail> {
+fn sources_and_sinks_in_memory_fail_at_the_planned_calls(rt: HostRuntime) -> Result<(), Fail> {
     let rows: [(
         &[u64],
         [Result<usize, LinkError>; 3],
@@ -198,7 +198,9 @@ impl Write for Broken {
 }
 
 #[test]
-fn readers_and_writers_of_std(rt: HostRuntime) -> Result<(), Fail> {
+fn links_sources_and_sinks_over_std_move_bytes_and_report_faults(
+    rt: HostRuntime,
+) -> Result<(), Fail> {
     let text: &[u8] = b"response";
     let mut written = Vec::new(rt.alloc());
     let mut link = StreamLink::new(text, &mut written);

@@ -1,7 +1,8 @@
+//! Tags and their names, in rows of KMIP's table.
 use kmip_tags::{make_kmip_tag_map, name_of, tags};
 use kmip_wire::Tag;
 
-// Some lines of the table, at its ends, at the two names with two spaces, and on both sides of it.
+/// Some lines of the table, at its ends, at the two names with two spaces, and on both sides of it.
 const LINES: [(u32, Option<&str>); 9] = [
     (0x42_0000, None),
     (0x42_0001, Some("Activation Date")),
@@ -35,7 +36,7 @@ fn tags_have_the_names_of_the_table(rt: HostRuntime) {
     assert!(rt; map.at(292).is_none());
 }
 
-// Constants and the names that KMIP's table gives their numbers, from each version of the table.
+/// Constants and the names that KMIP's table gives their numbers, from each version of the table.
 const NAMED: [(u32, &str); 24] = [
     (tags::ACTIVATION_DATE, "Activation Date"),
     (tags::ATTRIBUTE, "Attribute"),

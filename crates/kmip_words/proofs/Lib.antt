@@ -1,3 +1,4 @@
+pub mod About
 pub mod Calls
 pub mod Diagnostics
 pub mod Exchanges
@@ -5,4 +6,5 @@ pub mod NamedValues
 pub mod Moves
 pub mod Numbers
 pub mod EmptyLink
+pub mod JsonLines
 pub mod Texts

@@ -3,8 +3,8 @@ use Rattle.std.specs.Prelude.{◌≡◌, ◌≢◌, ℕ, ◌+◌, List, [], ◌+
 use Rattle.hex.specs.Hex.{encode_upper}
 use Rattle.kmip_link.specs.Plan.{MemoryState}
 use Rattle.kmip_shape.specs.Val.{Val, Text, Record, Case, AndField, NoField, One}
-use Rattle.kmip_shape.specs.Shape.{Shape}
-use Rattle.kmip_shape.specs.Shown.{shown_as, text_styled}
+use Rattle.kmip_shape.specs.Shape.{Shape, case_at}
+use Rattle.kmip_shape.specs.Shown.{shown_in_style, text_in_style}
 use Rattle.kmip_shape.specs.declared.style.Style.{Style}
 use Rattle.kmip_shape.specs.declared.style.Style.TheVariants.{Bare, Json}
 use Rattle.kmip_diag.specs.Diagnostic.{diagnostic}
@@ -13,7 +13,7 @@ use Rattle.kmip_types.specs.declared.auth.CredentialType.{CredentialType}
 use Rattle.kmip_request.specs.Message.{request_bytes, operation_of}
 use Rattle.kmip_request.specs.declared.payload.RequestPayload.{RequestPayload}
 use Rattle.kmip_request_read.specs.Reading.{Request, message_bytes}
-use Rattle.kmip_response.specs.Tables.{response_payload, query_payload, rng_retrieve_payload, sign_payload, attribute_edit_payload, get_payload, locate_payload, get_attributes_payload, create_payload, discover_versions_payload}
+use Rattle.kmip_response.specs.Tables.{response_payload, response_payloads, query_payload, rng_retrieve_payload, sign_payload, attribute_edit_payload, get_payload, locate_payload, get_attributes_payload, create_payload, discover_versions_payload}
 use Rattle.kmip_client.specs.Client.{ClientState}
 use Rattle.kmip_client.specs.Errors.{error_shown, error_text}
 use Rattle.kmip_client.specs.Outcome.{Answer, Outcome, outcome_of}
@@ -69,47 +69,63 @@ request_asked (Attributes id) = asked_of (attributes_request id)
 request_asked (CreateAes key_length name) = asked_of (create_aes_request key_length name)
 request_asked Discover = asked_of discover_request
 
+-- the request is that of the call, with whatever credential
+abbrev pub IsRequestOf : RequestPayload → Call → Type 0
+IsRequestOf payload call =
+    (credential : Option CredentialType) → asked_of payload credential ≡ request_asked call
+    credential
+
+-- the operation of a call's request
+abbrev pub operation_asked : Call → Operation
+operation_asked call = (request_asked call None).operation
+
 -- the identifiers of the two keys of a pair, in round brackets or as a JSON object
-abbrev pub pair_styled : List ℕ → List ℕ → Style → List ℕ
-pair_styled first second Bare =
-    codes "(" ++ (text_styled first Bare ++ (codes "," ++ (text_styled second Bare ++ codes ")")))
-pair_styled first second Json =
+abbrev pub pair_in_style : List ℕ → List ℕ → Style → List ℕ
+pair_in_style first second Bare =
+    codes "(" ++ (text_in_style first Bare ++ (codes "," ++ (text_in_style second Bare ++ codes ")")))
+pair_in_style first second Json =
     codes "{\"private_key\":"
-    ++ (text_styled first Json
-    ++ (codes ",\"public_key\":" ++ (text_styled second Json ++ codes "}")))
+    ++ (text_in_style first Json
+    ++ (codes ",\"public_key\":" ++ (text_in_style second Json ++ codes "}")))
 
 -- a payload of two texts, as a pair
-abbrev pub texts_styled : Val → Style → List ℕ
-texts_styled (Case n (Record (AndField (One (Text first)) (AndField (One (Text second)) NoField))))
-    style = pair_styled first second style
-texts_styled payload style = []
+abbrev pub texts_in_style : Val → Style → List ℕ
+texts_in_style (Case n (Record (AndField (One (Text first)) (AndField (One (Text second)) NoField))))
+    style = pair_in_style first second style
+texts_in_style payload style = []
 
 -- what is shown where a call returns nothing but that it was done
-abbrev pub done_styled : Style → List ℕ
-done_styled Bare = codes "()"
-done_styled Json = codes "{}"
+abbrev pub done_in_style : Style → List ℕ
+done_in_style Bare = codes "()"
+done_in_style Json = codes "{}"
 
 -- a payload as its record, without the name of its operation
-abbrev pub record_styled : Shape → Val → Style → List ℕ
-record_styled shape (Case n payload) style = shown_as shape payload style
-record_styled shape payload style = shown_as shape payload style
+abbrev pub record_in_style : Shape → Val → Style → List ℕ
+record_in_style shape (Case n payload) style = shown_in_style shape payload style
+record_in_style shape payload style = shown_in_style shape payload style
+
+-- the same, by the number of the payload's operation
+abbrev pub payload_in_style : Val → Style → List ℕ
+payload_in_style (Case n payload) style =
+    elim (case_at response_payloads n) [ None ↦ [] | Some c ↦ shown_in_style c.shape payload style ]
+payload_in_style payload style = []
 
 -- what is shown of the payload that a call returns
-abbrev pub value_styled : Call → Val → Style → List ℕ
-value_styled Query payload = record_styled query_payload payload
-value_styled (CreateRsa key_length private_key_name public_key_name) payload = texts_styled payload
-value_styled (Rng num_bytes) payload = record_styled rng_retrieve_payload payload
-value_styled (Sign id bytes) payload = record_styled sign_payload payload
-value_styled (Activate id) payload = done_styled
-value_styled (Revoke id) payload = done_styled
-value_styled (Destroy id) payload = done_styled
-value_styled (Rename id new_name) payload = record_styled attribute_edit_payload payload
-value_styled (Get id) payload = record_styled get_payload payload
-value_styled (Raw request) payload = shown_as response_payload payload
-value_styled (Locate name) payload = record_styled locate_payload payload
-value_styled (Attributes id) payload = record_styled get_attributes_payload payload
-value_styled (CreateAes key_length name) payload = record_styled create_payload payload
-value_styled Discover payload = record_styled discover_versions_payload payload
+abbrev pub value_in_style : Call → Val → Style → List ℕ
+value_in_style Query payload = record_in_style query_payload payload
+value_in_style (CreateRsa key_length private_key_name public_key_name) payload = texts_in_style payload
+value_in_style (Rng num_bytes) payload = record_in_style rng_retrieve_payload payload
+value_in_style (Sign id bytes) payload = record_in_style sign_payload payload
+value_in_style (Activate id) payload = done_in_style
+value_in_style (Revoke id) payload = done_in_style
+value_in_style (Destroy id) payload = done_in_style
+value_in_style (Rename id new_name) payload = record_in_style attribute_edit_payload payload
+value_in_style (Get id) payload = record_in_style get_payload payload
+value_in_style (Raw request) payload = shown_in_style response_payload payload
+value_in_style (Locate name) payload = record_in_style locate_payload payload
+value_in_style (Attributes id) payload = record_in_style get_attributes_payload payload
+value_in_style (CreateAes key_length name) payload = record_in_style create_payload payload
+value_in_style Discover payload = record_in_style discover_versions_payload payload
 
 -- the name of an error's variant
 abbrev pub error_name : Error → List ℕ
@@ -130,7 +146,7 @@ error_line error Bare = codes "- " ++ (error_shown error ++ codes "\n")
 error_line error Json =
     codes "{\"error\":\""
     ++ (error_name error
-    ++ (codes "\",\"text\":" ++ (text_styled (error_text error) Json ++ codes "}\n")))
+    ++ (codes "\",\"text\":" ++ (text_in_style (error_text error) Json ++ codes "}\n")))
 
 -- the line of a value, given its text
 abbrev pub value_line : List ℕ → Style → List ℕ
@@ -144,7 +160,7 @@ answer_line value style (Err error) = error_line error style
 
 -- an answer as a line of JSON
 abbrev pub json_line : Call → Answer → List ℕ
-json_line call = answer_line (λ payload. value_styled call payload Json) Json
+json_line call = answer_line (λ payload. value_in_style call payload Json) Json
 
 abbrev pub is_error : {R : Type 0} → Result R Error → Bool
 is_error (Ok payload) = false
@@ -214,7 +230,7 @@ call_outcome settings call rest =
 -- what a call comes to over these bytes left, with its answer in this style
 abbrev pub step_in : Style → Settings → Call → List ℕ → Step
 step_in style settings call rest =
-    step_of (λ payload. value_styled call payload style) style settings.buffered rest
+    step_of (λ payload. value_in_style call payload style) style settings.buffered rest
     (call_outcome settings call rest)
 
 -- the same in the style of a script

@@ -6,3 +6,6 @@ pub mod Requests
 pub mod Options
 pub mod Streams
 pub mod Exchange
+pub mod About
+pub mod Lookup
+pub mod JsonLines

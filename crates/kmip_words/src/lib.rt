@@ -8,13 +8,15 @@
 //! to its end or to a count.
 #![tactic(auto)]
 
+mod about;
 mod answers;
 mod call;
 mod ending;
+mod laws;
 mod lines;
+mod lookup;
 mod offline;
 mod options;
-mod payloads;
 mod raw;
 mod requests;
 mod setup;
@@ -26,7 +28,9 @@ mod words;
 pub use answers::answer;
 pub use call::{Call, Recorded, call_alone, call_of, typed_call};
 pub use ending::Ending;
+pub use laws::lines_are_json;
 pub use lines::{show_diagnostics, show_sent};
+pub use lookup::value_at;
 pub use offline::{Settings, answer_of, request_of};
 pub use options::{copy_text, given_after, option_given};
 pub use raw::RawRequest;

@@ -1,15 +1,24 @@
 //! Calls with no link: the bytes that a call sends, and the answer that the bytes sent back are.
-ghost use Rattle.std.specs.Prelude.{◌≡◌, ◌++◌, [], IfOk, OnOk, false, option_map};
-ghost use Rattle.kmip_client.specs.Client.{credential_for};
+ghost use Rattle.std.specs.Prelude.{◌≡◌, ◌≢◌, ◌++◌, [], Err, IfOk, OnOk, false, option_map};
+ghost use Rattle.kmip_response.specs.Values.{response_payload_val};
+ghost use Rattle.kmip_client.specs.Client.{credential_for, IsOfOperation};
+ghost use Rattle.kmip_client.specs.Outcome.{answer_with_payload};
 ghost use Rattle.kmip_words.specs.Exchange.{Settings as TheSettings, settings_of, request_asked};
-ghost use Rattle.kmip_words.specs.Exchange.{ending_of, json_line, call_outcome};
+ghost use Rattle.kmip_words.specs.Exchange.{operation_asked, call_outcome};
+ghost use Rattle.kmip_words.specs.About.{response_line, response_ending};
+ghost use Rattle.kmip_words.specs.JsonLines.{IsJsonLine};
 
-use crate::answers::answer;
+use crate::about::is_about_another;
+use crate::answers::{answer, show_answer};
 use crate::call::Call;
 use crate::ending::Ending;
+use crate::laws::lines_are_json;
+use crate::requests::request_for;
 use crate::setup::client_of;
-use kmip_client::Client;
+use crate::show::show_error;
+use kmip_client::{Client, Error};
 use kmip_link::MemoryLink;
+use kmip_response::ResponsePayload;
 use kmip_shape::Style;
 use kmip_wire::{OutOfMemory, Text, clone_optional};
 use std::alloc::Global;
@@ -111,10 +120,32 @@ pub fn request_of(
     }
 }
 
+/// What these bytes answer to a call; `OutOfMemory` where memory ran out.
+fn answer_by(
+    alloc: Global,
+    settings: &Settings,
+    call: &Call,
+    response: &[u8],
+) -> Result<ResponsePayload, Error>
+    ensures outcome { answer_with_payload result ≢ Err Error.OutOfMemory →
+        answer_with_payload result ≡ (call_outcome settings.now call.now response.now).answer }
+    ensures variant { IfOk result
+        (λ payload. IsOfOperation (operation_asked call.now) (response_payload_val payload)) }
+{
+    let link = link_over(alloc, response)?;
+    let mut client = settings.client(alloc, link)?;
+    let request = request_for(alloc, call)?;
+    client.do_request(alloc, request)
+}
+
 /// Adds the answer that these bytes are to a call as a line of JSON, and returns how the call
 /// ended. The line is `{"answer":..}` with the payload, or `{"error":"ItemNotFound","text":".."}`
 /// with the name of the error's variant and its text. It is what a client returns over a link with
 /// these bytes to read, and depends on no byte after the first message.
+///
+/// Where the call named an object, and the answer is about another one, the line has the error
+/// `InternalError` with the text `answer for another object`, and the call ended as `Lost`: the
+/// response was sent for another call, and so the link is out of step.
 pub fn answer_of(
     alloc: Global,
     settings: &Settings,
@@ -123,11 +154,17 @@ pub fn answer_of(
     line: &mut Text,
 ) -> Result<Ending, OutOfMemory>
     ensures line { OnOk result
-        (line.new ≡ line.old
-        ++ json_line call (call_outcome settings.now call response.now).answer) }
+        (line.new ≡ line.old ++ response_line settings.now call response.now) }
     ensures ending { IfOk result
-        (λ ending. ending ≡ ending_of (call_outcome settings.now call response.now).answer) }
+        (λ ending. ending ≡ response_ending settings.now call response.now) }
+    ensures json { OnOk result (IsJsonLine (response_line settings.now call response.now)) }
 {
-    let mut client = settings.client(alloc, link_over(alloc, response)?)?;
-    answer(alloc, &mut client, Style::Json, call, line)
+    lines_are_json();
+    let answer = answer_by(alloc, settings, &call, response);
+    if is_about_another(&call, &answer) {
+        let text = Text::of(alloc, "answer for another object")?;
+        show_error(alloc, Style::Json, &Error::InternalError(text), line)?;
+        return Ok(Ending::Lost);
+    }
+    show_answer(alloc, Style::Json, &call, answer, line)
 }

@@ -1,8 +1,8 @@
 //! The line of an answer, in a style.
 ghost use Rattle.std.specs.Prelude.{◌≡◌, ◌≢◌, ◌++◌, codes, cond, IfOk, OnOk};
-ghost use Rattle.kmip_shape.specs.Shown.{shown_as, text_styled};
+ghost use Rattle.kmip_shape.specs.Shown.{shown_in_style, text_in_style};
 ghost use Rattle.kmip_shape.specs.declared.style.Style.TheVariants.{Bare, Json};
-ghost use Rattle.kmip_words.specs.Exchange.{pair_styled, done_styled, error_name, error_line};
+ghost use Rattle.kmip_words.specs.Exchange.{pair_in_style, done_in_style, error_name, error_line};
 ghost use Rattle.kmip_words.specs.Exchange.{value_line, loses_link, Shows};
 ghost use Rattle.kmip_words.specs.declared.ending.Ending.TheVariants as endings;
 
@@ -32,7 +32,7 @@ fn error_name(error: &Error) -> &'static str
 
 /// Adds a text in a style, with its quotes.
 fn push_text(alloc: Global, style: Style, text: &Text, line: &mut Text) -> Result<(), OutOfMemory>
-    ensures { OnOk result (line.new ≡ line.old ++ text_styled text.now style) }
+    ensures { OnOk result (line.new ≡ line.old ++ text_in_style text.now style) }
 {
     match style {
         Style::Bare => text.show(alloc, line),
@@ -42,7 +42,7 @@ fn push_text(alloc: Global, style: Style, text: &Text, line: &mut Text) -> Resul
 
 /// Adds a text as a JSON string.
 fn push_string(alloc: Global, text: &str, line: &mut Text) -> Result<(), OutOfMemory>
-    ensures { OnOk result (line.new ≡ line.old ++ text_styled text.now Json) }
+    ensures { OnOk result (line.new ≡ line.old ++ text_in_style text.now Json) }
 {
     let text = Text::of(alloc, text)?;
     push_text(alloc, Style::Json, &text, line)
@@ -102,7 +102,7 @@ fn push_bare_payload<P: ShowItem>(
     line: &mut Text,
 ) -> Result<(), OutOfMemory>
     ensures { OnOk result
-        (line.new ≡ line.old ++ value_line (shown_as P.shape (P.val payload.now) Bare) Bare) }
+        (line.new ≡ line.old ++ value_line (shown_in_style P.shape (P.val payload.now) Bare) Bare) }
 {
     line.push_str("= ")?;
     payload.show(alloc, line)?;
@@ -117,7 +117,7 @@ fn push_json_payload<P: ShowItem>(
     line: &mut Text,
 ) -> Result<(), OutOfMemory>
     ensures { OnOk result
-        (line.new ≡ line.old ++ value_line (shown_as P.shape (P.val payload.now) Json) Json) }
+        (line.new ≡ line.old ++ value_line (shown_in_style P.shape (P.val payload.now) Json) Json) }
 {
     line.push_str("{\"answer\":")?;
     payload.show_json(alloc, line)?;
@@ -132,7 +132,7 @@ pub fn push_payload<P: ShowItem>(
     line: &mut Text,
 ) -> Result<(), OutOfMemory>
     ensures { OnOk result
-        (line.new ≡ line.old ++ value_line (shown_as P.shape (P.val payload.now) style) style) }
+        (line.new ≡ line.old ++ value_line (shown_in_style P.shape (P.val payload.now) style) style) }
 {
     match style {
         Style::Bare => push_bare_payload(alloc, payload, line),
@@ -140,29 +140,9 @@ pub fn push_payload<P: ShowItem>(
     }
 }
 
-/// Adds the payload or the error as a line, and returns how the call ended.
-pub fn show<P: ShowItem + Drop>(
-    alloc: Global,
-    style: Style,
-    answer: Result<P, Error>,
-    line: &mut Text,
-) -> Result<Ending, OutOfMemory>
-    ensures { IfOk result
-        (λ ending. Shows (λ payload. shown_as P.shape (P.val payload) style) style answer ending
-        line.old line.new) }
-{
-    match answer {
-        Ok(payload) => {
-            push_payload(alloc, style, &payload, line)?;
-            Ok(Ending::Answered)
-        }
-        Err(error) => show_error(alloc, style, &error, line),
-    }
-}
-
 /// The line of a call that returns nothing but that it was done.
-fn done_line(style: Style) -> &'static str
-    ensures { result.now ≡ value_line (done_styled style) style }
+pub fn done_line(style: Style) -> &'static str
+    ensures { result.now ≡ value_line (done_in_style style) style }
 {
     match style {
         Style::Bare => "= ()\n",
@@ -178,7 +158,7 @@ pub fn show_done(
     line: &mut Text,
 ) -> Result<Ending, OutOfMemory>
     ensures { IfOk result
-        (λ ending. Shows (λ done. done_styled style) style answer ending line.old line.new) }
+        (λ ending. Shows (λ done. done_in_style style) style answer ending line.old line.new) }
 {
     match answer {
         Ok(()) => {
@@ -198,7 +178,7 @@ fn push_bare_pair(
     line: &mut Text,
 ) -> Result<(), OutOfMemory>
     ensures { OnOk result
-        (line.new ≡ line.old ++ value_line (pair_styled first.now second.now Bare) Bare) }
+        (line.new ≡ line.old ++ value_line (pair_in_style first.now second.now Bare) Bare) }
 {
     line.push_str("= (")?;
     push_text(alloc, Style::Bare, first, line)?;
@@ -216,7 +196,7 @@ fn push_json_pair(
     line: &mut Text,
 ) -> Result<(), OutOfMemory>
     ensures { OnOk result
-        (line.new ≡ line.old ++ value_line (pair_styled first.now second.now Json) Json) }
+        (line.new ≡ line.old ++ value_line (pair_in_style first.now second.now Json) Json) }
 {
     line.push_str("{\"answer\":")?;
     line.push_str("{\"private_key\":")?;
@@ -236,31 +216,10 @@ pub fn push_pair(
     line: &mut Text,
 ) -> Result<(), OutOfMemory>
     ensures { OnOk result
-        (line.new ≡ line.old ++ value_line (pair_styled first.now second.now style) style) }
+        (line.new ≡ line.old ++ value_line (pair_in_style first.now second.now style) style) }
 {
     match style {
         Style::Bare => push_bare_pair(alloc, first, second, line),
         Style::Json => push_json_pair(alloc, first, second, line),
-    }
-}
-
-/// Adds the identifiers of a private and a public key, or the error, as a line, and returns how the
-/// call ended.
-pub fn show_pair(
-    alloc: Global,
-    style: Style,
-    answer: Result<(Text, Text), Error>,
-    line: &mut Text,
-) -> Result<Ending, OutOfMemory>
-    ensures { IfOk result
-        (λ ending. Shows (λ pair. pair_styled pair.0 pair.1 style) style answer ending line.old
-        line.new) }
-{
-    match answer {
-        Ok((first, second)) => {
-            push_pair(alloc, style, &first, &second, line)?;
-            Ok(Ending::Answered)
-        }
-        Err(error) => show_error(alloc, style, &error, line),
     }
 }

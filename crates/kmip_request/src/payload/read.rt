@@ -1,4 +1,5 @@
-//! Reading the payload of each operation, by a function of its own, so that each is proved alone.
+//! Reading the payload of each operation. Each is a function of its own, so that each is proved
+//! alone.
 
 ghost use Rattle.std.specs.Prelude.{◌≡◌, Err, IfOk, Some, None};
 ghost use Rattle.std.specs.Option.{option_map};
@@ -23,7 +24,7 @@ use kmip_wire::ItemRef;
 use std::alloc::Global;
 
 /// The payload of Create.
-pub(crate) fn read_create(
+pub(crate) fn create(
     alloc: Global,
     outer: Outer<'_>,
     item: ItemRef<'_>,
@@ -39,7 +40,7 @@ pub(crate) fn read_create(
 }
 
 /// The payload of Create Key Pair.
-pub(crate) fn read_create_key_pair(
+pub(crate) fn create_key_pair(
     alloc: Global,
     outer: Outer<'_>,
     item: ItemRef<'_>,
@@ -57,7 +58,7 @@ pub(crate) fn read_create_key_pair(
 }
 
 /// The payload of Register.
-pub(crate) fn read_register(
+pub(crate) fn register(
     alloc: Global,
     outer: Outer<'_>,
     item: ItemRef<'_>,
@@ -73,7 +74,7 @@ pub(crate) fn read_register(
 }
 
 /// The payload of Locate.
-pub(crate) fn read_locate(
+pub(crate) fn locate(
     alloc: Global,
     outer: Outer<'_>,
     item: ItemRef<'_>,
@@ -89,7 +90,7 @@ pub(crate) fn read_locate(
 }
 
 /// The payload of Get.
-pub(crate) fn read_get(
+pub(crate) fn get(
     alloc: Global,
     outer: Outer<'_>,
     item: ItemRef<'_>,
@@ -107,7 +108,7 @@ pub(crate) fn read_get(
 }
 
 /// The payload of Get Attributes.
-pub(crate) fn read_get_attributes(
+pub(crate) fn get_attributes(
     alloc: Global,
     outer: Outer<'_>,
     item: ItemRef<'_>,
@@ -123,7 +124,7 @@ pub(crate) fn read_get_attributes(
 }
 
 /// The payload of Get Attribute List.
-pub(crate) fn read_get_attribute_list(
+pub(crate) fn get_attribute_list(
     alloc: Global,
     outer: Outer<'_>,
     item: ItemRef<'_>,
@@ -139,7 +140,7 @@ pub(crate) fn read_get_attribute_list(
 }
 
 /// The payload of Add Attribute.
-pub(crate) fn read_add_attribute(
+pub(crate) fn add_attribute(
     alloc: Global,
     outer: Outer<'_>,
     item: ItemRef<'_>,
@@ -155,7 +156,7 @@ pub(crate) fn read_add_attribute(
 }
 
 /// The payload of Modify Attribute.
-pub(crate) fn read_modify_attribute(
+pub(crate) fn modify_attribute(
     alloc: Global,
     outer: Outer<'_>,
     item: ItemRef<'_>,
@@ -171,7 +172,7 @@ pub(crate) fn read_modify_attribute(
 }
 
 /// The payload of Delete Attribute.
-pub(crate) fn read_delete_attribute(
+pub(crate) fn delete_attribute(
     alloc: Global,
     outer: Outer<'_>,
     item: ItemRef<'_>,
@@ -187,7 +188,7 @@ pub(crate) fn read_delete_attribute(
 }
 
 /// The payload of Activate.
-pub(crate) fn read_activate(
+pub(crate) fn activate(
     alloc: Global,
     outer: Outer<'_>,
     item: ItemRef<'_>,
@@ -203,7 +204,7 @@ pub(crate) fn read_activate(
 }
 
 /// The payload of Revoke.
-pub(crate) fn read_revoke(
+pub(crate) fn revoke(
     alloc: Global,
     outer: Outer<'_>,
     item: ItemRef<'_>,
@@ -219,7 +220,7 @@ pub(crate) fn read_revoke(
 }
 
 /// The payload of Destroy.
-pub(crate) fn read_destroy(
+pub(crate) fn destroy(
     alloc: Global,
     outer: Outer<'_>,
     item: ItemRef<'_>,
@@ -235,7 +236,7 @@ pub(crate) fn read_destroy(
 }
 
 /// The payload of Query.
-pub(crate) fn read_query(
+pub(crate) fn query(
     alloc: Global,
     outer: Outer<'_>,
     item: ItemRef<'_>,
@@ -251,7 +252,7 @@ pub(crate) fn read_query(
 }
 
 /// The payload of Discover Versions.
-pub(crate) fn read_discover_versions(
+pub(crate) fn discover_versions(
     alloc: Global,
     outer: Outer<'_>,
     item: ItemRef<'_>,
@@ -267,7 +268,7 @@ pub(crate) fn read_discover_versions(
 }
 
 /// The payload of Sign.
-pub(crate) fn read_sign(
+pub(crate) fn sign(
     alloc: Global,
     outer: Outer<'_>,
     item: ItemRef<'_>,
@@ -283,7 +284,7 @@ pub(crate) fn read_sign(
 }
 
 /// The payload of RNG Retrieve.
-pub(crate) fn read_rng_retrieve(
+pub(crate) fn rng_retrieve(
     alloc: Global,
     outer: Outer<'_>,
     item: ItemRef<'_>,

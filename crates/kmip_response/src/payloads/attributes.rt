@@ -15,12 +15,12 @@ use kmip_response_objects::Attribute;
 use kmip_shape::record::{End, Row};
 use kmip_shape::row_readers::{NonEmpty, One, OptMany};
 use kmip_shape::{
-    Item, Outer, ReadError, ReadItem, ReadRoot, ShowItem, TextWriter, fields, fits_record,
-    read_record, show_record,
+    Item, Outer, ReadError, ReadItem, ReadRoot, ShowItem, TextWriter, WriteItem, fields,
+    fits_record, read_record, record_len, show_record, write_record,
 };
 use kmip_tags::tags::{ATTRIBUTE, ATTRIBUTE_NAME, RESPONSE_PAYLOAD, UNIQUE_IDENTIFIER};
 use kmip_types::{AttributeName, UniqueIdentifier};
-use kmip_wire::{Boxed, ItemRef, List, OutOfMemory, Tag, TryClone, clone_optional};
+use kmip_wire::{Boxed, Buffer, ItemRef, List, OutOfMemory, Tag, TryClone, clone_optional};
 use std::alloc::Global;
 
 /// The response payload of Get Attributes: KMIP 1.0, 4.11.
@@ -59,6 +59,23 @@ impl Item for GetAttributesResponsePayload {
     }
 
     ghost faithful = { get_attributes_payload_same };
+}
+
+impl WriteItem for GetAttributesResponsePayload {
+    fn wire_len(&self, _tag: Tag) -> Option<u64> {
+        record_len::<GetAttributesResponsePayloadRows>(fields![
+            &self.unique_identifier,
+            &self.attributes
+        ])
+    }
+
+    fn write_into(&self, tag: Tag, out: &mut Buffer) {
+        write_record::<GetAttributesResponsePayloadRows>(
+            fields![&self.unique_identifier, &self.attributes],
+            tag,
+            out,
+        );
+    }
 }
 
 impl ReadItem for GetAttributesResponsePayload {
@@ -129,6 +146,23 @@ impl Item for GetAttributeListResponsePayload {
     ghost faithful = { get_attribute_list_payload_same };
 }
 
+impl WriteItem for GetAttributeListResponsePayload {
+    fn wire_len(&self, _tag: Tag) -> Option<u64> {
+        record_len::<GetAttributeListResponsePayloadRows>(fields![
+            &self.unique_identifier,
+            &self.attributes
+        ])
+    }
+
+    fn write_into(&self, tag: Tag, out: &mut Buffer) {
+        write_record::<GetAttributeListResponsePayloadRows>(
+            fields![&self.unique_identifier, &self.attributes],
+            tag,
+            out,
+        );
+    }
+}
+
 impl ReadItem for GetAttributeListResponsePayload {
     fn read(alloc: Global, outer: Outer<'_>, item: ItemRef<'_>) -> Result<Self, ReadError> {
         let fields![unique_identifier, attributes] = read_record::<
@@ -196,6 +230,23 @@ impl Item for AttributeEditResponsePayload {
     }
 
     ghost faithful = { attribute_edit_payload_same };
+}
+
+impl WriteItem for AttributeEditResponsePayload {
+    fn wire_len(&self, _tag: Tag) -> Option<u64> {
+        record_len::<AttributeEditResponsePayloadRows>(fields![
+            &self.unique_identifier,
+            &self.attribute
+        ])
+    }
+
+    fn write_into(&self, tag: Tag, out: &mut Buffer) {
+        write_record::<AttributeEditResponsePayloadRows>(
+            fields![&self.unique_identifier, &self.attribute],
+            tag,
+            out,
+        );
+    }
 }
 
 impl ReadItem for AttributeEditResponsePayload {

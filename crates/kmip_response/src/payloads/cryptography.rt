@@ -9,12 +9,12 @@ ghost use Rattle.kmip_response.specs.Same.{sign_payload_same, rng_retrieve_paylo
 use kmip_shape::record::{End, Row};
 use kmip_shape::row_readers::One;
 use kmip_shape::{
-    Item, Outer, ReadError, ReadItem, ReadRoot, ShowItem, TextWriter, fields, fits_record,
-    read_record, show_record,
+    Item, Outer, ReadError, ReadItem, ReadRoot, ShowItem, TextWriter, WriteItem, fields,
+    fits_record, read_record, record_len, show_record, write_record,
 };
 use kmip_tags::tags::{DATA, RESPONSE_PAYLOAD, SIGNATURE_DATA, UNIQUE_IDENTIFIER};
 use kmip_types::UniqueIdentifier;
-use kmip_wire::{Blob, ItemRef, OutOfMemory, Tag, TryClone};
+use kmip_wire::{Blob, Buffer, ItemRef, OutOfMemory, Tag, TryClone};
 use std::alloc::Global;
 
 /// The response payload of Sign: KMIP 1.2, 4.31.
@@ -53,6 +53,23 @@ impl Item for SignResponsePayload {
     }
 
     ghost faithful = { sign_payload_same };
+}
+
+impl WriteItem for SignResponsePayload {
+    fn wire_len(&self, _tag: Tag) -> Option<u64> {
+        record_len::<SignResponsePayloadRows>(fields![
+            &self.unique_identifier,
+            &self.signature_data
+        ])
+    }
+
+    fn write_into(&self, tag: Tag, out: &mut Buffer) {
+        write_record::<SignResponsePayloadRows>(
+            fields![&self.unique_identifier, &self.signature_data],
+            tag,
+            out,
+        );
+    }
 }
 
 impl ReadItem for SignResponsePayload {
@@ -112,6 +129,16 @@ impl Item for RNGRetrieveResponsePayload {
     }
 
     ghost faithful = { rng_retrieve_payload_same };
+}
+
+impl WriteItem for RNGRetrieveResponsePayload {
+    fn wire_len(&self, _tag: Tag) -> Option<u64> {
+        record_len::<RNGRetrieveResponsePayloadRows>(fields![&self.random_bytes])
+    }
+
+    fn write_into(&self, tag: Tag, out: &mut Buffer) {
+        write_record::<RNGRetrieveResponsePayloadRows>(fields![&self.random_bytes], tag, out);
+    }
 }
 
 impl ReadItem for RNGRetrieveResponsePayload {

@@ -11,12 +11,12 @@ use kmip_response_objects::{ManagedObject, ManagedObjects};
 use kmip_shape::record::{Choosing, End, Row};
 use kmip_shape::row_readers::One;
 use kmip_shape::{
-    Item, Outer, ReadError, ReadItem, ReadRoot, ShowItem, TextWriter, fields, fits_record,
-    read_record, show_record,
+    Item, Outer, ReadError, ReadItem, ReadRoot, ShowItem, TextWriter, WriteItem, fields,
+    fits_record, read_record, record_len, show_record, write_record,
 };
 use kmip_tags::tags::{OBJECT_TYPE, RESPONSE_PAYLOAD, UNIQUE_IDENTIFIER};
 use kmip_types::UniqueIdentifier;
-use kmip_wire::{ItemRef, OutOfMemory, Tag, TryClone};
+use kmip_wire::{Buffer, ItemRef, OutOfMemory, Tag, TryClone};
 use std::alloc::Global;
 
 /// The response payload of Get: KMIP 1.0, 4.10.
@@ -59,6 +59,28 @@ impl Item for GetResponsePayload {
     }
 
     ghost faithful = { get_payload_same };
+}
+
+impl WriteItem for GetResponsePayload {
+    fn wire_len(&self, _tag: Tag) -> Option<u64> {
+        record_len::<GetResponsePayloadRows<'_>>(fields![
+            &self.object_type,
+            &self.unique_identifier,
+            &self.cryptographic_object
+        ])
+    }
+
+    fn write_into(&self, tag: Tag, out: &mut Buffer) {
+        write_record::<GetResponsePayloadRows<'_>>(
+            fields![
+                &self.object_type,
+                &self.unique_identifier,
+                &self.cryptographic_object
+            ],
+            tag,
+            out,
+        );
+    }
 }
 
 impl ReadItem for GetResponsePayload {

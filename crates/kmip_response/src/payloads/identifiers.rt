@@ -17,15 +17,15 @@ use kmip_response_objects::{Attribute, TemplateAttribute};
 use kmip_shape::record::{End, Row};
 use kmip_shape::row_readers::{Many, One, OptMany};
 use kmip_shape::{
-    Item, Outer, ReadError, ReadItem, ReadRoot, ShowItem, TextWriter, fields, fits_record,
-    read_record, show_record,
+    Item, Outer, ReadError, ReadItem, ReadRoot, ShowItem, TextWriter, WriteItem, fields,
+    fits_record, read_record, record_len, show_record, write_record,
 };
 use kmip_tags::tags::{
     ATTRIBUTE, OBJECT_TYPE, PRIVATE_KEY_UNIQUE_IDENTIFIER, PUBLIC_KEY_UNIQUE_IDENTIFIER,
     RESPONSE_PAYLOAD, TEMPLATE_ATTRIBUTE, UNIQUE_IDENTIFIER,
 };
 use kmip_types::UniqueIdentifier;
-use kmip_wire::{ItemRef, List, OutOfMemory, Tag, TryClone, clone_optional};
+use kmip_wire::{Buffer, ItemRef, List, OutOfMemory, Tag, TryClone, clone_optional};
 use std::alloc::Global;
 
 /// The response payload of Create: KMIP 1.0, 4.1.
@@ -68,6 +68,28 @@ impl Item for CreateResponsePayload {
     }
 
     ghost faithful = { create_payload_same };
+}
+
+impl WriteItem for CreateResponsePayload {
+    fn wire_len(&self, _tag: Tag) -> Option<u64> {
+        record_len::<CreateResponsePayloadRows>(fields![
+            &self.object_type,
+            &self.unique_identifier,
+            &self.object_attributes
+        ])
+    }
+
+    fn write_into(&self, tag: Tag, out: &mut Buffer) {
+        write_record::<CreateResponsePayloadRows>(
+            fields![
+                &self.object_type,
+                &self.unique_identifier,
+                &self.object_attributes
+            ],
+            tag,
+            out,
+        );
+    }
 }
 
 impl ReadItem for CreateResponsePayload {
@@ -141,6 +163,26 @@ impl Item for CreateKeyPairResponsePayload {
     }
 
     ghost faithful = { create_key_pair_payload_same };
+}
+
+impl WriteItem for CreateKeyPairResponsePayload {
+    fn wire_len(&self, _tag: Tag) -> Option<u64> {
+        record_len::<CreateKeyPairResponsePayloadRows>(fields![
+            &self.private_key_unique_identifier,
+            &self.public_key_unique_identifier
+        ])
+    }
+
+    fn write_into(&self, tag: Tag, out: &mut Buffer) {
+        write_record::<CreateKeyPairResponsePayloadRows>(
+            fields![
+                &self.private_key_unique_identifier,
+                &self.public_key_unique_identifier
+            ],
+            tag,
+            out,
+        );
+    }
 }
 
 impl ReadItem for CreateKeyPairResponsePayload {
@@ -217,6 +259,23 @@ impl Item for RegisterResponsePayload {
     ghost faithful = { register_payload_same };
 }
 
+impl WriteItem for RegisterResponsePayload {
+    fn wire_len(&self, _tag: Tag) -> Option<u64> {
+        record_len::<RegisterResponsePayloadRows>(fields![
+            &self.unique_identifier,
+            &self.template_attributes
+        ])
+    }
+
+    fn write_into(&self, tag: Tag, out: &mut Buffer) {
+        write_record::<RegisterResponsePayloadRows>(
+            fields![&self.unique_identifier, &self.template_attributes],
+            tag,
+            out,
+        );
+    }
+}
+
 impl ReadItem for RegisterResponsePayload {
     fn read(alloc: Global, outer: Outer<'_>, item: ItemRef<'_>) -> Result<Self, ReadError> {
         let fields![unique_identifier, template_attributes] = read_record::<
@@ -276,6 +335,16 @@ impl Item for LocateResponsePayload {
     ghost faithful = { locate_payload_same };
 }
 
+impl WriteItem for LocateResponsePayload {
+    fn wire_len(&self, _tag: Tag) -> Option<u64> {
+        record_len::<LocateResponsePayloadRows>(fields![&self.unique_identifiers])
+    }
+
+    fn write_into(&self, tag: Tag, out: &mut Buffer) {
+        write_record::<LocateResponsePayloadRows>(fields![&self.unique_identifiers], tag, out);
+    }
+}
+
 impl ReadItem for LocateResponsePayload {
     fn read(alloc: Global, outer: Outer<'_>, item: ItemRef<'_>) -> Result<Self, ReadError> {
         let fields![unique_identifiers] = read_record::<LocateResponsePayloadRows>(
@@ -330,6 +399,20 @@ impl Item for UniqueIdentifierResponsePayload {
     }
 
     ghost faithful = { unique_identifier_payload_same };
+}
+
+impl WriteItem for UniqueIdentifierResponsePayload {
+    fn wire_len(&self, _tag: Tag) -> Option<u64> {
+        record_len::<UniqueIdentifierResponsePayloadRows>(fields![&self.unique_identifier])
+    }
+
+    fn write_into(&self, tag: Tag, out: &mut Buffer) {
+        write_record::<UniqueIdentifierResponsePayloadRows>(
+            fields![&self.unique_identifier],
+            tag,
+            out,
+        );
+    }
 }
 
 impl ReadItem for UniqueIdentifierResponsePayload {

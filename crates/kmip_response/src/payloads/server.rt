@@ -13,13 +13,13 @@ use kmip_enums::{ObjectType, Operation};
 use kmip_shape::record::{End, Row};
 use kmip_shape::row_readers::{Opt, OptMany};
 use kmip_shape::{
-    Item, Outer, ReadError, ReadItem, ReadRoot, ShowItem, TextWriter, copy_optional_list, fields,
-    fits_record, read_record, show_record,
+    Item, Outer, ReadError, ReadItem, ReadRoot, ShowItem, TextWriter, WriteItem,
+    copy_optional_list, fields, fits_record, read_record, record_len, show_record, write_record,
 };
 use kmip_tags::tags::{
     OBJECT_TYPE, OPERATION, PROTOCOL_VERSION, RESPONSE_PAYLOAD, VENDOR_IDENTIFICATION,
 };
-use kmip_wire::{ItemRef, List, OutOfMemory, Tag, Text, TryClone, clone_optional};
+use kmip_wire::{Buffer, ItemRef, List, OutOfMemory, Tag, Text, TryClone, clone_optional};
 use std::alloc::Global;
 
 type QueryResponsePayloadRows = Row<
@@ -52,6 +52,28 @@ impl Item for QueryResponsePayload {
     }
 
     ghost faithful = { query_payload_same };
+}
+
+impl WriteItem for QueryResponsePayload {
+    fn wire_len(&self, _tag: Tag) -> Option<u64> {
+        record_len::<QueryResponsePayloadRows>(fields![
+            &self.operations,
+            &self.object_types,
+            &self.vendor_identification
+        ])
+    }
+
+    fn write_into(&self, tag: Tag, out: &mut Buffer) {
+        write_record::<QueryResponsePayloadRows>(
+            fields![
+                &self.operations,
+                &self.object_types,
+                &self.vendor_identification
+            ],
+            tag,
+            out,
+        );
+    }
 }
 
 impl ReadItem for QueryResponsePayload {
@@ -118,6 +140,20 @@ impl Item for DiscoverVersionsResponsePayload {
     }
 
     ghost faithful = { discover_versions_payload_same };
+}
+
+impl WriteItem for DiscoverVersionsResponsePayload {
+    fn wire_len(&self, _tag: Tag) -> Option<u64> {
+        record_len::<DiscoverVersionsResponsePayloadRows>(fields![&self.supported_versions])
+    }
+
+    fn write_into(&self, tag: Tag, out: &mut Buffer) {
+        write_record::<DiscoverVersionsResponsePayloadRows>(
+            fields![&self.supported_versions],
+            tag,
+            out,
+        );
+    }
 }
 
 impl ReadItem for DiscoverVersionsResponsePayload {

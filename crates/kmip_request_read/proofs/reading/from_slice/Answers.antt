@@ -18,9 +18,9 @@ returns-in_err-message-clause-unread c = λ is.
     let p = err_from_is_err_and c.from_residual.result c.from_residual.ensures.1 in
     none_read (item_tree c.in-Some.item) c.args.bytes.now c.in-Some.ensures.parses (c.in_err-message.ensures.not_canonical (ap Err (refusal c.from_residual.result p.0 _ p.1 p.2 c.in_err-message.ensures.never is)))
 
-pub returns-then-not-is_plain-clause-unread : goal.returns-then-not-is_plain-clause-unread
-returns-then-not-is_plain-clause-unread c = λ is.
-    other_read c.in_ok-message.message (item_tree c.in-Some.item) c.args.bytes.now c.in-Some.ensures.parses c.in_ok-message.ensures.ok (c.is_plain.ensures.other c.if-not-is_plain.true)
+pub returns-then-not-is_client_message-clause-unread : goal.returns-then-not-is_client_message-clause-unread
+returns-then-not-is_client_message-clause-unread c = λ is.
+    other_read c.in_ok-message.message (item_tree c.in-Some.item) c.args.bytes.now c.in-Some.ensures.parses c.in_ok-message.ensures.ok (c.is_client_message.ensures.other c.if-not-is_client_message.true)
 
 pub returns-in_default-clause-unread : goal.returns-in_default-clause-unread
 returns-in_default-clause-unread c = λ is. no_item c.args.bytes.now c.in_default.ensures.parses
@@ -29,9 +29,9 @@ pub returns-clause-value : goal.returns-clause-value
 returns-clause-value c =
     plain_read c.in_ok-message.message c.parts-payload.result.0 c.parts-payload.result.1 (item_tree c.in-Some.item) c.args.bytes.now c.parts-payload.ensures c.in-Some.ensures.parses c.in_ok-message.ensures.ok
 
-pub returns-then-not-is_plain-clause-not_canonical : goal.returns-then-not-is_plain-clause-not_canonical
-returns-then-not-is_plain-clause-not_canonical c = λ is.
-    other_parts c.in_ok-message.message (item_tree c.in-Some.item) c.args.bytes.now c.in-Some.ensures.parses c.in_ok-message.ensures.ok (c.is_plain.ensures.other c.if-not-is_plain.true)
+pub returns-then-not-is_client_message-clause-not_canonical : goal.returns-then-not-is_client_message-clause-not_canonical
+returns-then-not-is_client_message-clause-not_canonical c = λ is.
+    other_parts c.in_ok-message.message (item_tree c.in-Some.item) c.args.bytes.now c.in-Some.ensures.parses c.in_ok-message.ensures.ok (c.is_client_message.ensures.other c.if-not-is_client_message.true)
 
 pub returns-clause-ok : goal.returns-clause-ok
 returns-clause-ok c =

@@ -1,7 +1,7 @@
 use Rattle.std.proofs.Common.{◌≡◌, ◌+◌, ◌*◌, ◌≤◌, length, map, false}
 use Rattle.kmip_shape.specs.Val.{vals_of}
 use Rattle.kmip_shape.specs.Shape.{NoCase}
-use Rattle.kmip_shape.specs.Shown.{Growing, Grows, list_styled}
+use Rattle.kmip_shape.specs.Shown.{Growing, Grows, list_in_style}
 use Rattle.kmip_types.specs.AttributeValues.{attribute_value, attribute_value_val, weight, vals_weight, list_weight}
 use Rattle.kmip_types.proofs.attribute_showing.+show_attribute.Given as goal
 
@@ -17,8 +17,8 @@ decreases-show_each l = 2 * list_weight l.values.now + 1
 -- what shows the members that are left shows all
 abbrev pub invariant-show_each-loop-rest : goal.invariant-show_each-loop-rest
 invariant-show_each-loop-rest l = record {
-  shows : (new : Growing) → Grows l.out new (list_styled (vals_of (map attribute_value_val l.rest)) NoCase attribute_value l.after)
-      → Grows l.fn.out new (list_styled (vals_of l.fn.values) NoCase attribute_value false);
+  shows : (new : Growing) → Grows l.out new (list_in_style (vals_of (map attribute_value_val l.rest)) NoCase attribute_value l.after)
+      → Grows l.fn.out new (list_in_style (vals_of l.fn.values) NoCase attribute_value false);
   light : vals_weight (vals_of (map attribute_value_val l.rest)) ≤ list_weight l.fn.values;
 }
 

@@ -1,0 +1,156 @@
+/* A KMIP 1.0 to 1.2 client without input or output: it makes the bytes of requests and checks those
+   of responses, and the caller moves them.
+
+   A whole call, over any connection:
+
+       length = kmip_request(call, call_len, false, none, 0, none, 0, request, sizeof request);
+                                                                    write all of the request
+                                                                    read 8 bytes of the response
+       more = kmip_contents_len(response, 8, limit);
+                                                                    read so many after them
+       status = kmip_answer(call, call_len, response, 8 + more, line, sizeof line, &length);
+
+   These three steps, that exactly these bytes are sent, that 8 are read, and then so many, are the
+   caller's, and nothing checks them. metsuwan_tls.h does them over OpenSSL.
+
+   A call is one line of words with single spaces between, and no line feed:
+
+       query                             what can the server do?
+       create-rsa BITS NAME NAME         make an RSA pair under these names of the private and the
+                                         public key
+       rng NUMBER                        so many random bytes
+       activate ID, revoke ID, destroy ID
+       sign ID HEX                       sign these bytes with this key
+       rename ID NAME
+       get ID                            the object itself
+       create-aes BITS NAME              make an AES key under this name
+       locate NAME                       which objects have this name?
+       attributes ID                     all attributes of an object
+       discover                          which versions of KMIP does the server speak?
+       raw HEX                           the request of these bytes, of any of the seventeen
+                                         operations
+
+   docs/PROGRAM.md and docs/CALL.md have the whole grammar, and what is answered. In a text, as an
+   identifier or a name, a space and a % are written as % and two upper-case hex digits, and any
+   other byte may be; "-" is the empty text, and "%2D" the text "-". kmip_word of metsuwan_tls.h
+   writes texts so.
+
+   Every call returns, whatever it is given: nothing ends the process. Nothing is kept between
+   calls, so any thread may make any call at any time. Memory comes from malloc, and is overwritten
+   and freed before a call returns. No pointer may be null, not even with a length of 0. What is
+   read and what is written may not overlap.
+
+   Lengths are told as snprintf tells them: the whole length is returned, and the bytes are written
+   only where all of them fit; otherwise nothing is written.
+
+   The library is libmetsuwan, and its header metsuwan.h, since libkmip and kmip.h are those of
+   another project, OpenKMIP. Its calls are named kmip_.. after the protocol, as they are in the
+   crate that they are compiled from and in what is proved of it. */
+#ifndef METSUWAN_H
+#define METSUWAN_H
+#include <stdbool.h>
+#include <stddef.h>
+#include <stdint.h>
+#ifdef __cplusplus
+extern "C" {
+#endif
+
+/* What is returned in place of a length. */
+enum {
+    KMIP_GRAMMAR = -2,       /* the call is not of the grammar, or a text is not UTF-8; or there are
+                                not 8 bytes of head */
+    KMIP_NOT_A_MESSAGE = -3, /* of kmip_contents_len: no head of a structure */
+    KMIP_NO_VALUE = -3,      /* of kmip_value: the answer has no such value */
+    KMIP_TOO_LONG = -4,      /* the response is longer than the limit */
+    KMIP_MEMORY = -5,        /* out of memory */
+    KMIP_NO_FORM = -6        /* the request has no wire form */
+};
+
+/* What came of a call: the statuses of the program kmip_call. */
+enum {
+    KMIP_ANSWERED = 0,     /* a valid response of success: {"answer":..} */
+    KMIP_REFUSED = 1,      /* an error of the server, or no answer to this request:
+                              {"error":..,"text":..}; exactly one message was taken, and the
+                              connection is good for the next call */
+    KMIP_CALL_GRAMMAR = 2, /* the call is not of the grammar; no line */
+    KMIP_LOST = 3,         /* the bytes end early, are no well-formed message, or answer for another
+                              object than the call named: {"error":..,"text":..}; close the
+                              connection */
+    KMIP_NO_MEMORY = 5     /* out of memory; no line */
+};
+
+/* Writes the request of a call to `into`: its one canonical message. Returns its length in bytes.
+
+   call, call_len           the call, as above
+   has_credential           whether the request carries the user name and password that follow, both
+                            UTF-8; where it is false the two are not looked at
+   into, room               where it is written, if it fits
+   KMIP_GRAMMAR             the call is not of the grammar, or a text of the credential is not UTF-8
+   KMIP_NO_FORM             the request has no wire form, since a text is too long for it
+   KMIP_MEMORY              out of memory
+
+   Room for 4096 bytes and twice the call's and the credential's lengths is mostly enough; where it
+   is not, call again with as much as was returned. */
+int64_t kmip_request(const uint8_t *call, size_t call_len, bool has_credential, const uint8_t *user,
+                     size_t user_len, const uint8_t *password, size_t password_len, uint8_t *into,
+                     size_t room);
+
+/* How many bytes follow the first 8 of a response: 0 to 4294967295.
+
+   head, eight              the 8 bytes
+   limit                    the most bytes that the response may have, these 8 counted; 0: no limit
+   KMIP_GRAMMAR             there are not 8 bytes
+   KMIP_NOT_A_MESSAGE       they are not the head of a structure
+   KMIP_TOO_LONG            the response is longer than the limit
+
+   After a negative number close the connection: what follows on it is no message. */
+int64_t kmip_contents_len(const uint8_t *head, size_t eight, uint32_t limit);
+
+/* Says what a response answers to a call, and writes that as one line of JSON, with its line feed,
+   to `into`. Returns KMIP_ANSWERED, KMIP_REFUSED, KMIP_CALL_GRAMMAR, KMIP_LOST or KMIP_NO_MEMORY.
+
+   call, call_len           the call whose request was sent
+   response, response_len   the response; what stands after its first message is not looked at
+   into, room               where the line is written, if it fits
+   length                   how many bytes the line has; 0 where there is none
+
+   Room for 4096 bytes and 8 for each byte of the response is mostly enough; where it is not, call
+   again with as much as `length` tells.
+
+   A response belongs to a call by its operation, and where both name an object, by the object's
+   identifier: KMIP has no other tie where there is one batch item. So one call at a time on a
+   connection. */
+int32_t kmip_answer(const uint8_t *call, size_t call_len, const uint8_t *response,
+                    size_t response_len, uint8_t *into, size_t room, int64_t *length);
+
+/* Writes a single value of the answer that a response is to a call to `into`, and returns its
+   length in bytes. The answer is the one that kmip_answer writes as JSON.
+
+   call, call_len           the call whose request was sent
+   response, response_len   the response; what stands after its first message is not looked at
+   path, path_len           where the value stands below {"answer":, by the names of the JSON with a
+                            dot between two; an item of a list is named by its index in decimal
+                            digits, counted from 0:
+                                signature_data
+                                attributes.0.name
+                                cryptographic_object.PublicKey.key_block.key_format_type
+   hex                      false: a text is written as its bytes, without quotes and escapes, a
+                            number as its decimal digits, and the rest as "true" or "false"
+                            true: a string of hex digits is written as the bytes that it stands for;
+                            KMIP's Byte Strings and Big Integers are such strings
+   into, room               where the value is written, if it fits
+   KMIP_GRAMMAR             the call is not of the grammar, or the path is not UTF-8
+   KMIP_NO_VALUE            there is no such value: the answer is an error; or it has nothing at
+                            this path, or an object or a list; or `hex` is true, and there is no
+                            string of hex digits
+   KMIP_MEMORY              out of memory
+
+   Each call reads the whole response once more: for a list, parse the line of kmip_answer. */
+int64_t kmip_value(const uint8_t *call, size_t call_len, const uint8_t *response,
+                   size_t response_len, const uint8_t *path, size_t path_len, bool hex,
+                   uint8_t *into, size_t room);
+
+#ifdef __cplusplus
+}
+#endif
+#endif

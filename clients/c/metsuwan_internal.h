@@ -1,0 +1,66 @@
+/* What the files of metsuwan_tls have among themselves. */
+#ifndef METSUWAN_INTERNAL_H
+#define METSUWAN_INTERNAL_H
+#include "metsuwan_tls.h"
+
+#ifdef __GNUC__
+#define HIDDEN __attribute__((visibility("hidden")))
+#define PRINTS(text, first) __attribute__((format(printf, text, first)))
+#else
+#define HIDDEN
+#define PRINTS(text, first)
+#endif
+
+/* Bytes in memory that grows; it is overwritten before it is let go. */
+typedef struct {
+    uint8_t *bytes;
+    size_t room;
+} kmip_room;
+
+/* Makes room for so many bytes, and keeps those that are there; false where memory runs out. */
+HIDDEN bool kmip_room_has(kmip_room *it, size_t room);
+HIDDEN void kmip_room_free(kmip_room *it);
+
+/* A copy of a text, or a null pointer where memory runs out. */
+HIDDEN char *kmip_copy_of(const char *text);
+HIDDEN void kmip_copy_free(char *text);
+
+/* A TLS connection, of which each use has to end by a deadline. */
+typedef struct kmip_wire kmip_wire;
+
+/* Connects; a null pointer where there is no connection, and `reason` then says why. */
+HIDDEN kmip_wire *kmip_wire_open(const kmip_settings *settings, char *reason, size_t room);
+
+/* From here on the wire has the time of one call. */
+HIDDEN void kmip_wire_begin(kmip_wire *wire);
+
+/* Whether the connection is open, and has no bytes to read that nobody asked for. */
+HIDDEN bool kmip_wire_is_idle(kmip_wire *wire);
+
+HIDDEN bool kmip_wire_write(kmip_wire *wire, const uint8_t *bytes, size_t count);
+HIDDEN bool kmip_wire_read(kmip_wire *wire, uint8_t *into, size_t count);
+
+/* Why the last of these calls was false. */
+HIDDEN const char *kmip_wire_reason(const kmip_wire *wire);
+
+/* Ends the connection, and waits for nothing. A null pointer is fine. */
+HIDDEN void kmip_wire_close(kmip_wire *wire);
+
+/* Writes {"error":..,"text":..}, in which the text is cut to the room. */
+HIDDEN void kmip_error_line(char *into, size_t room, const char *kind, const char *text);
+
+/* Whether a text is UTF-8. */
+HIDDEN bool kmip_is_utf8(const char *text);
+
+/* Writes a call and its words as the grammar has them; false where memory runs out. */
+HIDDEN bool kmip_write_words(kmip_room *into, const char *call, const char *const *words);
+
+/* Whether a call may be asked of the library: its name is one word, and it has an identifier where
+   it is to have one. */
+HIDDEN bool kmip_may_ask(const char *call, const char *const *words);
+
+/* Writes which word of a call is not of the grammar. */
+HIDDEN void kmip_say_wrong_word(char *into, size_t room, const char *call,
+                                const char *const *words);
+
+#endif

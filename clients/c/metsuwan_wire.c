@@ -1,0 +1,452 @@
+/* A TLS connection over OpenSSL, of which each use ends by a deadline: the socket never blocks, and
+   what waits is poll. */
+#define _POSIX_C_SOURCE 200809L
+#include "metsuwan_internal.h"
+
+#include <arpa/inet.h>
+#include <errno.h>
+#include <netdb.h>
+#include <netinet/in.h>
+#include <netinet/tcp.h>
+#include <openssl/bio.h>
+#include <openssl/err.h>
+#include <openssl/ssl.h>
+#include <openssl/x509v3.h>
+#include <poll.h>
+#include <pthread.h>
+#include <signal.h>
+#include <stdarg.h>
+#include <stdio.h>
+#include <stdlib.h>
+#include <string.h>
+#include <sys/socket.h>
+#include <time.h>
+#include <unistd.h>
+
+struct kmip_wire {
+    SSL_CTX *context;
+    SSL *tls;
+    BIO_METHOD *carrier; /* how OpenSSL reads and writes the socket */
+    int socket;
+    double seconds; /* the time of one call; 0: no deadline */
+    double end;     /* when that of this call is over */
+    int error;      /* the errno of a read or a write that failed, or 0 */
+    bool ended;     /* the other side has ended the connection */
+    bool broken;    /* it cannot be ended in order */
+    char reason[256];
+};
+
+static double now(void) {
+    struct timespec at;
+    clock_gettime(CLOCK_MONOTONIC, &at);
+    return (double)at.tv_sec + (double)at.tv_nsec / 1e9;
+}
+
+/* Keeps a reason, and is false. */
+PRINTS(2, 3)
+static bool fails(kmip_wire *wire, const char *format, ...) {
+    va_list given;
+    va_start(given, format);
+    vsnprintf(wire->reason, sizeof wire->reason, format, given);
+    va_end(given);
+    wire->broken = true;
+    return false;
+}
+
+static bool fails_by_errno(kmip_wire *wire, const char *what, int error) {
+    char text[160];
+    if (strerror_r(error, text, sizeof text) != 0) snprintf(text, sizeof text, "error %d", error);
+    return fails(wire, "%s%s", what, text);
+}
+
+static bool runs_late(kmip_wire *wire) {
+    return fails(wire, "no answer within %g seconds", wire->seconds);
+}
+
+/* The first thing that OpenSSL has said since its errors were cleared: the cause of the others. */
+static bool fails_by_openssl(kmip_wire *wire, const char *what) {
+    unsigned long error = ERR_peek_error();
+    if (ERR_GET_LIB(error) == ERR_LIB_SYS) return fails_by_errno(wire, what, ERR_GET_REASON(error));
+    const char *text = ERR_reason_error_string(error);
+    return fails(wire, "%s%s", what, text ? text : "OpenSSL gives no reason");
+}
+
+/* Whether this call's time is over. */
+static bool is_late(const kmip_wire *wire) {
+    return wire->seconds > 0 && now() >= wire->end;
+}
+
+/* Waits until the socket can be read or written; not longer than until then, unless that is 0. */
+static bool wait_for(kmip_wire *wire, short events, double until) {
+    struct pollfd it = {.fd = wire->socket, .events = events};
+    for (;;) {
+        double left = until > 0 ? until - now() : 3600;
+        if (left <= 0) return runs_late(wire);
+        int ready = poll(&it, 1, left < 3600 ? (int)(1000 * left) + 1 : 3600000);
+        if (ready > 0) return true;
+        if (ready < 0 && errno != EINTR) return fails_by_errno(wire, "", errno);
+    }
+}
+
+/* How OpenSSL reads and writes the socket: with no SIGPIPE, and so that a cause is known. */
+
+static int carrier_read(BIO *bio, char *into, int room) {
+    kmip_wire *wire = BIO_get_data(bio);
+    BIO_clear_retry_flags(bio);
+    ssize_t count = recv(wire->socket, into, (size_t)room, 0);
+    if (count == 0) wire->ended = true;
+    if (count >= 0) return (int)count;
+    if (errno == EAGAIN || errno == EWOULDBLOCK || errno == EINTR)
+        BIO_set_retry_read(bio);
+    else
+        wire->error = errno;
+    return -1;
+}
+
+static int carrier_write(BIO *bio, const char *bytes, int length) {
+    kmip_wire *wire = BIO_get_data(bio);
+    BIO_clear_retry_flags(bio);
+    ssize_t count = send(wire->socket, bytes, (size_t)length, MSG_NOSIGNAL);
+    if (count >= 0) return (int)count;
+    if (errno == EAGAIN || errno == EWOULDBLOCK || errno == EINTR)
+        BIO_set_retry_write(bio);
+    else
+        wire->error = errno;
+    return -1;
+}
+
+static long carrier_control(BIO *bio, int what, long number, void *pointer) {
+    const kmip_wire *wire = BIO_get_data(bio);
+    (void)number;
+    (void)pointer;
+    if (what == BIO_CTRL_EOF) return wire->ended;
+    return what == BIO_CTRL_FLUSH;
+}
+
+static bool carry(kmip_wire *wire) {
+    wire->carrier = BIO_meth_new(BIO_TYPE_SOURCE_SINK, "metsuwan");
+    if (!wire->carrier) return false;
+    BIO_meth_set_read(wire->carrier, carrier_read);
+    BIO_meth_set_write(wire->carrier, carrier_write);
+    BIO_meth_set_ctrl(wire->carrier, carrier_control);
+    BIO *bio = BIO_new(wire->carrier);
+    if (!bio) return false;
+    BIO_set_data(bio, wire);
+    BIO_set_init(bio, 1);
+    SSL_set_bio(wire->tls, bio, bio);
+    return true;
+}
+
+/* The context, which takes only servers of this authority. */
+
+typedef struct {
+    const char *text;
+    bool asked;
+} passphrase;
+
+static int give_passphrase(char *into, int room, int writes, void *given) {
+    passphrase *it = given;
+    it->asked = true;
+    size_t count = it->text ? strlen(it->text) : 0;
+    if (!it->text || writes || count > (size_t)room) return -1;
+    memcpy(into, it->text, count);
+    return (int)count;
+}
+
+static bool fails_by_file(kmip_wire *wire, const char *what, const char *path) {
+    char front[200];
+    snprintf(front, sizeof front, "%s %.150s: ", what, path);
+    return fails_by_openssl(wire, front);
+}
+
+static bool use_key(kmip_wire *wire, const kmip_settings *settings) {
+    passphrase it = {.text = settings->passphrase};
+    SSL_CTX_set_default_passwd_cb(wire->context, give_passphrase);
+    SSL_CTX_set_default_passwd_cb_userdata(wire->context, &it);
+    int used = SSL_CTX_use_PrivateKey_file(wire->context, settings->key, SSL_FILETYPE_PEM);
+    SSL_CTX_set_default_passwd_cb_userdata(wire->context, NULL);
+    if (used == 1) return true;
+    if (!it.asked) return fails_by_file(wire, "key", settings->key);
+    return fails(wire, "key %.150s: it is encrypted, and %s", settings->key,
+                 it.text ? "this is not its passphrase" : "no passphrase is given");
+}
+
+static bool set_up(kmip_wire *wire, const kmip_settings *settings) {
+    wire->context = SSL_CTX_new(TLS_client_method());
+    if (!wire->context) return fails_by_openssl(wire, "TLS: ");
+    SSL_CTX_set_min_proto_version(wire->context, TLS1_2_VERSION);
+    SSL_CTX_set_verify(wire->context, SSL_VERIFY_PEER, NULL);
+#ifdef SSL_OP_CLEANSE_PLAINTEXT
+    SSL_CTX_set_options(wire->context, SSL_OP_CLEANSE_PLAINTEXT);
+#endif
+    if (SSL_CTX_use_certificate_chain_file(wire->context, settings->certificate) != 1)
+        return fails_by_file(wire, "certificate", settings->certificate);
+    if (!use_key(wire, settings)) return false;
+    if (SSL_CTX_load_verify_locations(wire->context, settings->authority, NULL) != 1)
+        return fails_by_file(wire, "authority", settings->authority);
+    return true;
+}
+
+/* A search for the addresses of a host, which knows no deadline, and so has a thread of its own.
+   The last of the two threads to leave it frees it. */
+typedef struct {
+    pthread_mutex_t lock;
+    pthread_cond_t changed;
+    bool done, given_up;
+    int status, error; /* of getaddrinfo, and its errno */
+    struct addrinfo *addresses;
+    char *host, *port;
+} search;
+
+static int find(const char *host, const char *port, int flags, struct addrinfo **addresses) {
+    struct addrinfo hints = {.ai_family = AF_UNSPEC, .ai_socktype = SOCK_STREAM, .ai_flags = flags};
+    return getaddrinfo(host, port, &hints, addresses);
+}
+
+static search *search_new(const char *host, const char *port) {
+    search *it = calloc(1, sizeof *it);
+    if (!it) return NULL;
+    pthread_condattr_t clock;
+    pthread_condattr_init(&clock);
+    pthread_condattr_setclock(&clock, CLOCK_MONOTONIC);
+    pthread_mutex_init(&it->lock, NULL);
+    pthread_cond_init(&it->changed, &clock);
+    pthread_condattr_destroy(&clock);
+    it->host = kmip_copy_of(host);
+    it->port = kmip_copy_of(port);
+    return it;
+}
+
+static void search_free(search *it) {
+    if (it->addresses) freeaddrinfo(it->addresses);
+    pthread_cond_destroy(&it->changed);
+    pthread_mutex_destroy(&it->lock);
+    kmip_copy_free(it->host);
+    kmip_copy_free(it->port);
+    free(it);
+}
+
+static void *search_run(void *given) {
+    search *it = given;
+    struct addrinfo *addresses = NULL;
+    int status = find(it->host, it->port, 0, &addresses);
+    int error = errno;
+    pthread_mutex_lock(&it->lock);
+    it->status = status;
+    it->error = error;
+    it->addresses = addresses;
+    it->done = true;
+    bool alone = it->given_up;
+    pthread_cond_signal(&it->changed);
+    pthread_mutex_unlock(&it->lock);
+    if (alone) search_free(it);
+    return NULL;
+}
+
+/* Starts the thread, in which no handler of a signal is to run. */
+static bool search_start(search *it) {
+    pthread_t thread;
+    sigset_t all, before;
+    sigfillset(&all);
+    pthread_sigmask(SIG_SETMASK, &all, &before);
+    bool started = pthread_create(&thread, NULL, search_run, it) == 0;
+    pthread_sigmask(SIG_SETMASK, &before, NULL);
+    if (started) pthread_detach(thread);
+    return started;
+}
+
+/* Waits for the search until then, or without an end where that is 0, and leaves it. */
+static int search_end(search *it, double until, struct addrinfo **addresses) {
+    struct timespec end = {.tv_sec = (time_t)until};
+    end.tv_nsec = (long)((until - (double)end.tv_sec) * 1e9);
+    int waited = 0;
+    pthread_mutex_lock(&it->lock);
+    while (!it->done && waited == 0)
+        waited = until > 0 ? pthread_cond_timedwait(&it->changed, &it->lock, &end)
+                           : pthread_cond_wait(&it->changed, &it->lock);
+    bool done = it->done;
+    int status = done ? it->status : EAI_AGAIN;
+    *addresses = it->addresses;
+    it->addresses = NULL;
+    it->given_up = true;
+    int error = it->error;
+    pthread_mutex_unlock(&it->lock);
+    if (done) search_free(it);
+    errno = error;
+    return status;
+}
+
+/* The addresses of a host. One that is written in numbers needs no search. */
+static struct addrinfo *addresses_of(kmip_wire *wire, const char *host, const char *port) {
+    struct addrinfo *addresses = NULL;
+    int status = find(host, port, AI_NUMERICHOST, &addresses);
+    if (status == EAI_NONAME) {
+        search *it = search_new(host, port);
+        if (!it || !it->host || !it->port || !search_start(it)) {
+            if (it) search_free(it);
+            fails(wire, "connect: no memory or no thread to find the host");
+            return NULL;
+        }
+        status = search_end(it, wire->end, &addresses);
+    }
+    if (status == 0) return addresses;
+    if (is_late(wire))
+        fails(wire, "connect: the host is not found within %g seconds", wire->seconds);
+    else if (status == EAI_SYSTEM)
+        fails_by_errno(wire, "connect: ", errno);
+    else
+        fails(wire, "connect: %s", gai_strerror(status));
+    return NULL;
+}
+
+/* Connects to one address until then. */
+static bool reach(kmip_wire *wire, const struct addrinfo *at, double until) {
+    int one = 1, error = 0;
+    socklen_t size = sizeof error;
+    wire->socket = socket(at->ai_family, SOCK_STREAM | SOCK_NONBLOCK | SOCK_CLOEXEC, 0);
+    if (wire->socket < 0) return fails_by_errno(wire, "connect: ", errno);
+    if (connect(wire->socket, at->ai_addr, at->ai_addrlen) != 0) {
+        if (errno != EINPROGRESS && errno != EINTR) return fails_by_errno(wire, "connect: ", errno);
+        if (!wait_for(wire, POLLOUT, until)) return false;
+        if (getsockopt(wire->socket, SOL_SOCKET, SO_ERROR, &error, &size) != 0) error = errno;
+        if (error != 0) return fails_by_errno(wire, "connect: ", error);
+    }
+    setsockopt(wire->socket, IPPROTO_TCP, TCP_NODELAY, &one, sizeof one);
+    return true;
+}
+
+/* Connects to the first address that is reached; each has its share of the time that is left. */
+static bool reach_host(kmip_wire *wire, const char *host, const char *port) {
+    struct addrinfo *addresses = addresses_of(wire, host, port);
+    bool reached = false;
+    int left = 0;
+    for (const struct addrinfo *at = addresses; at; at = at->ai_next)
+        left++;
+    for (const struct addrinfo *at = addresses; at && !reached; at = at->ai_next, left--) {
+        double until = wire->seconds > 0 ? now() + (wire->end - now()) / left : 0;
+        reached = reach(wire, at, until);
+        if (!reached && wire->socket >= 0) {
+            close(wire->socket);
+            wire->socket = -1;
+        }
+    }
+    if (addresses) freeaddrinfo(addresses);
+    return reached;
+}
+
+/* Whether an operation of TLS that was not done goes on; it waits for that. False with a reason. */
+static bool goes_on(kmip_wire *wire, int result) {
+    switch (SSL_get_error(wire->tls, result)) {
+    case SSL_ERROR_WANT_READ: return wait_for(wire, POLLIN, wire->end);
+    case SSL_ERROR_WANT_WRITE: return wait_for(wire, POLLOUT, wire->end);
+    case SSL_ERROR_ZERO_RETURN: return fails(wire, "end of input");
+    default: break;
+    }
+    long verified = SSL_get_verify_result(wire->tls);
+    if (wire->error != 0) return fails_by_errno(wire, "", wire->error);
+    if (wire->ended) return fails(wire, "end of input");
+    if (verified == X509_V_OK) return fails_by_openssl(wire, "");
+    return fails(wire, "the server's certificate: %s", X509_verify_cert_error_string(verified));
+}
+
+/* What the server's certificate has to name: an address, or a host. */
+static bool expect(kmip_wire *wire, const char *host) {
+    unsigned char address[sizeof(struct in6_addr)];
+    char plain[256]; /* an address without its zone, as in fe80::1%eth0 */
+    snprintf(plain, sizeof plain, "%.*s", (int)strcspn(host, "%"), host);
+    if (inet_pton(AF_INET, plain, address) == 1 || inet_pton(AF_INET6, plain, address) == 1)
+        return X509_VERIFY_PARAM_set1_ip_asc(SSL_get0_param(wire->tls), plain) == 1;
+    return SSL_set_tlsext_host_name(wire->tls, host) == 1 && SSL_set1_host(wire->tls, host) == 1;
+}
+
+static bool shake_hands(kmip_wire *wire, const char *host) {
+    wire->tls = SSL_new(wire->context);
+    if (!wire->tls || !expect(wire, host) || !carry(wire)) return fails_by_openssl(wire, "TLS: ");
+    for (;;) {
+        if (is_late(wire)) return runs_late(wire);
+        ERR_clear_error();
+        int result = SSL_connect(wire->tls);
+        if (result == 1) return true;
+        if (!goes_on(wire, result)) return false;
+    }
+}
+
+static bool open_wire(kmip_wire *wire, const kmip_settings *settings) {
+    char host[256]; /* without the brackets of [::1] */
+    size_t length = strlen(settings->host);
+    bool bare = settings->host[0] != '[' || settings->host[length - 1] != ']';
+    if (length >= sizeof host) return fails(wire, "host: it is too long");
+    snprintf(host, sizeof host, "%.*s", (int)(bare ? length : length - 2), settings->host + !bare);
+    kmip_wire_begin(wire);
+    ERR_clear_error();
+    return set_up(wire, settings) && reach_host(wire, host, settings->port) &&
+           shake_hands(wire, host);
+}
+
+kmip_wire *kmip_wire_open(const kmip_settings *settings, char *reason, size_t room) {
+    kmip_wire *wire = calloc(1, sizeof *wire);
+    if (!wire) {
+        snprintf(reason, room, "out of memory");
+        return NULL;
+    }
+    wire->socket = -1;
+    wire->seconds = settings->seconds;
+    bool open = open_wire(wire, settings);
+    ERR_clear_error();
+    if (open) return wire;
+    snprintf(reason, room, "%s", wire->reason);
+    kmip_wire_close(wire);
+    return NULL;
+}
+
+void kmip_wire_begin(kmip_wire *wire) {
+    wire->end = wire->seconds > 0 ? now() + wire->seconds : 0;
+}
+
+bool kmip_wire_is_idle(kmip_wire *wire) {
+    uint8_t byte;
+    size_t count = 0;
+    ERR_clear_error();
+    int result = SSL_read_ex(wire->tls, &byte, 1, &count);
+    if (result == 1) return fails(wire, "the server sent bytes that no call had asked for");
+    int error = SSL_get_error(wire->tls, result);
+    return error == SSL_ERROR_WANT_READ || error == SSL_ERROR_WANT_WRITE || goes_on(wire, result);
+}
+
+bool kmip_wire_write(kmip_wire *wire, const uint8_t *bytes, size_t count) {
+    for (;;) {
+        size_t sent = 0;
+        if (is_late(wire)) return runs_late(wire);
+        ERR_clear_error();
+        int result = SSL_write_ex(wire->tls, bytes, count, &sent);
+        if (result == 1) return true; /* all of them: partial writes are not enabled */
+        if (!goes_on(wire, result)) return false;
+    }
+}
+
+bool kmip_wire_read(kmip_wire *wire, uint8_t *into, size_t count) {
+    for (size_t done = 0, got = 0; done < count; done += got) {
+        got = 0;
+        if (is_late(wire)) return runs_late(wire);
+        ERR_clear_error();
+        int result = SSL_read_ex(wire->tls, into + done, count - done, &got);
+        if (result != 1 && !goes_on(wire, result)) return false;
+    }
+    return true;
+}
+
+const char *kmip_wire_reason(const kmip_wire *wire) {
+    return wire->reason;
+}
+
+void kmip_wire_close(kmip_wire *wire) {
+    if (!wire) return;
+    /* It says that it ends, and does not wait until the other side says so too. */
+    if (wire->tls && !wire->broken) SSL_shutdown(wire->tls);
+    SSL_free(wire->tls);
+    BIO_meth_free(wire->carrier);
+    SSL_CTX_free(wire->context);
+    if (wire->socket >= 0) close(wire->socket);
+    ERR_clear_error();
+    free(wire);
+}

@@ -1,0 +1,205 @@
+/* The words of a call as the grammar has them, what is wrong with one, and the lines of errors. */
+#define _POSIX_C_SOURCE 200809L
+#include "metsuwan_internal.h"
+
+#include <openssl/crypto.h>
+#include <stdio.h>
+#include <stdlib.h>
+#include <string.h>
+
+/* The calls, with a letter for each word: identifier, text, number, hex digits. The library alone
+   says what is of the grammar; this says which first words may not be empty, and what is wrong. */
+static const struct {
+    const char *name, *words;
+} calls[] = {
+    {"query", ""},     {"create-rsa", "ntt"}, {"create-aes", "nt"}, {"rng", "n"},
+    {"activate", "i"}, {"revoke", "i"},       {"destroy", "i"},     {"sign", "ih"},
+    {"rename", "it"},  {"get", "i"},          {"locate", "t"},      {"attributes", "i"},
+    {"discover", ""},  {"raw", "h"},
+};
+
+static const char *words_of(const char *call) {
+    for (size_t i = 0; i < sizeof calls / sizeof *calls; i++)
+        if (strcmp(calls[i].name, call) == 0) return calls[i].words;
+    return NULL;
+}
+
+bool kmip_room_has(kmip_room *it, size_t room) {
+    if (it->room >= room) return true;
+    uint8_t *bytes = malloc(room);
+    if (!bytes) return false;
+    if (it->bytes) memcpy(bytes, it->bytes, it->room);
+    kmip_room_free(it);
+    it->bytes = bytes;
+    it->room = room;
+    return true;
+}
+
+void kmip_room_free(kmip_room *it) {
+    if (it->bytes) OPENSSL_cleanse(it->bytes, it->room);
+    free(it->bytes);
+    it->bytes = NULL;
+    it->room = 0;
+}
+
+char *kmip_copy_of(const char *text) {
+    size_t size = strlen(text) + 1;
+    char *made = malloc(size);
+    return made ? memcpy(made, text, size) : NULL;
+}
+
+void kmip_copy_free(char *text) {
+    if (text) OPENSSL_cleanse(text, strlen(text));
+    free(text);
+}
+
+int kmip_word(const char *text, char *into, size_t room) {
+    static const char safe[] = "ABCDEFGHIJKLMNOPQRSTUVWXYZabcdefghijklmnopqrstuvwxyz0123456789._~-";
+    static const char digits[] = "0123456789ABCDEF";
+    /* The empty text is written "-", and the text "-" with an escape. */
+    bool escape = strcmp(text, "-") == 0;
+    if (!*text) return snprintf(into, room, "-") < (int)room ? 0 : -1;
+    for (; *text; text++) {
+        unsigned char byte = (unsigned char)*text;
+        bool plain = !escape && strchr(safe, byte);
+        size_t width = plain ? 1 : 3;
+        if (room <= width) return -1;
+        if (plain) {
+            *into = *text;
+        } else {
+            into[0] = '%';
+            into[1] = digits[byte >> 4];
+            into[2] = digits[byte & 15];
+        }
+        into += width;
+        room -= width;
+    }
+    *into = 0;
+    return 0;
+}
+
+bool kmip_write_words(kmip_room *into, const char *call, const char *const *words) {
+    size_t done = strlen(call);
+    if (!kmip_room_has(into, done + 1)) return false;
+    memcpy(into->bytes, call, done + 1);
+    for (; *words; words++) {
+        size_t most = 3 * strlen(*words) + 2;
+        if (!kmip_room_has(into, done + most + 1)) return false;
+        into->bytes[done] = ' ';
+        if (kmip_word(*words, (char *)into->bytes + done + 1, most) != 0) return false;
+        done += strlen((char *)into->bytes + done);
+    }
+    return true;
+}
+
+bool kmip_may_ask(const char *call, const char *const *words) {
+    const char *wanted = words_of(call);
+    if (!*call || strpbrk(call, " \n")) return false;
+    if (wanted && *wanted != 'i') return true;
+    return words[0] && *words[0];
+}
+
+/* How many bytes the character at the front of a text has in UTF-8 (RFC 3629, 4); 0: it is none. */
+static size_t character(const unsigned char *text) {
+    static const struct {
+        unsigned char first, last, low, high; /* of the first byte, and of the second */
+        size_t count;
+    } rows[] = {
+        {0x00, 0x7F, 0x00, 0x00, 1}, {0xC2, 0xDF, 0x80, 0xBF, 2}, {0xE0, 0xE0, 0xA0, 0xBF, 3},
+        {0xE1, 0xEC, 0x80, 0xBF, 3}, {0xED, 0xED, 0x80, 0x9F, 3}, {0xEE, 0xEF, 0x80, 0xBF, 3},
+        {0xF0, 0xF0, 0x90, 0xBF, 4}, {0xF1, 0xF3, 0x80, 0xBF, 4}, {0xF4, 0xF4, 0x80, 0x8F, 4},
+    };
+    size_t row = 0, rows_count = sizeof rows / sizeof *rows;
+    while (row < rows_count && (*text < rows[row].first || *text > rows[row].last))
+        row++;
+    if (row == rows_count) return 0;
+    if (rows[row].count > 1 && (text[1] < rows[row].low || text[1] > rows[row].high)) return 0;
+    for (size_t i = 2; i < rows[row].count; i++)
+        if (text[i] < 0x80 || text[i] > 0xBF) return 0;
+    return rows[row].count;
+}
+
+bool kmip_is_utf8(const char *text) {
+    while (*text) {
+        size_t count = character((const unsigned char *)text);
+        if (count == 0) return false;
+        text += count;
+    }
+    return true;
+}
+
+/* Writes the first character of a text as a string of JSON has it, and says how many bytes of the
+   text that was. A byte that is not UTF-8 becomes a question mark. */
+static size_t write_character(const char *text, char into[8]) {
+    size_t count = character((const unsigned char *)text);
+    unsigned char byte = (unsigned char)*text;
+    if (count == 0)
+        snprintf(into, 8, "?");
+    else if (byte == '"' || byte == '\\')
+        snprintf(into, 8, "\\%c", byte);
+    else if (byte < 0x20)
+        snprintf(into, 8, "\\u%04X", byte);
+    else
+        snprintf(into, 8, "%.*s", (int)count, text);
+    return count == 0 ? 1 : count;
+}
+
+void kmip_error_line(char *into, size_t room, const char *kind, const char *text) {
+    static const char end[] = "\"}";
+    int front = snprintf(into, room, "{\"error\":\"%s\",\"text\":\"", kind);
+    if (front < 0 || (size_t)front + sizeof end > room) {
+        if (room > 0) *into = 0;
+        return;
+    }
+    size_t done = (size_t)front;
+    while (*text) {
+        char shown[8];
+        text += write_character(text, shown);
+        size_t width = strlen(shown);
+        if (done + width + sizeof end > room) break;
+        memcpy(into + done, shown, width);
+        done += width;
+    }
+    memcpy(into + done, end, sizeof end);
+}
+
+/* A number of 32 bits, as it is printed. */
+static bool is_number(const char *text) {
+    char printed[16];
+    long long number = strtoll(text, NULL, 10);
+    snprintf(printed, sizeof printed, "%lld", number);
+    return number >= INT32_MIN && number <= INT32_MAX && strcmp(printed, text) == 0;
+}
+
+static bool is_hex(const char *text) {
+    size_t count = strlen(text);
+    return count % 2 == 0 && strspn(text, "0123456789ABCDEFabcdef") == count;
+}
+
+/* What is wrong with a word that is to be of this kind, or a null pointer. */
+static const char *wrong_with(char kind, const char *text) {
+    if (kind == 'n') return is_number(text) ? NULL : "is no number of 32 bits";
+    if (kind == 'h') return is_hex(text) ? NULL : "is not of hex digits, two for each byte";
+    if (kind == 'i' && !*text) return "is empty, and has to be an identifier";
+    return kmip_is_utf8(text) ? NULL : "is not UTF-8";
+}
+
+void kmip_say_wrong_word(char *into, size_t room, const char *call, const char *const *words) {
+    const char *wanted = words_of(call), *wrong = NULL;
+    if (!*call || strpbrk(call, " \n")) {
+        snprintf(into, room, "the name of a call is one word, and this is none: %.60s", call);
+        return;
+    }
+    if (!wanted) {
+        snprintf(into, room, "there is no call %.60s", call);
+        return;
+    }
+    size_t at = 0;
+    for (; wanted[at] && words[at] && !wrong; at++)
+        wrong = wrong_with(wanted[at], words[at]);
+    if (!wrong && (words[at] || wanted[at])) wrong = words[at++] ? "is one too many" : "is missing";
+    if (wrong)
+        snprintf(into, room, "%s: word %zu after it %s", call, at, wrong);
+    else
+        snprintf(into, room, "%s and its words are not of the grammar", call);
+}

@@ -1,0 +1,160 @@
+/* A session of calls with a server that makes it hard: calls MODE HOST PORT CERTIFICATE KEY
+   AUTHORITY. */
+#define _DEFAULT_SOURCE
+#include "testing.h"
+
+#include <signal.h>
+#include <sys/time.h>
+
+static volatile sig_atomic_t ticks;
+
+static void tick(int number) {
+    (void)number;
+    ticks++;
+}
+
+/* A handler of a signal runs five times a second; the server answers after three seconds. */
+static void signals(kmip_client *client, int flags) {
+    struct sigaction action = {.sa_handler = tick, .sa_flags = flags};
+    struct itimerval often = {{0, 200000}, {0, 200000}}, never = {{0, 0}, {0, 0}};
+    sigaction(SIGALRM, &action, NULL);
+    setitimer(ITIMER_REAL, &often, NULL);
+    check(kmip_call(client, "sign", "slow", "00", NULL) == KMIP_ANSWERED,
+          "a call is answered while a handler of a signal runs");
+    setitimer(ITIMER_REAL, &never, NULL);
+    check(ticks > 5, "which it did");
+}
+
+/* The other side ends the connection while a large request is sent: no SIGPIPE ends the process. */
+static void sigpipe(kmip_client *client) {
+    size_t count = 24000000;
+    struct sigaction now;
+    char *data = malloc(count + 1);
+    if (!data) exit(1);
+    memset(data, 'A', count);
+    data[count] = 0;
+    check(kmip_call(client, "sign", "mine", data, NULL) == KMIP_LOST,
+          "a connection that ends within a request is lost");
+    check(strstr(kmip_line(client), "RequestWriteError") != NULL, "which is said");
+    check(kmip_call(client, "query", NULL) == KMIP_LOST, "and stays so");
+    sigaction(SIGPIPE, NULL, &now);
+    check(now.sa_handler == SIG_DFL, "SIGPIPE is left as it was");
+    free(data);
+}
+
+/* No call takes what came before it. */
+static void out_of_step(kmip_client *client) {
+    check(kmip_call(client, "sign", "mine", "00", NULL) == KMIP_ANSWERED, "the first call");
+    check(kmip_call(client, "sign", "other", "00", NULL) == KMIP_LOST,
+          "no later call takes bytes that came before it");
+    check(kmip_text(client, "unique_identifier", NULL) == NULL, "nor a value of them");
+    check_text(kmip_line(client),
+               "{\"error\":\"RequestWriteError\",\"text\":\"the server sent bytes that no call had "
+               "asked for; nothing was sent\"}",
+               "the reason is said");
+}
+
+static void another_object(kmip_client *client) {
+    check(kmip_call(client, "sign", "mine", "00", NULL) == KMIP_LOST,
+          "an answer about another object loses the connection");
+    check_text(kmip_line(client),
+               "{\"error\":\"InternalError\",\"text\":\"answer for another object\"}",
+               "and says why");
+    check(kmip_bytes(client, "signature_data", NULL) == NULL, "it has no value");
+    check(kmip_call(client, "query", NULL) == KMIP_LOST, "no later call is made");
+    check_text(kmip_line(client),
+               "{\"error\":\"RequestWriteError\",\"text\":\"the connection is closed; nothing was "
+               "sent\"}",
+               "and says so");
+}
+
+/* The connection is ended by the server while nobody calls. */
+static void ended(kmip_client *client) {
+    check(kmip_call(client, "query", NULL) == KMIP_ANSWERED, "the first call");
+    nanosleep(&(struct timespec){.tv_nsec = 300000000}, NULL);
+    check(kmip_call(client, "query", NULL) == KMIP_LOST, "a connection that has ended is lost");
+    check_text(kmip_line(client),
+               "{\"error\":\"RequestWriteError\",\"text\":\"end of input; nothing was sent\"}",
+               "it is known that nothing was sent");
+}
+
+/* Values come out of the answer of the last call, and of no other. */
+static void values(kmip_client *client) {
+    size_t length = 0;
+    const uint8_t *bytes;
+    check(kmip_text(client, "unique_identifier", NULL) == NULL, "no value before a call");
+    check_text(kmip_line(client), "", "no line before a call");
+    check(kmip_call(client, "sign", "a\"\n\xC3\xA9", "00", NULL) == KMIP_ANSWERED, "sign");
+    check_text(kmip_text(client, "unique_identifier", NULL), "a\"\n\xC3\xA9",
+               "a text is as it is, and not as JSON writes it");
+    bytes = kmip_bytes(client, "signature_data", &length);
+    check(bytes && length == 18 && memcmp(bytes, "signature by a\"\n\xC3\xA9", length) == 0,
+          "bytes are as they are");
+    check(kmip_bytes(client, "unique_identifier", NULL) == NULL, "a text is no bytes");
+    check(kmip_text(client, "no.such", NULL) == NULL, "a value that is missing is none");
+    check(kmip_call(client, "activate", kmip_text(client, "unique_identifier", NULL), NULL) ==
+              KMIP_ANSWERED,
+          "a value may be a word of the next call");
+    check(kmip_bytes(client, "signature_data", NULL) == NULL, "an older answer is not looked at");
+    check(kmip_call(client, "sing", NULL) == KMIP_CALL_GRAMMAR, "a call that is none");
+    check(kmip_text(client, "unique_identifier", NULL) == NULL, "after it there is no value");
+    check(kmip_call(client, "query", NULL) == KMIP_ANSWERED, "the connection is good");
+    check_text(kmip_text(client, "operations.0", NULL), "Create", "an item of a list");
+}
+
+/* What has to be refused before it is sent: the server would do it. */
+static void refused(kmip_client *client) {
+    static const struct {
+        const char *call, *words[4], *text;
+    } rows[] = {
+        {"destroy", {"", NULL}, "destroy: word 1 after it is empty, and has to be an identifier"},
+        {"sign -", {"00", NULL}, "the name of a call is one word, and this is none: sign -"},
+        {"query\nquery",
+         {NULL},
+         "the name of a call is one word, and this is none: query\\u000Aquery"},
+        {"", {NULL}, "the name of a call is one word, and this is none: "},
+        {"sing", {"1", NULL}, "there is no call sing"},
+        {"rename", {"1", NULL}, "rename: word 2 after it is missing"},
+        {"query", {"1", NULL}, "query: word 1 after it is one too many"},
+        {"sign", {"1", "0", NULL}, "sign: word 2 after it is not of hex digits, two for each byte"},
+        {"rng", {"007", NULL}, "rng: word 1 after it is no number of 32 bits"},
+        {"rng", {"2147483648", NULL}, "rng: word 1 after it is no number of 32 bits"},
+        {"get", {"\xED\xA0\x80", NULL}, "get: word 1 after it is not UTF-8"},
+    };
+    for (size_t i = 0; i < sizeof rows / sizeof *rows; i++) {
+        char line[300];
+        snprintf(line, sizeof line, "{\"error\":\"GrammarError\",\"text\":\"%s\"}", rows[i].text);
+        check(kmip_call_words(client, rows[i].call, rows[i].words) == KMIP_CALL_GRAMMAR,
+              "a call that is refused");
+        check_text(kmip_line(client), line, "and why");
+    }
+    check(kmip_call(client, "activate", "-", NULL) == KMIP_ANSWERED,
+          "the identifier - is none that is empty");
+    check(kmip_call(client, "query", NULL) == KMIP_ANSWERED, "the connection is good");
+}
+
+/* kmip_close waits for nobody. */
+static void close_waits(kmip_client *client) {
+    check(kmip_call(client, "query", NULL) == KMIP_ANSWERED, "a call");
+    double from = seconds_now();
+    kmip_close(client);
+    check(seconds_now() - from < 1, "kmip_close does not wait for a server that says nothing");
+}
+
+int main(int argc, char **argv) {
+    if (argc < 7) return 2;
+    const char *mode = argv[1];
+    kmip_settings settings = settings_of(argv + 1);
+    kmip_client *client = opened(&settings);
+    if (strcmp(mode, "close") == 0) return close_waits(client), 0;
+    if (strcmp(mode, "restart") == 0) signals(client, SA_RESTART);
+    if (strcmp(mode, "interrupt") == 0) signals(client, 0);
+    if (strcmp(mode, "sigpipe") == 0) sigpipe(client);
+    if (strcmp(mode, "out_of_step") == 0) out_of_step(client);
+    if (strcmp(mode, "another_object") == 0) another_object(client);
+    if (strcmp(mode, "ended") == 0) ended(client);
+    if (strcmp(mode, "values") == 0) values(client);
+    if (strcmp(mode, "refused") == 0) refused(client);
+    kmip_close(client);
+    return 0;
+}

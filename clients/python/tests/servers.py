@@ -1,0 +1,62 @@
+"""The fake servers, and a client of one of them."""
+import atexit
+import importlib.util
+import os
+import pathlib
+import subprocess
+import sys
+import tempfile
+from types import ModuleType
+from typing import Any, Dict, Iterator, Optional, Tuple
+
+from metsuwan import Client
+
+LIVE = pathlib.Path(__file__).resolve().parents[3] / 'tools' / 'live'
+
+
+def _module(name: str) -> ModuleType:
+    spec = importlib.util.spec_from_file_location(name, LIVE / (name + '.py'))
+    assert spec is not None and spec.loader is not None
+    module = importlib.util.module_from_spec(spec)
+    spec.loader.exec_module(module)
+    return module
+
+
+fakes: Any = _module('fakes')
+
+
+def _ports(lines: Iterator[str]) -> Dict[str, int]:
+    ports: Dict[str, int] = {}
+    for line in lines:
+        if line.strip() == 'ready':
+            return ports
+        name, port = line.split()
+        ports[name] = int(port)
+    raise RuntimeError('the fakes do not listen')
+
+
+def _started() -> Tuple[str, Dict[str, int]]:
+    """The folder of the certificates, and the ports of the fakes."""
+    if 'METSUWAN_FAKES' in os.environ:
+        with open(os.environ['METSUWAN_FAKES'], encoding='ascii') as file:
+            return os.environ['METSUWAN_CERTS'], _ports(iter(file))
+    folder = tempfile.TemporaryDirectory()
+    atexit.register(folder.cleanup)
+    certs = folder.name + '/certs'
+    subprocess.run([str(LIVE / 'certs.sh'), certs], check=True)
+    process = subprocess.Popen([sys.executable, str(LIVE / 'fakes.py'), certs],
+                               stdout=subprocess.PIPE, text=True)
+    atexit.register(process.kill)
+    assert process.stdout is not None
+    return certs, _ports(process.stdout)
+
+
+CERTS, PORTS = _started()
+
+
+def client_of(fake: str, *, name: str = 'client', host: str = 'localhost',
+              timeout: Optional[float] = 10, **settings: Any) -> Client:
+    """A client of a fake, with the certificate of this name."""
+    cert, key = ('%s/%s.%s' % (CERTS, name, end) for end in ('pem', 'key'))
+    return Client(host, PORTS[fake], cert=cert, key=key, ca=CERTS + '/ca.pem', timeout=timeout,
+                  **settings)

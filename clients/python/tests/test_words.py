@@ -1,0 +1,109 @@
+"""Arguments become words in one place, and those that are none are refused there."""
+import unittest
+from typing import Any, Dict, List, Tuple
+
+from metsuwan import GrammarError
+from metsuwan.calls import BYTES, CALLS, IDENTIFIER, NUMBER, TEXT, Word, line_of, words_of
+from metsuwan.library import GRAMMAR, Library
+
+SAMPLES: Dict[Any, Word] = {IDENTIFIER: '1', TEXT: 'a name', BYTES: b'\x01', NUMBER: 16}
+
+
+class Written(unittest.TestCase):
+    def test_words_are_written_as_the_grammar_has_them(self) -> None:
+        rows: List[Tuple[Tuple[str, List[Word]], bytes]] = [
+            (('query', []), b'query'),
+            (('locate', ['']), b'locate -'),
+            (('locate', ['-']), b'locate %2D'),
+            (('locate', ['a b%\n']), b'locate a%20b%25%0A'),
+            (('locate', ['sch\u00fcssel']), b'locate sch%C3%BCssel'),
+            (('get', ['-']), b'get %2D'),
+            (('sign', ['k', b'']), b'sign k -'),
+            (('sign', ['k', b'\x0a\xbc']), b'sign k 0ABC'),
+            (('sign', ['k', bytearray(b'\x01')]), b'sign k 01'),
+            (('sign', ['k', memoryview(b'\x01')]), b'sign k 01'),
+            (('rng', [-5]), b'rng -5'),
+            (('create-aes', [256, 'n']), b'create-aes 256 n'),
+        ]
+        for (name, words), line in rows:
+            with self.subTest(line):
+                self.assertEqual(line_of(name, words), line)
+
+    def test_typed_texts_are_the_same_words(self) -> None:
+        self.assertEqual(words_of('sign', ['k', '0aBC']), ['k', b'\x0a\xbc'])
+        self.assertEqual(words_of('create-rsa', ['2048', '7', '']), [2048, '7', ''])
+
+    def test_typed_texts_that_are_none(self) -> None:
+        rows: List[Tuple[str, List[str]]] = [
+            ('sign', ['k', 'XY']), ('sign', ['k', 'A']), ('sign', ['k', 'AA BB']),
+            ('rng', ['1_0']), ('rng', [' 1']), ('rng', ['007']), ('rng', ['-0']), ('rng', ['']),
+            ('sing', []), ('rename', ['1']), ('query', ['1']),
+        ]
+        for name, texts in rows:
+            with self.subTest((name, texts)), self.assertRaises(GrammarError):
+                words_of(name, texts)
+
+    def test_each_call_of_the_table_is_of_the_grammar(self) -> None:
+        library = Library()
+        for name, kinds in CALLS.items():
+            if name == 'raw':  # its bytes have to be a request
+                continue
+            with self.subTest(name):
+                line = line_of(name, [SAMPLES[kind] for kind in kinds])
+                self.assertIsInstance(library.request(line), bytes)
+                self.assertEqual(library.request(line + b' x'), GRAMMAR)
+
+    def test_raw_takes_the_bytes_of_a_request(self) -> None:
+        library = Library()
+        request = library.request(b'query')
+        assert isinstance(request, bytes)
+        self.assertEqual(library.request(line_of('raw', [request])), request)
+
+
+class Refused(unittest.TestCase):
+    def test_values_of_another_type(self) -> None:
+        rows: List[Tuple[str, List[Any]]] = [
+            ('sign', ['k', 5]), ('sign', ['k', 'AAAA']), ('sign', ['k', True]),
+            ('sign', ['k', [1]]), ('sign', ['k', None]), ('sign', [b'k', b'']), ('get', [b'8']),
+            ('destroy', [b'']),
+            ('get', [8]), ('rng', ['16']), ('rng', [True]), ('rng', [1.0]), ('locate', [b'n']),
+            ('raw', ['00']), ('rename', ['1', b'n']),
+        ]
+        for name, words in rows:
+            with self.subTest((name, words)), self.assertRaises(TypeError):
+                line_of(name, words)
+
+    def test_an_empty_identifier(self) -> None:
+        for name, kinds in CALLS.items():
+            if IDENTIFIER not in kinds:
+                continue
+            words = ['' if kind is IDENTIFIER else SAMPLES[kind] for kind in kinds]
+            with self.subTest(name), self.assertRaises(GrammarError) as raised:
+                line_of(name, words)
+            self.assertIn('word 1', str(raised.exception))
+
+    def test_a_name_that_is_no_call(self) -> None:
+        for name in ('sign -', 'sign', 'sing', '', 'query ', 'query\n', 'get 1', '-', 'Query'):
+            with self.subTest(name), self.assertRaises(GrammarError):
+                line_of(name, [b''])
+
+    def test_words_too_many_and_too_few(self) -> None:
+        for name, kinds in CALLS.items():
+            words = [SAMPLES[kind] for kind in kinds]
+            with self.subTest(name), self.assertRaises(GrammarError):
+                line_of(name, words + ['x'])
+            if words:
+                with self.subTest(name), self.assertRaises(GrammarError):
+                    line_of(name, words[:-1])
+
+    def test_texts_that_are_not_utf8_and_numbers_that_are_too_large(self) -> None:
+        rows: List[Tuple[str, List[Word]]] = [
+            ('get', ['\udcff']), ('rng', [1 << 31]), ('rng', [-1 - (1 << 31)]),
+        ]
+        for name, words in rows:
+            with self.subTest(name), self.assertRaises(GrammarError):
+                line_of(name, words)
+
+
+if __name__ == '__main__':
+    unittest.main()

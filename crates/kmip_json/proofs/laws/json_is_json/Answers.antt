@@ -1,6 +1,0 @@
-use Rattle.kmip_shape.specs.Shape.{NoCase}
-use Rattle.kmip_json.proofs.JsonTexts.{value_is}
-use Rattle.kmip_json.proofs.laws.json_is_json.Goals as goal
-
-pub returns : goal.returns
-returns c = λ shape val fits. value_is val NoCase shape fits

@@ -1,0 +1,21 @@
+# shellcheck shell=bash
+# Sessions with servers that make it hard, in one process, with its memory watched.
+test_build calls "${sanitized[@]}"
+fake slow
+test_run calls restart
+test_run calls interrupt
+fake closing
+test_run calls sigpipe
+fake other_object
+test_run calls another_object
+for name in two trailing; do
+    fake "$name"
+    test_run calls out_of_step
+done
+fake end_after
+test_run calls ended
+fake no_close
+test_run calls close
+fake good
+test_run calls values
+test_run calls refused

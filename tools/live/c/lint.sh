@@ -1,0 +1,20 @@
+# shellcheck shell=bash
+# What compilers and linters say of the sources in C: nothing.
+cd "$top/clients/c" || return
+flags=(-std=c11 -Wall -Wextra -Wconversion -Wshadow -Wpedantic -Wstrict-prototypes -Wformat=2)
+tool() { # WHAT COMMAND PACKAGE WORD..
+    if ! type -P "$2" >/dev/null; then
+        printf 'skipped c: there is no %s (Debian: apt-get install %s)\n' "$2" "$3"
+        return
+    fi
+    "$2" "${@:4}" >"$said" 2>&1
+    verdict "$1"
+}
+for file in *.c; do
+    tool "gcc says nothing of $file" gcc gcc "${flags[@]}" -O2 -fanalyzer -Werror -c -o "$work/it.o" "$file"
+    tool "clang says nothing of $file" clang clang "${flags[@]}" -Werror -c -o "$work/it.o" "$file"
+done
+tool 'cppcheck finds nothing' cppcheck cppcheck -q --std=c11 --enable=warning,performance,portability --inline-suppr \
+    --suppress=missingIncludeSystem --suppress=varFuncNullUB --error-exitcode=1 ./*.c
+tool 'clang-tidy finds nothing' clang-tidy clang-tidy --quiet --warnings-as-errors='*' ./*.c -- -std=c11
+tool 'the layout is that of .clang-format' clang-format clang-format --dry-run -Werror ./*.c ./*.h tests/*.c tests/*.h

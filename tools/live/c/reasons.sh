@@ -1,0 +1,55 @@
+# shellcheck shell=bash
+# What is no answer is one line of JSON on standard error, which says why.
+is_json() { # WHAT: what was said is one object in JSON, with an error and a text
+    "$python" -c 'import json, sys
+line, = open(sys.argv[1], encoding="utf-8").read().splitlines()
+assert all(isinstance(json.loads(line)[it], str) for it in ("error", "text")), line' "$said" 2>"$work/not_json"
+    verdict "$1 is JSON"
+}
+reason() { # WHAT STATUS REGEX CALL WORD..
+    call_is "$1" "$2" "${@:4}"
+    says "$1 is said" "$3"
+    is_json "$1"
+}
+fake end
+reason 'an end' 3 'ResponseReadError.*end of input' query
+fake reset
+reason 'a reset' 3 'ResponseReadError.*[Rr]eset by peer' query
+fake silent
+KMIP_TIMEOUT=1 reason 'a deadline' 3 'ResponseReadError.*no answer within 1 seconds' query
+fake unanswered
+KMIP_TIMEOUT=1 reason 'a deadline of the handshake' 3 'ConnectError.*no answer within 1 seconds' query
+fake over_limit
+reason 'a limit' 3 'DeserializeError.*limit of 1048576 bytes' query
+fake expired_server
+reason 'a certificate that has ended' 3 'ConnectError.*certificate has expired' query
+fake wrong_host
+reason 'another host' 3 'ConnectError.*[Hh]ostname mismatch' query
+fake no_tls
+reason 'no TLS' 3 'ConnectError.*wrong version number' query
+fake good
+certificate=$certs/none.pem reason 'no certificate' 3 'none\.pem: No such file' query
+certificate=$certs reason 'a folder as a certificate' 3 'ConnectError' query
+key=$certs/plain.key reason 'another key' 3 '[Kk]ey values mismatch|KEY_VALUES_MISMATCH' query
+port=$(free_port) reason 'nobody' 3 'Connection refused' query
+host=no.such.invalid reason 'no such host' 3 'ConnectError' query
+host='[::1]' port=$(free_port) reason 'an address of IPv6 in brackets' 3 'ConnectError.*(refused|unreachable|Cannot assign)' query
+KMIP_USER=alice reason 'a user without a password' 2 'a credential is a user and a password' query
+KMIP_TIMEOUT=soon reason 'a deadline that is none' 2 'KMIP_TIMEOUT' query
+KMIP_LIMIT=-1 reason 'a limit that is none' 2 'KMIP_LIMIT|limit' query
+reason 'a call that is none' 2 'there is no call sing' sing 1
+reason 'a word too few' 2 'rename: word 2 after it is missing' rename 1
+reason 'a word that is none' 2 'word 2 after it' sign 1 XY
+reason 'a call with a space' 2 'one word|no call' 'sign -' 00
+reason 'a call of odd bytes' 2 'GrammarError' $'s\xff"\n\\'
+client_run call >"$said" 2>&1
+(($? == 2))
+verdict 'no words have status 2'
+is_json 'no words'
+if grep -q '^address6 ' "$run/fakes"; then
+    fake address6
+    host=::1 call_is 'an address of IPv6' 0 query
+    host='[::1]' call_is 'an address of IPv6 in brackets' 0 query
+else
+    echo 'skipped c: there is no IPv6'
+fi

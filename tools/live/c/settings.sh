@@ -1,0 +1,8 @@
+# shellcheck shell=bash
+# Settings, words, a name that is not found in time, and memory that runs out.
+test_build settings "${sanitized[@]}"
+fake good
+test_run settings
+test_build memory "${sanitized[@]}" -Wl,--wrap=malloc,--wrap=calloc
+fake credential
+test_run memory

@@ -1,0 +1,548 @@
+#!/usr/bin/python3
+"""Fake KMIP servers over TLS, each of which does what no good server does: one process, one port for each.
+
+    fakes.py CERTS      CERTS: a folder that certs.sh made
+    fakes.py --list     says what each of them does
+
+It writes a line `NAME PORT` for each, then `ready`, and serves on 127.0.0.1 until it is killed. A new one is a function
+below, `@fake` above it: it is called for each request with the connection and the request's bytes, and returns True where
+it is done with the connection.
+"""
+import hashlib
+import os
+import socket
+import ssl
+import struct
+import sys
+import threading
+import time
+
+FAKES = {}              # over TLS, by the name of the function
+PLAIN = {}              # those that get the connection before there is TLS
+# The server's certificate is that of certs.sh with this name; what it answers is good.
+CERTIFICATES = ('expired_server', 'wrong_host', 'address', 'other/server')
+QUERY, CREATE_KEY_PAIR, GET, ACTIVATE, SIGN = 0x18, 0x02, 0x0A, 0x12, 0x21
+SUCCESS, FAILED, PENDING, UNDONE = 0, 1, 2, 3
+
+
+def fake(function):
+    FAKES[function.__name__] = function
+    return function
+
+
+def plain(function):
+    PLAIN[function.__name__] = function
+    return function
+
+
+# TTLV: tag, type, length, value, padded to 8 bytes.
+
+def item(tag, kind, body):
+    pad = b'' if kind == 1 else b'\0' * (-len(body) % 8)
+    return struct.pack('>I', tag)[1:] + bytes([kind]) + struct.pack('>I', len(body)) + body + pad
+
+
+def structure(tag, *bodies):
+    return item(tag, 1, b''.join(bodies))
+
+
+def integer(tag, number):
+    return item(tag, 2, struct.pack('>i', number))
+
+
+def enumeration(tag, number):
+    return item(tag, 5, struct.pack('>I', number))
+
+
+def text(tag, value):
+    return item(tag, 7, value.encode() if isinstance(value, str) else value)
+
+
+def octets(tag, value):
+    return item(tag, 8, value)
+
+
+def date(tag, seconds):
+    return item(tag, 9, struct.pack('>q', seconds))
+
+
+def identifier(value):
+    return text(0x420094, value)
+
+
+def header(major=1, minor=2, count=1, more=b''):
+    return structure(0x42007A, structure(0x420069, integer(0x42006A, major), integer(0x42006B, minor)),
+                     date(0x420092, 1700000000), more, integer(0x42000D, count))
+
+
+def batch_item(operation, payload, status=SUCCESS, reason=None, message=None):
+    body = b'' if operation is None else enumeration(0x42005C, operation)
+    body += enumeration(0x42007F, status)
+    body += b'' if reason is None else enumeration(0x42007E, reason)
+    body += b'' if message is None else text(0x42007D, message)
+    return structure(0x42000F, body, b'' if payload is None else structure(0x42007C, *payload))
+
+
+def response(operation, payload, head=None, **how):
+    return structure(0x42007B, head or header(), batch_item(operation, payload, **how))
+
+
+def nested(levels):
+    made = b''
+    for _ in range(levels):
+        made = structure(0x420008, made)
+    return made
+
+
+def operation_of(request):
+    at = request.index(bytes.fromhex('42005C0500000004')) + 8
+    return int.from_bytes(request[at:at + 4], 'big')
+
+
+def value_of(request, tag, kind):
+    """The first value with this tag (6 hex digits) and type in a request, or None."""
+    at = request.find(bytes.fromhex(tag) + bytes([kind]))
+    if at < 0:
+        return None
+    length = int.from_bytes(request[at + 4:at + 8], 'big')
+    return request[at + 8:at + 8 + length]
+
+
+def message_of(wire):
+    """One message that came, or no bytes at the end."""
+    got = b''
+    while len(got) < 8 or len(got) < 8 + int.from_bytes(got[4:8], 'big'):
+        piece = wire.recv((8 if len(got) < 8 else 8 + int.from_bytes(got[4:8], 'big')) - len(got))
+        if not piece:
+            return b''
+        got += piece
+    return got
+
+
+GOOD_QUERY = response(QUERY, [enumeration(0x42005C, 1), text(0x42009D, 'fake')])
+KEYS = [text(0x420066, 'private'), text(0x42006F, 'public')]
+EVIL_KEYS = [text(0x420066, 'evil-private'), text(0x42006F, 'evil-public')]
+
+
+def answer_of(request):
+    """A good answer to this request."""
+    operation = operation_of(request)
+    if operation == QUERY:
+        return GOOD_QUERY
+    if operation == CREATE_KEY_PAIR:
+        return response(operation, KEYS)
+    asked = value_of(request, '420094', 7) or b'1'
+    if operation == SIGN:
+        return response(operation, [identifier(asked), octets(0x4200C3, b'signature by ' + asked)])
+    return response(operation, [identifier(asked)])
+
+
+# Good servers, in a way.
+
+@fake
+def good(wire, request):
+    """answers query, create-rsa, sign (with the words `signature by` and the identifier) and what answers an identifier"""
+    wire.sendall(answer_of(request))
+
+
+@fake
+def slow(wire, request):
+    """is good, but takes 3 seconds where the identifier begins with `slow`"""
+    if (value_of(request, '420094', 7) or b'').startswith(b'slow'):
+        time.sleep(3)
+    wire.sendall(answer_of(request))
+
+
+@fake
+def digest(wire, request):
+    """answers sign with the length and the SHA-256 digest of the data that came, as text; is good otherwise"""
+    if operation_of(request) != SIGN:
+        return good(wire, request)
+    data = value_of(request, '4200C2', 8) or b''
+    wire.sendall(response(SIGN, [identifier(value_of(request, '420094', 7)),
+                                 octets(0x4200C3, b'%d %s' % (len(data), hashlib.sha256(data).hexdigest().encode()))]))
+
+
+@fake
+def credential(wire, request):
+    """answers query; the vendor is `USER:PASSWORD`, the credential that came"""
+    parts = [value_of(request, tag, 7) or b'' for tag in ('420099', '4200A1')]
+    wire.sendall(response(QUERY, [text(0x42009D, b':'.join(parts))]))
+
+
+@fake
+def certificate(wire, request):
+    """answers query; the vendor is the common name of the client's certificate"""
+    owner = dict(pair for names in (wire.getpeercert() or {}).get('subject', ()) for pair in names)
+    wire.sendall(response(QUERY, [text(0x42009D, owner.get('commonName', 'nobody'))]))
+
+
+# The objects that `objects` has, by KMIP's numbers: the tag of the object, and of a key's format or a certificate's type.
+OBJECT_TYPES = {'Certificate': (1, 0x420013), 'SymmetricKey': (2, 0x42008F), 'PublicKey': (3, 0x42006D),
+                'PrivateKey': (4, 0x420064)}
+FORMATS = {'Raw': 1, 'PKCS1': 3, 'PKCS8': 4, 'X509': 5, 'ECPrivateKey': 6}
+
+
+def object_of(kind, form, value):
+    """An object of this type and format; `value` is what stands as its key value, or a certificate's bytes."""
+    number, tag = OBJECT_TYPES[kind]
+    if kind == 'Certificate':
+        body = [enumeration(0x42001D, 1), octets(0x42001E, value)]
+    else:
+        body = [structure(0x420040, enumeration(0x420042, FORMATS[form]), value)]
+    return [enumeration(0x420057, number), structure(tag, *body)]
+
+
+@fake
+def objects(wire, request):
+    """answers get with the object of a file of certs.sh, as `PublicKey.X509`; `wrapped` is a key that is wrapped"""
+    asked = (value_of(request, '420094', 7) or b'').decode()
+    if asked == 'wrapped':
+        kind, form, value = 'PrivateKey', 'PKCS8', octets(0x420045, b'wrapped')
+    else:
+        kind, form = asked.split('.')
+        with open('%s/objects/%s.der' % (sys.argv[1], asked), 'rb') as file:
+            value = file.read()
+        if kind != 'Certificate':
+            value = structure(0x420045, octets(0x420043, value))
+    number, body = object_of(kind, form, value)
+    wire.sendall(response(GET, [number, identifier(asked), body]))
+
+
+@fake
+def end_after(wire, request):
+    """is good once, and then ends the connection"""
+    good(wire, request)
+    return True
+
+
+@fake
+def no_close(wire, request):
+    """is good once, and then neither reads nor ends the connection"""
+    good(wire, request)
+    time.sleep(120)
+
+
+# Messages that break off, or don't come, or come slowly.
+
+@fake
+def end(wire, request):
+    """ends the connection in place of an answer"""
+    return True
+
+
+@fake
+def reset(wire, request):
+    """resets the connection in place of an answer"""
+    wire.setsockopt(socket.SOL_SOCKET, socket.SO_LINGER, struct.pack('ii', 1, 0))
+    os.close(wire.detach())
+    return True
+
+
+@fake
+def half(wire, request):
+    """ends the connection within a message"""
+    wire.sendall(GOOD_QUERY[:-13])
+    return True
+
+
+@fake
+def half_head(wire, request):
+    """ends the connection within a message's head"""
+    wire.sendall(GOOD_QUERY[:5])
+    return True
+
+
+@fake
+def half_hold(wire, request):
+    """sends the first part of a message, and keeps the connection open"""
+    wire.sendall(GOOD_QUERY[:-13])
+    time.sleep(120)
+
+
+@fake
+def silent(wire, request):
+    """answers nothing, and keeps the connection open"""
+    time.sleep(120)
+
+
+@fake
+def drip(wire, request):
+    """sends a byte a second"""
+    for byte in answer_of(request):
+        wire.sendall(bytes([byte]))
+        time.sleep(1)
+
+
+@plain
+def unanswered(listener):
+    """takes connections, and never says a word of TLS"""
+    kept = []
+    while True:
+        kept.append(listener.accept())
+
+
+@plain
+def drip_handshake(listener):
+    """sends the record of a TLS handshake, a byte a second"""
+    def serve(wire):
+        for byte in bytes.fromhex('1603034000') + b'\2' * 0x4000:
+            wire.sendall(bytes([byte]))
+            time.sleep(1)
+    serve_each(listener, serve)
+
+
+@plain
+def unaccepting(listener):
+    """never takes a connection: those that wait are as many as may"""
+    listener.listen(0)
+    waiting = []
+    for _ in range(4):
+        waiting.append(socket.socket())
+        waiting[-1].setblocking(False)
+        waiting[-1].connect_ex(listener.getsockname())
+    time.sleep(1 << 30)
+
+
+@plain
+def no_tls(listener):
+    """speaks HTTP with no TLS"""
+    def serve(wire):
+        wire.sendall(b'HTTP/1.1 200 OK\r\n\r\nhello')
+        wire.close()
+    serve_each(listener, serve)
+
+
+# Bytes that are no message, or more than one, or more than is wanted.
+
+@fake
+def rubbish(wire, request):
+    """answers with bytes that are no message"""
+    wire.sendall(b'HTTP/1.1 400 Bad Request\r\nContent-Type: text/html\r\nContent-Length: 11\r\n\r\nBad Request')
+    return True
+
+
+@fake
+def no_length(wire, request):
+    """answers with a head whose length is 0"""
+    wire.sendall(bytes.fromhex('42007B0100000000'))
+
+
+@fake
+def echo(wire, request):
+    """answers with the request"""
+    wire.sendall(request)
+
+
+@fake
+def huge(wire, request):
+    """announces nearly 4 GiB, and sends a thousand bytes"""
+    wire.sendall(bytes.fromhex('42007B01FFFFFFF8') + b'\0' * 1000)
+    time.sleep(120)
+
+
+@fake
+def huge_stream(wire, request):
+    """announces nearly 4 GiB, and sends them"""
+    wire.sendall(bytes.fromhex('42007B01FFFFFFF8'))
+    for _ in range(1 << 16):
+        wire.sendall(b'\0' * 65536)
+
+
+@fake
+def over_limit(wire, request):
+    """answers query well, with 2 MiB of vendor"""
+    wire.sendall(response(QUERY, [text(0x42009D, b'x' * (2 << 20))]))
+
+
+@fake
+def two(wire, request):
+    """answers twice, the second time as for the identifier `late`"""
+    late = response(SIGN, [identifier('late'), octets(0x4200C3, b'a late one')])
+    wire.sendall(answer_of(request) + (GOOD_QUERY if operation_of(request) == QUERY else late))
+
+
+@fake
+def trailing(wire, request):
+    """answers well, and sends more bytes"""
+    wire.sendall(answer_of(request) + b'garbage!garbage!')
+
+
+@fake
+def deep(wire, request):
+    """answers with 65 levels of structures"""
+    wire.sendall(structure(0x42007B, header(), batch_item(operation_of(request), [nested(62)])))
+
+
+@fake
+def many_operations(wire, request):
+    """answers query with 60,000 operations"""
+    wire.sendall(response(QUERY, [enumeration(0x42005C, 1 + i % 40) for i in range(60000)]))
+
+
+# Answers to another call, and answers that say other things.
+
+@fake
+def other_operation(wire, request):
+    """answers another operation than was asked"""
+    wire.sendall(response(0x14, [identifier('1')]))
+
+
+@fake
+def other_object(wire, request):
+    """answers about another object than was asked"""
+    operation = operation_of(request)
+    more = [octets(0x4200C3, b'signature')] if operation == SIGN else []
+    wire.sendall(response(operation, [identifier('other'), *more]))
+
+
+@fake
+def batch_none(wire, request):
+    """says that there are 0 answers, and has one"""
+    wire.sendall(response(operation_of(request), [identifier('1')], head=header(count=0)))
+
+
+@fake
+def batch_two(wire, request):
+    """has two answers where one was asked"""
+    one = batch_item(operation_of(request), [identifier('1')])
+    wire.sendall(structure(0x42007B, header(count=2), one, one))
+
+
+@fake
+def pending(wire, request):
+    """says that the operation is pending"""
+    wire.sendall(response(operation_of(request), None, status=PENDING))
+
+
+@fake
+def no_payload(wire, request):
+    """says success, and has no payload"""
+    wire.sendall(response(operation_of(request), None))
+
+
+@fake
+def odd_text(wire, request):
+    """fails with a message of control characters, quotes and characters past ASCII"""
+    odd = ''.join(map(chr, range(0x120))) + '\ufeff\uffff\U0010ffff"\\\u2028'
+    wire.sendall(response(operation_of(request), None, status=FAILED, reason=1, message=odd))
+
+
+@fake
+def not_utf8(wire, request):
+    """fails with a message that is not UTF-8"""
+    wire.sendall(response(operation_of(request), None, status=FAILED, reason=0x100, message=b'\xff\xfe'))
+
+
+@fake
+def unknown_reason(wire, request):
+    """fails with a reason that is in no table of KMIP 1.2, and a message"""
+    wire.sendall(response(operation_of(request), None, status=FAILED, reason=0x7FFF, message='not today'))
+
+
+@fake
+def shadow(wire, request):
+    """answers create-rsa with other identifiers within an unknown structure in front"""
+    wire.sendall(response(CREATE_KEY_PAIR, [structure(0x540001, *EVIL_KEYS), *KEYS]))
+
+
+@fake
+def shadow_head(wire, request):
+    """answers create-rsa with other identifiers in the header"""
+    wire.sendall(response(CREATE_KEY_PAIR, KEYS, head=header(more=structure(0x540001, *EVIL_KEYS))))
+
+
+@fake
+def no_attributes(wire, request):
+    """answers with an identifier, and nothing else"""
+    wire.sendall(response(operation_of(request), [identifier(value_of(request, '420094', 7) or b'1')]))
+
+
+@fake
+def closing(wire, request):
+    """ends the connection while the request is sent (see connection)"""
+
+
+@fake
+def early(wire, request):
+    """has answered query before it was asked (see connection)"""
+    time.sleep(120)
+
+
+def connection(name, context, wire):
+    try:
+        with context.wrap_socket(wire, server_side=True) as wire:
+            if name == 'early':
+                wire.sendall(GOOD_QUERY)
+            if name == 'closing':
+                wire.recv(10)
+                wire.shutdown(socket.SHUT_WR)
+                time.sleep(0.3)
+                return
+            while True:
+                request = message_of(wire)
+                if not request or FAKES[name](wire, request):
+                    return
+    except OSError:
+        pass
+
+
+def serve_each(listener, serve):
+    """Has `serve` serve each connection, in a thread of its own."""
+    def quietly(wire):
+        try:
+            serve(wire)
+        except OSError:
+            pass
+
+    while True:
+        wire, _ = listener.accept()
+        threading.Thread(target=quietly, args=(wire,), daemon=True).start()
+
+
+def listen(name, serve, host='127.0.0.1'):
+    listener = socket.create_server((host, 0), backlog=100, family=socket.AF_INET6 if ':' in host else socket.AF_INET)
+    print(name, listener.getsockname()[1], flush=True)
+    threading.Thread(target=serve, args=(listener,), daemon=True).start()
+
+
+def context_of(certs, name):
+    context = ssl.SSLContext(ssl.PROTOCOL_TLS_SERVER)
+    context.load_cert_chain('%s/%s.pem' % (certs, name), '%s/%s.key' % (certs, name))
+    context.load_verify_locations(certs + '/ca.pem')
+    context.verify_mode = ssl.CERT_OPTIONAL
+    return context
+
+
+def main():
+    if sys.argv[1:] == ['--list']:
+        for name, function in {**FAKES, **PLAIN}.items():
+            print('%-16s %s' % (name, function.__doc__))
+        print('%-16s %s' % ('/'.join(CERTIFICATES), 'is good, but for its certificate'))
+        print('%-16s %s' % ('address6', 'is good, at ::1, with the certificate `address`'))
+        return
+    if len(sys.argv) != 2 or sys.argv[1].startswith('-'):
+        sys.exit('usage: fakes.py CERTS | --list')
+    certs = sys.argv[1]
+
+    def over_tls(name, certificate):
+        context = context_of(certs, certificate)
+        return lambda listener: serve_each(listener, lambda wire: connection(name, context, wire))
+
+    for name in FAKES:
+        listen(name, over_tls(name, 'server'))
+    for name in CERTIFICATES:
+        listen(name, over_tls('good', name))
+    try:
+        listen('address6', over_tls('good', 'address'), '::1')
+    except OSError:
+        pass  # this machine has no IPv6
+    for name, serve in PLAIN.items():
+        listen(name, serve)
+    print('ready', flush=True)
+    while True:
+        time.sleep(3600)
+
+
+if __name__ == '__main__':
+    main()

@@ -1,0 +1,221 @@
+# shellcheck shell=bash
+# What the cases of the live test stand on; tools/live.sh and tools/check_clients.sh source it.
+#
+# A CASE FILE is a file of bash, each/TOPIC.sh for every client or CLIENT/TOPIC.sh for one, where CLIENT is shell, c,
+# python or rust. It is found by its place and needs no other entry. A line `# needs: server` says that it wants PyKMIP;
+# without one it is run with no server installed, against the fakes. It runs in a shell of its own, in a folder of its
+# own, beside other case files, and finds
+#
+#   $client $top $built      the client, the repository, the folder that clients/build.sh made
+#   $certs $work             the certificates of certs.sh, and an empty folder for this file
+#   $host $port $certificate $key $authority     what call_is and client_run connect with: alice, at localhost. $port is
+#                            that of PyKMIP where the file needs it
+#
+# and these calls, each of which but `fake` and `gate` is one check, passed or failed:
+#
+#   fake NAME                from here on $port is that of this server of fakes.py (fakes.py --list)
+#   gate MODE                from here on $port is that of gate.py in this mode, in front of PyKMIP
+#   call_is WHAT STATUS CALL WORD..    the program `call` of this client has this status, within $patience seconds (20)
+#   says WHAT REGEX          what call_is or the last command with `>"$said"` wrote has a line like this (grep -E)
+#   says_not WHAT REGEX      ..or has none
+#   lasts WHAT SECONDS       the last call_is took no longer than this
+#   verdict WHAT             the status of the command before is 0
+#
+# Settings go before a call, as in `KMIP_LIMIT=100 call_is 'a response over the limit' 3 query` or
+# `certificate=$certs/plain.pem key=$certs/plain.key call_is ..`.
+#
+# CLIENT/client.sh says how a client is built and run: it has the functions
+#
+#   client_needs             prints what is missing to build it, as the names of Debian packages
+#   client_build             builds it in $run/$client, from $built; where it fails, what it wrote is shown
+#   client_program NAME      sets the array `program`, which runs the client's program call, life or rotate
+
+here=$top/tools/live
+clients=(shell c python rust)
+topics=()
+python=${PYTHON:-/usr/bin/python3}
+[[ -x $python ]] || python=python3
+
+give_up() { # TEXT
+    printf '%s: %s\n' "${0##*/}" "$*" >&2
+    exit 1
+}
+
+# What stop_all ends: processes by their number.
+started=()
+stop_all() {
+    local process
+    for process in ${started[@]+"${started[@]}"}; do kill "$process" 2>/dev/null; done
+}
+
+verdict() { # WHAT
+    local status=$?
+    if ((status == 0)); then
+        printf 'ok      %s: %s\n' "$client" "$1"
+    else
+        printf 'FAILED  %s: %s\n' "$client" "$1"
+        if [[ -s $said ]]; then tail -5 "$said" | cut -c1-300 | sed 's/^/        /'; fi
+    fi
+}
+
+client_run() { # PROGRAM WORD..: a program of this client, with the server and the certificates that are set
+    local program=()
+    client_program "$1" || return
+    timeout -k 2 "${patience:-20}" "${program[@]}" "$host" "$port" "$certificate" "$key" "$authority" "${@:2}"
+}
+
+call_is() { # WHAT STATUS CALL WORD..
+    local what=$1 wanted=$2 status from=$EPOCHREALTIME
+    client_run call "${@:3}" >"$said" 2>&1 </dev/null
+    status=$?
+    elapsed=$((${EPOCHREALTIME/[^0-9]/} - ${from/[^0-9]/}))
+    if ((status != wanted)); then printf 'status %d in place of %d\n' "$status" "$wanted" >>"$said"; fi
+    # No client is to end by an error of its own.
+    ((status == wanted)) && ! grep -qE 'Traceback|panicked|core dumped|unbound variable|command not found' "$said"
+    verdict "$what"
+}
+
+says() { # WHAT REGEX
+    grep -qE -- "$2" "$said"
+    verdict "$1"
+}
+
+says_not() { # WHAT REGEX
+    ! grep -qE -- "$2" "$said"
+    verdict "$1"
+}
+
+lasts() { # WHAT SECONDS
+    ((elapsed <= $2 * 1000000)) || printf 'it took %d.%03d s\n' $((elapsed / 1000000)) $((elapsed / 1000 % 1000)) >>"$said"
+    ((elapsed <= $2 * 1000000))
+    verdict "$1"
+}
+
+fake() { # NAME
+    port=$(awk -v name="$1" '$1 == name { print $2 }' "$run/fakes")
+    [[ -n $port ]] || give_up "no fake is called $1"
+}
+
+free_port() {
+    "$python" -c 'import socket; s = socket.socket(); s.bind(("127.0.0.1", 0)); print(s.getsockname()[1])'
+}
+
+wait_for() { # REGEX FILE: a line of this file, for at most 20 seconds
+    local try
+    for ((try = 0; try < 200; try++)); do
+        if grep -q -- "$1" "$2" 2>/dev/null; then return 0; fi
+        sleep 0.1
+    done
+    return 1
+}
+
+gate() { # MODE
+    local gates=("$work"/gate.*)
+    local log=$work/gate.${#gates[@]}
+    port=$(free_port)
+    "$python" "$here/gate.py" "$1" "$port" "$server_port" "$certs" >"$log" 2>"$log.err" &
+    started+=($!)
+    disown $! # bash is not to tell how it ends
+    wait_for ready "$log" || give_up 'the gate does not listen'
+}
+
+start_fakes() {
+    "$python" "$here/fakes.py" "$certs" >"$run/fakes" 2>"$run/fakes.err" &
+    started+=($!)
+    wait_for ready "$run/fakes" || { cat "$run/fakes.err" >&2 && give_up 'the fakes do not listen'; }
+}
+
+# One case file for one client, in a shell of its own; what it wrote is in $run/NUMBER.out.
+run_case() { # NUMBER CLIENT FILE
+    (
+        client=$2 work=$run/$1 said=$run/$1/said elapsed=0
+        host=localhost port=${server_port-} certificate=$certs/client.pem key=$certs/client.key authority=$certs/ca.pem
+        mkdir -p "$work"
+        cd "$work" || exit
+        : >"$said"
+        started=()
+        trap stop_all EXIT
+        trap 'exit 130' INT TERM
+        . "$here/$client/client.sh"
+        printf -- '--      %s: %s\n' "$client" "$3"
+        . "$here/$3"
+        printf 'ended   %s\n' "$3"
+    ) >"$run/$1.out" 2>&1
+    grep -q '^ended ' "$run/$1.out" || printf 'FAILED  %s: %s broke off\n' "$2" "$3" >>"$run/$1.out"
+}
+
+# The case files of a client that want the server, or those that don't, one a line.
+cases_of() { # CLIENT server|fakes
+    local file needs
+    for file in "$here"/each/*.sh "$here/$1"/*.sh; do
+        [[ -e $file && ${file##*/} != client.sh ]] || continue
+        needs=fakes
+        if grep -q '^# needs: server' "$file"; then needs=server; fi
+        [[ $needs == "$2" ]] || continue
+        file=${file#"$here/"}
+        if ((${#topics[@]} == 0)) || [[ " ${topics[*]} " == *" $(basename "$file" .sh) "* ]]; then printf '%s\n' "$file"; fi
+    done
+}
+
+# Runs the case files of all clients, so many at once, and prints what each wrote, in order. Where `until` is set, none is
+# begun after so many seconds of the script.
+run_cases() { # server|fakes AT-ONCE
+    local who file number=0 printed=0 at_once=$2 running=() list=()
+    for who in "${clients[@]}"; do
+        while read -r file; do list+=("$who $file"); done < <(cases_of "$who" "$1")
+    done
+    while ((printed < ${#list[@]})); do
+        if ((number == ${#list[@]} || number - printed == at_once)); then
+            wait "${running[printed]}"
+            grep -v '^ended ' "$run/$1.$printed.out"
+            printed=$((printed + 1))
+            continue
+        fi
+        read -r who file <<<"${list[number]}"
+        if ((SECONDS < ${until:-SECONDS + 1})); then
+            run_case "$1.$number" "$who" "$file" &
+        else
+            printf 'skipped %s: %s: no time is left\n' "$who" "$file" >"$run/$1.$number.out" &
+        fi
+        running[number]=$!
+        number=$((number + 1))
+    done
+}
+
+# The clients that can be built here are built, and `clients` are those; the others are said.
+build_clients() {
+    local client missing able=()
+    for client in "${clients[@]}"; do
+        missing=$(. "$here/$client/client.sh" && client_needs)
+        if [[ -n $missing ]]; then
+            printf 'skipped %s: there is no %s\n' "$client" "${missing//$'\n'/, no }"
+            continue
+        fi
+        mkdir -p "$run/$client"
+        if (. "$here/$client/client.sh" && client_build) >"$run/$client/build.log" 2>&1; then
+            able+=("$client")
+        else
+            printf 'FAILED  %s: its build\n' "$client"
+            tail -20 "$run/$client/build.log" | sed 's/^/        /'
+        fi
+    done
+    clients=(${able[@]+"${able[@]}"})
+}
+
+# Runs a function whose processes end with it, and writes the last line, `N passed, M failed`, with what failed and what was
+# skipped before it. Its status is 0 where none failed.
+count() { # FUNCTION
+    local passed failed
+    (
+        started=()
+        trap stop_all EXIT
+        trap 'exit 130' INT TERM
+        "$1"
+    ) 2>&1 | tee "$run/log"
+    passed=$(grep -c '^ok ' "$run/log")
+    failed=$(grep -c '^FAILED ' "$run/log")
+    grep '^skipped ' "$run/log" | sort -u
+    grep '^FAILED ' "$run/log" | sort -u
+    printf '%d passed, %d failed\n' "$passed" "$failed"
+    ((failed == 0 && passed > 0))
+}

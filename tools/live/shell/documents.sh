@@ -1,0 +1,45 @@
+# shellcheck shell=bash
+# The manual page, the completion and the program know the same calls and options.
+mapfile -t calls < <("$built/kmip_call" --help | sed -n '/^CALL is one of/,/^$/s/^    \([a-z-]*\).*/\1/p' | sort)
+((${#calls[@]} > 10))
+verdict 'kmip_call --help names the calls'
+. "$top/clients/shell/completion.bash"
+[[ $(printf '%s\n' "${_kmip_calls[@]}" | sort) == "$(printf '%s\n' "${calls[@]}")" ]]
+verdict 'the completion has the same'
+page=$top/clients/man/kmip_call.1
+[[ $(sed -n '/^\.Ss Calls/,/^\.Sh/s/^\.It Cm \([a-z-]*\).*/\1/p' "$page" | sort) == "$(printf '%s\n' "${calls[@]}")" ]]
+verdict 'the manual page has the same'
+for option in $("$built/kmip_call" --help | grep -o '\[[a-z]*=' | tr -d '['); do
+    grep -q "^\.It Cm .*$option" "$page" && [[ " $(declare -f _kmip_call) " == *"$option"* ]]
+    verdict "$option is in both"
+done
+# What bash-completion would ask for: LINE completes to these words.
+completes() { # LINE WORD..
+    local line=$1 COMP_LINE=$1 COMP_POINT=${#1} COMP_WORDS COMP_CWORD COMPREPLY=() function
+    read -ra COMP_WORDS <<<"$line"
+    if [[ $line == *' ' ]]; then COMP_WORDS+=(''); fi
+    COMP_CWORD=$((${#COMP_WORDS[@]} - 1))
+    function=$(complete -p "${COMP_WORDS[0]}" | sed 's/.*-F \([^ ]*\).*/\1/')
+    "$function"
+    [[ $(printf '%s\n' "${COMPREPLY[@]}" | sort) == "$(printf '%s\n' "${@:2}" | sort)" ]]
+    local status=$?
+    printf '%s: %s\n' "$line" "${COMPREPLY[*]}" >"$said"
+    return $status
+}
+touch 'a record' another
+completes 'kmip_call cr' create-rsa create-aes && completes 'kmip_call user=a p' password= &&
+    completes 'kmip_call limit=1 s' sign && completes 'kmip_call record=a' 'a record' another &&
+    completes 'kmip_call user=a get x' && completes 'kmip_call --v' --version
+verdict 'completion of kmip_call'
+completes 'kmip de' destroy && completes 'kmip destroy d' && completes 'kmip_field sig' signature_data &&
+    completes 'kmip_field signature_data si' sign && completes 'kmip_open localhost:5696 ano' another && completes 'kmip_open a'
+verdict 'completion of the functions'
+if type -P mandoc >/dev/null; then
+    mandoc -T lint -W warning "$page" >"$said" 2>&1
+    verdict 'mandoc finds nothing in the manual page'
+fi
+if type -P man >/dev/null; then
+    LC_ALL=C.UTF-8 man --warnings -l "$page" 2>"$said" >"$work/page.txt"
+    [[ ! -s $said ]] && grep -q 'EXIT STATUS' "$work/page.txt"
+    verdict 'man shows the manual page with no warning'
+fi

@@ -1,0 +1,40 @@
+# shellcheck shell=bash
+# Encrypted keys, without a terminal; and no secret in the words or the environment of a process.
+fake certificate
+certificate=$certs/encrypted.pem key=$certs/encrypted.key
+script_is 'an encrypted key, by KMIP_PASSPHRASE' 0 'KMIP_PASSPHRASE="geheim & co"; open; kmip query; kmip_close'
+says 'the server knows whose it is' '"alice"'
+printf 'geheim & co\n' >"$work/a phrase"
+script_is 'an encrypted key, by KMIP_PASSPHRASE_FILE' 0 'KMIP_PASSPHRASE_FILE="$work/a phrase"; open; kmip query; kmip_close'
+says 'the server knows whose it is' '"alice"'
+script_is 'an encrypted key and a wrong passphrase' 3 'KMIP_PASSPHRASE=geheim; open; kmip query'
+says 'the reason is said' 'private key'
+script_is 'an encrypted key and an empty passphrase' 3 'KMIP_PASSPHRASE=; open; kmip query'
+script_is 'an encrypted key and none' 3 open
+says 'what is to be set is said' 'KMIP_PASSPHRASE'
+script_is 'a file with the passphrase that is not there' 3 'KMIP_PASSPHRASE_FILE=$work/none; open'
+says 'which is said' "$work/none"
+certificate=$certs/client.pem key=$certs/client.key
+script_is 'a passphrase for a key that has none' 0 'KMIP_PASSPHRASE=geheim; open; kmip query; kmip_close'
+
+# With a terminal at hand: it is not asked.
+printf '. "%s"\nkmip_open "%s" "%s" "%s" "%s"; kmip query; echo "status $?"\n' "$top/clients/shell/kmip.sh" "$host:$port" \
+    "$certs/encrypted.pem" "$certs/encrypted.key" "$authority" >"$work/ask.sh"
+timeout 20 "$python" -c 'import pty, sys; pty.spawn(["bash", sys.argv[1]])' "$work/ask.sh" >"$said" 2>&1 </dev/null
+says 'at a terminal: status 3' '^status 3'
+says_not 'at a terminal: no question' 'Enter pass'
+
+# While a call waits, the words of all processes, and the environment of openssl and kmip_call.
+fake slow
+export here_pid=$$
+script 'KMIP_USER=alice; export KMIP_PASSWORD=geheim2 KMIP_PASSPHRASE=geheim1; open; kmip sign slow 41 & sleep 1.5
+    ps -eo args | grep -v grep | grep -c "geheim[12]" | sed "s/^/words /"
+    tr "\0" "\n" <"/proc/$KMIP_PID/environ" | grep -c "geheim" | sed "s/^/openssl /"
+    for it in $(pgrep -f "kmip_call .*sign slow 41"); do tr "\0" "\n" <"/proc/$it/environ"; done | grep -c geheim1 | sed "s/^/passphrase /"
+    wait; kmip_close'
+says 'no secret in the words of a process' '^words 0$'
+says 'no secret in the environment of openssl' '^openssl 0$'
+says 'no passphrase in the environment of kmip_call' '^passphrase 0$'
+fake credential
+script_is 'a password that is not exported is sent' 0 'KMIP_USER=alice; KMIP_PASSWORD="a word"; open; kmip_field vendor_identification query; kmip_close'
+says 'as it is' '^alice:a word$'
