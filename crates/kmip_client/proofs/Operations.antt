@@ -1,6 +1,6 @@
 -- The message round a payload tree, and which messages answer a tree.
 use Rattle.std.proofs.Common.{◌≡◌, ℕ, ◌+◌, ◌<◌, ◌≤◌, ◌%◌, ◌^◌, List, [], ◌∷◌, ◌++◌, length, refl, ◌∙◌, ap, sym, subst, arith, Bool, true, false, cond, nat_lt, pos, Option, Some, None, Result, Ok, Err, codes, length-append, append-nil, lit<, inl, inr}
-use Rattle.std.specs.Prelude.{◌==◌, option_map}
+use Rattle.std.specs.Prelude.{◌==◌, option_map, IfSome}
 use Rattle.std.specs.Option.{option_and_then}
 use Rattle.std.proofs.lemmas.Bool.{cases_lt}
 use Rattle.std.proofs.lemmas.Bool.Decides.{nat_tests}
@@ -8,10 +8,12 @@ use Rattle.kmip_tags.specs.Tags.{BATCH_ITEM, OPERATION, REQUEST_HEADER, REQUEST_
 use Rattle.kmip_wire.specs.Tree.{Tree, scalar, structure, more, none, enumeration}
 use Rattle.kmip_wire.specs.Bytes.{bytes, all_bytes, structure_bytes, in_order, item_bytes}
 use Rattle.kmip_wire.specs.Reading.{item_of}
-use Rattle.kmip_shape.specs.Val.{Number}
-use Rattle.kmip_shape.specs.Shape.{OneOf, NoCase}
+use Rattle.kmip_shape.specs.Val.{Val, Number}
+use Rattle.kmip_shape.specs.Shape.{Shape, OneOf, NoCase}
 use Rattle.kmip_shape.specs.Trees.{tree_of}
-use Rattle.kmip_shape.specs.Writes.{HasForm, size_of, text_of, bytes_of, structure_head, leaf_text}
+use Rattle.kmip_shape.specs.Writes.{HasForm, size_of, text_of, wire_len_of, bytes_of, structure_head, leaf_text}
+use Rattle.kmip_shape.proofs.Known.{value_known}
+use Rattle.kmip_shape.proofs.Lengths.{wire_len_law}
 use Rattle.kmip_shape.proofs.Aligned.{trees_aligned, flat, IsAligned}
 use Rattle.kmip_shape.proofs.WrittenText.{written, head_len}
 use Rattle.kmip_enums.specs.declared.operation.Operation.{Operation}
@@ -127,6 +129,22 @@ header_is minor (Some a) = for_values minor (a.0).0 (a.0).1
 pub header_bytes : (minor : ℕ) (credential : Option Authentication) →
     bytes_of request_header REQUEST_HEADER (lent_header_val (version minor) credential) ≡ bytes (header_tree minor (authentication_trees (option_map credential_of credential)))
 header_bytes minor credential = ap (λ tree. option_and_then bytes tree) (header_is minor credential)
+
+-- what the length of the header says: that it has no bytes, or that it has a form and of which size
+no_bytes : (o : Option (List ℕ)) → None ≡ option_map length o → o ≡ None
+no_bytes None h = refl
+no_bytes (Some b) h = absurd (cc)
+
+pub no_length : (shape : Shape) (tag : ℕ) (val : Val) (len : Option ℕ) → len ≡ wire_len_of shape val → len ≡ None → bytes_of shape tag val ≡ None
+no_length shape tag val len h none = no_bytes (bytes_of shape tag val) (sym none ∙ (h ∙ wire_len_law shape tag val))
+
+pub form_of_length : (shape : Shape) (val : Val) (len : Option ℕ) → len ≡ wire_len_of shape val → IfSome len (λ _. HasForm shape val)
+form_of_length shape val None h = tt
+form_of_length shape val (Some n) h = (value_known val NoCase shape n (sym h)).0
+
+pub size_of_length : (shape : Shape) (val : Val) (len : Option ℕ) → len ≡ wire_len_of shape val → IfSome len (λ n. n ≡ size_of shape val)
+size_of_length shape val None h = tt
+size_of_length shape val (Some n) h = sym ((value_known val NoCase shape n (sym h)).1)
 
 -- ---- what a message answers
 

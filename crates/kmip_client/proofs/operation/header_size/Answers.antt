@@ -1,7 +1,7 @@
 use Rattle.kmip_tags.specs.Tags.{REQUEST_HEADER}
 use Rattle.kmip_request.specs.Tables.{request_header}
 use Rattle.kmip_request.specs.Values.{lent_header_val}
-use Rattle.kmip_request.proofs.Sized.{no_length, form_of_length, size_of_length}
+use Rattle.kmip_client.proofs.Operations.{no_length, form_of_length, size_of_length}
 use Rattle.kmip_client.proofs.operation.header_size.Goals as goal
 
 pub returns-clause-none : goal.returns-clause-none
