@@ -36,7 +36,7 @@ pub trait AnyPayload: Answered {
     /// Its value, which is the same as a payload's of each operation.
     ghost whole: { Self → Val };
 
-    /// That it is so. It does nothing.
+    /// It answers each operation, and its value is the same for each. It does nothing.
     fn whole_holds()
         ensures answers { (operation : TheOperation) → Self.Answers operation }
         ensures whole { (operation : TheOperation) → (payload : Self) →

@@ -56,12 +56,12 @@ pub trait CallRequest {
         requires { IsRead self.now }
         ensures { Gives (kind.reads (request self.now) m.now) (seen_by (seen self.now) result) };
 
-    /// No message answers that the link failed.
-    ghost never_fails: { (r : Request) (m : List ℕ) → kind.reads r m ≡ reading_failed → ⊥ };
-
-    /// A message is valid exactly where it answers a payload.
-    ghost valid: { (r : Request) (limit : Option ℕ) →
-        IsReadBy (kind.reads r) limit (kind.IsValid r limit) };
+    /// No message answers that the link failed, and a message is valid exactly where it answers a
+    /// payload. It does nothing.
+    fn readings_hold()
+        ensures never_fails { (r : Request) (m : List ℕ) → kind.reads r m ≡ reading_failed → ⊥ }
+        ensures valid { (r : Request) (limit : Option ℕ) →
+            IsReadBy (kind.reads r) limit (kind.IsValid r limit) };
 }
 
 /// A request of KMIP's tables, whose response is read as this payload.
@@ -99,10 +99,10 @@ impl<'a, P: Answered> CallRequest for TypedRequest<'a, P> {
         decode_response(alloc, self.payload.operation(), m)
     }
 
-    ghost use Rattle.kmip_client.proofs.Exchanges.{typed_not_reading};
-    ghost use Rattle.kmip_client.proofs.Headlines.{typed_valid};
-
-    ghost never_fails = { λ r m. typed_not_reading (operation_of r) m };
-
-    ghost valid = { λ r limit. typed_valid (operation_of r) limit };
+    fn readings_hold()
+        ensures never_fails { (r : ThePayload) (m : List ℕ) →
+            typed_calls.reads r m ≡ reading_failed → ⊥ }
+        ensures valid { (r : ThePayload) (limit : Option ℕ) →
+            IsReadBy (typed_calls.reads r) limit (typed_calls.IsValid r limit) }
+    {}
 }

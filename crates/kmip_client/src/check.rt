@@ -50,7 +50,7 @@ fn is_not_found(reason: Option<ResultReason>) -> bool
     }
 }
 
-/// That there is not one batch item, but this many.
+/// The error where there is not one batch item, but this many.
 fn not_single(alloc: Global, count: usize) -> Result<ResponsePayload, Error>
     ensures { Gives (Err (ServerError (count_text count))) (answer_with_payload result) }
 {
@@ -58,7 +58,7 @@ fn not_single(alloc: Global, count: usize) -> Result<ResponsePayload, Error>
     Err(Error::ServerError(Text::of_string(text)))
 }
 
-/// What the server says of a failure.
+/// The error of a failure, with the server's message.
 fn failure(
     alloc: Global,
     operation: Operation,
@@ -81,7 +81,7 @@ fn failure(
     }
 }
 
-/// That the response is one to another operation, or to none.
+/// The error where the response is one to another operation, or to none.
 fn mismatch(
     alloc: Global,
     answered: Option<Operation>,

@@ -265,6 +265,7 @@ impl<T: Link> Client<T> {
         ensures { IsCallOf R.kind T.state (R.request request.now) self.old self.new
             (seen_by (R.seen request.now) result) }
     {
+        R::readings_hold();
         self.diagnostics = Diagnostics {
             request: None,
             response: None,

@@ -136,5 +136,6 @@ pub fn exchange<L: Link, R: CallRequest>(
         Err(error) => return Err(error),
     }
     let read = read_message(link, config, taken);
+    R::readings_hold();
     answer(alloc, request, taken, read)
 }

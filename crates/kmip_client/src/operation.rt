@@ -1,6 +1,6 @@
 //! A request of any operation, whose payload is a tree.
 ghost use Rattle.std.specs.Prelude.{◌≡◌, ◌≢◌, ◌+◌, ◌%◌, ◌<◌, ◌≤◌, ◌^◌, ◌++◌, length, pos, None, Some};
-ghost use Rattle.std.specs.Prelude.{OnOk, IfErr, IfSome, IsErrOf, MatchOption};
+ghost use Rattle.std.specs.Prelude.{OnOk, IfErr, IfSome, IsErrOf, MatchOption, ℕ, List, Option};
 ghost use Rattle.std.specs.Option.{option_map};
 ghost use Rattle.kmip_wire.specs.Tree.{Tree as TheTree, enumeration};
 ghost use Rattle.kmip_wire.specs.Room.{Appends};
@@ -9,6 +9,8 @@ ghost use Rattle.kmip_shape.specs.Writes.{structure_head, leaf_text};
 ghost use Rattle.kmip_enums.specs.Operations.{operation_line};
 ghost use Rattle.kmip_request.specs.Tables.{request_header};
 ghost use Rattle.kmip_request.specs.Values.{lent_header_val};
+ghost use Rattle.kmip_client.specs.Headline.{IsReadBy};
+ghost use Rattle.kmip_client.specs.Outcome.{reading_failed};
 ghost use Rattle.kmip_client.specs.Operation.{Asking, operation_calls, minor_number};
 ghost use Rattle.kmip_client.specs.Operation.{is_request_payload, message_bytes};
 
@@ -229,9 +231,10 @@ impl<'a> CallRequest for OperationRequest<'a> {
         untyped_answer(alloc, self.operation, m)
     }
 
-    ghost use Rattle.kmip_client.proofs.Operations.{never_fails, tree_valid};
-
-    ghost never_fails = { λ r m. never_fails r.operation m };
-
-    ghost valid = { λ r limit. tree_valid r.operation limit };
+    fn readings_hold()
+        ensures never_fails { (r : Asking) (m : List ℕ) →
+            operation_calls.reads r m ≡ reading_failed → ⊥ }
+        ensures valid { (r : Asking) (limit : Option ℕ) →
+            IsReadBy (operation_calls.reads r) limit (operation_calls.IsValid r limit) }
+    {}
 }

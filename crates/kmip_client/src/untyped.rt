@@ -139,14 +139,14 @@ fn take_child(tree: Tree, index: usize) -> Option<Tree>
     }
 }
 
-/// That a message is no response message.
+/// The error where a message is no response message.
 fn not_response(alloc: Global) -> Result<Tree, Error>
     ensures { Gives (Err not_response) result }
 {
     Err(Error::InternalError(Text::of(alloc, "not a response message")?))
 }
 
-/// That there are so many batch items, or that the header does not count one.
+/// The error where there are this many batch items, or the header does not count one.
 fn not_single(alloc: Global, count: usize) -> Result<Tree, Error>
     ensures { Gives (Err (InternalError (count_text count))) result }
 {

@@ -25,5 +25,5 @@ returns-in-Err-clause-reading g c = λ tells is. absurd (send_not_reading c.in-E
 pub returns-clause-reading : goal.returns-clause-reading
 returns-clause-reading g c = λ tells is.
     fails_reading g.L.Link.state c.args.link.now c.send.new.link c.read_message-read.new.link c.args.bytes.now (g.R.CallRequest.kind.reads (g.R.CallRequest.request c.args.request.now)) c.args.config.now.max_bytes c.read_message-read.new.taken.items c.read_message-read.result _
-    (g.met.R.CallRequest.never_fails (g.R.CallRequest.request c.args.request.now)) c.send.ensures.keeps (c.in-Ok.ensures.ok tells) c.read_message-read.ensures.keeps (c.read_message-read.ensures.reads (rw c.send.ensures.keeps.tells tells))
+    (c.readings_hold.ensures.never_fails (g.R.CallRequest.request c.args.request.now)) c.send.ensures.keeps (c.in-Ok.ensures.ok tells) c.read_message-read.ensures.keeps (c.read_message-read.ensures.reads (rw c.send.ensures.keeps.tells tells))
     c.read_message-read.ensures.fault (rw c.deref.ensures.value at c.answer.ensures) is
