@@ -33,7 +33,9 @@ static bool read_number(const char *name, double most, double *into) {
 static int make(kmip_client *client, const char *call, const char *const *words) {
     int status = kmip_call_words(client, call, words);
     if (status != KMIP_ANSWERED) {
-        fprintf(stderr, "%s\n", *kmip_line(client) ? kmip_line(client) : "out of memory");
+        static const char no_memory[] = "{\"error\":\"OutOfMemory\",\"text\":\"out of memory\"}";
+        const char *line = kmip_line(client);
+        fprintf(stderr, "%s\n", *line ? line : no_memory);
         return status;
     }
     bool pem = getenv("KMIP_PEM") != NULL;

@@ -102,7 +102,9 @@ static void live(const char *folder, long count) {
 
 int main(int argc, char **argv) {
     if (argc < 7) {
-        fputs("usage: life HOST PORT CERTIFICATE KEY AUTHORITY FOLDER [COUNT]\n", stderr);
+        fputs("{\"error\":\"GrammarError\",\"text\":\"usage: life HOST PORT CERTIFICATE KEY "
+              "AUTHORITY FOLDER [COUNT]\"}\n",
+              stderr);
         return 2;
     }
     kmip_settings settings = kmip_defaults();

@@ -393,6 +393,7 @@ kmip_wire *kmip_wire_open(const kmip_settings *settings, char *reason, size_t ro
     wire->seconds = settings->seconds;
     bool open = open_wire(wire, settings);
     ERR_clear_error();
+    wire->broken = !open; /* whatever became of other addresses */
     if (open) return wire;
     snprintf(reason, room, "%s", wire->reason);
     kmip_wire_close(wire);

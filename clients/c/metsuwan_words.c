@@ -58,7 +58,8 @@ int kmip_word(const char *text, char *into, size_t room) {
     static const char digits[] = "0123456789ABCDEF";
     /* The empty text is written "-", and the text "-" with an escape. */
     bool escape = strcmp(text, "-") == 0;
-    if (!*text) return snprintf(into, room, "-") < (int)room ? 0 : -1;
+    if (!*text && room < 2) return -1;
+    if (!*text) *into++ = '-';
     for (; *text; text++) {
         unsigned char byte = (unsigned char)*text;
         bool plain = !escape && strchr(safe, byte);

@@ -9,9 +9,9 @@
 static kmip_client *client;
 
 /* Ends the program where a call was not answered: the steps after it are not to be done. */
-static void need(int status, const char *step) {
+static void need(int status) {
     if (status == KMIP_ANSWERED) return;
-    fprintf(stderr, "%s: %s\n", step, kmip_line(client));
+    fprintf(stderr, "%s\n", kmip_line(client));
     kmip_close(client);
     exit(status);
 }
@@ -30,15 +30,20 @@ static void rotate(const char *old, const char *name) {
     name_of(new_name, name, ", new");
     name_of(public_name, name, ", public");
     name_of(old_name, name, ", old");
-    need(kmip_call(client, "create-rsa", "2048", new_name, public_name, NULL), "create-rsa");
+    need(kmip_call(client, "create-rsa", "2048", new_name, public_name, NULL));
     const char *made = kmip_text(client, "private_key", NULL);
-    name_of(new, made ? made : "", "");
-    need(kmip_call(client, "activate", new, NULL), "activate");
-    need(kmip_call(client, "sign", new, "68656C6C6F", NULL), "sign");
-    need(kmip_call(client, "rename", old, old_name, NULL), "rename the old key");
-    need(kmip_call(client, "rename", new, name, NULL), "rename the new key");
-    need(kmip_call(client, "revoke", old, NULL), "revoke");
-    need(kmip_call(client, "destroy", old, NULL), "destroy");
+    if (!made) {
+        fputs("{\"error\":\"MissingValue\",\"text\":\"the answer has no private_key\"}\n", stderr);
+        kmip_close(client);
+        exit(1);
+    }
+    name_of(new, made, "");
+    need(kmip_call(client, "activate", new, NULL));
+    need(kmip_call(client, "sign", new, "68656C6C6F", NULL));
+    need(kmip_call(client, "rename", old, old_name, NULL));
+    need(kmip_call(client, "rename", new, name, NULL));
+    need(kmip_call(client, "revoke", old, NULL));
+    need(kmip_call(client, "destroy", old, NULL));
     puts(new);
 }
 

@@ -65,6 +65,7 @@ def main() -> int:
     except OSError as error:  # there is no library
         return fail(ConnectError(str(error)))
     except MemoryError:
+        print('{"error":"OutOfMemory","text":"out of memory"}', file=sys.stderr)
         return 5
     try:
         sys.stdout.write(answer)

@@ -7,12 +7,13 @@ It leaves the public key (PKCS#1) in FOLDER as public.der and public.pem, and th
 ``hello`` as signature. With a COUNT it also makes ten times so many queries and so many signatures,
 and says how long each took.
 """
+import json
 import pathlib
 import sys
 import time
 from typing import Callable
 
-from metsuwan import Client, ItemNotFound, Refused, ServerError
+from metsuwan import Client, GrammarError, ItemNotFound, Refused, ServerError
 
 
 def timed(what: str, count: int, step: Callable[[], object]) -> None:
@@ -58,8 +59,8 @@ def live(kmip: Client, folder: pathlib.Path, count: int) -> None:
 
 def main() -> int:
     if len(sys.argv) < 7:
-        print('usage: life.py HOST PORT CERTIFICATE KEY AUTHORITY FOLDER [COUNT]',
-              file=sys.stderr)
+        usage = GrammarError('usage: life.py HOST PORT CERTIFICATE KEY AUTHORITY FOLDER [COUNT]')
+        print(json.dumps(usage.line()), file=sys.stderr)
         return 2
     host, port, cert, key, ca, folder = sys.argv[1:7]
     count = int(sys.argv[7]) if len(sys.argv) > 7 else 0

@@ -7,7 +7,7 @@ private key, which is then revoked and destroyed. It writes the new private key'
 import json
 import sys
 
-from metsuwan import Client, ConnectionLost, KmipError
+from metsuwan import Client, ConnectionLost, GrammarError, KmipError
 
 
 def rotate(kmip: Client, old: str, name: str) -> str:
@@ -22,18 +22,23 @@ def rotate(kmip: Client, old: str, name: str) -> str:
     return new
 
 
+def fail(error: KmipError) -> int:
+    print(json.dumps(error.line()), file=sys.stderr)
+    if isinstance(error, GrammarError):
+        return 2
+    return 3 if isinstance(error, ConnectionLost) else 1
+
+
 def main() -> int:
     if len(sys.argv) != 8:
-        print('usage: rotate.py HOST PORT CERTIFICATE KEY AUTHORITY OLD-PRIVATE-KEY NAME',
-              file=sys.stderr)
-        return 2
+        return fail(GrammarError('usage: rotate.py HOST PORT CERTIFICATE KEY AUTHORITY '
+                                 'OLD-PRIVATE-KEY NAME'))
     host, port, cert, key, ca, old, name = sys.argv[1:]
     try:
         with Client(host, port, cert=cert, key=key, ca=ca) as kmip:
             print(rotate(kmip, old, name))
     except KmipError as error:
-        print(json.dumps(error.line()), file=sys.stderr)
-        return 3 if isinstance(error, ConnectionLost) else 1
+        return fail(error)
     return 0
 
 

@@ -177,14 +177,14 @@ def certificate(wire, request):
     wire.sendall(response(QUERY, [text(0x42009D, owner.get('commonName', 'nobody'))]))
 
 
-# The objects that `objects` has, by KMIP's numbers: the tag of the object, and of a key's format or a certificate's type.
-OBJECT_TYPES = {'Certificate': (1, 0x420013), 'SymmetricKey': (2, 0x42008F), 'PublicKey': (3, 0x42006D),
-                'PrivateKey': (4, 0x420064)}
+# KMIP's numbers of what `objects` has: of types of objects, with the tags of these, and of formats.
+OBJECT_TYPES = {'Certificate': (1, 0x420013), 'SymmetricKey': (2, 0x42008F),
+                'PublicKey': (3, 0x42006D), 'PrivateKey': (4, 0x420064)}
 FORMATS = {'Raw': 1, 'PKCS1': 3, 'PKCS8': 4, 'X509': 5, 'ECPrivateKey': 6}
 
 
 def object_of(kind, form, value):
-    """An object of this type and format; `value` is what stands as its key value, or a certificate's bytes."""
+    """An object of this type and format; `value` is its key value as an item, or a certificate."""
     number, tag = OBJECT_TYPES[kind]
     if kind == 'Certificate':
         body = [enumeration(0x42001D, 1), octets(0x42001E, value)]
@@ -195,7 +195,7 @@ def object_of(kind, form, value):
 
 @fake
 def objects(wire, request):
-    """answers get with the object of a file of certs.sh, as `PublicKey.X509`; `wrapped` is a key that is wrapped"""
+    """answers get with an object of certs.sh, as `PublicKey.X509`, or with a key that is `wrapped`"""
     asked = (value_of(request, '420094', 7) or b'').decode()
     if asked == 'wrapped':
         kind, form, value = 'PrivateKey', 'PKCS8', octets(0x420045, b'wrapped')
@@ -207,6 +207,15 @@ def objects(wire, request):
             value = structure(0x420045, octets(0x420043, value))
     number, body = object_of(kind, form, value)
     wire.sendall(response(GET, [number, identifier(asked), body]))
+
+
+LAST_END = ['none']     # how the last connection of `ends` ended
+
+
+@fake
+def ends(wire, request):
+    """answers query; the vendor is how the connection before it ended: `in order`, or `torn`"""
+    wire.sendall(response(QUERY, [text(0x42009D, LAST_END[0])]))
 
 
 @fake
@@ -471,7 +480,7 @@ def early(wire, request):
 
 def connection(name, context, wire):
     try:
-        with context.wrap_socket(wire, server_side=True) as wire:
+        with context.wrap_socket(wire, server_side=True, suppress_ragged_eofs=False) as wire:
             if name == 'early':
                 wire.sendall(GOOD_QUERY)
             if name == 'closing':
@@ -481,10 +490,13 @@ def connection(name, context, wire):
                 return
             while True:
                 request = message_of(wire)
+                if not request and name == 'ends':
+                    LAST_END[0] = 'in order'
                 if not request or FAKES[name](wire, request):
                     return
     except OSError:
-        pass
+        if name == 'ends':
+            LAST_END[0] = 'torn'
 
 
 def serve_each(listener, serve):
@@ -501,7 +513,8 @@ def serve_each(listener, serve):
 
 
 def listen(name, serve, host='127.0.0.1'):
-    listener = socket.create_server((host, 0), backlog=100, family=socket.AF_INET6 if ':' in host else socket.AF_INET)
+    family = socket.AF_INET6 if ':' in host else socket.AF_INET
+    listener = socket.create_server((host, 0), backlog=100, family=family)
     print(name, listener.getsockname()[1], flush=True)
     threading.Thread(target=serve, args=(listener,), daemon=True).start()
 
@@ -511,6 +524,8 @@ def context_of(certs, name):
     context.load_cert_chain('%s/%s.pem' % (certs, name), '%s/%s.key' % (certs, name))
     context.load_verify_locations(certs + '/ca.pem')
     context.verify_mode = ssl.CERT_OPTIONAL
+    # So that it is known whether a connection was ended in order.
+    context.options &= ~getattr(ssl, 'OP_IGNORE_UNEXPECTED_EOF', 0)
     return context
 
 

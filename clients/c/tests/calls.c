@@ -57,9 +57,8 @@ static void out_of_step(kmip_client *client) {
 static void another_object(kmip_client *client) {
     check(kmip_call(client, "sign", "mine", "00", NULL) == KMIP_LOST,
           "an answer about another object loses the connection");
-    check_text(kmip_line(client),
-               "{\"error\":\"InternalError\",\"text\":\"answer for another object\"}",
-               "and says why");
+    static const char why[] = "{\"error\":\"InternalError\",\"text\":\"answer for another object\"";
+    check(strncmp(kmip_line(client), why, sizeof why - 1) == 0, "and says why");
     check(kmip_bytes(client, "signature_data", NULL) == NULL, "it has no value");
     check(kmip_call(client, "query", NULL) == KMIP_LOST, "no later call is made");
     check_text(kmip_line(client),
@@ -133,12 +132,24 @@ static void refused(kmip_client *client) {
     check(kmip_call(client, "query", NULL) == KMIP_ANSWERED, "the connection is good");
 }
 
+/* A connection that is good is ended in order: the next client is told how. */
+static void in_order(kmip_client *client, const kmip_settings *settings) {
+    check(kmip_call(client, "query", NULL) == KMIP_ANSWERED, "a call");
+    kmip_close(client);
+    nanosleep(&(struct timespec){.tv_nsec = 300000000}, NULL);
+    client = opened(settings);
+    check(kmip_call(client, "query", NULL) == KMIP_ANSWERED, "a call on another connection");
+    check_text(kmip_text(client, "vendor_identification", NULL), "in order",
+               "kmip_close has told the server");
+    kmip_close(client);
+}
+
 /* kmip_close waits for nobody. */
 static void close_waits(kmip_client *client) {
     check(kmip_call(client, "query", NULL) == KMIP_ANSWERED, "a call");
     double from = seconds_now();
     kmip_close(client);
-    check(seconds_now() - from < 1, "kmip_close does not wait for a server that says nothing");
+    check(seconds_now() - from < 2, "kmip_close does not wait for a server that says nothing");
 }
 
 int main(int argc, char **argv) {
@@ -147,6 +158,7 @@ int main(int argc, char **argv) {
     kmip_settings settings = settings_of(argv + 1);
     kmip_client *client = opened(&settings);
     if (strcmp(mode, "close") == 0) return close_waits(client), 0;
+    if (strcmp(mode, "in_order") == 0) return in_order(client, &settings), 0;
     if (strcmp(mode, "restart") == 0) signals(client, SA_RESTART);
     if (strcmp(mode, "interrupt") == 0) signals(client, 0);
     if (strcmp(mode, "sigpipe") == 0) sigpipe(client);

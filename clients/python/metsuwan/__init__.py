@@ -13,7 +13,6 @@ from .errors import (ConnectError, ConnectionLost, DeserializeError, GrammarErro
                      ResponseReadError, SerializeError, ServerError)
 from .objects import KeyPair, ManagedObject, Signed
 
-__version__ = '1.0'
 __all__ = [
     'Client', 'ConnectError', 'ConnectionLost', 'DeserializeError', 'GrammarError', 'InternalError',
     'ItemNotFound', 'KeyPair', 'KmipError', 'ManagedObject', 'MissingValue', 'OtherObject',

@@ -9,10 +9,10 @@ LOST = 3
 class KmipError(Exception):
     """A call that was not answered.
 
-    ``kind`` is the name of the error, ``text`` what is said of it. Where a response came that says
-    no more by its kind, ``reason`` is the number of its Result Reason, ``message`` its Result
-    Message, and ``response`` the tags and types that it has, with no value; otherwise they are
-    None.
+    ``kind`` is the name of the error, ``text`` what is said of it. Where a response came that is
+    no answer, ``response`` is its skeleton, the tags, types and numbers of enumerations that it
+    has; and where it reports a failure, ``reason`` is the number of the server's Result Reason, and
+    ``message`` its Result Message. Otherwise they are None.
     """
 
     kind = 'Unknown'
@@ -22,7 +22,7 @@ class KmipError(Exception):
         self.text = text
         self.reason: Optional[int] = None
         self.message: Optional[str] = None
-        self.response: Any = None
+        self.response: Optional[str] = None
 
     def line(self) -> Dict[str, Any]:
         """The error as a line of JSON has it: ``error``, ``text`` and what else is known."""

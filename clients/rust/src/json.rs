@@ -1,69 +1,423 @@
-//! What the library's line says, in as much of JSON as that line needs.
-use crate::error::Error;
+//! JSON (RFC 8259), as answers have it.
+use std::fmt::{self, Debug, Display, Formatter, Write};
 
-/// The answer in a line `{"answer":..}`.
-pub fn answer_in(line: &str) -> String {
-    let line = line.trim_end_matches('\n');
-    let answer = line.strip_prefix("{\"answer\":").and_then(|rest| rest.strip_suffix('}'));
-    answer.unwrap_or(line).to_string()
+/// The most levels of lists and objects within each other. Messages have at most 64 levels.
+const LEVELS: usize = 512;
+
+/// A value of JSON. `Display` writes it as JSON. `Debug` shows the names of its members and no
+/// value, since that may be of a key.
+#[derive(Clone, PartialEq, Eq)]
+pub enum Json {
+    /// `null`
+    Null,
+    /// `true` or `false`
+    Bool(bool),
+    /// A number, as it is written: some have more digits than a float keeps.
+    Number(String),
+    /// A string. Bytes are strings of upper-case hex digits.
+    Text(String),
+    /// A list
+    List(Vec<Json>),
+    /// An object: its members in order, no two of the same name
+    Object(Vec<(String, Json)>),
 }
 
-/// The error in a line `{"error":"KIND","text":"TEXT"}`.
-pub fn error_in(line: &str) -> Error {
-    parts(line).map_or_else(|| Error::Unknown(line.to_string()), |(kind, text)| Error::of(kind, text))
-}
+impl Json {
+    /// The value that a text is, with nothing but spaces around it.
+    pub fn parse(text: &str) -> Option<Json> {
+        let mut reader = Reader { text, at: 0 };
+        let value = reader.value(LEVELS)?;
+        reader.skip_spaces();
+        (reader.at == text.len()).then_some(value)
+    }
 
-fn parts(line: &str) -> Option<(&str, String)> {
-    let rest = line.trim_end_matches('\n').strip_prefix("{\"error\":\"")?;
-    let (kind, rest) = rest.split_once("\",\"text\":\"")?;
-    Some((kind, unescaped(rest.strip_suffix("\"}")?)?))
-}
-
-/// The characters of a JSON string.
-fn unescaped(text: &str) -> Option<String> {
-    let mut made = String::new();
-    let mut left = text.chars();
-    while let Some(it) = left.next() {
-        if it != '\\' {
-            made.push(it);
-            continue;
-        }
-        match left.next()? {
-            'n' => made.push('\n'),
-            'r' => made.push('\r'),
-            't' => made.push('\t'),
-            'b' => made.push('\u{8}'),
-            'f' => made.push('\u{c}'),
-            'u' => {
-                let (digits, _) = left.as_str().split_at_checked(4)?;
-                made.push(char::from_u32(u32::from_str_radix(digits, 16).ok()?)?);
-                left.nth(3);
+    /// The member of an object with this name.
+    pub fn member(&self, name: &str) -> Option<&Json> {
+        match self {
+            Json::Object(members) => {
+                members.iter().find(|(it, _)| it == name).map(|(_, value)| value)
             }
-            other => made.push(other),
+            _ => None,
         }
     }
-    Some(made)
+
+    /// The value at a path of names, with a dot between two; an item of a list is named by its
+    /// index, counted from 0.
+    pub fn at(&self, path: &str) -> Option<&Json> {
+        path.split('.').try_fold(self, |found, name| match found {
+            Json::List(items) if name.bytes().all(|byte| byte.is_ascii_digit()) => {
+                items.get(name.parse::<usize>().ok()?)
+            }
+            _ => found.member(name),
+        })
+    }
+
+    /// The text that it is.
+    pub fn as_text(&self) -> Option<&str> {
+        match self {
+            Json::Text(text) => Some(text),
+            _ => None,
+        }
+    }
+
+    /// The whole number of 64 bits that it is.
+    pub fn as_number(&self) -> Option<i64> {
+        match self {
+            Json::Number(number) => number.parse().ok(),
+            _ => None,
+        }
+    }
+
+    /// The list that it is.
+    pub fn as_list(&self) -> Option<&[Json]> {
+        match self {
+            Json::List(items) => Some(items),
+            _ => None,
+        }
+    }
+
+    /// The bytes that stand there in hex.
+    pub fn as_bytes(&self) -> Option<Vec<u8>> {
+        let digits = self.as_text()?.as_bytes();
+        let digit = |it: u8| char::from(it).to_digit(16).and_then(|it| u8::try_from(it).ok());
+        (digits.len() % 2 == 0).then(|| {
+            digits.chunks(2).map(|it| Some(digit(it[0])? << 4 | digit(it[1])?)).collect()
+        })?
+    }
+}
+
+impl Debug for Json {
+    fn fmt(&self, f: &mut Formatter<'_>) -> fmt::Result {
+        match self {
+            Json::Null => f.write_str("null"),
+            Json::Bool(_) => f.write_str("bool"),
+            Json::Number(_) => f.write_str("number"),
+            Json::Text(_) => f.write_str("text"),
+            Json::List(items) => f.debug_list().entries(items).finish(),
+            Json::Object(members) => {
+                f.debug_map().entries(members.iter().map(|(name, value)| (name, value))).finish()
+            }
+        }
+    }
+}
+
+impl Display for Json {
+    fn fmt(&self, f: &mut Formatter<'_>) -> fmt::Result {
+        match self {
+            Json::Null => f.write_str("null"),
+            Json::Bool(value) => write!(f, "{value}"),
+            Json::Number(number) => f.write_str(number),
+            Json::Text(text) => write_text(f, text),
+            Json::List(items) => {
+                f.write_char('[')?;
+                for (at, item) in items.iter().enumerate() {
+                    write!(f, "{}{item}", if at == 0 { "" } else { "," })?;
+                }
+                f.write_char(']')
+            }
+            Json::Object(members) => {
+                f.write_char('{')?;
+                for (at, (name, value)) in members.iter().enumerate() {
+                    f.write_str(if at == 0 { "" } else { "," })?;
+                    write_text(f, name)?;
+                    write!(f, ":{value}")?;
+                }
+                f.write_char('}')
+            }
+        }
+    }
+}
+
+fn write_text(f: &mut Formatter<'_>, text: &str) -> fmt::Result {
+    f.write_char('"')?;
+    for it in text.chars() {
+        match it {
+            '"' | '\\' => write!(f, "\\{it}")?,
+            '\0'..='\x1F' | '\x7F' => write!(f, "\\u{:04X}", u32::from(it))?,
+            _ => f.write_char(it)?,
+        }
+    }
+    f.write_char('"')
+}
+
+struct Reader<'a> {
+    text: &'a str,
+    at: usize,
+}
+
+impl<'a> Reader<'a> {
+    fn peek(&self) -> Option<u8> {
+        self.text.as_bytes().get(self.at).copied()
+    }
+
+    fn skip_spaces(&mut self) {
+        while matches!(self.peek(), Some(b' ' | b'\n' | b'\r' | b'\t')) {
+            self.at += 1;
+        }
+    }
+
+    /// Goes past a sign, which has to be next.
+    fn sign(&mut self, sign: u8) -> Option<()> {
+        (self.peek()? == sign).then(|| self.at += 1)
+    }
+
+    /// What is next, after spaces, if it is this sign.
+    fn is_next(&mut self, sign: u8) -> bool {
+        self.skip_spaces();
+        self.sign(sign).is_some()
+    }
+
+    fn value(&mut self, levels: usize) -> Option<Json> {
+        self.skip_spaces();
+        match self.peek()? {
+            b'{' => self.object(levels.checked_sub(1)?),
+            b'[' => self.list(levels.checked_sub(1)?),
+            b'"' => self.string().map(Json::Text),
+            b'n' => self.word("null", Json::Null),
+            b't' => self.word("true", Json::Bool(true)),
+            b'f' => self.word("false", Json::Bool(false)),
+            _ => self.number(),
+        }
+    }
+
+    fn word(&mut self, word: &str, value: Json) -> Option<Json> {
+        self.text[self.at..].starts_with(word).then(|| {
+            self.at += word.len();
+            value
+        })
+    }
+
+    fn digits(&mut self) -> Option<()> {
+        let from = self.at;
+        while self.peek().is_some_and(|byte| byte.is_ascii_digit()) {
+            self.at += 1;
+        }
+        (self.at > from).then_some(())
+    }
+
+    fn number(&mut self) -> Option<Json> {
+        let from = self.at;
+        let _minus = self.sign(b'-');
+        if self.sign(b'0').is_none() {
+            self.digits()?;
+        }
+        if self.sign(b'.').is_some() {
+            self.digits()?;
+        }
+        if matches!(self.peek(), Some(b'e' | b'E')) {
+            self.at += 1;
+            if matches!(self.peek(), Some(b'+' | b'-')) {
+                self.at += 1;
+            }
+            self.digits()?;
+        }
+        Some(Json::Number(self.text[from..self.at].to_string()))
+    }
+
+    fn list(&mut self, levels: usize) -> Option<Json> {
+        self.sign(b'[')?;
+        let mut items = Vec::new();
+        if self.is_next(b']') {
+            return Some(Json::List(items));
+        }
+        loop {
+            items.push(self.value(levels)?);
+            if self.is_next(b']') {
+                return Some(Json::List(items));
+            }
+            self.sign(b',')?;
+        }
+    }
+
+    fn object(&mut self, levels: usize) -> Option<Json> {
+        self.sign(b'{')?;
+        let mut members: Vec<(String, Json)> = Vec::new();
+        if self.is_next(b'}') {
+            return Some(Json::Object(members));
+        }
+        loop {
+            self.skip_spaces();
+            let name = self.string()?;
+            if members.iter().any(|(it, _)| *it == name) || !self.is_next(b':') {
+                return None;
+            }
+            members.push((name, self.value(levels)?));
+            if self.is_next(b'}') {
+                return Some(Json::Object(members));
+            }
+            self.sign(b',')?;
+        }
+    }
+
+    fn string(&mut self) -> Option<String> {
+        self.sign(b'"')?;
+        let mut made = String::new();
+        loop {
+            let from = self.at;
+            while !matches!(self.peek()?, b'"' | b'\\' | 0..=0x1F) {
+                self.at += 1;
+            }
+            made.push_str(&self.text[from..self.at]);
+            if self.sign(b'"').is_some() {
+                return Some(made);
+            }
+            self.sign(b'\\')?;
+            made.push(self.escaped()?);
+        }
+    }
+
+    /// The character that is escaped by what follows a backslash.
+    fn escaped(&mut self) -> Option<char> {
+        let sign = self.peek()?;
+        self.at += 1;
+        Some(match sign {
+            b'"' | b'\\' | b'/' => char::from(sign),
+            b'b' => '\u{8}',
+            b'f' => '\u{C}',
+            b'n' => '\n',
+            b'r' => '\r',
+            b't' => '\t',
+            b'u' => {
+                let first = self.four_digits()?;
+                if !(0xD800..0xDC00).contains(&first) {
+                    return char::from_u32(first);
+                }
+                self.sign(b'\\')?;
+                self.sign(b'u')?;
+                let second = self.four_digits()?.checked_sub(0xDC00).filter(|it| *it < 0x400)?;
+                return char::from_u32(0x10000 + ((first - 0xD800) << 10) + second);
+            }
+            _ => return None,
+        })
+    }
+
+    fn four_digits(&mut self) -> Option<u32> {
+        let digits = self.text.get(self.at..self.at + 4)?;
+        self.at += 4;
+        digits.chars().try_fold(0, |number, digit| Some(number << 4 | digit.to_digit(16)?))
+    }
 }
 
 #[cfg(test)]
 mod tests {
     use super::*;
 
+    fn text(text: &str) -> Option<Json> {
+        Some(Json::Text(text.into()))
+    }
+
     #[test]
-    fn an_error_has_its_kind_and_its_text() {
-        let line = "{\"error\":\"ItemNotFound\",\"text\":\"no \\\"k\\\" \\u001F\"}\n";
-        assert_eq!(error_in(line), Error::ItemNotFound("no \"k\" \u{1f}".into()));
-        assert_eq!(error_in("{\"error\":\"New\",\"text\":\"x\"}"), Error::Unknown("x".into()));
-        assert_eq!(error_in("rubbish"), Error::Unknown("rubbish".into()));
+    fn values_of_each_kind() {
+        assert_eq!(Json::parse(" null\n"), Some(Json::Null));
+        assert_eq!(Json::parse("true"), Some(Json::Bool(true)));
+        assert_eq!(Json::parse("false"), Some(Json::Bool(false)));
+        for number in ["0", "-0", "10", "-7", "1.50", "1e9", "2E-3", "18446744073709551616"] {
+            assert_eq!(Json::parse(number), Some(Json::Number(number.into())));
+        }
+        assert_eq!(Json::parse("[]"), Some(Json::List(vec![])));
         assert_eq!(
-            error_in("{\"error\":\"ServerError\",\"text\":\"\\u12\"}"),
-            Error::Unknown("{\"error\":\"ServerError\",\"text\":\"\\u12\"}".into())
+            Json::parse("[null , true]"),
+            Some(Json::List(vec![Json::Null, Json::Bool(true)]))
+        );
+        assert_eq!(Json::parse("{ }"), Some(Json::Object(vec![])));
+        assert_eq!(
+            Json::parse("{\"a\": 1,\"b\":{}}"),
+            Some(Json::Object(vec![
+                ("a".into(), Json::Number("1".into())),
+                ("b".into(), Json::Object(vec![]))
+            ]))
         );
     }
 
     #[test]
-    fn an_answer_is_what_stands_in_its_line() {
-        assert_eq!(answer_in("{\"answer\":{\"a\":1}}\n"), "{\"a\":1}");
-        assert_eq!(answer_in("{\"answer\":{}}\n"), "{}");
+    fn strings_and_their_escapes() {
+        assert_eq!(Json::parse("\"\""), text(""));
+        assert_eq!(Json::parse("\"schlüssel\""), text("schlüssel"));
+        assert_eq!(Json::parse(r#""a\"b\\c\/\b\f\n\r\t""#), text("a\"b\\c/\u{8}\u{C}\n\r\t"));
+        assert_eq!(Json::parse(r#""\u001F\u00e9\uD83D\uDE00""#), text("\u{1F}é\u{1F600}"));
+    }
+
+    #[test]
+    fn what_is_no_json() {
+        for wrong in [
+            "",
+            " ",
+            "nul",
+            "nulls",
+            "01",
+            "-",
+            "+1",
+            "1.",
+            ".5",
+            "1e",
+            "1 2",
+            "[",
+            "[1",
+            "[1,]",
+            "[,1]",
+            "[1 2]",
+            "]",
+            "{",
+            "{\"a\"}",
+            "{\"a\":}",
+            "{\"a\":1,}",
+            "{a:1}",
+            "{\"a\":1 \"b\":2}",
+            "{\"a\":1,\"a\":2}",
+            "\"",
+            "\"a",
+            "\"\n\"",
+            "\"\\x\"",
+            "\"\\u12\"",
+            "\"\\u12é\"",
+            "\"\\u+123\"",
+            "\"\\uD83D\"",
+            "\"\\uD83Dx\"",
+            "\"\\uD83D\\u0041\"",
+            "\"\\uDE00\"",
+            "'a'",
+            "\u{A0}1",
+            "NaN",
+        ] {
+            assert_eq!(Json::parse(wrong), None, "{wrong}");
+        }
+    }
+
+    #[test]
+    fn levels_have_an_end() {
+        let nested = |levels: usize| "[".repeat(levels) + &"]".repeat(levels);
+        assert!(Json::parse(&nested(LEVELS)).is_some());
+        assert!(Json::parse(&nested(LEVELS + 1)).is_none());
+        assert!(Json::parse(&"[".repeat(1_000_000)).is_none());
+    }
+
+    #[test]
+    fn a_value_is_found_by_its_path() {
+        let json = Json::parse(r#"{"a":{"b":["x",{"c":"0aFF"}]},"n":-5,"0":true}"#).unwrap();
+        assert_eq!(json.at("a.b.0").and_then(Json::as_text), Some("x"));
+        assert_eq!(json.at("a.b.1.c").and_then(Json::as_bytes), Some(vec![0x0A, 0xFF]));
+        assert_eq!(json.at("n").and_then(Json::as_number), Some(-5));
+        assert_eq!(json.at("0"), Some(&Json::Bool(true)));
+        assert_eq!(json.at("a.b").and_then(Json::as_list).map(<[Json]>::len), Some(2));
+        for path in ["", "x", "a.", "a.b.2", "a.b.-1", "a.b.+1", "a.b.x", "a.b.", "n.0", "a.b.0.c"]
+        {
+            assert_eq!(json.at(path), None, "{path}");
+        }
+        for path in ["a", "a.b.0", "n"] {
+            assert_eq!(json.at(path).and_then(Json::as_bytes), None, "{path}");
+        }
+    }
+
+    #[test]
+    fn what_is_written_is_read_again() {
+        let text = "{\"a\\\"\\\\\\u0001\\u007Fé\":[null,true,-5,\"x\",{}],\"b\":{\"c\":[]}}";
+        let json = Json::parse(text).unwrap();
+        assert_eq!(json.to_string(), text);
+    }
+
+    #[test]
+    fn debug_shows_no_value() {
+        let json = Json::parse(r#"{"key":["5EC4E7",{"it":77}]}"#).unwrap();
+        assert_eq!(format!("{json:?}"), r#"{"key": [text, {"it": number}]}"#);
     }
 }

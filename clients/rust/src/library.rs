@@ -1,4 +1,5 @@
-//! The proved library: requests and answers as bytes. `metsuwan.h` says what each of its calls does.
+//! The proved library: requests and answers as bytes. `metsuwan.h` says what each of its calls
+//! does.
 
 extern "C" {
     fn kmip_request(
@@ -22,7 +23,17 @@ extern "C" {
         room: usize,
         length: *mut i64,
     ) -> i32;
-    fn kmip_value(response: *const u8, response_len: usize, tag: u32, index: usize, into: *mut u8, room: usize) -> i64;
+    fn kmip_value(
+        call: *const u8,
+        call_len: usize,
+        response: *const u8,
+        response_len: usize,
+        path: *const u8,
+        path_len: usize,
+        hex: bool,
+        into: *mut u8,
+        room: usize,
+    ) -> i64;
 }
 
 /// Why there is no request.
@@ -45,25 +56,47 @@ pub enum BadHead {
     TooLong,
 }
 
-/// What came of a call.
+/// Why there is no value.
 #[derive(Clone, Copy, Debug, PartialEq, Eq)]
-pub enum Status {
-    Answered,
-    Refused,
+pub enum NoValue {
+    /// The call is not of the grammar.
     Grammar,
-    Lost,
+    /// The answer has no such value, or the response is no answer.
+    Missing,
+    /// Out of memory.
     Memory,
 }
 
-/// Calls with more and more room until what is written fits. `write` is given the room, and returns the length.
+/// What came of a call: the statuses of the program `kmip_call`.
+#[derive(Clone, Copy, Debug, PartialEq, Eq)]
+pub enum Status {
+    /// A valid response of success; its line is `{"answer":..}`.
+    Answered,
+    /// An error of the server, or no answer to this request, in a whole message; the connection is
+    /// good for the next call. The line is `{"error":..,"text":..}`.
+    Refused,
+    /// The call is not of the grammar; there is no line.
+    Grammar,
+    /// No well-formed message, or one for another call; the connection is to be closed. The line is
+    /// `{"error":..,"text":..}`.
+    Lost,
+    /// Out of memory; there is no line.
+    Memory,
+}
+
+/// What the library returns where memory ran out.
+const MEMORY: i64 = -5;
+
+/// Calls with more and more room until what is written fits. `write` is given the room, and returns
+/// the length, or a negative number.
 fn with_room(mut room: usize, mut write: impl FnMut(&mut [u8]) -> i64) -> Result<Vec<u8>, i64> {
     loop {
-        let mut into = vec![0; room.max(1)];
+        let mut into = Vec::new();
+        into.try_reserve_exact(room).map_err(|_| MEMORY)?;
+        into.resize(room, 0);
         let length = write(&mut into);
-        let Ok(length) = usize::try_from(length) else {
-            return Err(length);
-        };
-        if length <= into.len() {
+        let length = usize::try_from(length).map_err(|_| length)?;
+        if length <= room {
             into.truncate(length);
             return Ok(into);
         }
@@ -71,9 +104,9 @@ fn with_room(mut room: usize, mut write: impl FnMut(&mut [u8]) -> i64) -> Result
     }
 }
 
-/// The request of a call.
+/// The request of a call, with a user and a password as its credential.
 pub fn request(call: &str, credential: Option<(&str, &str)>) -> Result<Vec<u8>, NoRequest> {
-    let (user, password) = credential.unwrap_or_default();
+    let (user, password) = credential.unwrap_or(("", ""));
     let room = 4096 + 2 * (call.len() + user.len() + password.len());
     // SAFETY: each pointer is of a slice of the length beside it, and none is null.
     let made = with_room(room, |into| unsafe {
@@ -96,7 +129,8 @@ pub fn request(call: &str, credential: Option<(&str, &str)>) -> Result<Vec<u8>, 
     })
 }
 
-/// How many bytes follow a head. A limit of 0 is none.
+/// How many bytes follow a head. The response may have at most `limit` bytes, the head counted; 0
+/// is no limit.
 pub fn contents_len(head: &[u8; 8], limit: u32) -> Result<usize, BadHead> {
     // SAFETY: the pointer is of 8 bytes.
     match unsafe { kmip_contents_len(head.as_ptr(), head.len(), limit) } {
@@ -108,8 +142,9 @@ pub fn contents_len(head: &[u8; 8], limit: u32) -> Result<usize, BadHead> {
 /// What a response answers to a call, and its line of JSON.
 pub fn answer(call: &str, response: &[u8]) -> (Status, String) {
     let mut status = 5;
-    // SAFETY: each pointer is of a slice of the length beside it, and none is null.
-    let line = with_room(4096 + 8 * response.len(), |into| unsafe {
+    let room = response.len().saturating_mul(8).saturating_add(4096);
+    // SAFETY: each pointer is of a slice of the length beside it, or of `length`, and none is null.
+    let line = with_room(room, |into| unsafe {
         let mut length = 0;
         status = kmip_answer(
             call.as_ptr(),
@@ -122,6 +157,9 @@ pub fn answer(call: &str, response: &[u8]) -> (Status, String) {
         );
         length
     });
+    let Ok(line) = line else {
+        return (Status::Memory, String::new());
+    };
     let status = match status {
         0 => Status::Answered,
         1 => Status::Refused,
@@ -129,14 +167,29 @@ pub fn answer(call: &str, response: &[u8]) -> (Status, String) {
         3 => Status::Lost,
         _ => Status::Memory,
     };
-    (status, String::from_utf8(line.unwrap_or_default()).unwrap_or_default())
+    (status, String::from_utf8_lossy(&line).into_owned())
 }
 
-/// The value of item number `index` with this tag.
-pub fn value(response: &[u8], tag: u32, index: usize) -> Option<Vec<u8>> {
+/// A value of the answer that a response is to a call, at a path as `attributes.0.name`: as text,
+/// or with `hex` the bytes that a string of hex digits stands for.
+pub fn value(call: &str, response: &[u8], path: &str, hex: bool) -> Result<Vec<u8>, NoValue> {
     // SAFETY: each pointer is of a slice of the length beside it, and none is null.
-    with_room(response.len(), |into| unsafe {
-        kmip_value(response.as_ptr(), response.len(), tag, index, into.as_mut_ptr(), into.len())
+    let made = with_room(response.len(), |into| unsafe {
+        kmip_value(
+            call.as_ptr(),
+            call.len(),
+            response.as_ptr(),
+            response.len(),
+            path.as_ptr(),
+            path.len(),
+            hex,
+            into.as_mut_ptr(),
+            into.len(),
+        )
+    });
+    made.map_err(|code| match code {
+        -2 => NoValue::Grammar,
+        -3 => NoValue::Missing,
+        _ => NoValue::Memory,
     })
-    .ok()
 }

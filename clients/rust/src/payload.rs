@@ -1,44 +1,189 @@
-//! What calls give. Names are those of kmip-protocol.
+//! What calls give. The names are those of kmip-protocol.
+use crate::answer::Answer;
+use crate::error::{Error, Result};
+use crate::json::Json;
+use crate::pem;
+use std::fmt::{self, Debug, Formatter};
 
-/// What the server can do. Operations and object types are KMIP's numbers (KMIP 1.2, 9.1.3.2.27 and 9.1.3.2.12).
+/// What the server can do (KMIP 1.2, 4.25). What it does not say is `None`.
 #[derive(Clone, Debug, PartialEq, Eq)]
 pub struct QueryResponsePayload {
-    pub operations: Vec<u32>,
-    pub object_types: Vec<u32>,
+    /// The names of its operations, as `CreateKeyPair`.
+    pub operations: Option<Vec<String>>,
+    /// The names of the types of its objects, as `SymmetricKey`.
+    pub object_types: Option<Vec<String>>,
+    /// Who made it.
     pub vendor_identification: Option<String>,
-    /// The whole answer as JSON.
-    pub json: String,
+    /// The whole answer.
+    pub answer: Answer,
 }
 
-/// Random bytes.
-#[derive(Clone, Debug, PartialEq, Eq)]
+impl QueryResponsePayload {
+    pub(crate) fn of(answer: Answer) -> Result<Self> {
+        let texts = |path| answer.has(path).then(|| answer.texts_at(path)).transpose();
+        let vendor = "vendor_identification";
+        Ok(QueryResponsePayload {
+            operations: texts("operations")?,
+            object_types: texts("object_types")?,
+            vendor_identification: answer
+                .has(vendor)
+                .then(|| answer.text_at(vendor).map(str::to_string))
+                .transpose()?,
+            answer,
+        })
+    }
+}
+
+/// Random bytes. `Debug` shows how many.
+#[derive(Clone, PartialEq, Eq)]
 pub struct RNGRetrieveResponsePayload {
+    /// The bytes.
     pub data: Vec<u8>,
+}
+
+impl Debug for RNGRetrieveResponsePayload {
+    fn fmt(&self, f: &mut Formatter<'_>) -> fmt::Result {
+        write!(f, "RNGRetrieveResponsePayload(of length {})", self.data.len())
+    }
 }
 
 /// A signature, and the key that made it.
 #[derive(Clone, Debug, PartialEq, Eq)]
 pub struct SignResponsePayload {
+    /// The identifier of the key.
     pub unique_identifier: String,
+    /// The signature.
     pub signature_data: Vec<u8>,
 }
 
-/// A key that has another name now.
+/// An attribute of an object (KMIP 1.2, 2.1.1).
 #[derive(Clone, Debug, PartialEq, Eq)]
-pub struct ModifyAttributeResponsePayload {
-    pub unique_identifier: String,
+pub struct Attribute {
+    /// Its name, as `Cryptographic Length`.
+    pub name: String,
+    /// Its index among those of the same name, where the server says it.
+    pub index: Option<i64>,
+    /// Its value: an object with one member, as `{"Integer":256}`.
+    pub value: Json,
 }
 
-/// An object of the server.
+impl Attribute {
+    /// The attribute that stands at a path.
+    pub(crate) fn at(answer: &Answer, path: &str) -> Result<Attribute> {
+        let none = |what| Error::missing(format!("the answer has no {what} of {path}"));
+        let found = answer.value_at(path)?;
+        Ok(Attribute {
+            name: found
+                .member("name")
+                .and_then(Json::as_text)
+                .ok_or_else(|| none("name"))?
+                .to_string(),
+            index: found
+                .member("index")
+                .map(|it| it.as_number().ok_or_else(|| none("index")))
+                .transpose()?,
+            value: found.member("value").ok_or_else(|| none("value"))?.clone(),
+        })
+    }
+}
+
+/// An object that has another name now.
 #[derive(Clone, Debug, PartialEq, Eq)]
-pub struct GetResponsePayload {
+pub struct ModifyAttributeResponsePayload {
+    /// The identifier of the object.
     pub unique_identifier: String,
-    /// KMIP's number: 2 for a symmetric key, 3 for a public key, 4 for a private key.
-    pub object_type: u32,
-    /// KMIP's number: 1 for raw bytes, 3 for PKCS#1, 5 for X.509.
-    pub key_format_type: Option<u32>,
-    /// The key's bytes; of a transparent key the bytes of its items.
-    pub key_material: Option<Vec<u8>>,
-    /// The whole answer as JSON.
-    pub json: String,
+    /// The attribute as it is now.
+    pub attribute: Attribute,
+}
+
+/// A version of KMIP.
+#[derive(Clone, Copy, Debug, PartialEq, Eq)]
+pub struct ProtocolVersion {
+    /// 1, as in 1.2
+    pub major: i64,
+    /// 2, as in 1.2
+    pub minor: i64,
+}
+
+/// An object of the server: a key, a certificate, secret data or other. `Debug` shows its
+/// identifier and its type alone.
+#[derive(Clone, PartialEq, Eq)]
+pub struct GetResponsePayload {
+    /// Its identifier.
+    pub unique_identifier: String,
+    /// KMIP's name of its type, as `PublicKey`.
+    pub object_type: String,
+    /// The whole answer, with what the object keeps secret.
+    pub answer: Answer,
+}
+
+impl Debug for GetResponsePayload {
+    fn fmt(&self, f: &mut Formatter<'_>) -> fmt::Result {
+        f.debug_struct("GetResponsePayload")
+            .field("unique_identifier", &self.unique_identifier)
+            .field("object_type", &self.object_type)
+            .finish_non_exhaustive()
+    }
+}
+
+impl GetResponsePayload {
+    pub(crate) fn of(answer: Answer) -> Result<Self> {
+        Ok(GetResponsePayload {
+            unique_identifier: answer.text_at("unique_identifier")?.to_string(),
+            object_type: answer.text_at("object_type")?.to_string(),
+            answer,
+        })
+    }
+
+    fn in_key_block(&self, path: &str) -> String {
+        format!("cryptographic_object.{}.key_block.{path}", self.object_type)
+    }
+
+    /// The format of a key, as `PKCS1`.
+    ///
+    /// # Errors
+    /// `MissingValue`: it is no key.
+    pub fn key_format_type(&self) -> Result<&str> {
+        self.answer.text_at(&self.in_key_block("key_format_type"))
+    }
+
+    /// The bytes of a key whose format is Raw, Opaque, PKCS1, PKCS8, X509 or ECPrivateKey.
+    ///
+    /// # Errors
+    /// `MissingValue`: it is no key, has another format, or is wrapped.
+    pub fn key_material(&self) -> Result<Vec<u8>> {
+        self.answer.bytes_at(&self.in_key_block("key_value.key_material.Bytes"))
+    }
+
+    /// The type of a certificate, `X509` or `PGP`.
+    ///
+    /// # Errors
+    /// `MissingValue`: it is no certificate.
+    pub fn certificate_type(&self) -> Result<&str> {
+        self.answer.text_at("cryptographic_object.Certificate.certificate_type")
+    }
+
+    /// The bytes of a certificate.
+    ///
+    /// # Errors
+    /// `MissingValue`: it is no certificate.
+    pub fn certificate_value(&self) -> Result<Vec<u8>> {
+        self.answer.bytes_at("cryptographic_object.Certificate.certificate_value")
+    }
+
+    /// A public key in PKCS#1 or X.509, a private key in PKCS#1, PKCS#8 or ECPrivateKey, or a
+    /// certificate in X.509, as PEM.
+    ///
+    /// # Errors
+    /// `MissingValue`: it is none of these, or is wrapped.
+    pub fn pem(&self) -> Result<String> {
+        let is_certificate = self.object_type == "Certificate";
+        let format =
+            if is_certificate { self.certificate_type()? } else { self.key_format_type()? };
+        let label = pem::label_of(&self.object_type, format).ok_or_else(|| {
+            Error::missing(format!("{} in {format} has no PEM form", self.object_type))
+        })?;
+        let der = if is_certificate { self.certificate_value()? } else { self.key_material()? };
+        Ok(pem::write(label, &der))
+    }
 }

@@ -1,92 +1,264 @@
-//! Words of calls.
+//! The calls of the grammar, and how their words are written.
+//!
+//! The library alone says what is of the grammar. The table here says which words a call takes, so
+//! that bytes are not taken for a text, or a number for bytes.
 use crate::error::{Error, Result};
-use std::fmt::Write;
+use std::fmt::{self, Debug, Formatter, Write};
 
-/// What a word of a call stands for.
-#[derive(Clone, Copy, Debug, PartialEq, Eq)]
+/// A word of a call. `Debug` shows no bytes, since they may be of a key.
+#[derive(Clone, Copy, PartialEq, Eq)]
 pub enum Word<'a> {
     /// A text, as an identifier or a name.
     Text(&'a str),
+    /// Bytes, as those that are signed.
     Bytes(&'a [u8]),
+    /// A number, as that of the bits of a key.
     Number(i32),
 }
 
-/// A word as the grammar wants it: a text with what is special as % and two hex digits, bytes as hex digits.
-pub fn word(word: Word<'_>) -> String {
-    let mut made = String::new();
-    match word {
-        Word::Text("") | Word::Bytes([]) => made.push('-'),
-        Word::Text("-") => made.push_str("%2D"),
-        Word::Text(text) => {
-            for byte in text.bytes() {
-                if byte.is_ascii_alphanumeric() || b"._~-".contains(&byte) {
-                    made.push(char::from(byte));
-                } else {
-                    // Writing to a String does not fail.
-                    let _ = write!(made, "%{byte:02X}");
-                }
+impl Debug for Word<'_> {
+    fn fmt(&self, f: &mut Formatter<'_>) -> fmt::Result {
+        match self {
+            Word::Text(text) => f.debug_tuple("Text").field(text).finish(),
+            Word::Bytes(bytes) => write!(f, "Bytes(of length {})", bytes.len()),
+            Word::Number(number) => f.debug_tuple("Number").field(number).finish(),
+        }
+    }
+}
+
+/// The word of the empty text, and of no bytes.
+const EMPTY: &str = "-";
+
+#[derive(Clone, Copy, PartialEq, Eq)]
+enum Kind {
+    Identifier,
+    Text,
+    Bytes,
+    Number,
+}
+
+const CALLS: [(&str, &[Kind]); 14] = [
+    ("query", &[]),
+    ("create-rsa", &[Kind::Number, Kind::Text, Kind::Text]),
+    ("create-aes", &[Kind::Number, Kind::Text]),
+    ("rng", &[Kind::Number]),
+    ("activate", &[Kind::Identifier]),
+    ("sign", &[Kind::Identifier, Kind::Bytes]),
+    ("rename", &[Kind::Identifier, Kind::Text]),
+    ("get", &[Kind::Identifier]),
+    ("locate", &[Kind::Text]),
+    ("attributes", &[Kind::Identifier]),
+    ("revoke", &[Kind::Identifier]),
+    ("destroy", &[Kind::Identifier]),
+    ("discover", &[]),
+    ("raw", &[Kind::Bytes]),
+];
+
+impl Kind {
+    fn name(self) -> &'static str {
+        match self {
+            Kind::Identifier => "an identifier",
+            Kind::Text => "a text",
+            Kind::Bytes => "bytes",
+            Kind::Number => "a number",
+        }
+    }
+
+    /// A word as the grammar wants it, or why it is none.
+    fn write(self, word: Word<'_>) -> std::result::Result<String, String> {
+        match (self, word) {
+            (Kind::Identifier | Kind::Text, Word::Text(text)) => Ok(text_word(text)),
+            (Kind::Bytes, Word::Bytes(bytes)) => Ok(bytes_word(bytes)),
+            (Kind::Number, Word::Number(number)) => Ok(number.to_string()),
+            (_, Word::Text(_)) => Err("a text was given".into()),
+            (_, Word::Bytes(_)) => Err("bytes were given".into()),
+            (_, Word::Number(_)) => Err("a number was given".into()),
+        }
+    }
+
+    /// The same for a word that was typed: a number in decimal digits, bytes in hex digits.
+    fn read(self, text: &str) -> std::result::Result<String, String> {
+        match self {
+            Kind::Identifier | Kind::Text => Ok(text_word(text)),
+            Kind::Bytes if text.is_empty() => Ok(EMPTY.into()),
+            Kind::Bytes => {
+                let is_hex = text.bytes().all(|byte| byte.is_ascii_hexdigit());
+                (is_hex && text.len() % 2 == 0)
+                    .then(|| text.to_ascii_uppercase())
+                    .ok_or_else(|| "it is not of hex digits, two for each byte".into())
+            }
+            Kind::Number => {
+                let number = text.parse::<i32>().map(|number| number.to_string()).ok();
+                number.filter(|it| it == text).ok_or_else(|| {
+                    "it is not written in decimal digits, or has more than 32 bits".into()
+                })
             }
         }
-        Word::Bytes(bytes) => {
-            for byte in bytes {
-                let _ = write!(made, "{byte:02X}");
-            }
+    }
+}
+
+/// A text with what is special as % and two hex digits.
+fn text_word(text: &str) -> String {
+    match text {
+        "" => return EMPTY.into(),
+        EMPTY => return "%2D".into(),
+        _ => {}
+    }
+    let mut made = String::with_capacity(text.len());
+    for byte in text.bytes() {
+        if byte.is_ascii_alphanumeric() || b"._~-".contains(&byte) {
+            made.push(char::from(byte));
+        } else {
+            // Writing to a String does not fail.
+            let _ = write!(made, "%{byte:02X}");
         }
-        Word::Number(number) => made = number.to_string(),
     }
     made
 }
 
-/// The calls whose first word is no identifier. An empty identifier is refused: a server may take it for the last object
-/// that was made on the connection.
-const NO_IDENTIFIER: [&str; 7] = ["query", "create-rsa", "create-aes", "rng", "locate", "discover", "raw"];
+fn bytes_word(bytes: &[u8]) -> String {
+    const DIGITS: &[u8; 16] = b"0123456789ABCDEF";
+    if bytes.is_empty() {
+        return EMPTY.into();
+    }
+    let digit = |it: u8| char::from(DIGITS[usize::from(it)]);
+    bytes.iter().flat_map(|byte| [digit(byte >> 4), digit(byte & 15)]).collect()
+}
 
-/// The line of a call.
-pub(crate) fn line(name: &str, words: &[Word<'_>]) -> Result<String> {
-    if name.is_empty() || !name.bytes().all(|byte| byte.is_ascii_lowercase() || byte == b'-') {
-        return Err(Error::ConfigurationError(format!("{name:?} is no call")));
+/// The kinds of a call's words, which are so many.
+fn kinds_of(name: &str, count: usize) -> Result<&'static [Kind]> {
+    let Some((_, kinds)) = CALLS.iter().find(|(it, _)| *it == name) else {
+        return Err(Error::grammar(format!("there is no call {name}")));
+    };
+    if count > kinds.len() {
+        let extra = kinds.len() + 1;
+        return Err(Error::grammar(format!("{name}: word {extra} after it is one too many")));
     }
-    if !NO_IDENTIFIER.contains(&name) && matches!(words, [] | [Word::Text(""), ..]) {
-        return Err(Error::ConfigurationError(format!("{name} without an identifier")));
+    match kinds.get(count) {
+        None => Ok(kinds),
+        Some(kind) => Err(Error::grammar(format!(
+            "{name}: word {} after it is missing: {}",
+            count + 1,
+            kind.name()
+        ))),
     }
+}
+
+/// The line of a call: the one place in which arguments become words.
+fn line_by<W: Copy>(
+    name: &str,
+    words: &[W],
+    write: impl Fn(Kind, W) -> std::result::Result<String, String>,
+) -> Result<String> {
     let mut line = name.to_string();
-    for it in words {
+    for (at, (kind, word)) in kinds_of(name, words.len())?.iter().zip(words).enumerate() {
+        let place = format!("{name}: word {} after it", at + 1);
+        let written = write(*kind, *word)
+            .map_err(|why| Error::grammar(format!("{place} is not {}: {why}", kind.name())))?;
+        if *kind == Kind::Identifier && written == EMPTY {
+            // A server may take it for the last object that was made on the connection.
+            return Err(Error::grammar(format!("{place} is empty, and has to be an identifier")));
+        }
         line.push(' ');
-        line.push_str(&word(*it));
+        line.push_str(&written);
     }
     Ok(line)
+}
+
+/// The line of a call with these words.
+pub(crate) fn line(name: &str, words: &[Word<'_>]) -> Result<String> {
+    line_by(name, words, Kind::write)
+}
+
+/// The line of a call whose words were typed.
+pub(crate) fn line_of_texts(name: &str, texts: &[&str]) -> Result<String> {
+    line_by(name, texts, Kind::read)
 }
 
 #[cfg(test)]
 mod tests {
     use super::*;
 
-    #[test]
-    fn words_are_written_as_the_grammar_wants_them() {
-        let rows = [
-            (Word::Text("k1"), "k1"),
-            (Word::Text(""), "-"),
-            (Word::Text("-"), "%2D"),
-            (Word::Text("--"), "--"),
-            (Word::Text("my key"), "my%20key"),
-            (Word::Text("50%\n"), "50%25%0A"),
-            (Word::Text("\u{e9}"), "%C3%A9"),
-            (Word::Bytes(&[]), "-"),
-            (Word::Bytes(&[0, 0xAB]), "00AB"),
-            (Word::Number(-5), "-5"),
-        ];
-        for (given, wanted) in rows {
-            assert_eq!(word(given), wanted);
+    fn refused(made: Result<String>, wanted: &str) {
+        match made {
+            Err(Error::GrammarError(it)) => assert_eq!(it.text(), wanted),
+            other => panic!("{other:?} in place of {wanted}"),
         }
     }
 
     #[test]
-    fn a_name_is_one_word() {
-        assert_eq!(line("sign", &[Word::Text("a b"), Word::Bytes(&[1])]), Ok("sign a%20b 01".into()));
-        assert!(line("sign k1", &[]).is_err());
-        assert!(line("", &[]).is_err());
-        assert_eq!(line("query", &[]), Ok("query".into()));
-        assert!(line("destroy", &[]).is_err());
-        assert!(line("destroy", &[Word::Text("")]).is_err());
+    fn words_are_written_as_the_grammar_wants_them() {
+        let rows = [
+            ("k1", "k1"),
+            ("", "-"),
+            ("-", "%2D"),
+            ("--", "--"),
+            ("my key", "my%20key"),
+            ("50%\n", "50%25%0A"),
+            ("\u{e9}", "%C3%A9"),
+        ];
+        for (given, wanted) in rows {
+            assert_eq!(line("locate", &[Word::Text(given)]).unwrap(), format!("locate {wanted}"));
+            assert_eq!(line_of_texts("locate", &[given]).unwrap(), format!("locate {wanted}"));
+        }
+        let sign = |bytes| line("sign", &[Word::Text("a b"), Word::Bytes(bytes)]).unwrap();
+        assert_eq!(sign(&[0, 0xAB]), "sign a%20b 00AB");
+        assert_eq!(sign(&[]), "sign a%20b -");
+        assert_eq!(line("rng", &[Word::Number(-5)]).unwrap(), "rng -5");
+        assert_eq!(line("query", &[]).unwrap(), "query");
+    }
+
+    #[test]
+    fn an_empty_identifier_is_refused() {
+        let identifiers = ["activate", "get", "attributes", "revoke", "destroy"];
+        for name in identifiers {
+            let wanted = format!("{name}: word 1 after it is empty, and has to be an identifier");
+            refused(line(name, &[Word::Text("")]), &wanted);
+            refused(line_of_texts(name, &[""]), &wanted);
+            let wanted = format!("{name}: word 1 after it is not an identifier: bytes were given");
+            refused(line(name, &[Word::Bytes(&[])]), &wanted);
+            refused(line(name, &[Word::Bytes(b"8")]), &wanted);
+        }
+        for (name, second) in [("sign", Word::Bytes(&[0])), ("rename", Word::Text("x"))] {
+            let wanted = format!("{name}: word 1 after it is empty, and has to be an identifier");
+            refused(line(name, &[Word::Text(""), second]), &wanted);
+        }
+    }
+
+    #[test]
+    fn a_call_is_one_of_the_grammar() {
+        for name in ["", "sing", "sign -", "sign k1", " query", "query ", "Query", "query\n"] {
+            refused(line(name, &[Word::Bytes(&[0])]), &format!("there is no call {name}"));
+        }
+        refused(line("destroy", &[]), "destroy: word 1 after it is missing: an identifier");
+        refused(line("rename", &[Word::Text("1")]), "rename: word 2 after it is missing: a text");
+        refused(line("query", &[Word::Text("1")]), "query: word 1 after it is one too many");
+    }
+
+    #[test]
+    fn words_are_of_the_kind_that_the_call_takes() {
+        let sign = |second| line("sign", &[Word::Text("1"), second]);
+        refused(sign(Word::Number(5)), "sign: word 2 after it is not bytes: a number was given");
+        refused(sign(Word::Text("00")), "sign: word 2 after it is not bytes: a text was given");
+        let text = [Word::Text("5")];
+        refused(line("rng", &text), "rng: word 1 after it is not a number: a text was given");
+    }
+
+    #[test]
+    fn typed_words_are_numbers_and_hex_digits() {
+        assert_eq!(line_of_texts("sign", &["1", "00aB"]).unwrap(), "sign 1 00AB");
+        assert_eq!(line_of_texts("sign", &["1", ""]).unwrap(), "sign 1 -");
+        assert_eq!(line_of_texts("rng", &["16"]).unwrap(), "rng 16");
+        for wrong in ["XY", "0", "0 ", "-", "é"] {
+            assert!(line_of_texts("sign", &["1", wrong]).is_err(), "{wrong}");
+        }
+        for wrong in ["", "+1", "01", "-0", "1 ", "0x1", "2147483648", "1.0"] {
+            assert!(line_of_texts("rng", &[wrong]).is_err(), "{wrong}");
+        }
+    }
+
+    #[test]
+    fn debug_shows_no_bytes() {
+        assert_eq!(format!("{:?}", Word::Bytes(b"5EC4E7")), "Bytes(of length 6)");
     }
 }

@@ -37,10 +37,7 @@ fn fails_for_memory<M: Maker>(
     client: &mut Client<ServerLink<M>>,
     calls: List<kmip_server::Call>,
 ) -> bool {
-    matches!(
-        call_all(alloc, client, calls),
-        Err(Error::OutOfMemory)
-    )
+    matches!(call_all(alloc, client, calls), Err(Error::OutOfMemory))
 }
 
 #[test]

@@ -102,11 +102,7 @@ fn refusing_maker(alloc: Global) -> Result<MemoryMaker, Fail> {
 
 /// Two bytes, and a pair that is refused.
 const REFUSED: &[Row] = &[
-    (
-        Random(2),
-        2,
-        Payload("RNGRetrieve{random_bytes=x\"6162\"}"),
-    ),
+    (Random(2), 2, Payload("RNGRetrieve{random_bytes=x\"6162\"}")),
     (
         CreatePair(1024),
         0,

@@ -132,8 +132,16 @@ fn or_none(diagnostic: &Option<Text>) -> &str {
 fn check_first(rt: &impl Abort, report: &CallAnswer, first: First) {
     let (sent, request, response) = first;
     assert_eq!(rt; report.sent.len(), sent, "bytes sent");
-    assert_eq!(rt; or_none(&report.req_diag), request, "the request's diagnostic");
-    assert_eq!(rt; or_none(&report.res_diag), response, "the response's diagnostic");
+    assert_eq!(rt;
+        or_none(&report.req_diag),
+        request,
+        "the request's diagnostic"
+    );
+    assert_eq!(rt;
+        or_none(&report.res_diag),
+        response,
+        "the response's diagnostic"
+    );
 }
 
 /// The calls returned what the rows say, and the first sent what is said of it.

@@ -83,14 +83,23 @@ fn check_item(
 ) -> Result<(), Fail> {
     match (expected, &item.payload, &item.result_message) {
         (Item::Payload(shown), Some(payload), None) => {
-            assert!(rt; item.result_status == ResultStatus::Success, "success of {shown}");
+            assert!(rt;
+                item.result_status == ResultStatus::Success,
+                "success of {shown}"
+            );
             assert!(rt; item.result_reason.is_none(), "no reason with {shown}");
             check_shown(rt, alloc, payload, shown)
         }
         (Item::Failure(operation, reason, words), None, Some(message)) => {
             assert!(rt; item.operation == operation, "the operation of: {words}");
-            assert!(rt; item.result_status == ResultStatus::OperationFailed, "failure: {words}");
-            assert!(rt; item.result_reason == Some(reason), "the reason of: {words}");
+            assert!(rt;
+                item.result_status == ResultStatus::OperationFailed,
+                "failure: {words}"
+            );
+            assert!(rt;
+                item.result_reason == Some(reason),
+                "the reason of: {words}"
+            );
             assert_eq!(rt; message.as_str(), words, "the message");
             Ok(())
         }

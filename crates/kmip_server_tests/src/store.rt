@@ -57,7 +57,12 @@ fn a_private_key_signs_while_it_is_active(rt: HostRuntime) {
     let again = store.activate_key("1");
     check_refused(&rt, again, PermissionDenied, "a second activation");
     let signature = store.sign(&mut maker, "1", b"m");
-    check_bytes(&rt, signature, b"\x00\x00\x00\x00\x00\x00\x00\x02", "signing");
+    check_bytes(
+        &rt,
+        signature,
+        b"\x00\x00\x00\x00\x00\x00\x00\x02",
+        "signing",
+    );
     check_done(&rt, store.activate_key("2"), "activation of the public key");
     let public = store.sign(&mut maker, "2", b"m");
     check_refused(&rt, public, PermissionDenied, "signing by the public key");
@@ -74,7 +79,11 @@ fn a_key_is_destroyed_once_it_is_revoked(rt: HostRuntime) {
     check_done(&rt, store.revoke_key("1"), "revocation");
     let again = store.revoke_key("1");
     check_refused(&rt, again, PermissionDenied, "a second revocation");
-    check_done(&rt, store.rename_key("1", "old"), "a name for a revoked key");
+    check_done(
+        &rt,
+        store.rename_key("1", "old"),
+        "a name for a revoked key",
+    );
     check_done(&rt, store.destroy_key("1"), "destruction");
     let again = store.destroy_key("1");
     check_refused(&rt, again, PermissionDenied, "a second destruction");
@@ -82,14 +91,19 @@ fn a_key_is_destroyed_once_it_is_revoked(rt: HostRuntime) {
     check_refused(&rt, named, PermissionDenied, "a name for a destroyed key");
     let got = store.get_key("1");
     check_refused(&rt, got, PermissionDenied, "a destroyed key");
-    let empty = store.find("1").is_some_and(|object| object.key.as_slice().is_empty());
+    let empty = store
+        .find("1")
+        .is_some_and(|object| object.key.as_slice().is_empty());
     assert!(rt; empty, "a destroyed key keeps its place and no bytes");
     add_pair(&rt, &mut store, &mut maker, "3", "4");
 }
 
 /// The public key 2, of 2,048 bits, with this name.
 fn check_public(rt: &impl Abort, object: &Object, name: &str) {
-    assert!(rt; object.object_type == ObjectType::PublicKey, "the object type");
+    assert!(rt;
+        object.object_type == ObjectType::PublicKey,
+        "the object type"
+    );
     assert!(rt; object.state == State::PreActive, "the state");
     assert_eq!(rt; object.name.as_str(), name, "the name");
     assert_eq!(rt; object.length, 2048, "the length");
@@ -184,7 +198,10 @@ fn a_refusal_uses_up_no_planned_answer(rt: HostRuntime) -> Result<(), Fail> {
     let alloc = rt.alloc();
     let mut maker = planned_maker(alloc)?;
     let pair = maker.key_pair(alloc, 2048);
-    assert!(rt; pair.err() == Some(MakerError::Fault), "an answer of another kind");
+    assert!(rt;
+        pair.err() == Some(MakerError::Fault),
+        "an answer of another kind"
+    );
     let bytes = maker.random(alloc, 2);
     assert!(rt; bytes.err() == Some(MakerError::Fault), "a planned refusal");
     let mut store = Store::new(alloc);
@@ -192,6 +209,11 @@ fn a_refusal_uses_up_no_planned_answer(rt: HostRuntime) -> Result<(), Fail> {
     let pair = store.create_rsa_key_pair(&mut maker, 2048, "priv", "pub");
     assert!(rt; pair.is_ok(), "the pair");
     check_done(&rt, store.activate_key("1"), "activation");
-    check_bytes(&rt, store.sign(&mut maker, "1", b"m"), b"s", "the signature");
+    check_bytes(
+        &rt,
+        store.sign(&mut maker, "1", b"m"),
+        b"s",
+        "the signature",
+    );
     Ok(())
 }

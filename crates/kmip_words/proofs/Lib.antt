@@ -1,4 +1,4 @@
-pub mod About
+pub mod OtherObjects
 pub mod Calls
 pub mod Diagnostics
 pub mod Exchanges

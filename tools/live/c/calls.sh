@@ -16,6 +16,8 @@ fake end_after
 test_run calls ended
 fake no_close
 test_run calls close
+fake ends
+test_run calls in_order
 fake good
 test_run calls values
 test_run calls refused

@@ -5,45 +5,66 @@ if ! type -P pkg-config >/dev/null; then
     return
 fi
 mkdir out
-make -s -C "$top/clients/c" install BUILT="$built" OUT="$work/out" PREFIX=/usr DESTDIR="$work/root" >"$said" 2>&1
+root=$work/root lib=$work/root/usr/lib
+make_it() { # TARGET
+    make -s -C "$top/clients/c" "$1" BUILT="$built" OUT="$work/out" PREFIX=/usr DESTDIR="$root" \
+        >"$said" 2>&1
+}
+make_it install
 verdict 'make install'
-lib=$work/root/usr/lib
-export PKG_CONFIG_SYSROOT_DIR=$work/root PKG_CONFIG_PATH=$lib/pkgconfig PKG_CONFIG_ALLOW_SYSTEM_LIBS=1 PKG_CONFIG_ALLOW_SYSTEM_CFLAGS=1
+export PKG_CONFIG_SYSROOT_DIR=$root PKG_CONFIG_PATH=$lib/pkgconfig
+export PKG_CONFIG_ALLOW_SYSTEM_LIBS=1 PKG_CONFIG_ALLOW_SYSTEM_CFLAGS=1 LD_LIBRARY_PATH=$lib
+names_of() { # LIBRARY: what can be linked with, on one line
+    nm -D --defined-only "$lib/$1" | awk '{ print $3 }' | sort | xargs
+}
 for it in libmetsuwan libmetsuwan_tls; do
-    [[ $(readelf -d "$lib/$it.so" 2>"$said" | sed -n 's/.*soname: \[\(.*\)\]/\1/p') == "$it.so.1" && -e $lib/$it.so.1 && -e $lib/$it.a ]]
+    soname=$(readelf -d "$lib/$it.so" | sed -n 's/.*soname: \[\(.*\)\]/\1/p')
+    [[ $soname == "$it.so.1" && -e $lib/$soname && -e $lib/$it.a ]]
     verdict "$it has a SONAME, and is there by it"
 done
-[[ $(nm -D --defined-only "$lib/libmetsuwan.so" | awk '{ print $3 }' | sort | xargs) == 'kmip_answer kmip_contents_len kmip_request kmip_value' ]]
+[[ $(names_of libmetsuwan.so) == 'kmip_answer kmip_contents_len kmip_request kmip_value' ]]
 verdict 'libmetsuwan.so has its four calls, and no other names'
-nm -D --defined-only "$lib/libmetsuwan_tls.so" | awk '{ print $3 }' | sort >names
-[[ $(xargs <names) == 'kmip_bytes kmip_call kmip_call_words kmip_close kmip_line kmip_open kmip_pem kmip_text kmip_word' ]]
+[[ $(names_of libmetsuwan_tls.so | sed 's/kmip_//g') == \
+    'bytes call call_words close line open pem text word' ]]
 verdict 'libmetsuwan_tls.so has the calls of its header, and no other names'
-[[ $(pkg-config --modversion metsuwan metsuwan_tls | sort -u) == "$(sed -n 's/^VERSION := //p' "$top/clients/c/Makefile")" ]]
+version=$(sed -n 's/^VERSION := //p' "$top/clients/c/Makefile")
+[[ $(pkg-config --modversion metsuwan metsuwan_tls | sort -u) == "$version" ]]
 verdict 'pkg-config knows the version'
+
+# Programs, each in a folder that has nothing but its source.
 fake good
-build_and_call() { # WHAT FLAG..
-    gcc -std=c11 -Wall -Wextra -Wpedantic -Werror -o call "$top/clients/c/call.c" "${@:2}" >"$said" 2>&1 &&
-        LD_LIBRARY_PATH=$lib ./call "$host" "$port" "$certificate" "$key" "$authority" query >"$said" 2>&1
-    verdict "a program over $1 is built and answered"
+read -ra shared <<<"$(pkg-config --cflags --libs metsuwan_tls)"
+read -ra static <<<"$(pkg-config --cflags metsuwan_tls)"
+static+=("$lib/libmetsuwan_tls.a" "$lib/libmetsuwan.a" -lssl -lcrypto -pthread)
+mkdir sources
+cp "$top/clients/c/call.c" sources
+build() { # COMPILER SOURCE FLAG..
+    "$1" -Wall -Wextra -Wpedantic -Werror -o program "sources/$2" "${@:3}" >"$said" 2>&1
 }
-# shellcheck disable=SC2046 # several words
-{
-    mkdir empty && cp "$top/clients/c/call.c" empty
-    top=$work/nowhere build_and_call 'nothing' 2>/dev/null | grep -q '^FAILED'
-    verdict 'a program with no library is not built'
-    (cd empty && build_and_call 'the shared libraries' $(pkg-config --cflags --libs metsuwan_tls))
-    (cd empty && build_and_call 'the static libraries' -static-libgcc $(pkg-config --cflags metsuwan_tls) "$lib/libmetsuwan_tls.a" "$lib/libmetsuwan.a" -lssl -lcrypto -pthread)
+makes_a_call() {
+    ./program "$host" "$port" "$certificate" "$key" "$authority" query >"$said" 2>&1
 }
-printf '#include <metsuwan_tls.h>\nint main() { kmip_settings it = kmip_defaults(); return it.size == 0 || kmip_call(nullptr, "query", nullptr) != KMIP_LOST; }\n' >header.cc
+! build gcc call.c
+verdict 'a program is not built without what was installed'
+build gcc call.c "${shared[@]}" && makes_a_call
+verdict 'a program over the shared libraries is built and answered'
+build gcc call.c "${static[@]}" && LD_LIBRARY_PATH='' makes_a_call
+verdict 'a program over the static libraries is built and answered'
+cat >sources/header.cc <<'CODE'
+#include <metsuwan_tls.h>
+int main() {
+    kmip_settings it = kmip_defaults();
+    return it.size == 0 || kmip_call(nullptr, "query", nullptr) != KMIP_LOST;
+}
+CODE
 if type -P g++ >/dev/null; then
-    # shellcheck disable=SC2046 # several words
-    g++ -Wall -Wextra -Wpedantic -Werror -o header header.cc $(pkg-config --cflags --libs metsuwan_tls) >"$said" 2>&1 && LD_LIBRARY_PATH=$lib ./header
+    build g++ header.cc "${shared[@]}" && ./program
     verdict 'the headers are those of C++ too'
 fi
-printf '#include <metsuwan_tls.h>\nint main(void) { return kmip_call(NULL, "query"); }\n' >sentinel.c
-# shellcheck disable=SC2046 # several words
-! gcc -Wall -Werror -c $(pkg-config --cflags metsuwan_tls) sentinel.c >"$said" 2>&1 && grep -q sentinel "$said"
+printf '#include <metsuwan_tls.h>\nint main(void) { return kmip_call(NULL, "query"); }\n' \
+    >sources/sentinel.c
+! build gcc sentinel.c "${shared[@]}" && grep -q sentinel "$said"
 verdict 'a call whose words do not end is found by the compiler'
-make -s -C "$top/clients/c" uninstall OUT="$work/out" PREFIX=/usr DESTDIR="$work/root" >"$said" 2>&1
+make_it uninstall
 [[ -z $(find root -not -type d) ]]
 verdict 'make uninstall leaves nothing'

@@ -5,7 +5,8 @@ export KMIP_PEM=1
 reads() { # OBJECT COMMAND..: openssl reads what was written, and it is the object
     local object=$1
     shift
-    client_run call get "$object" >"$work/got.pem" 2>"$said" && openssl "$@" -in "$work/got.pem" -outform DER -out "$work/got.der" 2>>"$said" &&
+    client_run call get "$object" >"$work/got.pem" 2>"$said" &&
+        openssl "$@" -in "$work/got.pem" -outform DER -out "$work/got.der" 2>>"$said" &&
         cmp "$work/got.der" "$certs/objects/$object.der" >>"$said" 2>&1
     verdict "openssl $1 reads $object"
 }

@@ -1,9 +1,11 @@
 # shellcheck shell=bash
-# What is no answer is one line of JSON on standard error, which says why.
+# What is no answer is one line of JSON on standard error, which says why. python/reasons.sh has the
+# same cases.
 is_json() { # WHAT: what was said is one object in JSON, with an error and a text
     "$python" -c 'import json, sys
 line, = open(sys.argv[1], encoding="utf-8").read().splitlines()
-assert all(isinstance(json.loads(line)[it], str) for it in ("error", "text")), line' "$said" 2>"$work/not_json"
+it = json.loads(line)
+assert isinstance(it["error"], str) and isinstance(it["text"], str), line' "$said" 2>"$work/not"
     verdict "$1 is JSON"
 }
 reason() { # WHAT STATUS REGEX CALL WORD..
@@ -18,7 +20,7 @@ reason 'a reset' 3 'ResponseReadError.*[Rr]eset by peer' query
 fake silent
 KMIP_TIMEOUT=1 reason 'a deadline' 3 'ResponseReadError.*no answer within 1 seconds' query
 fake unanswered
-KMIP_TIMEOUT=1 reason 'a deadline of the handshake' 3 'ConnectError.*no answer within 1 seconds' query
+KMIP_TIMEOUT=1 reason 'one in the handshake' 3 'ConnectError.*no answer within 1 seconds' query
 fake over_limit
 reason 'a limit' 3 'DeserializeError.*limit of 1048576 bytes' query
 fake expired_server
@@ -33,7 +35,8 @@ certificate=$certs reason 'a folder as a certificate' 3 'ConnectError' query
 key=$certs/plain.key reason 'another key' 3 '[Kk]ey values mismatch|KEY_VALUES_MISMATCH' query
 port=$(free_port) reason 'nobody' 3 'Connection refused' query
 host=no.such.invalid reason 'no such host' 3 'ConnectError' query
-host='[::1]' port=$(free_port) reason 'an address of IPv6 in brackets' 3 'ConnectError.*(refused|unreachable|Cannot assign)' query
+refusals='ConnectError.*(refused|unreachable|Cannot assign)'
+host='[::1]' port=$(free_port) reason 'nobody at an address of IPv6' 3 "$refusals" query
 KMIP_USER=alice reason 'a user without a password' 2 'a credential is a user and a password' query
 KMIP_TIMEOUT=soon reason 'a deadline that is none' 2 'KMIP_TIMEOUT' query
 KMIP_LIMIT=-1 reason 'a limit that is none' 2 'KMIP_LIMIT|limit' query

@@ -3,10 +3,10 @@
 test_build secrets
 fake objects
 export SECRET_PASSWORD='the password 4e5f' SECRET_PASSPHRASE='geheim & co'
-certificate=$certs/encrypted.pem key=$certs/encrypted.key test_run secrets PrivateKey.PKCS8
+certificate=$certs/encrypted.pem key=$certs/encrypted.key
+test_run secrets PrivateKey.PKCS8
 unset SECRET_PASSWORD SECRET_PASSPHRASE
 fake certificate
-certificate=$certs/encrypted.pem key=$certs/encrypted.key
 KMIP_PASSPHRASE='geheim & co' call_is 'an encrypted key' 0 query
 says 'the server knows whose it is' alice
 KMIP_PASSPHRASE=geheim call_is 'a wrong passphrase' 3 query
@@ -14,7 +14,7 @@ says 'which is said' 'encrypted, and this is not its passphrase'
 call_is 'an encrypted key and no passphrase' 3 query
 says 'which is said' 'encrypted, and no passphrase is given'
 # At a terminal, too: nothing is asked.
-timeout 20 "$python" -c 'import pty, sys; pty.spawn(sys.argv[1:])' "$run/c/call" "$host" "$port" "$certificate" "$key" \
-    "$authority" query >"$said" 2>&1 </dev/null
+timeout 20 "$python" -c 'import pty, sys; pty.spawn(sys.argv[1:])' "$run/c/call" \
+    "$host" "$port" "$certificate" "$key" "$authority" query >"$said" 2>&1 </dev/null
 says 'at a terminal: it fails' 'no passphrase is given'
 says_not 'at a terminal: no question' 'Enter'

@@ -1,7 +1,7 @@
 # shellcheck shell=bash
 # Settings, words, a name that is not found in time, and memory that runs out.
 test_build settings "${sanitized[@]}"
-fake good
+fake ends
 test_run settings
 test_build memory "${sanitized[@]}" -Wl,--wrap=malloc,--wrap=calloc
 fake credential

@@ -9,7 +9,8 @@ tool() { # WHAT COMMAND PACKAGE WORD..
     "$2" "${@:4}" >"$said" 2>&1
     verdict "$1"
 }
-tool 'mypy finds nothing in the package' mypy mypy --strict --cache-dir "$work/mypy" metsuwan
-tool 'mypy finds nothing in the programs and tests' mypy mypy --strict --cache-dir "$work/mypy" call.py life.py rotate.py tests
+strictly=(--strict --cache-dir "$work/mypy")
+tool 'mypy finds nothing in the package' mypy mypy "${strictly[@]}" metsuwan
+tool 'mypy finds nothing beside it' mypy mypy "${strictly[@]}" call.py life.py rotate.py tests
 tool 'pyflakes finds nothing' pyflakes3 pyflakes3 .
 tool 'pycodestyle finds nothing' pycodestyle pycodestyle --max-line-length=100 .

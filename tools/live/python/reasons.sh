@@ -1,3 +1,3 @@
 # shellcheck shell=bash
-# What is no answer is one line of JSON on standard error, which says why: the cases of the client in C.
+# What is no answer is one line of JSON on standard error: the cases of the client in C.
 . "$here/c/reasons.sh"

@@ -10,13 +10,16 @@ client_needs() {
     [[ -e $built/libmetsuwan.a ]] || echo 'libmetsuwan.a (clients/build.sh)'
 }
 
-# A copy, since cargo writes a Cargo.lock; Debian's crates, so that no network is needed.
+# cargo WORD.. in a copy of the crate, since it writes a Cargo.lock; with Debian's crates, so that no network is needed.
+cargo_of_copy() { # COMMAND WORD..
+    (cd "$run/rust/source" && LIBMETSUWAN_DIR=$built CARGO_TARGET_DIR=$run/rust/target cargo "$1" --offline \
+        --config 'source.crates-io.replace-with="debian"' --config "source.debian.directory=\"$crates\"" "${@:2}")
+}
+
 client_build() {
-    cp -r "$top/clients/rust" "$run/rust/source" && cd "$run/rust/source/openssl" &&
-        LIBMETSUWAN_DIR=$built CARGO_TARGET_DIR=$run/rust/target cargo build --release --offline \
-            --config 'source.crates-io.replace-with="debian"' --config "source.debian.directory=\"$crates\""
+    cp -r "$top/clients/rust" "$run/rust/source" && cargo_of_copy build --release --features openssl --examples
 }
 
 client_program() { # NAME
-    program=("$run/rust/target/release/$1")
+    program=("$run/rust/target/release/examples/$1")
 }

@@ -1,0 +1,115 @@
+//! One call, whose arguments are texts. It writes the answer as JSON.
+//!
+//! call HOST PORT CERTIFICATE KEY AUTHORITY CALL TEXT..
+//!
+//! The environment may have KMIP_USER and KMIP_PASSWORD, a credential; KMIP_PASSPHRASE, that of an
+//! encrypted key; KMIP_LIMIT, the most bytes of a response (1048576 where it is not set; 0: no
+//! limit); KMIP_TIMEOUT, the most seconds of connecting and of the call (30; 0: no deadline). With
+//! KMIP_PEM set, a key or a certificate that was got is written as PEM.
+//!
+//! Status: 0 answered, 1 refused, 2 not of the grammar, 3 the connection is lost or there is none,
+//! 4 the answer could not be written, 5 out of memory. What is no answer is a line of JSON on
+//! standard error.
+mod settings;
+
+use metsuwan::{ClientBuilder, Error, Json, TlsClient, TlsConnector};
+use std::env::{self, VarError};
+use std::io::Write;
+use std::process::ExitCode;
+use std::time::Duration;
+
+/// Why there is no answer: a line of JSON, and the status.
+struct Failure(Json, u8);
+
+impl From<Error> for Failure {
+    fn from(error: Error) -> Failure {
+        let status = match error {
+            Error::GrammarError(_) | Error::ConfigurationError(_) => 2,
+            Error::OutOfMemory(_) => 5,
+            _ if error.is_lost() => 3,
+            _ => 1,
+        };
+        Failure(error.json(), status)
+    }
+}
+
+fn failure(kind: &str, text: &str) -> Failure {
+    let members = [("error", kind), ("text", text)];
+    let members = members.map(|(name, it)| (name.to_string(), Json::Text(it.to_string())));
+    Failure(Json::Object(members.into()), 2)
+}
+
+fn no_setting(text: &str) -> Failure {
+    failure("ConfigurationError", text)
+}
+
+/// A variable of the environment, where it is set and not empty.
+fn variable(name: &str) -> Result<Option<String>, Failure> {
+    match env::var(name) {
+        Ok(text) => Ok(Some(text).filter(|it| !it.is_empty())),
+        Err(VarError::NotPresent) => Ok(None),
+        Err(VarError::NotUnicode(_)) => Err(no_setting(&format!("{name} is not UTF-8"))),
+    }
+}
+
+/// The seconds that a text is: `Some(None)` for 0, which is no deadline.
+fn seconds(text: &str) -> Option<Option<Duration>> {
+    let seconds = text.parse::<f64>().ok().filter(|it| (0.0..1e9).contains(it))?;
+    Some((seconds > 0.0).then(|| Duration::from_secs_f64(seconds)))
+}
+
+/// A client of this server, with the settings of the environment.
+fn client_of(mut server: TlsConnector) -> Result<TlsClient, Failure> {
+    if let Some(text) = variable("KMIP_TIMEOUT")? {
+        let no_timeout = || no_setting("KMIP_TIMEOUT is no number of seconds, 0 to 1e9");
+        server = server.with_timeout(seconds(&text).ok_or_else(no_timeout)?);
+    }
+    if let Some(passphrase) = variable("KMIP_PASSPHRASE")? {
+        server = server.with_passphrase(passphrase);
+    }
+    let no_limit = |_| no_setting("KMIP_LIMIT is no number of bytes, 0 to 4294967295");
+    let limit = variable("KMIP_LIMIT")?.map(|it| it.parse().map_err(no_limit)).transpose()?;
+    let credential = match (variable("KMIP_USER")?, variable("KMIP_PASSWORD")?) {
+        (Some(user), Some(password)) => Some((user, password)),
+        (None, None) => None,
+        _ => return Err(no_setting("a credential is a user and a password")),
+    };
+    let mut builder = server.connect()?;
+    if let Some((user, password)) = credential {
+        builder = builder.with_credentials(user, password);
+    }
+    Ok(limit.into_iter().fold(builder, ClientBuilder::with_max_bytes).build())
+}
+
+fn call(client: &TlsClient, name: &str, texts: &[&str]) -> Result<String, Error> {
+    match texts {
+        [identifier] if name == "get" && env::var_os("KMIP_PEM").is_some() => {
+            client.get_key(identifier)?.pem()
+        }
+        _ => Ok(format!("{}\n", client.call_texts(name, texts)?.json())),
+    }
+}
+
+fn answer() -> Result<String, Failure> {
+    let no_words = |text| failure("GrammarError", text);
+    let words = settings::arguments().ok_or_else(|| no_words("a word is not UTF-8"))?;
+    let Some((server, [name, texts @ ..])) = settings::server_of(&words) else {
+        return Err(no_words("usage: call HOST PORT CERTIFICATE KEY AUTHORITY CALL TEXT.."));
+    };
+    let texts: Vec<&str> = texts.iter().map(String::as_str).collect();
+    Ok(call(&client_of(server)?, name, &texts)?)
+}
+
+fn main() -> ExitCode {
+    match answer() {
+        Ok(answer) => {
+            let mut out = std::io::stdout();
+            let written = out.write_all(answer.as_bytes()).and_then(|()| out.flush());
+            written.map_or(ExitCode::from(4), |()| ExitCode::SUCCESS)
+        }
+        Err(Failure(line, status)) => {
+            eprintln!("{line}");
+            ExitCode::from(status)
+        }
+    }
+}

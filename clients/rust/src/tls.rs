@@ -1,0 +1,449 @@
+//! TLS connections by the openssl crate, each use of which ends by a deadline.
+use crate::client::{Client, ClientBuilder};
+use crate::error::{Error, Result};
+use openssl::error::ErrorStack;
+use openssl::pkey::{PKey, Private};
+use openssl::ssl::{
+    self, ErrorCode, Ssl, SslContext, SslContextBuilder, SslMethod, SslMode, SslOptions, SslRef,
+    SslStream, SslVerifyMode, SslVersion,
+};
+use openssl::x509::verify::X509CheckFlags;
+use openssl::x509::X509VerifyResult;
+use std::fmt::{self, Debug, Formatter};
+use std::io::{self, ErrorKind, Read, Write};
+use std::net::{IpAddr, SocketAddr, TcpStream, ToSocketAddrs};
+use std::path::{Path, PathBuf};
+use std::sync::mpsc::{self, RecvTimeoutError};
+use std::thread;
+use std::time::{Duration, Instant};
+
+/// The most time of the opening, and of each call, where no other is given: 30 seconds.
+pub const DEFAULT_TIMEOUT: Duration = Duration::from_secs(30);
+
+/// A client over TLS.
+pub type TlsClient = Client<TlsStream>;
+
+/// Connects to a server. It is trusted where its certificate is of the given authority, and of no
+/// other, and names the host. `Debug` shows no passphrase.
+#[derive(Clone)]
+pub struct TlsConnector {
+    host: String,
+    port: u16,
+    identity: Option<(PathBuf, PathBuf)>,
+    authority: Option<PathBuf>,
+    passphrase: Option<String>,
+    timeout: Option<Duration>,
+}
+
+impl Debug for TlsConnector {
+    fn fmt(&self, f: &mut Formatter<'_>) -> fmt::Result {
+        f.debug_struct("TlsConnector")
+            .field("host", &self.host)
+            .field("port", &self.port)
+            .field("identity", &self.identity)
+            .field("authority", &self.authority)
+            .field("timeout", &self.timeout)
+            .finish_non_exhaustive()
+    }
+}
+
+impl TlsConnector {
+    /// To the server at this host, a name or an address, as `::1`, that its certificate has to
+    /// have. The certificate and the authority are needed too.
+    pub fn new(host: impl Into<String>, port: u16) -> Self {
+        TlsConnector {
+            host: host.into(),
+            port,
+            identity: None,
+            authority: None,
+            passphrase: None,
+            timeout: Some(DEFAULT_TIMEOUT),
+        }
+    }
+
+    /// PEM files of the client's certificate, with those of authorities between after it, and of
+    /// its private key.
+    pub fn with_certificate(
+        self,
+        certificate: impl Into<PathBuf>,
+        key: impl Into<PathBuf>,
+    ) -> Self {
+        TlsConnector { identity: Some((certificate.into(), key.into())), ..self }
+    }
+
+    /// The PEM file of the authority of the server's certificate; no other is trusted.
+    pub fn with_authority(self, authority: impl Into<PathBuf>) -> Self {
+        TlsConnector { authority: Some(authority.into()), ..self }
+    }
+
+    /// The passphrase of a private key that is encrypted; no terminal is asked.
+    pub fn with_passphrase(self, passphrase: impl Into<String>) -> Self {
+        TlsConnector { passphrase: Some(passphrase.into()), ..self }
+    }
+
+    /// The most time of the opening, and of each call, whatever the server does: 30 seconds where
+    /// no other is given; `None` or zero is no deadline.
+    pub fn with_timeout(self, timeout: Option<Duration>) -> Self {
+        TlsConnector { timeout: timeout.filter(|it| !it.is_zero()), ..self }
+    }
+
+    /// Connects, and gives the builder of a client on this connection.
+    ///
+    /// # Errors
+    /// - `ConfigurationError`: a setting is missing, or is none
+    /// - `ConnectError`: a file cannot be read, or there is no connection to a server that is
+    ///   trusted
+    pub fn connect(&self) -> Result<ClientBuilder<TlsStream>> {
+        let name = self.name()?;
+        let context = self.context()?;
+        let stream = self.open(&context, name);
+        let stream = stream.map_err(|it| Error::connect(it.to_string(), Some(it.kind())))?;
+        Ok(ClientBuilder::new(stream).with_before_call(TlsStream::begin))
+    }
+
+    /// The host without the brackets of an address, and without the zone of one.
+    fn host(&self) -> &str {
+        let inner = self.host.strip_prefix('[').and_then(|it| it.strip_suffix(']'));
+        inner.unwrap_or(&self.host)
+    }
+
+    /// What the server's certificate has to have. OpenSSL takes an empty name for none, and one
+    /// that begins with a dot for any below it.
+    fn name(&self) -> Result<&str> {
+        let name = self.host().split('%').next().unwrap_or("");
+        if name.is_empty() || name.starts_with('.') || name.contains('\0') {
+            return Err(Error::configuration(format!("{:?} is no host", self.host)));
+        }
+        Ok(name)
+    }
+
+    fn context(&self) -> Result<SslContext> {
+        let missing = |what| Error::configuration(format!("{what} is not given"));
+        let (certificate, key) = self.identity.as_ref().ok_or_else(|| missing("certificate"))?;
+        let authority = self.authority.as_ref().ok_or_else(|| missing("authority"))?;
+        file("certificate", certificate)?;
+        let pem = file("key", key)?;
+        file("authority", authority)?;
+        let private_key = private_key(key, &pem, self.passphrase.as_deref())?;
+        let mut context = strict_context().map_err(|it| failed("OpenSSL", &it))?;
+        context
+            .set_ca_file(authority)
+            .map_err(|it| failed(&format!("authority {}", authority.display()), &it))?;
+        context
+            .set_certificate_chain_file(certificate)
+            .map_err(|it| failed(&format!("certificate {}", certificate.display()), &it))?;
+        context.set_private_key(&private_key).and_then(|()| context.check_private_key()).map_err(
+            |it| {
+                let (certificate, key) = (certificate.display(), key.display());
+                failed(&format!("certificate {certificate}, key {key}"), &it)
+            },
+        )?;
+        Ok(context.build())
+    }
+
+    /// The connection, within its time.
+    fn open(&self, context: &SslContext, name: &str) -> io::Result<TlsStream> {
+        let time = Time::new(self.timeout);
+        let addresses = addresses(self.host(), self.port, &time)?;
+        let stream = reach(&addresses, &time)?;
+        stream.set_nodelay(true)?;
+        let mut ssl = Ssl::new(context)?;
+        check_name(&mut ssl, name)?;
+        let timed = Timed { stream, time, is_waiting: true, has_ended: false };
+        let mut stream = TlsStream { tls: SslStream::new(ssl, timed)? };
+        match stream.tls.connect() {
+            Ok(()) => Ok(stream),
+            Err(error) => Err(stream.io_error(error)),
+        }
+    }
+}
+
+/// The bytes of a file.
+fn file(what: &str, path: &Path) -> Result<Vec<u8>> {
+    std::fs::read(path).map_err(|error| {
+        Error::connect(format!("{what} {}: {error}", path.display()), Some(error.kind()))
+    })
+}
+
+fn failed(what: &str, errors: &ErrorStack) -> Error {
+    Error::connect(format!("{what}: {}", reasons(errors)), None)
+}
+
+/// What OpenSSL says, without the places in its sources.
+fn reasons(errors: &ErrorStack) -> String {
+    let reasons: Vec<&str> = errors.errors().iter().filter_map(|it| it.reason()).collect();
+    if reasons.is_empty() {
+        return errors.to_string();
+    }
+    reasons.join(", ")
+}
+
+fn private_key(path: &Path, pem: &[u8], passphrase: Option<&str>) -> Result<PKey<Private>> {
+    let mut is_encrypted = false;
+    // Without this the terminal is asked.
+    let key = PKey::private_key_from_pem_callback(pem, |room| {
+        is_encrypted = true;
+        let passphrase = passphrase.unwrap_or("").as_bytes();
+        let room = room.get_mut(..passphrase.len()).ok_or_else(ErrorStack::get)?;
+        room.copy_from_slice(passphrase);
+        Ok(passphrase.len())
+    });
+    key.map_err(|errors| {
+        let path = path.display();
+        let why = match passphrase {
+            _ if !is_encrypted => return failed(&format!("key {path}"), &errors),
+            None => "no passphrase is given",
+            Some(_) => "this is not its passphrase",
+        };
+        Error::connect(format!("key {path}: it is encrypted, and {why}"), None)
+    })
+}
+
+/// A context that trusts nobody yet: not even the authorities of the system.
+fn strict_context() -> std::result::Result<SslContextBuilder, ErrorStack> {
+    let mut context = SslContext::builder(SslMethod::tls_client())?;
+    context.set_min_proto_version(Some(SslVersion::TLS1_2))?;
+    context.set_verify(SslVerifyMode::PEER);
+    context.set_mode(SslMode::AUTO_RETRY);
+    context.set_options(SslOptions::NO_COMPRESSION);
+    Ok(context)
+}
+
+/// The server's certificate has to have this name or address.
+fn check_name(ssl: &mut SslRef, name: &str) -> std::result::Result<(), ErrorStack> {
+    match name.parse::<IpAddr>() {
+        Ok(address) => ssl.param_mut().set_ip(address),
+        Err(_) => {
+            ssl.set_hostname(name)?;
+            ssl.param_mut().set_hostflags(X509CheckFlags::NO_PARTIAL_WILDCARDS);
+            ssl.param_mut().set_host(name)
+        }
+    }
+}
+
+/// The time of the opening, or of a call.
+struct Time {
+    timeout: Option<Duration>,
+    /// None: no deadline.
+    end: Option<Instant>,
+}
+
+impl Time {
+    fn new(timeout: Option<Duration>) -> Time {
+        Time { timeout, end: timeout.and_then(|it| Instant::now().checked_add(it)) }
+    }
+
+    fn over(&self) -> io::Error {
+        let seconds = self.timeout.map_or(0.0, |it| it.as_secs_f64());
+        io::Error::new(ErrorKind::TimedOut, format!("no answer within {seconds} seconds"))
+    }
+
+    /// What is left of it; `None` where there is no deadline.
+    fn left(&self) -> io::Result<Option<Duration>> {
+        let Some(end) = self.end else {
+            return Ok(None);
+        };
+        let left = end.checked_duration_since(Instant::now()).filter(|it| !it.is_zero());
+        left.map(Some).ok_or_else(|| self.over())
+    }
+}
+
+/// The addresses of a host. A search has no deadline, and so has a thread of its own.
+fn addresses(host: &str, port: u16, time: &Time) -> io::Result<Vec<SocketAddr>> {
+    if let Ok(address) = host.parse::<IpAddr>() {
+        return Ok(vec![SocketAddr::new(address, port)]);
+    }
+    let (sender, receiver) = mpsc::channel();
+    let host = host.to_string();
+    thread::Builder::new().name("metsuwan: addresses".into()).spawn(move || {
+        let found = (host.as_str(), port).to_socket_addrs().map(Iterator::collect);
+        // Nobody waits for it past the deadline.
+        let _ = sender.send(found);
+    })?;
+    let found = match time.left()? {
+        None => receiver.recv().map_err(|_| RecvTimeoutError::Disconnected),
+        Some(left) => receiver.recv_timeout(left),
+    };
+    found.map_err(|error| match error {
+        RecvTimeoutError::Timeout => time.over(),
+        RecvTimeoutError::Disconnected => {
+            io::Error::new(ErrorKind::Other, "the search of the host's address broke off")
+        }
+    })?
+}
+
+/// A connection to the first address that is reached; each has its share of the time.
+fn reach(addresses: &[SocketAddr], time: &Time) -> io::Result<TcpStream> {
+    let mut last = io::Error::new(ErrorKind::NotFound, "the host has no address");
+    for (at, address) in addresses.iter().enumerate() {
+        let share = u32::try_from(addresses.len() - at).unwrap_or(u32::MAX);
+        let reached = match time.left()? {
+            None => TcpStream::connect(address),
+            Some(left) => {
+                let share = (left / share).max(Duration::from_millis(1));
+                TcpStream::connect_timeout(address, share)
+            }
+        };
+        match reached {
+            Ok(stream) => return Ok(stream),
+            Err(error) => last = error,
+        }
+    }
+    time.left()?;
+    Err(last)
+}
+
+/// A TCP connection, each use of which ends by its time.
+struct Timed {
+    stream: TcpStream,
+    time: Time,
+    /// Whether a use waits for the server.
+    is_waiting: bool,
+    /// Whether the server has ended the connection.
+    has_ended: bool,
+}
+
+impl Timed {
+    fn wait(&mut self, is_waiting: bool) -> io::Result<()> {
+        self.stream.set_nonblocking(!is_waiting)?;
+        self.is_waiting = is_waiting;
+        Ok(())
+    }
+
+    /// Does this until it is done, or the time is over.
+    fn in_time<R>(
+        &mut self,
+        limit: fn(&TcpStream, Option<Duration>) -> io::Result<()>,
+        mut step: impl FnMut(&mut TcpStream) -> io::Result<R>,
+    ) -> io::Result<R> {
+        loop {
+            if self.is_waiting {
+                limit(&self.stream, self.time.left()?)?;
+            }
+            match step(&mut self.stream) {
+                Err(error) if error.kind() == ErrorKind::Interrupted => {}
+                Err(error)
+                    if self.is_waiting
+                        && matches!(error.kind(), ErrorKind::WouldBlock | ErrorKind::TimedOut) => {}
+                done => return done,
+            }
+        }
+    }
+}
+
+impl Read for Timed {
+    fn read(&mut self, into: &mut [u8]) -> io::Result<usize> {
+        let count = self.in_time(TcpStream::set_read_timeout, |stream| stream.read(into))?;
+        self.has_ended |= count == 0 && !into.is_empty();
+        Ok(count)
+    }
+}
+
+impl Write for Timed {
+    fn write(&mut self, bytes: &[u8]) -> io::Result<usize> {
+        self.in_time(TcpStream::set_write_timeout, |stream| stream.write(bytes))
+    }
+
+    fn flush(&mut self) -> io::Result<()> {
+        self.stream.flush()
+    }
+}
+
+/// A TLS connection, each use of which ends by the deadline of its call. When it is dropped, its end
+/// is told to the server, and nothing is waited for.
+pub struct TlsStream {
+    tls: SslStream<Timed>,
+}
+
+impl TlsStream {
+    /// From here on the connection has the time of one call. It is looked at first: nothing may
+    /// have come that no call had asked for.
+    fn begin(&mut self) -> io::Result<()> {
+        let timed = self.tls.get_mut();
+        timed.time = Time::new(timed.time.timeout);
+        timed.wait(false)?;
+        let early = self.tls.ssl_read(&mut [0]);
+        self.tls.get_mut().wait(true)?;
+        match early {
+            Ok(_) => {
+                let text = "the server sent bytes that no call had asked for";
+                Err(io::Error::new(ErrorKind::InvalidData, text))
+            }
+            Err(error) if is_to_wait(&error) => Ok(()),
+            Err(error) => Err(self.io_error(error)),
+        }
+    }
+
+    /// What an error of TLS comes to.
+    fn io_error(&self, error: ssl::Error) -> io::Error {
+        if self.tls.get_ref().has_ended || error.code() == ErrorCode::ZERO_RETURN {
+            return io::Error::new(ErrorKind::UnexpectedEof, "end of input");
+        }
+        let error = match error.into_io_error() {
+            Ok(error) => return error,
+            Err(error) => error,
+        };
+        let mut text = error.ssl_error().map_or_else(|| error.to_string(), reasons);
+        let verified = self.tls.ssl().verify_result();
+        if verified != X509VerifyResult::OK {
+            text = format!("{text}: {}", verified.error_string());
+        }
+        io::Error::new(ErrorKind::Other, text)
+    }
+
+    /// Does this until it is done.
+    fn in_tls(
+        &mut self,
+        mut step: impl FnMut(&mut SslStream<Timed>) -> std::result::Result<usize, ssl::Error>,
+    ) -> io::Result<usize> {
+        loop {
+            match step(&mut self.tls) {
+                Ok(count) => return Ok(count),
+                // A message of TLS itself came.
+                Err(error) if is_to_wait(&error) && error.io_error().is_none() => {}
+                Err(error) => return Err(self.io_error(error)),
+            }
+        }
+    }
+}
+
+fn is_to_wait(error: &ssl::Error) -> bool {
+    matches!(error.code(), ErrorCode::WANT_READ | ErrorCode::WANT_WRITE)
+}
+
+impl Debug for TlsStream {
+    fn fmt(&self, f: &mut Formatter<'_>) -> fmt::Result {
+        f.debug_tuple("TlsStream").field(&self.tls.get_ref().stream).finish()
+    }
+}
+
+impl Read for TlsStream {
+    fn read(&mut self, into: &mut [u8]) -> io::Result<usize> {
+        if into.is_empty() {
+            return Ok(0);
+        }
+        self.in_tls(|tls| tls.ssl_read(into))
+    }
+}
+
+impl Write for TlsStream {
+    fn write(&mut self, bytes: &[u8]) -> io::Result<usize> {
+        if bytes.is_empty() {
+            return Ok(0);
+        }
+        self.in_tls(|tls| tls.ssl_write(bytes))
+    }
+
+    fn flush(&mut self) -> io::Result<()> {
+        self.tls.get_mut().flush()
+    }
+}
+
+impl Drop for TlsStream {
+    fn drop(&mut self) {
+        // The connection ends, whether the server gets to know it or not.
+        if self.tls.get_mut().wait(false).is_ok() {
+            let _ = self.tls.shutdown();
+        }
+    }
+}

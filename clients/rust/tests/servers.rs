@@ -1,0 +1,181 @@
+//! Sessions over TLS with servers that make it hard. tools/live/rust/unit.sh starts them, and says
+//! where they are: METSUWAN_FAKES is the file of their ports, METSUWAN_CERTS the folder of their
+//! certificates.
+use metsuwan::{Error, TlsClient, TlsConnector};
+use std::io::ErrorKind;
+use std::path::PathBuf;
+use std::thread;
+use std::time::{Duration, Instant};
+
+fn folder() -> PathBuf {
+    std::env::var_os("METSUWAN_CERTS").expect("METSUWAN_CERTS").into()
+}
+
+fn port_of(name: &str) -> u16 {
+    let path = std::env::var_os("METSUWAN_FAKES").expect("METSUWAN_FAKES");
+    let ports = std::fs::read_to_string(path).unwrap();
+    let mut found = ports.lines().filter_map(|line| line.split_once(' '));
+    let (_, port) = found.find(|(it, _)| *it == name).expect("a fake of this name");
+    port.parse().unwrap()
+}
+
+fn connector(fake: &str, host: &str, client: &str) -> TlsConnector {
+    let file = |name: String| folder().join(name);
+    TlsConnector::new(host, port_of(fake))
+        .with_certificate(file(format!("{client}.pem")), file(format!("{client}.key")))
+        .with_authority(file("ca.pem".into()))
+        .with_timeout(Some(Duration::from_secs(10)))
+}
+
+fn client(fake: &str) -> TlsClient {
+    connector(fake, "localhost", "client").connect().unwrap().build()
+}
+
+/// The next call ends so, and each later one says that the connection is closed.
+fn is_lost(client: &TlsClient, wanted: &str) {
+    let error = client.sign("mine", b"x").unwrap_err();
+    assert!(error.is_lost() && error.to_string() == wanted, "{error}");
+    let closed = client.query().unwrap_err().to_string();
+    assert_eq!(closed, "RequestWriteError: the connection is closed; nothing was sent");
+}
+
+#[test]
+#[ignore = "it needs the fake servers"]
+fn an_answer_about_another_object() {
+    is_lost(&client("other_object"), "InternalError: answer for another object");
+}
+
+#[test]
+#[ignore = "it needs the fake servers"]
+fn bytes_that_no_call_asked_for() {
+    let text = "the server sent bytes that no call had asked for; nothing was sent";
+    for fake in ["two", "trailing"] {
+        let client = client(fake);
+        client.query().unwrap();
+        thread::sleep(Duration::from_millis(200));
+        is_lost(&client, &format!("RequestWriteError: {text}"));
+    }
+    let client = client("early");
+    thread::sleep(Duration::from_millis(200));
+    is_lost(&client, &format!("RequestWriteError: {text}"));
+}
+
+#[test]
+#[ignore = "it needs the fake servers"]
+fn a_connection_that_ends_between_calls() {
+    let client = client("end_after");
+    client.query().unwrap();
+    thread::sleep(Duration::from_millis(200));
+    is_lost(&client, "RequestWriteError: end of input; nothing was sent");
+}
+
+#[test]
+#[ignore = "it needs the fake servers"]
+fn each_call_has_its_own_deadline() {
+    let connector = connector("slow", "localhost", "client");
+    let client = connector.with_timeout(Some(Duration::from_secs(2))).connect().unwrap().build();
+    for _ in 0..3 {
+        thread::sleep(Duration::from_millis(900));
+        client.sign("mine", b"x").unwrap();
+    }
+    let started = Instant::now();
+    let error = client.sign("slow", b"x").unwrap_err();
+    assert_eq!(error.to_string(), "ResponseReadError: no answer within 2 seconds");
+    assert_eq!(error.details().io_kind(), Some(ErrorKind::TimedOut));
+    assert!((1900..2900).contains(&started.elapsed().as_millis()), "{:?}", started.elapsed());
+    assert!(matches!(client.query(), Err(Error::RequestWriteError(_))));
+}
+
+#[test]
+#[ignore = "it needs the fake servers"]
+fn no_deadline() {
+    for timeout in [None, Some(Duration::ZERO), Some(Duration::MAX)] {
+        let connector = connector("slow", "localhost", "client").with_timeout(timeout);
+        connector.connect().unwrap().build().sign("slow", b"x").unwrap();
+    }
+}
+
+#[test]
+#[ignore = "it needs the fake servers"]
+fn closing_waits_for_nothing() {
+    let client = client("no_close");
+    client.query().unwrap();
+    let started = Instant::now();
+    drop(client);
+    assert!(started.elapsed() < Duration::from_secs(1), "{:?}", started.elapsed());
+}
+
+#[test]
+#[ignore = "it needs the fake servers"]
+fn threads_get_their_own_answers() {
+    let client = client("good");
+    thread::scope(|scope| {
+        for at in 0..8 {
+            let client = &client;
+            scope.spawn(move || {
+                for _ in 0..20 {
+                    let name = format!("k{at}");
+                    let signed = client.sign(&name, b"x").unwrap();
+                    let data = format!("signature by {name}");
+                    assert_eq!(signed.signature_data, data.as_bytes());
+                    assert_eq!(signed.unique_identifier, name);
+                }
+            });
+        }
+    });
+}
+
+#[test]
+#[ignore = "it needs the fake servers"]
+fn a_credential_is_sent() {
+    let builder = connector("credential", "localhost", "client").connect().unwrap();
+    let client = builder.with_credentials("alice", "s\u{e9}cret").build();
+    let server = client.query().unwrap();
+    assert_eq!(server.vendor_identification.as_deref(), Some("alice:s\u{e9}cret"));
+}
+
+#[test]
+#[ignore = "it needs the fake servers"]
+fn a_host_is_a_name_or_an_address() {
+    let fails = |fake: &str, host: &str| {
+        connector(fake, host, "client").connect().map(drop).unwrap_err().to_string()
+    };
+    connector("address", "127.0.0.1", "client").connect().unwrap().build().query().unwrap();
+    let wanted = "ConnectError: certificate verify failed: hostname mismatch";
+    assert_eq!(fails("address", "localhost").to_lowercase(), wanted.to_lowercase());
+    let wanted = "ConnectError: certificate verify failed: IP address mismatch";
+    assert_eq!(fails("good", "127.0.0.1").to_lowercase(), wanted.to_lowercase());
+    for host in ["", "[]", "%lo", ".localhost", "local\0host"] {
+        assert_eq!(fails("good", host), format!("ConfigurationError: {host:?} is no host"));
+    }
+}
+
+#[test]
+#[ignore = "it needs the fake servers"]
+fn settings_that_are_missing() {
+    let certificate = folder().join("client.pem");
+    let key = folder().join("client.key");
+    let fails = |it: TlsConnector| it.connect().map(drop).unwrap_err().to_string();
+    let bare = TlsConnector::new("localhost", port_of("good"));
+    assert_eq!(fails(bare.clone()), "ConfigurationError: certificate is not given");
+    let one = bare.with_certificate(certificate, key);
+    assert_eq!(fails(one), "ConfigurationError: authority is not given");
+}
+
+#[test]
+#[ignore = "it needs the fake servers"]
+fn an_encrypted_key() {
+    let connector = connector("certificate", "localhost", "encrypted");
+    let with = |it: TlsConnector| it.connect().map(|it| it.build().query().unwrap());
+    let server = with(connector.clone().with_passphrase("geheim & co")).unwrap();
+    assert_eq!(server.vendor_identification.as_deref(), Some("alice"));
+    let long = "x".repeat(100_000);
+    for wrong in ["geheim", "", &long] {
+        let error = with(connector.clone().with_passphrase(wrong)).unwrap_err().to_string();
+        assert!(error.ends_with("it is encrypted, and this is not its passphrase"), "{error}");
+    }
+    let error = with(connector.clone()).unwrap_err().to_string();
+    assert!(error.ends_with("it is encrypted, and no passphrase is given"), "{error}");
+    let shown = format!("{:?}", connector.with_passphrase("geheim & co"));
+    assert!(!shown.contains("geheim") && shown.contains("encrypted.key"), "{shown}");
+}

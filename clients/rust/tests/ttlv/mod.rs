@@ -1,0 +1,60 @@
+//! Responses of KMIP servers, by hand (KMIP 1.2, 9.1).
+
+fn item(tag: u32, kind: u8, value: &[u8]) -> Vec<u8> {
+    let mut made = tag.to_be_bytes()[1..].to_vec();
+    made.push(kind);
+    made.extend(u32::try_from(value.len()).unwrap().to_be_bytes());
+    made.extend(value);
+    made.resize((made.len() + 7) / 8 * 8, 0);
+    made
+}
+
+pub fn structure(tag: u32, items: &[Vec<u8>]) -> Vec<u8> {
+    item(tag, 1, &items.concat())
+}
+
+pub fn integer(tag: u32, number: i32) -> Vec<u8> {
+    item(tag, 2, &number.to_be_bytes())
+}
+
+pub fn enumeration(tag: u32, number: u32) -> Vec<u8> {
+    item(tag, 5, &number.to_be_bytes())
+}
+
+pub fn text(tag: u32, text: &str) -> Vec<u8> {
+    item(tag, 7, text.as_bytes())
+}
+
+pub fn bytes(tag: u32, bytes: &[u8]) -> Vec<u8> {
+    item(tag, 8, bytes)
+}
+
+pub fn identifier(value: &str) -> Vec<u8> {
+    text(0x420094, value)
+}
+
+/// A response message with one more item in its header, where `more` is not empty.
+fn message(more: &[u8], batch_item: &[Vec<u8>]) -> Vec<u8> {
+    let version = structure(0x420069, &[integer(0x42006A, 1), integer(0x42006B, 2)]);
+    let date = item(0x420092, 9, &1_700_000_000_i64.to_be_bytes());
+    let head = [version, date, more.to_vec(), integer(0x42000D, 1)];
+    structure(0x42007B, &[structure(0x42007A, &head), structure(0x42000F, batch_item)])
+}
+
+/// A response of success, with this in its header.
+pub fn response_with(more: &[u8], operation: u32, payload: &[Vec<u8>]) -> Vec<u8> {
+    let status = enumeration(0x42007F, 0);
+    message(more, &[enumeration(0x42005C, operation), status, structure(0x42007C, payload)])
+}
+
+/// A response of success.
+pub fn response(operation: u32, payload: &[Vec<u8>]) -> Vec<u8> {
+    response_with(&[], operation, payload)
+}
+
+/// A response of failure.
+pub fn failure(operation: u32, reason: u32, why: &str) -> Vec<u8> {
+    let status = enumeration(0x42007F, 1);
+    let reason = enumeration(0x42007E, reason);
+    message(&[], &[enumeration(0x42005C, operation), status, reason, text(0x42007D, why)])
+}

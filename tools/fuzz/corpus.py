@@ -1,0 +1,96 @@
+#!/usr/bin/python3
+"""Writes calls and responses to them for the fuzzers: corpus.py FOLDER CERTS.
+
+Each pair is NAME.call and NAME.response in FOLDER. The responses are those of the fake servers of
+tools/live; CERTS is a folder that certs.sh of tools/live made. LIBMETSUWAN is the library.
+"""
+import pathlib
+import sys
+from typing import Any, Dict, List, Tuple
+
+TOP = pathlib.Path(__file__).resolve().parents[2]
+sys.path[:0] = [str(TOP / 'tools' / 'live'), str(TOP / 'clients' / 'python')]
+import fakes                                    # noqa: E402
+from metsuwan.library import Library            # noqa: E402
+
+ONE = b'1'
+IDENTIFIED = fakes.identifier('1')
+OPERATIONS = {'activate': 0x12, 'revoke': 0x13, 'destroy': 0x14}
+
+
+def attribute(name: str, *value: bytes) -> bytes:
+    return fakes.structure(0x420008, fakes.text(0x42000A, name), *value)
+
+
+def attributes() -> List[bytes]:
+    """One of each type of value."""
+    named = fakes.structure(0x42000B, fakes.text(0x420055, 'a "name"\n'),
+                            fakes.enumeration(0x420054, 1))
+    return [
+        attribute('Name', fakes.integer(0x420009, 0), named),
+        attribute('State', fakes.enumeration(0x42000B, 1)),
+        attribute('Cryptographic Length', fakes.integer(0x42000B, 256)),
+        attribute('Initial Date', fakes.date(0x42000B, -5)),
+        attribute('Object Type', fakes.enumeration(0x42000B, 2)),
+        attribute('x-own', fakes.text(0x42000B, 'text')),
+        attribute('x-bytes', fakes.octets(0x42000B, b'\0\xff')),
+    ]
+
+
+def answers(certs: str) -> Dict[str, Tuple[bytes, bytes]]:
+    """Calls, and a good answer to each."""
+    response = fakes.response
+    made = {
+        'query': (b'query', fakes.GOOD_QUERY),
+        'create_rsa': (b'create-rsa 2048 a b', response(2, fakes.KEYS)),
+        'create_aes': (b'create-aes 256 n',
+                       response(1, [fakes.enumeration(0x420057, 2), IDENTIFIED])),
+        'rng': (b'rng 4', response(0x25, [fakes.octets(0x4200C2, b'\xde\xad\xbe\xef')])),
+        'sign': (b'sign 1 0102',
+                 response(0x21, [IDENTIFIED, fakes.octets(0x4200C3, b'signature')])),
+        'rename': (b'rename 1 new', response(0x0E, [IDENTIFIED, attributes()[0]])),
+        'locate': (b'locate n', response(8, [IDENTIFIED, fakes.identifier('2')])),
+        'attributes': (b'attributes 1', response(0x0B, [IDENTIFIED, *attributes()])),
+        'discover': (b'discover', response(0x1E, [fakes.structure(
+            0x420069, fakes.integer(0x42006A, 1), fakes.integer(0x42006B, 2))])),
+    }
+    for name, number in OPERATIONS.items():
+        made[name] = (name.encode() + b' 1', response(number, [IDENTIFIED]))
+    for path in sorted(pathlib.Path(certs, 'objects').glob('*.der')):
+        kind, form = path.stem.split('.')
+        value = path.read_bytes()
+        if kind != 'Certificate':
+            value = fakes.structure(0x420045, fakes.octets(0x420043, value))
+        number, body = fakes.object_of(kind, form, value)
+        made['get.' + path.stem] = (b'get 1', response(0x0A, [number, IDENTIFIED, body]))
+    return made
+
+
+def all_pairs(certs: str) -> Dict[str, Tuple[bytes, bytes]]:
+    """The answers, a failure of each call, the same by `raw`, and odd ones."""
+    library = Library()
+    pairs = answers(certs)
+    for name, (call, _) in list(pairs.items()):
+        request: Any = library.request(call)
+        operation = fakes.operation_of(request)
+        failed = fakes.response(operation, None, status=fakes.FAILED, reason=1,
+                                message='why "not"?\n')
+        pairs['failed.' + name] = (call, failed)
+        pairs['raw.' + name] = (b'raw ' + request.hex().encode(), pairs[name][1])
+    key = pairs['sign'][1]
+    pairs['other_object'] = (b'sign mine 00', key)
+    pairs['reason'] = (b'activate 1', fakes.response(0x12, None, status=fakes.FAILED, reason=0x7FFF,
+                                                     message='m'))
+    pairs['levels'] = (b'query', fakes.response(0x18, [fakes.nested(58)]))
+    pairs['empty'] = (b'query', b'')
+    return pairs
+
+
+def main() -> None:
+    folder = pathlib.Path(sys.argv[1])
+    for name, (call, response) in all_pairs(sys.argv[2]).items():
+        (folder / (name + '.call')).write_bytes(call)
+        (folder / (name + '.response')).write_bytes(response)
+
+
+main()

@@ -1,0 +1,411 @@
+/* Calls the library of metsuwan.h with random input, in buffers of exactly the size that is told.
+
+   fuzz CORPUS SEED ROUNDS LINES
+
+   CORPUS has calls and responses, as NAME.call and NAME.response; they and mutations of them are
+   the input. Each line of kmip_answer is written to LINES with its status in front. What is
+   checked: the results are among those of the header; nothing is written where it does not fit,
+   and nothing past the length that is told; the same input gives the same output; a request is
+   one message; kmip_contents_len is as its definition says. What is read or written out of place,
+   and what is not freed, is found by the sanitizers. A round of over 20 seconds ends the run. */
+#define _POSIX_C_SOURCE 200809L
+#include "metsuwan.h"
+
+#include <dirent.h>
+#include <signal.h>
+#include <stdio.h>
+#include <stdlib.h>
+#include <string.h>
+#include <unistd.h>
+
+#define MOST_FILES 400
+#define UNTOUCHED 0xC5
+
+typedef struct {
+    uint8_t *bytes;
+    size_t length;
+} blob;
+
+static blob calls[MOST_FILES], responses[MOST_FILES];
+static size_t files;
+static uint64_t state;
+static volatile long at_round;
+
+static void found(const char *what) {
+    fprintf(stderr, "FOUND in round %ld: %s\n", at_round, what);
+    abort();
+}
+
+static void is_late(int number) {
+    (void)number;
+    static const char text[] = "FOUND: a round took over 20 seconds\n";
+    if (write(2, text, sizeof text - 1) < 0) _exit(98);
+    _exit(99);
+}
+
+static uint64_t any(void) {
+    state ^= state << 13;
+    state ^= state >> 7;
+    state ^= state << 17;
+    return state;
+}
+
+static size_t below(size_t bound) {
+    return bound ? (size_t)(any() % bound) : 0;
+}
+
+/* A block of exactly these bytes; one of none has a pointer too. */
+static blob copy_of(const uint8_t *bytes, size_t length) {
+    blob made = {malloc(length ? length : 1), length};
+    if (!made.bytes) exit(9);
+    if (length) memcpy(made.bytes, bytes, length);
+    return made;
+}
+
+static blob load(const char *folder, const char *name, size_t stem, const char *end) {
+    char path[1000];
+    static uint8_t bytes[1 << 20];
+    snprintf(path, sizeof path, "%s/%.*s%s", folder, (int)stem, name, end);
+    FILE *file = fopen(path, "rb");
+    if (!file) exit(9);
+    size_t length = fread(bytes, 1, sizeof bytes, file);
+    fclose(file);
+    return copy_of(bytes, length);
+}
+
+static void load_all(const char *folder) {
+    DIR *entries = opendir(folder);
+    if (!entries) exit(9);
+    for (struct dirent *it = readdir(entries); it && files < MOST_FILES; it = readdir(entries)) {
+        const char *end = strrchr(it->d_name, '.');
+        if (!end || strcmp(end, ".call") != 0) continue;
+        size_t stem = (size_t)(end - it->d_name);
+        calls[files] = load(folder, it->d_name, stem, ".call");
+        responses[files] = load(folder, it->d_name, stem, ".response");
+        files++;
+    }
+    closedir(entries);
+    if (files == 0) exit(9);
+}
+
+static uint32_t number_at(const uint8_t *at) {
+    return (uint32_t)at[0] << 24 | (uint32_t)at[1] << 16 | (uint32_t)at[2] << 8 | at[3];
+}
+
+static void set_number(uint8_t *at, uint32_t number) {
+    for (int i = 0; i < 4; i++)
+        at[i] = (uint8_t)(number >> (24 - 8 * i));
+}
+
+/* Changes of a message: each has room for 300 bytes more. */
+
+static void turn_a_bit(blob *it) {
+    if (it->length) it->bytes[below(it->length)] ^= (uint8_t)(1 << below(8));
+}
+
+static void set_a_byte(blob *it) {
+    if (it->length) it->bytes[below(it->length)] = (uint8_t)any();
+}
+
+static void cut(blob *it) {
+    it->length = below(it->length + 1);
+}
+
+static void insert(blob *it) {
+    size_t at = below(it->length + 1), more = 1 + below(64);
+    memmove(it->bytes + at + more, it->bytes + at, it->length - at);
+    for (size_t i = 0; i < more; i++)
+        it->bytes[at + i] = below(3) ? (uint8_t)any() : 0;
+    it->length += more;
+}
+
+static void take_out(blob *it) {
+    if (!it->length) return;
+    size_t at = below(it->length), less = 1 + below(64);
+    if (less > it->length - at) less = it->length - at;
+    memmove(it->bytes + at, it->bytes + at + less, it->length - at - less);
+    it->length -= less;
+}
+
+static void set_a_length(blob *it) {
+    if (it->length < 8) return;
+    uint32_t odd = below(2) ? UINT32_MAX - (uint32_t)below(16) : (uint32_t)any();
+    set_number(it->bytes + below(it->length / 8) * 8 + 4, below(2) ? (uint32_t)below(64) : odd);
+}
+
+static void set_a_type(blob *it) {
+    if (it->length >= 8) it->bytes[below(it->length / 8) * 8 + 3] = (uint8_t)(1 + below(11));
+}
+
+static void set_a_tag(blob *it) {
+    static const uint8_t tags[] = {0x08, 0x0A, 0x0B, 0x0D, 0x0F, 0x28, 0x2A, 0x40, 0x42, 0x43,
+                                   0x45, 0x57, 0x5C, 0x64, 0x66, 0x6D, 0x6F, 0x7A, 0x7B, 0x7C,
+                                   0x7D, 0x7E, 0x7F, 0x92, 0x93, 0x94, 0x9D, 0xC2, 0xC3};
+    if (it->length >= 8) it->bytes[below(it->length / 8) * 8 + 2] = tags[below(sizeof tags)];
+}
+
+static void copy_a_word(blob *it) {
+    if (it->length < 16) return;
+    size_t from = below(it->length / 8) * 8, to = below(it->length / 8) * 8;
+    memmove(it->bytes + to, it->bytes + from, 8);
+}
+
+static void take_from_another(blob *it) {
+    blob other = responses[below(files)];
+    if (!other.length || !it->length) return;
+    size_t from = below(other.length), to = below(it->length), count = 1 + below(200);
+    if (count > other.length - from) count = other.length - from;
+    if (count > it->length - to) count = it->length - to;
+    memcpy(it->bytes + to, other.bytes + from, count);
+}
+
+static void set_the_length(blob *it) {
+    if (it->length >= 8) set_number(it->bytes + 4, (uint32_t)it->length - 8);
+}
+
+static void (*const changes[])(blob *) = {
+    turn_a_bit,     set_a_byte, cut,       insert,      take_out,
+    set_a_length,   set_a_type, set_a_tag, copy_a_word, take_from_another,
+    set_the_length,
+};
+
+/* A mutation, by up to so many changes. */
+static blob changed(blob from, size_t most) {
+    blob it = {malloc(from.length + 64 * most + 1), from.length};
+    if (!it.bytes) exit(9);
+    memcpy(it.bytes, from.bytes, from.length);
+    for (size_t left = 1 + below(most); left; left--)
+        changes[below(sizeof changes / sizeof *changes)](&it);
+    blob exact = copy_of(it.bytes, it.length);
+    free(it.bytes);
+    return exact;
+}
+
+static blob random_bytes(size_t most) {
+    size_t length = below(most);
+    blob it = {malloc(length ? length : 1), length};
+    if (!it.bytes) exit(9);
+    for (size_t i = 0; i < it.length; i++)
+        it.bytes[i] = (uint8_t)any();
+    return it;
+}
+
+static blob a_response(size_t file) {
+    switch (below(8)) {
+    case 0: return random_bytes(300);
+    case 1: return copy_of(responses[file].bytes, responses[file].length);
+    case 2: return changed(responses[below(files)], 6);
+    case 3: return changed(responses[below(files)], 2);
+    default: return changed(responses[file], 1 + below(4));
+    }
+}
+
+/* Words of the grammar and words that are nearly so, in any order. */
+static blob words(void) {
+    static const char *const some[] = {"query",      "create-rsa",
+                                       "create-aes", "rng",
+                                       "activate",   "revoke",
+                                       "destroy",    "sign",
+                                       "rename",     "get",
+                                       "locate",     "attributes",
+                                       "discover",   "raw",
+                                       "-",          "%2D",
+                                       "%20",        "%",
+                                       "%ZZ",        "%FF",
+                                       "%C3%A9",     "2048",
+                                       "-1",         "00",
+                                       "0",          "2147483647",
+                                       "2147483648", "-2147483648",
+                                       "4294967296", "0102",
+                                       "abc",        "DEADBEEF",
+                                       "a b",        "",
+                                       "user=x",     "\xFF",
+                                       "\xC3\xA9",   "\n",
+                                       "\r",         "\t",
+                                       " ",          "99999999999999999999999",
+                                       "-0",         "+1",
+                                       "01",         "hash=SHA384"};
+    char text[600] = "";
+    size_t done = 0;
+    for (size_t left = 1 + below(5); left; left--) {
+        int more = snprintf(text + done, sizeof text - done, "%s%s", done ? " " : "",
+                            some[below(sizeof some / sizeof *some)]);
+        if (more > 0) done += (size_t)more;
+    }
+    return copy_of((const uint8_t *)text, done);
+}
+
+/* A call with a very long word. */
+static blob long_call(void) {
+    size_t length = 7 + below(200000);
+    blob it = {malloc(length), length};
+    if (!it.bytes) exit(9);
+    memcpy(it.bytes, "sign a ", 7);
+    for (size_t i = 7; i < length; i++)
+        it.bytes[i] = (uint8_t) "0123456789ABCDEFabcdef"[below(22)];
+    return it;
+}
+
+static blob a_call(size_t file) {
+    switch (below(10)) {
+    case 0: return random_bytes(80);
+    case 1: return words();
+    case 2: return changed(calls[below(files)], 2);
+    case 3: return below(40) ? words() : long_call();
+    default: return copy_of(calls[file].bytes, calls[file].length);
+    }
+}
+
+static size_t a_room(void) {
+    static const size_t most[] = {1, 16, 400, 5000, 70000};
+    return below(most[below(5)]);
+}
+
+/* A block to write into, and whether it is as it has to be after that. */
+static uint8_t *to_write(size_t room) {
+    uint8_t *into = malloc(room ? room : 1);
+    if (!into) exit(9);
+    memset(into, UNTOUCHED, room ? room : 1);
+    return into;
+}
+
+static void check_written(const uint8_t *into, size_t room, int64_t length) {
+    size_t from = length < 0 || (uint64_t)length > room ? 0 : (size_t)length;
+    for (size_t i = from; i < room; i++)
+        if (into[i] != UNTOUCHED) found("a byte is written past what is told");
+}
+
+static void check_request(blob call) {
+    bool has = below(2);
+    blob user = random_bytes(40), password = random_bytes(40);
+    for (size_t i = 0; i < user.length; i++)
+        user.bytes[i] &= below(20) ? 0x7F : 0xFF;
+    for (size_t i = 0; i < password.length; i++)
+        password.bytes[i] &= below(20) ? 0x7F : 0xFF;
+    size_t room = a_room();
+    uint8_t *into = to_write(room);
+    int64_t length = kmip_request(call.bytes, call.length, has, user.bytes, user.length,
+                                  password.bytes, password.length, into, room);
+    check_written(into, room, length);
+    if (length < 0) {
+        if (length != KMIP_GRAMMAR && length != KMIP_NO_FORM) found("another code of a request");
+    } else {
+        uint8_t *again = to_write((size_t)length);
+        if (kmip_request(call.bytes, call.length, has, user.bytes, user.length, password.bytes,
+                         password.length, again, (size_t)length) != length)
+            found("another length of the same request");
+        if (length < 8 || number_at(again) != 0x42007801 || number_at(again + 4) + 8 != length)
+            found("a request that is not one message");
+        if ((uint64_t)length <= room && memcmp(into, again, (size_t)length) != 0)
+            found("other bytes of the same request");
+        free(again);
+    }
+    free(into);
+    free(user.bytes);
+    free(password.bytes);
+}
+
+static void check_contents_len(blob response) {
+    blob head = random_bytes(17);
+    if (below(4) && response.length >= 8) {
+        free(head.bytes);
+        head = changed((blob){response.bytes, 8}, 1);
+    }
+    uint32_t limit = below(3) ? (uint32_t)(below(2) ? below(70000) : any()) : 0;
+    int64_t length = kmip_contents_len(head.bytes, head.length, limit), wanted = KMIP_GRAMMAR;
+    if (head.length == 8) {
+        wanted = number_at(head.bytes + 4);
+        if (limit && wanted + 8 > limit) wanted = KMIP_TOO_LONG;
+        if (head.bytes[3] != 1) wanted = KMIP_NOT_A_MESSAGE;
+    }
+    if (length != wanted) found("another length of the contents");
+    free(head.bytes);
+}
+
+static void check_answer(blob call, blob response, FILE *lines) {
+    size_t room = below(4) ? 4096 + 8 * response.length : a_room();
+    uint8_t *into = to_write(room);
+    int64_t length = -77, again = -78;
+    int32_t status =
+        kmip_answer(call.bytes, call.length, response.bytes, response.length, into, room, &length);
+    if (status != KMIP_ANSWERED && status != KMIP_REFUSED && status != KMIP_CALL_GRAMMAR &&
+        status != KMIP_LOST)
+        found("another status");
+    if (length < 0 || (status == KMIP_CALL_GRAMMAR) != (length == 0)) found("another length");
+    check_written(into, room, length);
+    uint8_t *same = to_write((size_t)length);
+    if (kmip_answer(call.bytes, call.length, response.bytes, response.length, same, (size_t)length,
+                    &again) != status ||
+        again != length)
+        found("another answer of the same response");
+    if ((uint64_t)length <= room && length && memcmp(into, same, (size_t)length) != 0)
+        found("another line of the same response");
+    if (length) {
+        fprintf(lines, "%d ", status);
+        fwrite(same, 1, (size_t)length, lines);
+    }
+    free(same);
+    free(into);
+}
+
+static void check_value(blob call, blob response) {
+    static const char *const paths[] = {
+        "",
+        ".",
+        "unique_identifier",
+        "signature_data",
+        "private_key",
+        "operations.0",
+        "operations.007",
+        "operations.99999999999999999999",
+        "attributes.0.name",
+        "answer",
+        "\xFF",
+        "cryptographic_object.PrivateKey.key_block.key_value.key_material.Bytes",
+        "random_bytes",
+        "unique_identifiers.0",
+        "attributes.0.value.Integer",
+        "..",
+        "unique_identifier."};
+    const char *path = paths[below(sizeof paths / sizeof *paths)];
+    blob exact = copy_of((const uint8_t *)path, strlen(path));
+    if (!below(8)) {
+        free(exact.bytes);
+        exact = random_bytes(30);
+    }
+    bool hex = below(2);
+    size_t room = a_room();
+    uint8_t *into = to_write(room);
+    int64_t length = kmip_value(call.bytes, call.length, response.bytes, response.length,
+                                exact.bytes, exact.length, hex, into, room);
+    if (length < 0 && length != KMIP_GRAMMAR && length != KMIP_NO_VALUE)
+        found("another code of a value");
+    check_written(into, room, length);
+    free(into);
+    free(exact.bytes);
+}
+
+int main(int argc, char **argv) {
+    if (argc != 5) return 2;
+    load_all(argv[1]);
+    state = strtoull(argv[2], NULL, 10) * 0x9E3779B97F4A7C15U + 1;
+    long rounds = strtol(argv[3], NULL, 10);
+    FILE *lines = fopen(argv[4], "wb");
+    if (!lines) return 9;
+    signal(SIGALRM, is_late);
+    for (at_round = 0; at_round < rounds; at_round++) {
+        alarm(20);
+        size_t file = below(files);
+        blob call = a_call(file), response = a_response(file);
+        check_request(call);
+        check_contents_len(response);
+        check_answer(call, response, lines);
+        check_value(call, response);
+        free(call.bytes);
+        free(response.bytes);
+    }
+    alarm(0);
+    for (size_t i = 0; i < files; i++)
+        free(calls[i].bytes), free(responses[i].bytes);
+    return fclose(lines) == 0 ? 0 : 9;
+}

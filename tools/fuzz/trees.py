@@ -1,0 +1,245 @@
+#!/usr/bin/python3
+"""Tries the library with responses that are well formed and changed in structure, and checks lines.
+
+    trees.py CORPUS SEED ROUNDS     responses of CORPUS as trees, in which items are taken out,
+                                    doubled, swapped, moved, retyped, tagged anew, wrapped, given
+                                    other values
+    trees.py --lines FILE           the lines of fuzz.c, each with its status in front
+
+What is checked of a line: it is one line of strict JSON in UTF-8, without a name twice, with the
+members that its status wants. What is checked of the library: kmip_value at each path of an answer
+gives what the JSON has there, and nothing at paths that it has not. LIBMETSUWAN is the library.
+"""
+import collections
+import ctypes
+import json
+import os
+import pathlib
+import random
+import re
+import sys
+from typing import Any, Iterator, List, Optional, Tuple
+
+TOP = pathlib.Path(__file__).resolve().parents[2]
+sys.path.insert(0, str(TOP / 'clients' / 'python'))
+from metsuwan.library import Library            # noqa: E402
+
+Item = List[Any]                                # tag, type, and bytes or a list of items
+REFUSALS = ('ServerError', 'ItemNotFound', 'InternalError')
+MEMBERS = {'error', 'text', 'response', 'reason', 'message'}
+LOSSES = ('DeserializeError', 'ResponseReadError', 'InternalError')
+TAGS = [0x420008, 0x420009, 0x42000A, 0x42000B, 0x42000D, 0x42000F, 0x420028, 0x42002A, 0x420040,
+        0x420042, 0x420043, 0x420045, 0x420054, 0x420055, 0x420057, 0x42005C, 0x420066, 0x42006F,
+        0x420069, 0x42006A, 0x42006B, 0x42007C, 0x42007D, 0x42007E, 0x42007F, 0x420092, 0x420094,
+        0x42009D, 0x4200C2, 0x4200C3, 0x540001, 0, 0xFFFFFF]
+TEXTS = ['', '"', '\\', '\n\r\t\b\f', '\0', '\x7f', '\xe9', '\u2028\u2029', '\ufeff', '\U0001f600',
+         '\ufffe\uffff', 'x' * 1000, '</script>', '\x01' * 7, 'a' * 8, 'a' * 9]
+NUMBERS = [0, 1, 2, 3, 4, 5, 6, 8, 10, 18, 0x21, 0x25, 0xFF, 0x100, 1 << 31, (1 << 31) - 1,
+           (1 << 32) - 1, 0x80000001]
+LARGE = [0, 1, (1 << 53) + 1, (1 << 63) - 1, 1 << 63, (1 << 64) - 1, 1700000000]
+WIDTHS = {2: 4, 5: 4, 10: 4, 3: 8, 6: 8, 9: 8}
+
+
+def found(*what: object) -> None:
+    print('FOUND', *what)
+    sys.exit(1)
+
+
+# Lines of JSON.
+
+def once(pairs: List[Tuple[str, Any]]) -> Any:
+    names = [name for name, _ in pairs]
+    if len(set(names)) != len(names):
+        raise ValueError('a name stands twice')
+    return dict(pairs)
+
+
+def no_constant(text: str) -> Any:
+    raise ValueError(text)
+
+
+def check_line(status: int, line: bytes) -> Any:
+    """The object of a line."""
+    try:
+        text = line.decode('utf-8')
+        if not text.endswith('\n') or text.count('\n') != 1:
+            raise ValueError('it is not one line')
+        it = json.loads(text, object_pairs_hook=once, parse_constant=no_constant)
+        if status == 0:
+            if list(it) != ['answer']:
+                raise ValueError('its members are others')
+        elif list(it)[:2] != ['error', 'text'] or not set(it) <= MEMBERS:
+            raise ValueError('its members are others')
+        elif it['error'] not in (REFUSALS if status == 1 else LOSSES):
+            raise ValueError('its error is of another status')
+        elif not isinstance(it['text'], str):
+            raise ValueError('its text is none')
+    except ValueError as error:
+        found(error, status, line[:300])
+    return it
+
+
+def check_lines(path: str) -> None:
+    kinds: 'collections.Counter[str]' = collections.Counter()
+    with open(path, 'rb') as lines:
+        for line in lines:
+            status = int(line[:1])
+            kinds['%d %s' % (status, check_line(status, line[2:]).get('error', 'answer'))] += 1
+    print('lines:', dict(sorted(kinds.items())))
+
+
+# Trees.
+
+def parsed(message: bytes) -> List[Item]:
+    items = []
+    while message:
+        length, kind = int.from_bytes(message[4:8], 'big'), message[3]
+        body = message[8:8 + length]
+        value = parsed(body) if kind == 1 else body
+        items.append([int.from_bytes(message[:3], 'big'), kind, value])
+        message = message[8 + length + -length % 8:]
+    return items
+
+
+def written(items: List[Item]) -> bytes:
+    message = b''
+    for tag, kind, value in items:
+        body = written(value) if isinstance(value, list) else value
+        head = tag.to_bytes(3, 'big') + bytes([kind]) + len(body).to_bytes(4, 'big')
+        message += head + body + b'\0' * (-len(body) % 8)
+    return message
+
+
+def places(items: List[Item]) -> Iterator[Tuple[List[Item], int]]:
+    for at, item in enumerate(items):
+        yield items, at
+        if isinstance(item[2], list):
+            yield from places(item[2])
+
+
+def copied(item: Item) -> Item:
+    tag, kind, value = item
+    return [tag, kind, [copied(it) for it in value] if isinstance(value, list) else value]
+
+
+class Changes:
+    """Changes of a tree, each by its number."""
+
+    def __init__(self, seed: int) -> None:
+        self.random = random.Random(seed)
+
+    def leaf(self, kind: int) -> Any:
+        """A value of a type."""
+        choose = self.random.choice
+        if kind == 1:
+            return []
+        if kind in WIDTHS:
+            numbers = NUMBERS if WIDTHS[kind] == 4 else LARGE if kind != 6 else [0, 1]
+            return choose(numbers).to_bytes(WIDTHS[kind], 'big')
+        if kind == 7:
+            return choose(TEXTS).encode('utf-8')
+        octets = self.random.getrandbits(160).to_bytes(20, 'big')
+        return octets[:8 * self.random.randrange(3)] if kind == 4 else octets
+
+    def change(self, items: List[Item], at: int, other: Item) -> None:
+        item, what = items[at], self.random.randrange(10)
+        if what == 0:
+            del items[at]
+        elif what == 1:
+            items.insert(at, copied(item))
+        elif what == 2:
+            to = self.random.randrange(len(items))
+            items[at], items[to] = items[to], items[at]
+        elif what == 3:
+            item[0] = self.random.choice(TAGS)
+        elif what == 4:
+            item[1] = self.random.randrange(1, 11)
+            item[2] = self.leaf(item[1])
+        elif what in (5, 6) and item[1] != 1:
+            item[2] = self.leaf(item[1])
+        elif what == 7:
+            items.insert(at, copied(other))
+        elif what == 8:
+            kind = self.random.randrange(1, 11)
+            items.insert(at, [self.random.choice(TAGS), kind, self.leaf(kind)])
+        else:
+            for _ in range(self.random.choice([1, 1, 1, 10, 58, 60, 62, 70])):
+                items[at] = [self.random.choice(TAGS), 1, [items[at]]]
+
+    def changed(self, tree: List[Item]) -> List[Item]:
+        tree = [copied(it) for it in tree]
+        for _ in range(self.random.randrange(1, 4)):
+            below = [(items, at) for items, at in places(tree) if items is not tree]
+            if below:
+                items, at = self.random.choice(below)
+                others, other = self.random.choice(below)
+                self.change(items, at, others[other])
+        return tree
+
+
+# Values.
+
+def leaves(value: Any, path: str = '') -> Iterator[Tuple[str, Any]]:
+    """The values of a JSON that are no object and no list, by their paths."""
+    if isinstance(value, (dict, list)):
+        for name, part in value.items() if isinstance(value, dict) else enumerate(value):
+            yield from leaves(part, '%s.%s' % (path, name) if path else str(name))
+    else:
+        yield path, value
+
+
+class Values:
+    """kmip_value of the library."""
+
+    def __init__(self) -> None:
+        library = ctypes.CDLL(os.environ['LIBMETSUWAN'])
+        text, size = ctypes.c_char_p, ctypes.c_size_t
+        self._value = library.kmip_value
+        self._value.restype = ctypes.c_int64
+        self._value.argtypes = [text, size, text, size, text, size, ctypes.c_bool, text, size]
+
+    def value(self, call: bytes, response: bytes, path: bytes, hex_: bool) -> Optional[bytes]:
+        into = ctypes.create_string_buffer(1 << 20)
+        length: int = self._value(call, len(call), response, len(response), path, len(path), hex_,
+                                  into, 1 << 20)
+        if length not in range(-3, 1 << 20) or length == -1:
+            found('kmip_value returns', length)
+        return None if length < 0 else into.raw[:length]
+
+    def check(self, call: bytes, response: bytes, answer: Any) -> None:
+        for path, value in leaves(answer):
+            shown = json.dumps(value) if isinstance(value, (bool, int)) else value
+            if self.value(call, response, path.encode(), False) != shown.encode():
+                found('another value at', path, call, response.hex())
+            hexed = isinstance(value, str) and re.fullmatch('([0-9A-Fa-f]{2})*', value)
+            raw = bytes.fromhex(value) if hexed else None
+            if self.value(call, response, path.encode(), True) != raw:
+                found('other bytes at', path, call, response.hex())
+        for path in ('', 'answer', 'no_such', '0'):
+            if self.value(call, response, path.encode(), False) is not None:
+                found('a value at', path, call, response.hex())
+
+
+def try_trees(folder: str, seed: int, rounds: int) -> None:
+    library, values, changes = Library(), Values(), Changes(seed)
+    corpus = []
+    for path in sorted(pathlib.Path(folder).glob('*.call')):
+        corpus.append((path.read_bytes(), parsed(path.with_suffix('.response').read_bytes())))
+    statuses: 'collections.Counter[int]' = collections.Counter()
+    for _ in range(rounds):
+        call, tree = changes.random.choice(corpus)
+        response = written(changes.changed(tree))
+        status, line = library.answer(call, response)
+        statuses[status] += 1
+        it = check_line(status, line.encode('utf-8'))
+        if status == 0:
+            values.check(call, response, it['answer'])
+        elif values.value(call, response, b'unique_identifier', False) is not None:
+            found('a value of an error', call, response.hex())
+    print('trees:', dict(sorted(statuses.items())))
+
+
+if sys.argv[1] == '--lines':
+    check_lines(sys.argv[2])
+else:
+    try_trees(sys.argv[1], int(sys.argv[2]), int(sys.argv[3]))
