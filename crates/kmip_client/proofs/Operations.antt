@@ -8,6 +8,7 @@ use Rattle.kmip_tags.specs.Tags.{BATCH_ITEM, OPERATION, REQUEST_HEADER, REQUEST_
 use Rattle.kmip_wire.specs.Tree.{Tree, scalar, structure, more, none, enumeration}
 use Rattle.kmip_wire.specs.Bytes.{bytes, all_bytes, structure_bytes, in_order, item_bytes}
 use Rattle.kmip_wire.specs.Reading.{item_of}
+use Rattle.kmip_wire.specs.Room.{Room, Appends}
 use Rattle.kmip_shape.specs.Val.{Val, Number}
 use Rattle.kmip_shape.specs.Shape.{Shape, OneOf, NoCase}
 use Rattle.kmip_shape.specs.Trees.{tree_of}
@@ -16,6 +17,7 @@ use Rattle.kmip_shape.proofs.Known.{value_known}
 use Rattle.kmip_shape.proofs.Lengths.{wire_len_law}
 use Rattle.kmip_shape.proofs.Aligned.{trees_aligned, flat, IsAligned}
 use Rattle.kmip_shape.proofs.WrittenText.{written, head_len}
+use Rattle.kmip_enums.specs.Operations.{operation_line}
 use Rattle.kmip_enums.specs.declared.operation.Operation.{Operation}
 use Rattle.kmip_enums.specs.declared.credential_type.CredentialType.{CredentialType}
 use Rattle.kmip_enums.specs.declared.credential_type.CredentialType.TheVariants as types
@@ -38,7 +40,8 @@ use Rattle.kmip_client.specs.Message.{message_at, Whole}
 use Rattle.kmip_client.specs.Headline.{IsReadBy}
 use Rattle.kmip_client.specs.Outcome.{reading_failed}
 use Rattle.kmip_client.specs.Untyped.{not_response, listed_failure, numbered_failure, failure_of, payload_of, names, success_of, status_answer, items_answer, counts_one, message_answer, parsed_answer, untyped_answer, has_tag, all_under, number_under, text_under}
-use Rattle.kmip_client.specs.Operation.{message_bytes, IsValidTree}
+use Rattle.kmip_client.specs.declared.operation.Version.{Version}
+use Rattle.kmip_client.specs.Operation.{minor_number, operation_tree, is_request_payload, operation_bytes, message_bytes, IsValidTree}
 use Rattle.kmip_client.proofs.Headlines.{parses_of, computed_of}
 
 -- ---- the bytes of a message
@@ -111,23 +114,23 @@ message_too_long header payload n p long =
 
 -- ---- the header
 
-abbrev version : ℕ → ProtocolVersion
-version minor = record { 0 = record { 0 = pos 1 }; 1 = record { 0 = pos minor } }
+abbrev version_number : ℕ → ProtocolVersion
+version_number minor = record { 0 = record { 0 = pos 1 }; 1 = record { 0 = pos minor } }
 
 for_values : (minor : ℕ) (type : CredentialType) (value : CredentialValue) →
-    tree_of request_header REQUEST_HEADER (lent_header_val (version minor) (Some (record { 0 = record { 0 = type; 1 = value } })))
+    tree_of request_header REQUEST_HEADER (lent_header_val (version_number minor) (Some (record { 0 = record { 0 = type; 1 = value } })))
     ≡ Some (header_tree minor (authentication_trees (Some (credential_of (record { 0 = record { 0 = type; 1 = value } })))))
 for_values minor types.UsernameAndPassword (values.UsernameAndPassword username None) = refl
 for_values minor types.UsernameAndPassword (values.UsernameAndPassword username (Some password)) = refl
 
 header_is : (minor : ℕ) (credential : Option Authentication) →
-    tree_of request_header REQUEST_HEADER (lent_header_val (version minor) credential) ≡ Some (header_tree minor (authentication_trees (option_map credential_of credential)))
+    tree_of request_header REQUEST_HEADER (lent_header_val (version_number minor) credential) ≡ Some (header_tree minor (authentication_trees (option_map credential_of credential)))
 header_is minor None = refl
 header_is minor (Some a) = for_values minor (a.0).0 (a.0).1
 
 -- the bytes of the header are those of its tree
 pub header_bytes : (minor : ℕ) (credential : Option Authentication) →
-    bytes_of request_header REQUEST_HEADER (lent_header_val (version minor) credential) ≡ bytes (header_tree minor (authentication_trees (option_map credential_of credential)))
+    bytes_of request_header REQUEST_HEADER (lent_header_val (version_number minor) credential) ≡ bytes (header_tree minor (authentication_trees (option_map credential_of credential)))
 header_bytes minor credential = ap (λ tree. option_and_then bytes tree) (header_is minor credential)
 
 -- what the length of the header says: that it has no bytes, or that it has a form and of which size
@@ -145,6 +148,73 @@ form_of_length shape val (Some n) h = (value_known val NoCase shape n (sym h)).0
 pub size_of_length : (shape : Shape) (val : Val) (len : Option ℕ) → len ≡ wire_len_of shape val → IfSome len (λ n. n ≡ size_of shape val)
 size_of_length shape val None h = tt
 size_of_length shape val (Some n) h = sym ((value_known val NoCase shape n (sym h)).1)
+
+-- ---- the message as it is written
+
+bytes_aligned : (o : Option Tree) (b : List ℕ) → option_and_then bytes o ≡ Some b → length b % 8 ≡ 0
+bytes_aligned None b is = absurd (cc)
+bytes_aligned (Some tree) b is = aligned tree b is
+
+pub message_ok : (val : Val) (n : ℕ) (payload : List ℕ) (message item size : ℕ) (a b : Room) → HasForm request_header val → length payload % 8 ≡ 0 →
+    message ≡ size_of request_header val + (8 + (16 + length payload)) → item ≡ 16 + length payload → message < 2 ^ 32 → a.bytes ≡ [] →
+    Appends a b (structure_head REQUEST_MESSAGE message ++ (text_of request_header REQUEST_HEADER val ++ (structure_head BATCH_ITEM item ++ (leaf_text OPERATION (enumeration n) ++ payload)))) size →
+    message_bytes (bytes_of request_header REQUEST_HEADER val) n (Some payload) ≡ Some b.bytes
+message_ok val n payload message item size a b form even long short small empty appends =
+    let header : List ℕ = text_of request_header REQUEST_HEADER val in
+    let has = written val NoCase request_header REQUEST_HEADER form in
+    let whole : List ℕ = structure_head REQUEST_MESSAGE message ++ (header ++ (structure_head BATCH_ITEM item ++ (leaf_text OPERATION (enumeration n) ++ payload))) in
+    let is : b.bytes ≡ whole = appends.bytes ∙ ap (λ l. l ++ whole) empty in
+    ap (λ o. message_bytes o n (Some payload)) has.0
+    ∙ (message_written header payload n message item (bytes_aligned (tree_of request_header REQUEST_HEADER val) header has.0) even (long ∙ ap (λ k. k + (8 + (16 + length payload))) (sym has.1)) short small ∙ ap Some (sym is))
+
+pub no_header : (o : Option (List ℕ)) (n : ℕ) (payload : Option (List ℕ)) → o ≡ None → message_bytes o n payload ≡ None
+no_header o n payload none = ap (λ o. message_bytes o n payload) none
+
+pub message_no_form : (val : Val) (n : ℕ) (payload : List ℕ) (header : ℕ) → HasForm request_header val → length payload % 8 ≡ 0 → header ≡ size_of request_header val → 2 ^ 32 ≤ header + (8 + (16 + length payload)) →
+    message_bytes (bytes_of request_header REQUEST_HEADER val) n (Some payload) ≡ None
+message_no_form val n payload header form even size long =
+    let has = written val NoCase request_header REQUEST_HEADER form in
+    ap (λ o. message_bytes o n (Some payload)) has.0 ∙ message_too_long (text_of request_header REQUEST_HEADER val) payload n even (omega (arith, has.1, size))
+
+-- ---- the request
+
+-- the request is the message round its payload's bytes
+request_is : (operation : Operation) (version : Version) (credential : Option Authentication) (payload : Tree) → is_request_payload payload ≡ true →
+    message_bytes (bytes_of request_header REQUEST_HEADER (lent_header_val (version_number (minor_number version)) credential)) (operation_line operation).number (bytes payload)
+    ≡ operation_bytes (record { operation = operation; version = version; payload = payload }) (option_map credential_of credential)
+request_is operation version credential payload is =
+    ap (λ o. message_bytes o (operation_line operation).number (bytes payload)) (header_bytes (minor_number version) credential)
+    ∙ sym (ap (λ (b : Bool). cond b (bytes (operation_tree operation version (option_map credential_of credential) payload)) None) is)
+
+pub sent_is : (operation : Operation) (version : Version) (credential : Option Authentication) (payload : Tree) (made : ProtocolVersion) (blob sent : List ℕ) → is_request_payload payload ≡ true → made ≡ version_number (minor_number version) → bytes payload ≡ Some blob → sent ≡ blob →
+    message_bytes (bytes_of request_header REQUEST_HEADER (lent_header_val made credential)) (operation_line operation).number (Some sent)
+    ≡ operation_bytes (record { operation = operation; version = version; payload = payload }) (option_map credential_of credential)
+sent_is operation version credential payload made blob sent is in_version written same =
+    ap (λ (v : ProtocolVersion). message_bytes (bytes_of request_header REQUEST_HEADER (lent_header_val v credential)) (operation_line operation).number (Some sent)) in_version
+    ∙ (ap (λ o. message_bytes (bytes_of request_header REQUEST_HEADER (lent_header_val (version_number (minor_number version)) credential)) (operation_line operation).number o) (ap Some same ∙ sym written)
+    ∙ request_is operation version credential payload is)
+
+no_order : (o : Option (List ℕ)) → in_order o None ≡ None
+no_order None = refl
+no_order (Some b) = refl
+
+no_payload : (o : Option (List ℕ)) (n : ℕ) → message_bytes o n None ≡ None
+no_payload o n =
+    ap (λ i. structure_bytes REQUEST_MESSAGE (in_order o (in_order (structure_bytes BATCH_ITEM i) (Some [])))) (no_order (bytes (scalar OPERATION (enumeration n))))
+    ∙ ap (structure_bytes REQUEST_MESSAGE) (no_order o)
+
+-- a payload without bytes, and one that is none
+pub no_payload_bytes : (operation : Operation) (version : Version) (credential : Option Authentication) (payload : Tree) → is_request_payload payload ≡ true → bytes payload ≡ None →
+    operation_bytes (record { operation = operation; version = version; payload = payload }) (option_map credential_of credential) ≡ None
+no_payload_bytes operation version credential payload is none =
+    sym (request_is operation version credential payload is)
+    ∙ (ap (λ o. message_bytes (bytes_of request_header REQUEST_HEADER (lent_header_val (version_number (minor_number version)) credential)) (operation_line operation).number o) none
+    ∙ no_payload (bytes_of request_header REQUEST_HEADER (lent_header_val (version_number (minor_number version)) credential)) (operation_line operation).number)
+
+pub no_request_payload : (operation : Operation) (version : Version) (credential : Option Authentication) (payload : Tree) → is_request_payload payload ≡ false →
+    operation_bytes (record { operation = operation; version = version; payload = payload }) (option_map credential_of credential) ≡ None
+no_request_payload operation version credential payload is =
+    ap (λ (b : Bool). cond b (bytes (operation_tree operation version (option_map credential_of credential) payload)) None) is
 
 -- ---- what a message answers
 

@@ -111,7 +111,7 @@ fn write_header(
 /// how many those of its batch item. `None` where they reach 2^32 bytes.
 fn contents_lens(header: u64, payload: usize) -> Option<(u32, u32)>
     ensures { MatchOption result (2 ^ 32 ≤ header + (8 + (16 + payload))) (λ lens.
-        (lens.0 ≡ header + (8 + (16 + payload))) × (lens.1 ≡ 16 + payload)) }
+        (lens.0 ≡ header + (8 + (16 + payload))) × (lens.0 < 2 ^ 32) × (lens.1 ≡ 16 + payload)) }
 {
     let item = (payload as u64).checked_add(16)?;
     let message = item.checked_add(8)?.checked_add(header)?;
