@@ -256,11 +256,7 @@ impl<T: Link> Client<T> {
     }
 
     /// Makes a call.
-    fn make_call<R: CallRequest>(
-        &mut self,
-        alloc: Global,
-        request: &R,
-    ) -> Result<R::Payload, Error>
+    fn make_call<R: CallRequest>(&mut self, alloc: Global, request: &R) -> Result<R::Payload, Error>
         requires { R.IsRead request.now }
         ensures { IsCallOf R.kind T.state (R.request request.now) self.old self.new
             (seen_by (R.seen request.now) result) }

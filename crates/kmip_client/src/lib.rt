@@ -14,7 +14,8 @@
 //! Nine helpers make the calls of a signing service; [`Client::do_request`] makes any of the
 //! seventeen operations: it writes one request message, reads one response and returns its payload
 //! or a named [`Error`]. Its contract says what was sent and read after each outcome, and the cause
-//! of each error. [`exchange_all`] makes several calls in order.
+//! of each error. [`Client::do_operation`] makes any operation of a payload tree, with the same
+//! contract. [`exchange_all`] makes several calls in order.
 #![tactic(auto)]
 
 mod answered;

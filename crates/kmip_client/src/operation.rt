@@ -224,7 +224,13 @@ impl<'a> CallRequest for OperationRequest<'a> {
         }
         let payload = write_tree(alloc, self.payload)?;
         let version = self.version.number();
-        write_message(&version, authentication, self.operation, payload.as_slice(), out)
+        write_message(
+            &version,
+            authentication,
+            self.operation,
+            payload.as_slice(),
+            out,
+        )
     }
 
     fn read(&self, alloc: Global, m: &[u8]) -> Result<Tree, Error> {

@@ -176,7 +176,9 @@ fn failure(
             Err(Error::ServerError(Text::of_string(text)))
         }
         Some(reason) => {
-            let text = Text::of_string(format!(in alloc; "Operation {operation} failed: {message}")?);
+            let text = Text::of_string(format!(in alloc;
+                "Operation {operation} failed: {message}"
+            )?);
             match reason {
                 ResultReason::ItemNotFound => Err(Error::ItemNotFound(text)),
                 _ => Err(Error::ServerError(text)),
