@@ -1,41 +1,16 @@
-//! The calls as a caller makes them, on a response that was written by hand.
+//! The calls as a caller makes them. Responses stand in the notation of kmip_test_messages, and
+//! lines are written by hand.
 use crate::{kmip_answer, kmip_contents_len, kmip_request, kmip_value};
+use kmip_test_messages::message;
 use std::alloc::Global;
+use std::process::Abort;
+use std::test::Fail;
 
-/// A response to a request for random bytes.
-const RESPONSE: [u8; 152] = [
-    0x42, 0x00, 0x7B, 0x01, 0x00, 0x00, 0x00, 0x90, 0x42, 0x00, 0x7A, 0x01, 0x00, 0x00, 0x00, 0x48,
-    0x42, 0x00, 0x69, 0x01, 0x00, 0x00, 0x00, 0x20, 0x42, 0x00, 0x6A, 0x02, 0x00, 0x00, 0x00, 0x04,
-    0x00, 0x00, 0x00, 0x01, 0x00, 0x00, 0x00, 0x00, 0x42, 0x00, 0x6B, 0x02, 0x00, 0x00, 0x00, 0x04,
-    0x00, 0x00, 0x00, 0x02, 0x00, 0x00, 0x00, 0x00, 0x42, 0x00, 0x92, 0x09, 0x00, 0x00, 0x00, 0x08,
-    0x00, 0x00, 0x00, 0x00, 0x00, 0x00, 0x00, 0x01, 0x42, 0x00, 0x0D, 0x02, 0x00, 0x00, 0x00, 0x04,
-    0x00, 0x00, 0x00, 0x01, 0x00, 0x00, 0x00, 0x00, 0x42, 0x00, 0x0F, 0x01, 0x00, 0x00, 0x00, 0x38,
-    0x42, 0x00, 0x5C, 0x05, 0x00, 0x00, 0x00, 0x04, 0x00, 0x00, 0x00, 0x25, 0x00, 0x00, 0x00, 0x00,
-    0x42, 0x00, 0x7F, 0x05, 0x00, 0x00, 0x00, 0x04, 0x00, 0x00, 0x00, 0x00, 0x00, 0x00, 0x00, 0x00,
-    0x42, 0x00, 0x7C, 0x01, 0x00, 0x00, 0x00, 0x10, 0x42, 0x00, 0xC2, 0x08, 0x00, 0x00, 0x00, 0x04,
-    0xDE, 0xAD, 0xBE, 0xEF, 0x00, 0x00, 0x00, 0x00,
-];
+/// A response to `rng 4`.
+const RANDOM: &str = "OK2(25, C2 xDEADBEEF)";
 
-/// A response to a request for versions: 1.2 and 1.0.
-const VERSIONS: [u8; 216] = [
-    0x42, 0x00, 0x7B, 0x01, 0x00, 0x00, 0x00, 0xD0, 0x42, 0x00, 0x7A, 0x01, 0x00, 0x00, 0x00, 0x48,
-    0x42, 0x00, 0x69, 0x01, 0x00, 0x00, 0x00, 0x20, 0x42, 0x00, 0x6A, 0x02, 0x00, 0x00, 0x00, 0x04,
-    0x00, 0x00, 0x00, 0x01, 0x00, 0x00, 0x00, 0x00, 0x42, 0x00, 0x6B, 0x02, 0x00, 0x00, 0x00, 0x04,
-    0x00, 0x00, 0x00, 0x01, 0x00, 0x00, 0x00, 0x00, 0x42, 0x00, 0x92, 0x09, 0x00, 0x00, 0x00, 0x08,
-    0x00, 0x00, 0x00, 0x00, 0x00, 0x00, 0x00, 0x01, 0x42, 0x00, 0x0D, 0x02, 0x00, 0x00, 0x00, 0x04,
-    0x00, 0x00, 0x00, 0x01, 0x00, 0x00, 0x00, 0x00, 0x42, 0x00, 0x0F, 0x01, 0x00, 0x00, 0x00, 0x78,
-    0x42, 0x00, 0x5C, 0x05, 0x00, 0x00, 0x00, 0x04, 0x00, 0x00, 0x00, 0x1E, 0x00, 0x00, 0x00, 0x00,
-    0x42, 0x00, 0x7F, 0x05, 0x00, 0x00, 0x00, 0x04, 0x00, 0x00, 0x00, 0x00, 0x00, 0x00, 0x00, 0x00,
-    0x42, 0x00, 0x7C, 0x01, 0x00, 0x00, 0x00, 0x50, 0x42, 0x00, 0x69, 0x01, 0x00, 0x00, 0x00, 0x20,
-    0x42, 0x00, 0x6A, 0x02, 0x00, 0x00, 0x00, 0x04, 0x00, 0x00, 0x00, 0x01, 0x00, 0x00, 0x00, 0x00,
-    0x42, 0x00, 0x6B, 0x02, 0x00, 0x00, 0x00, 0x04, 0x00, 0x00, 0x00, 0x02, 0x00, 0x00, 0x00, 0x00,
-    0x42, 0x00, 0x69, 0x01, 0x00, 0x00, 0x00, 0x20, 0x42, 0x00, 0x6A, 0x02, 0x00, 0x00, 0x00, 0x04,
-    0x00, 0x00, 0x00, 0x01, 0x00, 0x00, 0x00, 0x00, 0x42, 0x00, 0x6B, 0x02, 0x00, 0x00, 0x00, 0x04,
-    0x00, 0x00, 0x00, 0x00, 0x00, 0x00, 0x00, 0x00,
-];
-
-/// The line of the answer of random bytes.
-const LINE: &str = "{\"answer\":{\"random_bytes\":\"DEADBEEF\"}}\n";
+/// A response to `discover`: 1.2 and 1.0.
+const VERSIONS: &str = "OK1(1E, 69{6A i1,6B i2},69{6A i1,6B i0})";
 
 /// `kmip_request` without its clauses, so that the proof of a test looks into no definition; so are
 /// the three functions below.
@@ -105,90 +80,402 @@ fn a_call_that_is_none_has_no_request(rt: HostRuntime) {
 }
 
 #[test]
-fn a_response_is_answered(rt: HostRuntime) {
-    let alloc: Global = rt.alloc();
-    let mut line = [7u8; 100];
+fn a_head_says_how_many_bytes_follow(rt: HostRuntime) -> Result<(), Fail> {
+    let response = message(rt.alloc(), RANDOM)?;
+    assert!(rt; contents_len(&response[..8], 0) == 144);
+    assert!(rt; contents_len(&response[..8], 152) == 144);
+    assert!(rt; contents_len(&response[..8], 151) == -4);
+    assert!(rt; contents_len(&response[16..24], 0) == 32);
+    assert!(rt; contents_len(&response[24..32], 0) == -3);
+    assert!(rt; contents_len(&response[..7], 0) == -2);
+    assert!(rt; contents_len(&response[..9], 0) == -2);
+    Ok(())
+}
+
+/// A call, a response to it, and the status and the line that they come to.
+#[derive(Clone, Copy)]
+struct Answer {
+    shows: &'static str,
+    call: &'static str,
+    response: &'static str,
+    status: i32,
+    line: &'static str,
+}
+
+/// The line of an answer about another object, up to what came.
+const ANOTHER: &str = "{\"error\":\"InternalError\",\"text\":\"answer for another object\",";
+
+/// Answers, by the beginnings of their lines.
+const ANSWERS: &[Answer] = &[
+    Answer {
+        shows: "a payload",
+        call: "rng 4",
+        response: RANDOM,
+        status: 0,
+        line: "{\"answer\":{\"random_bytes\":\"DEADBEEF\"}}\n",
+    },
+    Answer {
+        shows: "the payload of another operation",
+        call: "query",
+        response: RANDOM,
+        status: 1,
+        line: "{\"error\":\"InternalError\",\"text\":\"Response operation Some(RNGRetrieve) does not match request operation Query\",\"response\":\"7B[7A[69[6Ai6Bi]92d0Di]0F[5Ce25:7Fe0:7C[C2x]]]\"}\n",
+    },
+    Answer {
+        shows: "an empty structure, and a byte that no message has",
+        call: "rng 4",
+        response: "!42007B0100000000AA",
+        status: 1,
+        line: "{\"error\":\"InternalError\",\"text\":\"not a response message\",\"response\":\"7B[]\"}\n",
+    },
+    Answer {
+        shows: "a reason past the table, with what the server said",
+        call: "sign k1 00",
+        response: "RES2(5C e21,7F e1,7E e12,7D \"no such mechanism\")",
+        status: 1,
+        line: "{\"error\":\"InternalError\",\"text\":\"not a response message\",\"response\":\"7B[7A[69[6Ai6Bi]92d0Di]0F[5Ce21:7Fe1:7Ee12:7Dt]]\",\"reason\":18,\"message\":\"no such mechanism\"}\n",
+    },
+    Answer {
+        shows: "a reason past the table, with no text",
+        call: "query",
+        response: "RES2(5C e18,7F e1,7E e8000001F)",
+        status: 1,
+        line: "{\"error\":\"InternalError\",\"text\":\"not a response message\",\"response\":\"7B[7A[69[6Ai6Bi]92d0Di]0F[5Ce18:7Fe1:7Ee8000001F:]]\",\"reason\":2147483679}\n",
+    },
+    Answer {
+        shows: "a refusal as KMIP has it",
+        call: "destroy k1",
+        response: "RES0(5C e14,7F e1,7E e1,7D \"gone\")",
+        status: 1,
+        line: "{\"error\":\"ItemNotFound\",\"text\":\"Operation Destroy failed: gone\"}\n",
+    },
+    Answer {
+        shows: "a message that ends early",
+        call: "rng 4",
+        response: "!42007B010000009042007A01",
+        status: 3,
+        line: "{\"error\":\"ResponseReadError\",\"text\":\"end of input\"}\n",
+    },
+    Answer {
+        shows: "activate, another object",
+        call: "activate k1",
+        response: "OK0(12, 94\"k2\")",
+        status: 3,
+        line: ANOTHER,
+    },
+    Answer {
+        shows: "sign, another object",
+        call: "sign k1 00",
+        response: "OK2(21, 94\"k2\",C3 x0102)",
+        status: 3,
+        line: ANOTHER,
+    },
+    Answer {
+        shows: "get, another object",
+        call: "get k1",
+        response: "OK0(A, 57 e2,94\"k2\",8F{40{42 e1,45{43 x00},28 e3,2A i8}})",
+        status: 3,
+        line: ANOTHER,
+    },
+    Answer {
+        shows: "destroy, another object",
+        call: "destroy k1",
+        response: "OK0(14, 94\"k2\")",
+        status: 3,
+        line: ANOTHER,
+    },
+    Answer {
+        shows: "revoke, another object",
+        call: "revoke k1",
+        response: "OK0(13, 94\"k2\")",
+        status: 3,
+        line: ANOTHER,
+    },
+    Answer {
+        shows: "rename, another object",
+        call: "rename k1 n",
+        response: "OK0(E, 94\"k2\",08{0A\"Name\",0B{55\"n\",54 e1}})",
+        status: 3,
+        line: ANOTHER,
+    },
+    Answer {
+        shows: "attributes, another object",
+        call: "attributes k1",
+        response: "OK0(B, 94\"k2\")",
+        status: 3,
+        line: ANOTHER,
+    },
+    Answer {
+        shows: "the object that was asked about",
+        call: "get k2",
+        response: "OK0(A, 57 e2,94\"k2\",8F{40{42 e1,45{43 x00},28 e3,2A i8}})",
+        status: 0,
+        line: "{\"answer\":{\"object_type\":\"SymmetricKey\",\"unique_identifier\":\"k2\",",
+    },
+    Answer {
+        shows: "no identifier asked about",
+        call: "activate -",
+        response: "OK0(12, 94\"k2\")",
+        status: 0,
+        line: "{\"answer\":{}}\n",
+    },
+];
+
+/// That the call and the response of a row come to its status and its line.
+fn is_answered(rt: &impl Abort, alloc: Global, row: Answer) -> Result<(), Fail> {
+    let response = message(alloc, row.response)?;
+    let mut line = [7u8; 400];
     let mut length = 0;
-    assert!(rt; answer(alloc, b"rng 16", &RESPONSE, &mut line, &mut length) == 0);
-    assert!(rt; length == 39);
-    assert!(rt; line.as_slice().starts_with(LINE.as_bytes()));
-    assert!(rt; line[39] == 7);
-    assert!(rt; answer(alloc, b"query", &RESPONSE, &mut line, &mut length) == 1);
-    assert!(rt; answer(alloc, b"rng 16", &RESPONSE[..151], &mut line, &mut length) == 3);
-    assert!(rt; answer(alloc, b"rng", &RESPONSE, &mut line, &mut length) == 2);
-    assert!(rt; length == 0);
-}
-
-#[test]
-fn a_head_tells_how_many_bytes_follow(rt: HostRuntime) {
-    assert!(rt; contents_len(&RESPONSE[..8], 0) == 144);
-    assert!(rt; contents_len(&RESPONSE[..8], 152) == 144);
-    assert!(rt; contents_len(&RESPONSE[..8], 151) == -4);
-    assert!(rt; contents_len(&RESPONSE[16..24], 0) == 32);
-    assert!(rt; contents_len(&RESPONSE[24..32], 0) == -3);
-    assert!(rt; contents_len(&RESPONSE[..7], 0) == -2);
-    assert!(rt; contents_len(&RESPONSE[..9], 0) == -2);
-}
-
-#[test]
-fn a_value_of_the_answer_is_found_by_its_path(rt: HostRuntime) {
-    let alloc: Global = rt.alloc();
-    let mut into = [7u8; 16];
-    assert!(rt; value(alloc, b"rng 4", &RESPONSE, b"random_bytes", true, &mut into) == 4);
-    assert!(rt; &into[..5] == [0xDE, 0xAD, 0xBE, 0xEF, 7].as_slice());
-    assert!(rt;
-        value(
-            alloc,
-            b"rng 4",
-            &RESPONSE,
-            b"random_bytes",
-            false,
-            &mut into
-        ) == 8
+    let status = answer(
+        alloc,
+        row.call.as_bytes(),
+        &response,
+        &mut line,
+        &mut length,
     );
-    assert!(rt; &into[..9] == b"DEADBEEF\x07".as_slice());
-    let minor = b"supported_versions.0.minor";
-    assert!(rt; value(alloc, b"discover", &VERSIONS, minor, false, &mut into) == 1);
-    assert!(rt; into[0] == b'2');
+    assert_eq!(rt; status, row.status, "{}", row.shows);
+    assert!(rt;
+        line.as_slice().starts_with(row.line.as_bytes()),
+        "{}",
+        row.shows
+    );
+    Ok(())
+}
+
+#[test]
+fn responses_are_answered(rt: HostRuntime) -> Result<(), Fail> {
+    for row in ANSWERS {
+        is_answered(&rt, rt.alloc(), *row)?;
+    }
+    Ok(())
+}
+
+#[test]
+fn a_line_is_written_where_it_fits(rt: HostRuntime) -> Result<(), Fail> {
+    let alloc: Global = rt.alloc();
+    let response = message(alloc, RANDOM)?;
+    let mut line = [7u8; 40];
+    let mut length = 0;
+    assert!(rt; answer(alloc, b"rng 16", &response, &mut line[..38], &mut length) == 0);
+    assert!(rt; length == 39);
+    assert!(rt; line == [7u8; 40]);
+    assert!(rt; answer(alloc, b"rng 16", &response, &mut line, &mut length) == 0);
+    assert!(rt; &line[38..] == [10, 7].as_slice());
+    assert!(rt; answer(alloc, b"rng", &response, &mut line, &mut length) == 2);
+    assert!(rt; length == 0);
+    Ok(())
+}
+
+/// A call, a response to it, a path and whether it leads to hex, and what `kmip_value` returns and
+/// writes.
+#[derive(Clone, Copy)]
+struct Value {
+    call: &'static str,
+    response: &'static str,
+    path: &'static [u8],
+    hex: bool,
+    returned: i64,
+    written: &'static [u8],
+}
+
+/// Bytes of an answer.
+const BYTES: Value = Value {
+    call: "rng 4",
+    response: RANDOM,
+    path: b"random_bytes",
+    hex: true,
+    returned: 4,
+    written: &[0xDE, 0xAD, 0xBE, 0xEF],
+};
+
+/// A number of an answer.
+const NUMBER: Value = Value {
+    call: "discover",
+    response: VERSIONS,
+    path: b"supported_versions.0.minor",
+    hex: false,
+    returned: 1,
+    written: b"2",
+};
+
+/// Values that an answer has.
+const FOUND: &[Value] = &[
+    BYTES,
+    NUMBER,
+    Value {
+        hex: false,
+        returned: 8,
+        written: b"DEADBEEF",
+        ..BYTES
+    },
+    Value {
+        path: b"supported_versions.1.minor",
+        written: b"0",
+        ..NUMBER
+    },
+    // the text of the answer, not the one that an unknown item, a header item or another field has
+    Value {
+        call: "get k1",
+        response: "OK0(A, 57 e2,54FFFF\"x\",94\"k1\",8F{40{42 e1,45{43 x0AFF},28 e3,2A i16}})",
+        path: b"unique_identifier",
+        hex: false,
+        returned: 2,
+        written: b"k1",
+    },
+    Value {
+        call: "get k1",
+        response: "OK0(A, 57 e2,94\"k1\",8F{40{42 e1,45{43 x0AFF},28 e3,2A i16}})",
+        path: b"cryptographic_object.SymmetricKey.key_block.key_value.key_material.Bytes",
+        returned: 2,
+        written: &[0x0A, 0xFF],
+        ..BYTES
+    },
+    Value {
+        call: "attributes -",
+        response: "OK0(B, 94\"a\\\"\\x01\",08{0A\"x-flag\",0B o1})",
+        path: b"unique_identifier",
+        hex: false,
+        returned: 3,
+        written: b"a\"\x01",
+    },
+    Value {
+        call: "attributes -",
+        response: "OK0(B, 94\"k1\",08{0A\"x-flag\",0B o1})",
+        path: b"attributes.0.value.Boolean",
+        hex: false,
+        returned: 4,
+        written: b"true",
+    },
+    Value {
+        response: "OK2(25, C2 x)",
+        returned: 0,
+        written: b"",
+        ..BYTES
+    },
+];
+
+/// What no value is returned for.
+const NONE: Value = Value {
+    returned: -3,
+    written: b"",
+    ..BYTES
+};
+
+/// Paths to no value, errors, and words out of the grammar.
+const NOT_FOUND: &[Value] = &[
+    Value { path: b"", ..NONE },
+    Value {
+        path: b"answer.random_bytes",
+        ..NONE
+    },
+    Value {
+        path: b"random_bytes.0",
+        ..NONE
+    },
+    Value {
+        path: b"random_bytes.",
+        ..NONE
+    },
+    // an error, and its text
+    Value {
+        call: "query",
+        ..NONE
+    },
+    Value {
+        call: "query",
+        path: b"text",
+        hex: false,
+        ..NONE
+    },
+    // a list, an object, and what is no index in the list
+    Value {
+        path: b"supported_versions",
+        returned: -3,
+        written: b"",
+        ..NUMBER
+    },
+    Value {
+        path: b"supported_versions.0",
+        returned: -3,
+        written: b"",
+        ..NUMBER
+    },
+    Value {
+        path: b"supported_versions.2.minor",
+        returned: -3,
+        written: b"",
+        ..NUMBER
+    },
+    Value {
+        path: b"supported_versions.00.minor",
+        returned: -3,
+        written: b"",
+        ..NUMBER
+    },
+    // a number is no hex
+    Value {
+        hex: true,
+        returned: -3,
+        written: b"",
+        ..NUMBER
+    },
+    // an answer about another object
+    Value {
+        call: "sign k1 00",
+        response: "OK2(21, 94\"k2\",C3 x0102)",
+        path: b"signature_data",
+        ..NONE
+    },
+    Value {
+        call: "rng",
+        returned: -2,
+        ..NONE
+    },
+    Value {
+        path: &[255],
+        returned: -2,
+        ..NONE
+    },
+];
+
+/// That the value of a row is returned and written, and nothing else.
+fn is_value(rt: &impl Abort, alloc: Global, row: Value) -> Result<(), Fail> {
+    let response = message(alloc, row.response)?;
+    let mut into = [7u8; 12];
+    let call = row.call.as_bytes();
+    let returned = value(alloc, call, &response, row.path, row.hex, &mut into);
+    assert_eq!(rt; returned, row.returned);
+    let (written, rest) = into.split_at(row.written.len());
+    assert_eq!(rt; written, row.written);
+    assert!(rt; rest.iter().all(|byte| *byte == 7));
+    Ok(())
+}
+
+#[test]
+fn values_are_found_by_their_paths(rt: HostRuntime) -> Result<(), Fail> {
+    for rows in [FOUND, NOT_FOUND] {
+        for row in rows {
+            is_value(&rt, rt.alloc(), *row)?;
+        }
+    }
+    Ok(())
+}
+
+#[test]
+fn a_value_is_written_where_it_fits(rt: HostRuntime) -> Result<(), Fail> {
+    let alloc: Global = rt.alloc();
+    let response = message(alloc, RANDOM)?;
     let mut short = [7u8; 3];
     assert!(rt;
         value(
             alloc,
             b"rng 4",
-            &RESPONSE,
+            &response,
             b"random_bytes",
             true,
             &mut short
         ) == 4
     );
     assert!(rt; short == [7u8; 3]);
-}
-
-/// What `kmip_value` returns for a number of the versions.
-fn of_versions(alloc: Global, path: &[u8]) -> i64 {
-    value(alloc, b"discover", &VERSIONS, path, false, &mut [0; 8])
-}
-
-/// What `kmip_value` returns for bytes of the answer of a call.
-fn of_random(alloc: Global, call: &[u8], path: &[u8]) -> i64 {
-    value(alloc, call, &RESPONSE, path, true, &mut [0; 8])
-}
-
-#[test]
-fn a_value_that_the_answer_has_not_is_not_found(rt: HostRuntime) {
-    let alloc: Global = rt.alloc();
-    assert!(rt; of_versions(alloc, b"supported_versions.1.major") == 1);
-    assert!(rt; of_versions(alloc, b"supported_versions") == -3);
-    assert!(rt; of_versions(alloc, b"supported_versions.0") == -3);
-    assert!(rt; of_versions(alloc, b"supported_versions.2.major") == -3);
-    assert!(rt; of_versions(alloc, b"supported_versions.01.major") == -3);
-    assert!(rt; of_versions(alloc, b"") == -3);
-    assert!(rt; of_versions(alloc, b"answer") == -3);
-    assert!(rt; of_random(alloc, b"rng 4", b"random_bytes") == 4);
-    assert!(rt; of_random(alloc, b"rng 4", b"random_bytes.0") == -3);
-    assert!(rt; of_random(alloc, b"rng 4", b"random_bytes.") == -3);
-    assert!(rt; of_random(alloc, b"query", b"random_bytes") == -3);
-    assert!(rt; of_random(alloc, b"query", b"text") == -3);
-    assert!(rt; of_random(alloc, b"rng", b"random_bytes") == -2);
-    assert!(rt; of_random(alloc, b"rng 4", &[255]) == -2);
+    Ok(())
 }

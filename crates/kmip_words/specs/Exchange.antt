@@ -3,7 +3,7 @@ use Rattle.std.specs.Prelude.{◌≡◌, ◌≢◌, ℕ, ◌+◌, List, [], ◌+
 use Rattle.hex.specs.Hex.{encode_upper}
 use Rattle.kmip_link.specs.Plan.{MemoryState}
 use Rattle.kmip_shape.specs.Val.{Val, Text, Record, Case, AndField, NoField, One}
-use Rattle.kmip_shape.specs.Shape.{Shape}
+use Rattle.kmip_shape.specs.Shape.{Shape, case_at}
 use Rattle.kmip_shape.specs.Shown.{shown_in_style, text_in_style}
 use Rattle.kmip_shape.specs.declared.style.Style.{Style}
 use Rattle.kmip_shape.specs.declared.style.Style.TheVariants.{Bare, Json}
@@ -13,7 +13,7 @@ use Rattle.kmip_types.specs.declared.auth.CredentialType.{CredentialType}
 use Rattle.kmip_request.specs.Message.{request_bytes, operation_of}
 use Rattle.kmip_request.specs.declared.payload.RequestPayload.{RequestPayload}
 use Rattle.kmip_request_read.specs.Reading.{Request, message_bytes}
-use Rattle.kmip_response.specs.Tables.{response_payload, query_payload, rng_retrieve_payload, sign_payload, attribute_edit_payload, get_payload, locate_payload, get_attributes_payload, create_payload, discover_versions_payload}
+use Rattle.kmip_response.specs.Tables.{response_payload, response_payloads, query_payload, rng_retrieve_payload, sign_payload, attribute_edit_payload, get_payload, locate_payload, get_attributes_payload, create_payload, discover_versions_payload}
 use Rattle.kmip_client.specs.Client.{ClientState}
 use Rattle.kmip_client.specs.Errors.{error_shown, error_text}
 use Rattle.kmip_client.specs.Outcome.{Answer, Outcome, outcome_of}
@@ -69,6 +69,16 @@ request_asked (Attributes id) = asked_of (attributes_request id)
 request_asked (CreateAes key_length name) = asked_of (create_aes_request key_length name)
 request_asked Discover = asked_of discover_request
 
+-- the request is that of the call, with whatever credential
+abbrev pub IsRequestOf : RequestPayload → Call → Type 0
+IsRequestOf payload call =
+    (credential : Option CredentialType) → asked_of payload credential ≡ request_asked call
+    credential
+
+-- the operation of a call's request
+abbrev pub operation_asked : Call → Operation
+operation_asked call = (request_asked call None).operation
+
 -- the identifiers of the two keys of a pair, in round brackets or as a JSON object
 abbrev pub pair_in_style : List ℕ → List ℕ → Style → List ℕ
 pair_in_style first second Bare =
@@ -93,6 +103,12 @@ done_in_style Json = codes "{}"
 abbrev pub record_in_style : Shape → Val → Style → List ℕ
 record_in_style shape (Case n payload) style = shown_in_style shape payload style
 record_in_style shape payload style = shown_in_style shape payload style
+
+-- the same, by the number of the payload's operation
+abbrev pub payload_in_style : Val → Style → List ℕ
+payload_in_style (Case n payload) style =
+    elim (case_at response_payloads n) [ None ↦ [] | Some c ↦ shown_in_style c.shape payload style ]
+payload_in_style payload style = []
 
 -- what is shown of the payload that a call returns
 abbrev pub value_in_style : Call → Val → Style → List ℕ

@@ -6,4 +6,7 @@ pub mod Requests
 pub mod Options
 pub mod Streams
 pub mod Exchange
+pub mod Refusal
+pub mod About
 pub mod Lookup
+pub mod JsonLines
