@@ -79,6 +79,145 @@ fn a_call_that_is_none_has_no_request(rt: HostRuntime) {
     assert!(rt; into == [7u8; 8]);
 }
 
+/// A call with options, and its request.
+#[derive(Clone, Copy)]
+struct Asked {
+    call: &'static str,
+    request: &'static str,
+}
+
+/// What each option puts into a request, by the tables of KMIP 1.2, 4 and 9.1.3.2.
+const ASKED: &[Asked] = &[
+    Asked {
+        call: "sign k1 00AA",
+        request: r#"REQ2(21, 94 "k1",2B{5F e8,38 e6,28 e4},C2 x00AA)"#,
+    },
+    Asked {
+        call: "sign k1 00AA padding=PSS hash=SHA384",
+        request: r#"REQ2(21, 94 "k1",2B{5F eA,38 e7,28 e4},C2 x00AA)"#,
+    },
+    Asked {
+        call: "sign k1 00AA prehashed algorithm=AES",
+        request: r#"REQ2(21, 94 "k1",2B{5F e8,28 e3},C2 x00AA)"#,
+    },
+    Asked {
+        call: "revoke k1 reason=KeyCompromise message=lost%20it since=1700000000",
+        request: r#"REQ0(13, 94 "k1",81{82 e2,80 "lost it"},21 d1700000000)"#,
+    },
+    Asked {
+        call: "revoke k1 since=0",
+        request: r#"REQ0(13, 94 "k1",81{82 e6},21 d0)"#,
+    },
+    Asked {
+        call: "get k1 format=PKCS8",
+        request: r#"REQ0(A, 94 "k1",42 e4)"#,
+    },
+    Asked {
+        call: "get k1 wrap=k2 format=Raw",
+        request: r#"REQ0(A, 94 "k1",42 e1,47{9E e1,36{94 "k2",2B{11 eD}}})"#,
+    },
+    Asked {
+        call: "locate k1",
+        request: r#"REQ0(8, 08{0A "Name",0B{55 "k1",54 e1}})"#,
+    },
+    Asked {
+        call: "locate",
+        request: "REQ0(8, )",
+    },
+    Asked {
+        call: "locate name=a%3Db state=Active type=PrivateKey",
+        request: r#"REQ0(8, 08{0A "Name",0B{55 "a=b",54 e1}},08{0A "State",0B e2},08{0A "Object Type",0B e4})"#,
+    },
+    Asked {
+        call: "locate length=256 algorithm=AES group=g contact=me activation=60",
+        request: r#"REQ0(8, 08{0A "Cryptographic Length",0B i256},08{0A "Cryptographic Algorithm",0B e3},08{0A "Object Group",0B "g"},08{0A "Contact Information",0B "me"},08{0A "Activation Date",0B d60})"#,
+    },
+    Asked {
+        call: "attributes k1 State x-a",
+        request: r#"REQ0(B, 94 "k1",0A "State",0A "x-a")"#,
+    },
+    Asked {
+        call: "attribute-add k1 group=g",
+        request: r#"REQ0(D, 94 "k1",08{0A "Object Group",0B "g"})"#,
+    },
+    Asked {
+        call: "attribute-modify k1 name=new index=1",
+        request: r#"REQ0(E, 94 "k1",08{0A "Name",09 i1,0B{55 "new",54 e1}})"#,
+    },
+    Asked {
+        call: "attribute-modify - contact=me",
+        request: r#"REQ0(E, 94 "",08{0A "Contact Information",0B "me"})"#,
+    },
+    Asked {
+        call: "attribute-delete k1 Name",
+        request: r#"REQ0(F, 94 "k1",0A "Name")"#,
+    },
+    Asked {
+        call: "attribute-delete k1 x-a index=-1",
+        request: r#"REQ0(F, 94 "k1",0A "x-a",09 i-1)"#,
+    },
+];
+
+#[test]
+fn options_are_asked_for(rt: HostRuntime) -> Result<(), Fail> {
+    let alloc: Global = rt.alloc();
+    for row in ASKED {
+        let expected = message(alloc, row.request)?;
+        let mut into = [0u8; 700];
+        let length = request(alloc, row.call.as_bytes(), false, b"", b"", &mut into);
+        assert!(rt; length == expected.len() as i64, "{}", row.call);
+        assert!(rt; into.starts_with(&expected), "{}", row.call);
+    }
+    Ok(())
+}
+
+/// Calls that are none: an option that the call has not, one that is given twice, and a value that
+/// is none of the option's.
+const NO_CALLS: &[&str] = &[
+    "sign k1 00 reason=Superseded",
+    "sign k1 00 hash=SHA256 hash=SHA384",
+    "sign k1 00 hash=sha384",
+    "sign k1 00 hash=",
+    "sign k1 00 padding=None2",
+    "sign k1 00 prehashed2",
+    "sign k1 00 prehashed prehashed",
+    "sign k1 0 hash=SHA384",
+    "sign k1 hash=SHA384",
+    "revoke k1 KeyCompromise",
+    "revoke k1 reason=1",
+    "revoke k1 since=-1",
+    "revoke k1 since=2023-11-14",
+    "revoke k1 message=%F",
+    "get k1 format=PKCS_8",
+    "get k1 wrap=%FF",
+    "get k1 k2",
+    "locate color=red",
+    "locate name=a=b",
+    "locate state=Active k1",
+    "locate length=many",
+    "locate type=Key",
+    "attributes k1 %",
+    "attribute-add k1",
+    "attribute-add k1 group=g group=h",
+    "attribute-add k1 group",
+    "attribute-modify k1 group=g index=x",
+    "attribute-delete k1",
+    "attribute-delete k1 Name Name",
+    "activate k1 reason=Superseded",
+    "register",
+];
+
+#[test]
+fn other_options_are_refused(rt: HostRuntime) {
+    let alloc: Global = rt.alloc();
+    let mut into = [7u8; 8];
+    for call in NO_CALLS {
+        let code = request(alloc, call.as_bytes(), false, b"", b"", &mut into);
+        assert!(rt; code == -2, "{call}");
+    }
+    assert!(rt; into == [7u8; 8]);
+}
+
 #[test]
 fn a_head_says_how_many_bytes_follow(rt: HostRuntime) -> Result<(), Fail> {
     let response = message(rt.alloc(), RANDOM)?;
@@ -211,6 +350,34 @@ const ANSWERS: &[Answer] = &[
         response: "OK0(A, 57 e2,94\"k2\",8F{40{42 e1,45{43 x00},28 e3,2A i8}})",
         status: 0,
         line: "{\"answer\":{\"object_type\":\"SymmetricKey\",\"unique_identifier\":\"k2\",",
+    },
+    Answer {
+        shows: "a call with options, as the one without",
+        call: "revoke k1 reason=KeyCompromise",
+        response: "OK0(13, 94\"k1\")",
+        status: 0,
+        line: "{\"answer\":{}}\n",
+    },
+    Answer {
+        shows: "the payload of a call with options",
+        call: "sign k1 00 hash=SHA512",
+        response: "OK2(21, 94\"k1\",C3 x0102)",
+        status: 0,
+        line: "{\"answer\":{\"unique_identifier\":\"k1\",\"signature_data\":\"0102\"}}\n",
+    },
+    Answer {
+        shows: "a call with options, another object",
+        call: "sign k1 00 hash=SHA512",
+        response: "OK2(21, 94\"k2\",C3 x0102)",
+        status: 3,
+        line: ANOTHER,
+    },
+    Answer {
+        shows: "attributes by name, another object",
+        call: "attributes k1 State",
+        response: "OK0(B, 94\"k2\")",
+        status: 3,
+        line: ANOTHER,
     },
     Answer {
         shows: "no identifier asked about",

@@ -1,15 +1,36 @@
 -- Whether an answer is about the object that its call asked about.
-use Rattle.std.specs.Prelude.{◌≡◌, ◌≢◌, ℕ, List, [], ◌==◌, length, take, Bool, false, not, ◌&&◌, Option, Some, Ok, Err, codes, bytes_eq, if◌then◌else◌}
+use Rattle.std.specs.Prelude.{◌≡◌, ◌≢◌, ℕ, List, [], ◌++◌, ◌==◌, length, take, Bool, false, not, ◌&&◌, Option, Some, Ok, Err, codes, bytes_eq, if◌then◌else◌}
 use Rattle.kmip_shape.specs.Val.{Val, Text, Case}
+use Rattle.kmip_types.specs.TheUniqueIdentifier.{UniqueIdentifier}
+use Rattle.kmip_request.specs.declared.payload.RequestPayload.{RequestPayload}
 use Rattle.kmip_client.specs.Check.{field_at, one_of, text_in}
 use Rattle.kmip_client.specs.Outcome.{Answer, Outcome}
 use Rattle.kmip_client.specs.declared.error.Error.TheVariants.{InternalError, OutOfMemory}
 use Rattle.kmip_words.specs.Exchange.{Settings, ending_of, json_line, call_outcome}
+use Rattle.kmip_words.specs.JsonLines.{IsJsonLine}
 use Rattle.kmip_words.specs.Refusal.{internal_error_line}
 use Rattle.kmip_words.specs.declared.call.Call.{Call}
-use Rattle.kmip_words.specs.declared.call.Call.TheVariants.{Sign, Activate, Revoke, Destroy, Rename, Get, Attributes}
+use Rattle.kmip_words.specs.declared.call.Call.TheVariants.{Sign, Activate, Revoke, Destroy, Rename, Get, Attributes, Request}
 use Rattle.kmip_words.specs.declared.ending.Ending.{Ending}
 use Rattle.kmip_words.specs.declared.ending.Ending.TheVariants.{Lost}
+
+abbrev pub identifier_or_none : Option UniqueIdentifier → List ℕ
+identifier_or_none (Some id) = id.0
+identifier_or_none None = []
+
+-- the Unique Identifier in a request, empty where there is none
+abbrev pub named_in : RequestPayload → List ℕ
+named_in (RequestPayload.Get id format compression wrapping) = identifier_or_none id
+named_in (RequestPayload.GetAttributes id names) = identifier_or_none id
+named_in (RequestPayload.GetAttributeList id) = identifier_or_none id
+named_in (RequestPayload.AddAttribute id attribute) = identifier_or_none id
+named_in (RequestPayload.ModifyAttribute id attribute) = identifier_or_none id
+named_in (RequestPayload.DeleteAttribute id name index) = identifier_or_none id
+named_in (RequestPayload.Activate id) = identifier_or_none id
+named_in (RequestPayload.Revoke id reason date) = identifier_or_none id
+named_in (RequestPayload.Destroy id) = identifier_or_none id
+named_in (RequestPayload.Sign id parameters bytes) = identifier_or_none id
+named_in request = []
 
 -- the Unique Identifier of the object that a call asks about; empty where it names none, so that
 -- the server takes that of its ID Placeholder (KMIP 1.0, 4)
@@ -21,6 +42,7 @@ asked_about (Destroy id) = id
 asked_about (Rename id new_name) = id
 asked_about (Get id) = id
 asked_about (Attributes id) = id
+asked_about (Request request) = named_in request
 asked_about call = []
 
 -- a text, or another where there is none
@@ -64,6 +86,15 @@ IsReply answer taken outcome =
 abbrev pub line_with : Call → Answer → List ℕ → List ℕ
 line_with call (Err (InternalError text)) response = internal_error_line text response
 line_with call answer response = json_line call answer
+
+-- the line of this answer was added, where `first` is the response's first message, and the answer is
+-- not `OutOfMemory`
+pub record Tells (call : Call) (answer : Answer) (first : List ℕ) (ending : Ending)
+    (old new : List ℕ) : Type 0 where
+  pub told : new ≡ old ++ line_with call (answer_about call answer) first
+  pub ending_is : ending ≡ ending_about call answer
+  pub json : IsJsonLine (line_with call (answer_about call answer) first)
+  pub some : answer ≢ Err OutOfMemory
 
 -- the line of JSON that says what these bytes answer to a call, of which a first part is taken
 abbrev pub response_line : Settings → Call → List ℕ → List ℕ

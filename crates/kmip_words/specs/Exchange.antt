@@ -22,7 +22,7 @@ use Rattle.kmip_client.specs.declared.error.Error.{Error}
 use Rattle.kmip_client.specs.declared.error.Error.TheVariants.{ConfigurationError, SerializeError, RequestWriteError, ResponseReadError, DeserializeError, ServerError, InternalError, ItemNotFound, Unknown, OutOfMemory}
 use Rattle.kmip_words.specs.Requests.{locate_request, attributes_request, create_aes_request, discover_request}
 use Rattle.kmip_words.specs.declared.call.Call.{Call}
-use Rattle.kmip_words.specs.declared.call.Call.TheVariants.{Query, CreateRsa, Rng, Sign, Activate, Revoke, Destroy, Rename, Get, Raw, Locate, Attributes, CreateAes, Discover}
+use Rattle.kmip_words.specs.declared.call.Call.TheVariants.{Query, CreateRsa, Rng, Sign, Activate, Revoke, Destroy, Rename, Get, Raw, Locate, Attributes, CreateAes, Discover, Request}
 use Rattle.kmip_words.specs.declared.ending.Ending.{Ending}
 use Rattle.kmip_words.specs.declared.ending.Ending.TheVariants.{Answered, Refused, Lost}
 
@@ -68,6 +68,7 @@ request_asked (Locate name) = asked_of (locate_request name)
 request_asked (Attributes id) = asked_of (attributes_request id)
 request_asked (CreateAes key_length name) = asked_of (create_aes_request key_length name)
 request_asked Discover = asked_of discover_request
+request_asked (Request payload) = asked_of payload
 
 -- the request is that of the call, with whatever credential
 abbrev pub IsRequestOf : RequestPayload → Call → Type 0
@@ -110,6 +111,14 @@ payload_in_style (Case n payload) style =
     elim (case_at response_payloads n) [ None ↦ [] | Some c ↦ shown_in_style c.shape payload style ]
 payload_in_style payload style = []
 
+-- the answer to a request with options, as that of the same call without them
+abbrev pub request_in_style : RequestPayload → Val → Style → List ℕ
+request_in_style (RequestPayload.CreateKeyPair common private public) payload = texts_in_style payload
+request_in_style (RequestPayload.Activate id) payload = done_in_style
+request_in_style (RequestPayload.Revoke id reason date) payload = done_in_style
+request_in_style (RequestPayload.Destroy id) payload = done_in_style
+request_in_style request payload = payload_in_style payload
+
 -- what is shown of the payload that a call returns
 abbrev pub value_in_style : Call → Val → Style → List ℕ
 value_in_style Query payload = record_in_style query_payload payload
@@ -126,6 +135,7 @@ value_in_style (Locate name) payload = record_in_style locate_payload payload
 value_in_style (Attributes id) payload = record_in_style get_attributes_payload payload
 value_in_style (CreateAes key_length name) payload = record_in_style create_payload payload
 value_in_style Discover payload = record_in_style discover_versions_payload payload
+value_in_style (Request request) payload = request_in_style request payload
 
 -- the name of an error's variant
 abbrev pub error_name : Error → List ℕ

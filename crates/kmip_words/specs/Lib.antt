@@ -4,6 +4,9 @@ pub mod Calls
 pub mod Raw
 pub mod Requests
 pub mod Options
+pub mod Coded
+pub mod Attributes
+pub mod Asked
 pub mod Streams
 pub mod Exchange
 pub mod Refusal

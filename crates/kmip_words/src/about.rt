@@ -2,12 +2,49 @@
 ghost use Rattle.std.specs.Prelude.{◌≡◌};
 ghost use Rattle.kmip_response.specs.Values.{response_payload_val};
 ghost use Rattle.kmip_client.specs.Outcome.{answer_with_payload};
+ghost use Rattle.kmip_words.specs.About.{identifier_or_none, named_in};
 ghost use Rattle.kmip_words.specs.About.{asked_about, identifier_in, is_about_another};
 
 use crate::call::Call;
 use kmip_client::Error;
+use kmip_request::RequestPayload;
 use kmip_response::ResponsePayload;
 use kmip_types::UniqueIdentifier;
+
+/// An identifier, or the empty text.
+fn identifier_or_none(id: &Option<UniqueIdentifier>) -> &str
+    ensures { result.now ≡ identifier_or_none id.now }
+{
+    match id {
+        Some(UniqueIdentifier(id)) => id.as_str(),
+        None => "",
+    }
+}
+
+/// The identifier in a request, empty where there is none.
+fn named_in(request: &RequestPayload) -> &str
+    ensures { result.now ≡ named_in request.now }
+{
+    match request {
+        RequestPayload::Get(id, ..) => identifier_or_none(id),
+        RequestPayload::GetAttributes(id, _) => identifier_or_none(id),
+        RequestPayload::GetAttributeList(id) => identifier_or_none(id),
+        RequestPayload::AddAttribute(id, _) => identifier_or_none(id),
+        RequestPayload::ModifyAttribute(id, _) => identifier_or_none(id),
+        RequestPayload::DeleteAttribute(id, ..) => identifier_or_none(id),
+        RequestPayload::Activate(id) => identifier_or_none(id),
+        RequestPayload::Revoke(id, ..) => identifier_or_none(id),
+        RequestPayload::Destroy(id) => identifier_or_none(id),
+        RequestPayload::Sign(id, ..) => identifier_or_none(id),
+        RequestPayload::Create(..)
+        | RequestPayload::CreateKeyPair(..)
+        | RequestPayload::Register(..)
+        | RequestPayload::Locate(_)
+        | RequestPayload::Query(_)
+        | RequestPayload::DiscoverVersions(_)
+        | RequestPayload::RNGRetrieve(_) => "",
+    }
+}
 
 /// The identifier of the object that a call asks about; empty where it names none.
 fn asked_about(call: &Call) -> &str
@@ -21,6 +58,7 @@ fn asked_about(call: &Call) -> &str
         Call::Rename { id, .. } => id.as_str(),
         Call::Get { id } => id.as_str(),
         Call::Attributes { id } => id.as_str(),
+        Call::Request { payload } => named_in(payload.get()),
         Call::Query
         | Call::CreateRsa { .. }
         | Call::Rng { .. }

@@ -1,12 +1,13 @@
 //! A call that is made on a client, and the line of its answer.
 ghost use Rattle.std.specs.Prelude.{◌≡◌, ◌++◌, drop, IfOk, OnOk};
 ghost use Rattle.kmip_enums.specs.declared.operation.Operation.{Operation as TheOperation};
+ghost use Rattle.kmip_request.specs.Message.{operation_of};
 ghost use Rattle.kmip_response.specs.Values.{response_payload_val};
 ghost use Rattle.kmip_client.specs.Client.{IsOfOperation};
 ghost use Rattle.kmip_client.specs.Outcome.{answer_with_payload};
 ghost use Rattle.kmip_words.specs.Exchange.{settings_of, operation_asked, payload_in_style};
-ghost use Rattle.kmip_words.specs.Exchange.{texts_in_style, value_in_style, value_line, step_in};
-ghost use Rattle.kmip_words.specs.Exchange.{json_line, Answers, Shows};
+ghost use Rattle.kmip_words.specs.Exchange.{texts_in_style, request_in_style, value_in_style, value_line};
+ghost use Rattle.kmip_words.specs.Exchange.{step_in, json_line, Answers, Shows};
 ghost use Rattle.kmip_words.specs.JsonLines.{IsJsonLine};
 
 use crate::call::Call;
@@ -16,6 +17,7 @@ use crate::requests::request_for;
 use crate::show::{done_line, push_pair, push_payload, show_error};
 use kmip_client::{Client, Error};
 use kmip_link::MemoryLink;
+use kmip_request::RequestPayload;
 use kmip_response::ResponsePayload;
 use kmip_shape::{Item, Style};
 use kmip_types::UniqueIdentifier;
@@ -74,6 +76,39 @@ fn push_identifiers(
     }
 }
 
+/// Adds the payload that a request with options is answered with as a line.
+fn push_answer_to(
+    alloc: Global,
+    style: Style,
+    request: &RequestPayload,
+    payload: &ResponsePayload,
+    line: &mut Text,
+) -> Result<(), OutOfMemory>
+    requires { IsOfOperation (operation_of request.now) (response_payload_val payload.now) }
+    ensures { OnOk result (line.new ≡ line.old
+        ++ value_line (request_in_style request.now (response_payload_val payload.now) style) style) }
+{
+    match request {
+        RequestPayload::CreateKeyPair(..) => push_identifiers(alloc, style, payload, line),
+        RequestPayload::Activate(_)
+        | RequestPayload::Revoke(..)
+        | RequestPayload::Destroy(_) => line.push_str(done_line(style)),
+        RequestPayload::Create(..)
+        | RequestPayload::Register(..)
+        | RequestPayload::Locate(_)
+        | RequestPayload::Get(..)
+        | RequestPayload::GetAttributes(..)
+        | RequestPayload::GetAttributeList(_)
+        | RequestPayload::AddAttribute(..)
+        | RequestPayload::ModifyAttribute(..)
+        | RequestPayload::DeleteAttribute(..)
+        | RequestPayload::Query(_)
+        | RequestPayload::DiscoverVersions(_)
+        | RequestPayload::Sign(..)
+        | RequestPayload::RNGRetrieve(_) => push_record(alloc, style, payload, line),
+    }
+}
+
 /// Adds the payload that a call is answered with as a line.
 fn push_answer(
     alloc: Global,
@@ -88,6 +123,9 @@ fn push_answer(
 {
     match call {
         Call::Raw { .. } => push_payload(alloc, style, payload, line),
+        Call::Request { payload: request } => {
+            push_answer_to(alloc, style, request.get(), payload, line)
+        }
         Call::CreateRsa { .. } => push_identifiers(alloc, style, payload, line),
         Call::Activate { .. } | Call::Revoke { .. } | Call::Destroy { .. } => {
             line.push_str(done_line(style))

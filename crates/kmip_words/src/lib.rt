@@ -10,7 +10,10 @@
 
 mod about;
 mod answers;
+mod asked;
+mod attributes;
 mod call;
+mod coded;
 mod ending;
 mod laws;
 mod lines;

@@ -5,7 +5,7 @@ ghost use Rattle.kmip_client.specs.Client.{credential_for, IsOfOperation};
 ghost use Rattle.kmip_client.specs.Outcome.{answer_with_payload};
 ghost use Rattle.kmip_words.specs.Exchange.{Settings as TheSettings, settings_of, request_asked};
 ghost use Rattle.kmip_words.specs.Exchange.{operation_asked, call_outcome};
-ghost use Rattle.kmip_words.specs.About.{IsReply, response_line, response_ending};
+ghost use Rattle.kmip_words.specs.About.{IsReply, Tells, response_line, response_ending};
 ghost use Rattle.kmip_words.specs.JsonLines.{IsJsonLine};
 
 use crate::about::is_about_another;
@@ -155,6 +155,32 @@ fn reply_of(
     Ok(Reply { answer, taken })
 }
 
+/// Adds the line of what a call is answered with, and returns how the call ended. `first` is the
+/// first message of the response. Its only error is `OutOfMemory`.
+fn tell(
+    alloc: Global,
+    call: &Call,
+    answer: Result<ResponsePayload, Error>,
+    first: &[u8],
+    line: &mut Text,
+) -> Result<Ending, OutOfMemory>
+    requires { IfOk answer
+        (λ payload. IsOfOperation (operation_asked call.now) (response_payload_val payload)) }
+    ensures { IfOk result
+        (λ ending. Tells call.now (answer_with_payload answer) first.now ending line.old line.new) }
+{
+    lines_are_json();
+    if is_about_another(call, &answer) {
+        push_internal_error(alloc, "answer for another object", first, line)?;
+        return Ok(Ending::Lost);
+    }
+    if let Err(Error::InternalError(text)) = &answer {
+        push_internal_error(alloc, text.as_str(), first, line)?;
+        return Ok(Ending::Refused);
+    }
+    show_answer(alloc, Style::Json, call, answer, line)
+}
+
 /// Adds the answer that these bytes are to a call as a line of JSON, and returns how the call
 /// ended. The line is `{"answer":..}` with the payload, or `{"error":"ItemNotFound","text":".."}`
 /// with the name of the error's variant and its text. It is what a client returns over a link with
@@ -180,16 +206,6 @@ pub fn answer_of(
         (λ ending. ending ≡ response_ending settings.now call response.now) }
     ensures json { OnOk result (IsJsonLine (response_line settings.now call response.now)) }
 {
-    lines_are_json();
     let Reply { answer, taken } = reply_of(alloc, settings, &call, response)?;
-    let first = &response[..taken];
-    if is_about_another(&call, &answer) {
-        push_internal_error(alloc, "answer for another object", first, line)?;
-        return Ok(Ending::Lost);
-    }
-    if let Err(Error::InternalError(text)) = &answer {
-        push_internal_error(alloc, text.as_str(), first, line)?;
-        return Ok(Ending::Refused);
-    }
-    show_answer(alloc, Style::Json, &call, answer, line)
+    tell(alloc, &call, answer, &response[..taken], line)
 }

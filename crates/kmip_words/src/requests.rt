@@ -114,5 +114,6 @@ pub fn request_for(alloc: Global, call: &Call) -> Result<RequestPayload, OutOfMe
             create_aes_request(alloc, *key_length, name.try_clone(alloc)?)
         }
         Call::Discover => Ok(discover_request(alloc)),
+        Call::Request { payload } => payload.get().try_clone(alloc),
     }
 }
