@@ -1,5 +1,5 @@
 -- The structure at the front of bytes.
-use Rattle.std.specs.Prelude.{◌≡◌, ℕ, ◌≤◌, List, length, take, Option, Some, None}
+use Rattle.std.specs.Prelude.{ℕ, ◌≤◌, List, length, take, Option, Some, None}
 use Rattle.std.specs.Option.{option_and_then}
 use Rattle.kmip_wire.specs.Tree.{Tree, scalar, structure}
 use Rattle.kmip_wire.specs.Parses.{Parses}

@@ -10,9 +10,9 @@
 //! ```
 //!
 //! Each type reads its children in one pass, makes no tree, and takes memory only for what the
-//! value holds. Fields may stand in any order, and items under unknown tags are skipped. `Unread` is
-//! returned where a field that may stand once stands twice, a required one is missing, an item is of
-//! another type than its field, or an enumeration has a number outside its table.
+//! value holds. Fields may stand in any order, and items under unknown tags are skipped. `Unread`
+//! is returned where a field that may stand once stands twice, a required one is missing, an item
+//! is of another type than its field, or an enumeration has a number outside its table.
 #![tactic(auto)]
 
 mod batch_item;

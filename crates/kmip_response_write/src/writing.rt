@@ -32,8 +32,8 @@ fn write_item<T: WriteItem>(item: &T, tag: Tag, out: &mut Buffer)
     item.write_into(tag, out);
 }
 
-/// The canonical bytes of an item. `NoForm` is returned exactly where there are none, and `Malformed`
-/// never.
+/// The canonical bytes of an item. `NoForm` is returned exactly where there are none, and
+/// `Malformed` never.
 fn to_blob<T: WriteItem>(alloc: Global, item: &T, tag: Tag) -> Result<Blob, WireError>
     ensures { GivesBytes result (bytes_of T.shape tag (T.val item.now)) }
 {
@@ -56,10 +56,10 @@ fn message_bytes(alloc: Global, message: &ResponseMessage) -> Result<Blob, WireE
 /// The canonical bytes of a response (KMIP 1.0, 7.1), each record's items in the order of its
 /// table.
 ///
-/// `NoForm` is returned exactly where there are none: where an item's length reaches 2^32, a child of
-/// a custom structure is written as a structure, or key material is `Structure`, or `Wrapped` beside
-/// attributes. `Malformed` is never returned. For an optional list that is present and empty nothing
-/// is written, as for an absent one.
+/// `NoForm` is returned exactly where there are none: where an item's length reaches 2^32, a child
+/// of a custom structure is written as a structure, or key material is `Structure`, or `Wrapped`
+/// beside attributes. `Malformed` is never returned. For an optional list that is present and empty
+/// nothing is written, as for an absent one.
 ///
 /// Memory is taken once, before the first byte is written; `OutOfMemory` is returned where it is
 /// refused.
