@@ -1,5 +1,5 @@
-//! Laws: `==` says exactly whether two values are equal. Each is the contract of a function that does
-//! nothing.
+//! Laws: `==` says exactly whether two values are equal. Each is the contract of a function that
+//! does nothing.
 
 ghost use Rattle.kmip_request_objects.specs.Equality.{IsEquality};
 

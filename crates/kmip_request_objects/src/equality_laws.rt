@@ -1,5 +1,5 @@
-//! Laws: `==` says exactly whether two values are equal. Each is the contract of a function that does
-//! nothing.
+//! Laws: `==` says exactly whether two values are equal. Each is the contract of a function that
+//! does nothing.
 
 ghost use Rattle.kmip_request_objects.specs.Equality.{IsEquality};
 
@@ -104,7 +104,8 @@ fn attribute_equality()
 /// The law for the keys that wrap a key.
 fn key_information_equality()
     ensures encryption_key_information { IsEquality ⟦<EncryptionKeyInformation as PartialEq>⟧.eq }
-    ensures mac_or_signature_key_information { IsEquality ⟦<MACOrSignatureKeyInformation as PartialEq>⟧.eq }
+    ensures mac_or_signature_key_information { IsEquality
+        ⟦<MACOrSignatureKeyInformation as PartialEq>⟧.eq }
 {
     field_equality();
     parameters_equality();
@@ -156,8 +157,10 @@ pub fn equality()
     ensures attribute { IsEquality ⟦<Attribute as PartialEq>⟧.eq }
     ensures template_attribute { IsEquality ⟦<TemplateAttribute as PartialEq>⟧.eq }
     ensures common_template_attribute { IsEquality ⟦<CommonTemplateAttribute as PartialEq>⟧.eq }
-    ensures private_key_template_attribute { IsEquality ⟦<PrivateKeyTemplateAttribute as PartialEq>⟧.eq }
-    ensures public_key_template_attribute { IsEquality ⟦<PublicKeyTemplateAttribute as PartialEq>⟧.eq }
+    ensures private_key_template_attribute { IsEquality
+        ⟦<PrivateKeyTemplateAttribute as PartialEq>⟧.eq }
+    ensures public_key_template_attribute { IsEquality
+        ⟦<PublicKeyTemplateAttribute as PartialEq>⟧.eq }
     ensures key_wrapping_specification { IsEquality ⟦<KeyWrappingSpecification as PartialEq>⟧.eq }
     ensures managed_object { IsEquality ⟦<ManagedObject as PartialEq>⟧.eq }
     ensures revocation_reason { IsEquality ⟦<RevocationReason as PartialEq>⟧.eq }
