@@ -8,4 +8,5 @@ pub mod Moves
 pub mod Numbers
 pub mod EmptyLink
 pub mod JsonLines
+pub mod Gathered
 pub mod Texts
