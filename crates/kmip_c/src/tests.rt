@@ -156,6 +156,30 @@ const ASKED: &[Asked] = &[
         call: "attribute-delete k1 x-a index=-1",
         request: r#"REQ0(F, 94 "k1",0A "x-a",09 i-1)"#,
     },
+    Asked {
+        call: "create AES 256 k1",
+        request: r#"REQ0(1, 57 e2,91{08{0A "Name",0B{55 "k1",54 e1}},08{0A "Cryptographic Usage Mask",0B i12},08{0A "Cryptographic Algorithm",0B e3},08{0A "Cryptographic Length",0B i256}})"#,
+    },
+    Asked {
+        call: "create TRIPLE_DES 168 k1 usage=WrapKey,UnwrapKey",
+        request: r#"REQ0(1, 57 e2,91{08{0A "Name",0B{55 "k1",54 e1}},08{0A "Cryptographic Usage Mask",0B i48},08{0A "Cryptographic Algorithm",0B e2},08{0A "Cryptographic Length",0B i168}})"#,
+    },
+    Asked {
+        call: "create-rsa 2048 a b public-usage=Verify,Encrypt",
+        request: r#"REQ0(2, 1F{08{0A "Cryptographic Algorithm",0B e4},08{0A "Cryptographic Length",0B i2048}},65{08{0A "Name",0B{55 "a",54 e1}},08{0A "Cryptographic Usage Mask",0B i1}},6E{08{0A "Name",0B{55 "b",54 e1}},08{0A "Cryptographic Usage Mask",0B i6}})"#,
+    },
+    Asked {
+        call: "register symmetric 00FF format=Raw algorithm=AES length=16 name=k usage=Encrypt",
+        request: r#"REQ0(3, 57 e2,91{08{0A "Cryptographic Usage Mask",0B i4},08{0A "Name",0B{55 "k",54 e1}}},8F{40{42 e1,45{43 x00FF},28 e3,2A i16}})"#,
+    },
+    Asked {
+        call: "register private CC format=PKCS1 algorithm=RSA length=2048",
+        request: r#"REQ0(3, 57 e4,91{},64{40{42 e3,45{43 xCC},28 e4,2A i2048}})"#,
+    },
+    Asked {
+        call: "register public CC length=2048 format=X509 algorithm=RSA name=p",
+        request: r#"REQ0(3, 57 e3,91{08{0A "Name",0B{55 "p",54 e1}}},6D{40{42 e5,45{43 xCC},28 e4,2A i2048}})"#,
+    },
 ];
 
 #[test]
@@ -204,6 +228,15 @@ const NO_CALLS: &[&str] = &[
     "attribute-delete k1",
     "attribute-delete k1 Name Name",
     "activate k1 reason=Superseded",
+    "create AES 256",
+    "create HMAC 256 k1",
+    "create AES 256 k1 usage=encrypt",
+    "create AES 256 k1 usage=Encrypt,",
+    "create AES many k1",
+    "create-rsa 2048 a b usage=Sign",
+    "register symmetric 00FF format=Raw algorithm=AES",
+    "register symmetric 0 format=Raw algorithm=AES length=16",
+    "register certificate 00 format=X509 algorithm=RSA length=16",
     "register",
 ];
 

@@ -17,32 +17,21 @@ use Rattle.kmip_types.specs.TheUniqueIdentifier.{UniqueIdentifier}
 use Rattle.kmip_types.specs.TheAttributeName.{AttributeName}
 use Rattle.kmip_types.specs.declared.cryptographic_parameters.CryptographicParameters.{CryptographicParameters}
 use Rattle.kmip_request.specs.TheAttribute.{Attribute}
+use Rattle.kmip_types.specs.TheCompromiseOccurrenceDate.{CompromiseOccurrenceDate}
+use Rattle.kmip_request_objects.specs.declared.revocation_reason.RevocationReason.{RevocationReason}
 use Rattle.kmip_request_objects.specs.declared.key_wrapping.KeyWrappingSpecification.{KeyWrappingSpecification}
 use Rattle.kmip_request.specs.Requests.{signing_parameters}
 use Rattle.kmip_request.specs.declared.payload.RequestPayload.{RequestPayload}
 use Rattle.kmip_words.specs.Attributes.{attribute_in, attribute_name, all_of}
 use Rattle.kmip_words.specs.Coded.{variant_or}
+use Rattle.kmip_words.specs.Given.{text_given, date_given, number_given}
+use Rattle.kmip_words.specs.Keys.{key_asked}
 use Rattle.kmip_words.specs.Options.{value_given, are_options}
-use Rattle.kmip_words.specs.Values.{int_of, number_of, bytes_of, word_text}
+use Rattle.kmip_words.specs.Values.{bytes_of, word_text}
 
 -- the identifier of an object
 abbrev pub identifier : List ℕ → Option UniqueIdentifier
 identifier id = Some (record { 0 = id })
-
--- the text that an option gives, where it is given; none where its value is no text
-abbrev pub text_given : Option (List ℕ) → Option (Option (List ℕ))
-text_given None = Some None
-text_given (Some value) = option_map Some (word_text value)
-
--- likewise a date, in seconds since 1970-01-01 UTC
-abbrev pub date_given : Option (List ℕ) → Option (Option ℕ)
-date_given None = Some None
-date_given (Some value) = option_map Some (number_of value)
-
--- and a number
-abbrev pub number_given : Option (List ℕ) → Option (Option ℤ)
-number_given None = Some None
-number_given (Some value) = option_map Some (int_of value)
 
 -- ---- `sign ID HEX [hash=] [padding=] [algorithm=] [prehashed]`
 
@@ -106,20 +95,31 @@ reason_given words =
     variant_or revocation_reason_code_line revocation_reason_code_variants
     (Some RevocationReasonCode.CessationOfOperation) (value_given (codes "reason=") words)
 
-abbrev pub revoke_with : Option (List ℕ) → Option (Option RevocationReasonCode) →
-    Option (Option (List ℕ)) → Option (Option ℕ) → Option RequestPayload
-revoke_with (Some id) (Some (Some reason)) (Some message) (Some since) =
-    Some (RequestPayload.Revoke (identifier id)
-    (record { 0 = reason; 1 = option_map (λ text. record { 0 = text }) message })
-    (option_map (λ date. record { 0 = date }) since))
-revoke_with id reason message since = None
+abbrev pub revocation_with : Option (Option RevocationReasonCode) → Option (Option (List ℕ)) →
+    Option RevocationReason
+revocation_with (Some (Some reason)) (Some message) =
+    Some (record { 0 = reason; 1 = option_map (λ text. record { 0 = text }) message })
+revocation_with reason message = None
+
+abbrev pub revocation_given : List (List ℕ) → Option RevocationReason
+revocation_given words =
+    revocation_with (reason_given words) (text_given (value_given (codes "message=") words))
+
+abbrev pub since_given : List (List ℕ) → Option (Option CompromiseOccurrenceDate)
+since_given words =
+    option_map (option_map (λ date. record { 0 = date }))
+    (date_given (value_given (codes "since=") words))
+
+abbrev pub revoke_with : Option (List ℕ) → Option RevocationReason →
+    Option (Option CompromiseOccurrenceDate) → Option RequestPayload
+revoke_with (Some id) (Some reason) (Some since) =
+    Some (RequestPayload.Revoke (identifier id) reason since)
+revoke_with id reason since = None
 
 abbrev pub revoke_asked : List (List ℕ) → Option RequestPayload
 revoke_asked (id ∷ options) =
     if are_options (codes "reason=" ∷ codes "message=" ∷ codes "since=" ∷ []) options
-    then revoke_with (word_text id) (reason_given options)
-      (text_given (value_given (codes "message=") options))
-      (date_given (value_given (codes "since=") options))
+    then revoke_with (word_text id) (revocation_given options) (since_given options)
     else None
 revoke_asked [] = None
 
@@ -231,7 +231,7 @@ edit_asked name words =
     if bytes_eq name (codes "attribute-add") then add_asked words
     else if bytes_eq name (codes "attribute-modify") then modify_asked words
     else if bytes_eq name (codes "attribute-delete") then delete_asked words
-    else None
+    else key_asked name words
 
 abbrev pub asked_by : List ℕ → List (List ℕ) → Option RequestPayload
 asked_by name words =

@@ -6,6 +6,8 @@ pub mod Requests
 pub mod Options
 pub mod Coded
 pub mod Attributes
+pub mod Given
+pub mod Keys
 pub mod Asked
 pub mod Streams
 pub mod Exchange

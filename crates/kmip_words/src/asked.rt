@@ -6,11 +6,13 @@ ghost use Rattle.std.specs.Prelude.{◌≡◌, option_map, IfOk};
 ghost use Rattle.kmip_request.specs.declared.payload.RequestPayload.{RequestPayload as Payload};
 ghost use Rattle.kmip_words.specs.Attributes.{attribute_in, attribute_name, all_of};
 ghost use Rattle.kmip_words.specs.Options.{value_given};
-ghost use Rattle.kmip_words.specs.Values.{word_text};
+ghost use Rattle.kmip_words.specs.Given as given;
 ghost use Rattle.kmip_words.specs.Asked as asked;
 
 use crate::attributes::{attribute_in, attribute_name, attributes_in, names_in};
-use crate::coded::{ALGORITHMS, coded_given};
+use crate::coded::{ALGORITHMS, FORMATS, coded_given};
+use crate::given::text_given;
+use crate::keys::key_asked;
 use crate::options::{are_options, value_given};
 use crate::values::{bytes_of, int_of, number_of, word_text};
 use kmip_enums::RevocationReasonCode;
@@ -54,29 +56,6 @@ const PADDINGS: &[PaddingMethod] = &[
     PaddingMethod::PSS,
 ];
 
-/// The formats of keys: KMIP 1.0, 9.1.3.2.3.
-const FORMATS: &[KeyFormatType] = &[
-    KeyFormatType::Raw,
-    KeyFormatType::Opaque,
-    KeyFormatType::PKCS1,
-    KeyFormatType::PKCS8,
-    KeyFormatType::X509,
-    KeyFormatType::ECPrivateKey,
-    KeyFormatType::TransparentSymmetricKey,
-    KeyFormatType::TransparentDSAPrivateKey,
-    KeyFormatType::TransparentDSAPublicKey,
-    KeyFormatType::TransparentRSAPrivateKey,
-    KeyFormatType::TransparentRSAPublicKey,
-    KeyFormatType::TransparentDHPrivateKey,
-    KeyFormatType::TransparentDHPublicKey,
-    KeyFormatType::TransparentECDSAPrivateKey,
-    KeyFormatType::TransparentECDSAPublicKey,
-    KeyFormatType::TransparentECHDPrivateKey,
-    KeyFormatType::TransparentECDHPublicKey,
-    KeyFormatType::TransparentECMQVPrivateKey,
-    KeyFormatType::TransparentECMQVPublicKey,
-];
-
 /// The reasons for a revocation: KMIP 1.0, 9.1.3.2.18.
 const REASONS: &[RevocationReasonCode] = &[
     RevocationReasonCode::Unspecified,
@@ -88,31 +67,12 @@ const REASONS: &[RevocationReasonCode] = &[
     RevocationReasonCode::PrivilegeWithdrawn,
 ];
 
-/// The text that words give to an option, where they do; `None` where it is no text.
-fn text_given(
-    alloc: Global,
-    option: &str,
-    words: &[Text],
-) -> Result<Option<Option<Text>>, OutOfMemory>
-    ensures { IfOk result
-        (λ text. text ≡ asked.text_given (value_given option.now words.now)) }
+/// The date of a compromise, in seconds since 1970-01-01 UTC, where words give one; `None` where it
+/// is no number from 0 to 2^32 - 1.
+fn since_given(words: &[Text]) -> Option<Option<CompromiseOccurrenceDate>>
+    ensures { result ≡ asked.since_given words.now }
 {
-    let Some(value) = value_given(option, words) else {
-        return Ok(Some(None));
-    };
-    match word_text(alloc, value)? {
-        Some(text) => Ok(Some(Some(text))),
-        None => Ok(None),
-    }
-}
-
-/// The date that words give to an option, in seconds since 1970-01-01 UTC, where they do; `None`
-/// where it is no number from 0 to 2^32 - 1.
-fn date_given(option: &str, words: &[Text]) -> Option<Option<CompromiseOccurrenceDate>>
-    ensures { result ≡ option_map (option_map (λ date. record { 0 = date }))
-        (asked.date_given (value_given option.now words.now)) }
-{
-    match value_given(option, words) {
+    match value_given("since=", words) {
         Some(value) => {
             let date = u64::from(number_of(value)?);
             Some(Some(CompromiseOccurrenceDate(date)))
@@ -124,7 +84,7 @@ fn date_given(option: &str, words: &[Text]) -> Option<Option<CompromiseOccurrenc
 /// The index that words give to an option, where they do; `None` where it is no `i32`.
 fn index_given(option: &str, words: &[Text]) -> Option<Option<AttributeIndex>>
     ensures { result ≡ option_map (option_map (λ z. record { 0 = z }))
-        (asked.number_given (value_given option.now words.now)) }
+        (given.number_given (value_given option.now words.now)) }
 {
     match value_given(option, words) {
         Some(value) => Some(Some(AttributeIndex(int_of(value)?))),
@@ -222,6 +182,22 @@ fn message_of(text: Option<Text>) -> Option<RevocationMessage>
     }
 }
 
+/// The reason for a revocation, with its message.
+fn revocation_given(
+    alloc: Global,
+    words: &[Text],
+) -> Result<Option<RevocationReason>, OutOfMemory>
+    ensures { IfOk result (λ reason. reason ≡ asked.revocation_given words.now) }
+{
+    let Some(Some(code)) = reason_given(words) else {
+        return Ok(None);
+    };
+    match text_given(alloc, "message=", words)? {
+        Some(message) => Ok(Some(RevocationReason(code, message_of(message)))),
+        None => Ok(None),
+    }
+}
+
 /// `revoke ID` with options: KMIP 1.0, 4.19.
 fn revoke_asked(alloc: Global, words: &[Text]) -> Result<Option<RequestPayload>, OutOfMemory>
     ensures { IfOk result (λ made. made ≡ asked.revoke_asked words.now) }
@@ -235,16 +211,12 @@ fn revoke_asked(alloc: Global, words: &[Text]) -> Result<Option<RequestPayload>,
     let Some(id) = word_text(alloc, id.as_str())? else {
         return Ok(None);
     };
-    let Some(Some(code)) = reason_given(options) else {
+    let Some(reason) = revocation_given(alloc, options)? else {
         return Ok(None);
     };
-    let Some(message) = text_given(alloc, "message=", options)? else {
+    let Some(since) = since_given(options) else {
         return Ok(None);
     };
-    let Some(since) = date_given("since=", options) else {
-        return Ok(None);
-    };
-    let reason = RevocationReason(code, message_of(message));
     Ok(Some(RequestPayload::Revoke(Some(UniqueIdentifier(id)), reason, since)))
 }
 
@@ -386,7 +358,7 @@ fn delete_asked(alloc: Global, words: &[Text]) -> Result<Option<RequestPayload>,
     Ok(Some(RequestPayload::DeleteAttribute(Some(UniqueIdentifier(id)), name, index)))
 }
 
-/// The calls that change attributes.
+/// The calls that change attributes, and those that make keys.
 fn edit_asked(
     alloc: Global,
     name: &str,
@@ -398,7 +370,7 @@ fn edit_asked(
         "attribute-add" => add_asked(alloc, words),
         "attribute-modify" => modify_asked(alloc, words),
         "attribute-delete" => delete_asked(alloc, words),
-        _ => Ok(None),
+        _ => key_asked(alloc, name, words),
     }
 }
 

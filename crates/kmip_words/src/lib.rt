@@ -15,6 +15,8 @@ mod attributes;
 mod call;
 mod coded;
 mod ending;
+mod given;
+mod keys;
 mod laws;
 mod lines;
 mod lookup;
