@@ -14,16 +14,19 @@ use Rattle.kmip_shape.proofs.Json.{value_is}
 use Rattle.kmip_enums.specs.Operations.{operation_line}
 use Rattle.kmip_enums.specs.declared.operation.Operation.{Operation}
 use Rattle.kmip_enums.specs.declared.operation.Operation.TheVariants as operations
-use Rattle.kmip_response.specs.Tables.{response_payload, response_payloads, create_key_pair_payload, query_payload, rng_retrieve_payload, sign_payload, attribute_edit_payload, get_payload, locate_payload, get_attributes_payload, create_payload, discover_versions_payload}
+use Rattle.kmip_request.specs.Message.{operation_of}
+use Rattle.kmip_request.specs.declared.payload.RequestPayload.{RequestPayload}
+use Rattle.kmip_request.specs.declared.payload.RequestPayload.TheVariants as payloads
+use Rattle.kmip_response.specs.Tables.{response_payload, response_payloads, create_key_pair_payload, query_payload, rng_retrieve_payload, sign_payload, attribute_edit_payload, get_payload, locate_payload, get_attributes_payload, create_payload, register_payload, get_attribute_list_payload, discover_versions_payload}
 use Rattle.kmip_client.specs.Client.{IsOfOperation}
 use Rattle.kmip_client.specs.Errors.{error_text}
 use Rattle.kmip_client.specs.declared.error.Error.{Error}
 use Rattle.kmip_client.specs.declared.error.Error.TheVariants.{ConfigurationError, SerializeError, RequestWriteError, ResponseReadError, DeserializeError, ServerError, InternalError, ItemNotFound, Unknown, OutOfMemory}
-use Rattle.kmip_words.specs.Exchange.{operation_asked, record_in_style, texts_in_style, value_in_style, value_line, error_name, error_line, json_line}
+use Rattle.kmip_words.specs.Exchange.{operation_asked, payload_in_style, record_in_style, request_in_style, texts_in_style, value_in_style, value_line, error_name, error_line, json_line}
 use Rattle.kmip_words.specs.JsonLines.{IsJsonLine}
 use Rattle.kmip_words.specs.Refusal.{reason_of, message_of, reason_member, message_member, internal_error_line}
 use Rattle.kmip_words.specs.declared.call.Call.{Call}
-use Rattle.kmip_words.specs.declared.call.Call.TheVariants.{Query, CreateRsa, Rng, Sign, Activate, Revoke, Destroy, Rename, Get, Raw, Locate, Attributes, CreateAes, Discover}
+use Rattle.kmip_words.specs.declared.call.Call.TheVariants.{Query, CreateRsa, Rng, Sign, Activate, Revoke, Destroy, Rename, Get, Raw, Locate, Attributes, CreateAes, Discover, Request}
 use Rattle.kmip_words.proofs.Exchanges.{of_case}
 
 -- characters that stand in a string as they are
@@ -134,6 +137,26 @@ by_number : (operation : Operation) (text : Val → List ℕ) → ((v : Val) →
 by_number operation text each payload fits own =
     of_case operation payload (λ v. Fits response_payload v → IsJson (text v)) (λ n v is. (let P : ℕ → Type 0 = λ m. Fits response_payload (Case m v) → IsJson (text (Case m v)) in subst P (sym is) (each v))) own fits
 
+-- the answer to a request with options
+request_is_json : (request : RequestPayload) (payload : Val) → Fits response_payload payload → IsOfOperation (operation_of request) payload → IsJson (request_in_style request payload Json)
+request_is_json (payloads.CreateKeyPair common private public) payload fits own = by_number operations.CreateKeyPair (λ v. texts_in_style v Json) (λ v h. texts_are 2 v response_payloads h) payload fits own
+request_is_json (payloads.Activate id) payload fits own = NoMember
+request_is_json (payloads.Revoke id reason date) payload fits own = NoMember
+request_is_json (payloads.Destroy id) payload fits own = NoMember
+request_is_json (payloads.Create type template) payload fits own = by_number operations.Create (λ v. payload_in_style v Json) (λ v h. record_is v response_payloads (rows_in create_payload) h) payload fits own
+request_is_json (payloads.Register type template object) payload fits own = by_number operations.Register (λ v. payload_in_style v Json) (λ v h. record_is v response_payloads (rows_in register_payload) h) payload fits own
+request_is_json (payloads.Locate attributes) payload fits own = by_number operations.Locate (λ v. payload_in_style v Json) (λ v h. record_is v response_payloads (rows_in locate_payload) h) payload fits own
+request_is_json (payloads.Get id format compression wrapping) payload fits own = by_number operations.Get (λ v. payload_in_style v Json) (λ v h. record_is v response_payloads (rows_in get_payload) h) payload fits own
+request_is_json (payloads.GetAttributes id names) payload fits own = by_number operations.GetAttributes (λ v. payload_in_style v Json) (λ v h. record_is v response_payloads (rows_in get_attributes_payload) h) payload fits own
+request_is_json (payloads.GetAttributeList id) payload fits own = by_number operations.GetAttributeList (λ v. payload_in_style v Json) (λ v h. record_is v response_payloads (rows_in get_attribute_list_payload) h) payload fits own
+request_is_json (payloads.AddAttribute id attribute) payload fits own = by_number operations.AddAttribute (λ v. payload_in_style v Json) (λ v h. record_is v response_payloads (rows_in attribute_edit_payload) h) payload fits own
+request_is_json (payloads.ModifyAttribute id attribute) payload fits own = by_number operations.ModifyAttribute (λ v. payload_in_style v Json) (λ v h. record_is v response_payloads (rows_in attribute_edit_payload) h) payload fits own
+request_is_json (payloads.DeleteAttribute id name index) payload fits own = by_number operations.DeleteAttribute (λ v. payload_in_style v Json) (λ v h. record_is v response_payloads (rows_in attribute_edit_payload) h) payload fits own
+request_is_json (payloads.Query functions) payload fits own = by_number operations.Query (λ v. payload_in_style v Json) (λ v h. record_is v response_payloads (rows_in query_payload) h) payload fits own
+request_is_json (payloads.DiscoverVersions versions) payload fits own = by_number operations.DiscoverVersions (λ v. payload_in_style v Json) (λ v h. record_is v response_payloads (rows_in discover_versions_payload) h) payload fits own
+request_is_json (payloads.Sign id parameters contents) payload fits own = by_number operations.Sign (λ v. payload_in_style v Json) (λ v h. record_is v response_payloads (rows_in sign_payload) h) payload fits own
+request_is_json (payloads.RNGRetrieve length) payload fits own = by_number operations.RNGRetrieve (λ v. payload_in_style v Json) (λ v h. record_is v response_payloads (rows_in rng_retrieve_payload) h) payload fits own
+
 value_is_json : (call : Call) (payload : Val) → Fits response_payload payload → IsOfOperation (operation_asked call) payload → IsJson (value_in_style call payload Json)
 value_is_json Query payload fits own = by_number operations.Query (λ v. record_in_style query_payload v Json) (λ v h. record_is v response_payloads (rows_in query_payload) h) payload fits own
 value_is_json (CreateRsa length private public) payload fits own = by_number operations.CreateKeyPair (λ v. texts_in_style v Json) (λ v h. texts_are 2 v response_payloads h) payload fits own
@@ -148,6 +171,7 @@ value_is_json (Raw request) payload fits own = value_is payload NoCase response_
 value_is_json (Locate name) payload fits own = by_number operations.Locate (λ v. record_in_style locate_payload v Json) (λ v h. record_is v response_payloads (rows_in locate_payload) h) payload fits own
 value_is_json (Attributes id) payload fits own = by_number operations.GetAttributes (λ v. record_in_style get_attributes_payload v Json) (λ v h. record_is v response_payloads (rows_in get_attributes_payload) h) payload fits own
 value_is_json (CreateAes length name) payload fits own = by_number operations.Create (λ v. record_in_style create_payload v Json) (λ v h. record_is v response_payloads (rows_in create_payload) h) payload fits own
+value_is_json (Request request) payload fits own = request_is_json request payload fits own
 value_is_json Discover payload fits own = by_number operations.DiscoverVersions (λ v. record_in_style discover_versions_payload v Json) (λ v h. record_is v response_payloads (rows_in discover_versions_payload) h) payload fits own
 
 pub payload_line_is : (call : Call) (payload : Val) → Fits response_payload payload → IsOfOperation (operation_asked call) payload → IsJsonLine (json_line call (Ok payload))
