@@ -12,3 +12,4 @@ pub mod Said
 pub mod Orders
 pub mod Tagged
 pub mod Operations
+pub mod Successes

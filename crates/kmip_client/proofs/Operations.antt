@@ -1,13 +1,12 @@
--- The message round a payload tree, and which messages answer a tree.
-use Rattle.std.proofs.Common.{◌≡◌, ℕ, ◌+◌, ◌<◌, ◌≤◌, ◌%◌, ◌^◌, List, [], ◌∷◌, ◌++◌, length, refl, ◌∙◌, ap, sym, subst, arith, Bool, true, false, cond, nat_lt, pos, Option, Some, None, Result, Ok, Err, codes, length-append, append-nil, lit<, inl, inr}
-use Rattle.std.specs.Prelude.{◌==◌, option_map, IfSome}
+-- The message round a payload tree.
+use Rattle.std.proofs.Common.{◌≡◌, ℕ, ◌+◌, ◌<◌, ◌≤◌, ◌%◌, ◌^◌, List, [], ◌∷◌, ◌++◌, length, refl, ◌∙◌, ap, sym, subst, arith, Bool, true, false, cond, nat_lt, pos, Option, Some, None, length-append, append-nil, lit<, inl, inr}
+use Rattle.std.specs.Prelude.{option_map, IfSome}
 use Rattle.std.specs.Option.{option_and_then}
 use Rattle.std.proofs.lemmas.Bool.{cases_lt}
 use Rattle.std.proofs.lemmas.Bool.Decides.{nat_tests}
-use Rattle.kmip_tags.specs.Tags.{BATCH_ITEM, OPERATION, REQUEST_HEADER, REQUEST_MESSAGE, RESPONSE_PAYLOAD, RESPONSE_MESSAGE, BATCH_ITEM, RESULT_STATUS, RESULT_MESSAGE, RESULT_REASON, OPERATION}
+use Rattle.kmip_tags.specs.Tags.{BATCH_ITEM, OPERATION, REQUEST_HEADER, REQUEST_MESSAGE}
 use Rattle.kmip_wire.specs.Tree.{Tree, scalar, structure, more, none, enumeration}
 use Rattle.kmip_wire.specs.Bytes.{bytes, all_bytes, structure_bytes, in_order, item_bytes}
-use Rattle.kmip_wire.specs.Reading.{item_of}
 use Rattle.kmip_wire.specs.Room.{Room, Appends}
 use Rattle.kmip_shape.specs.Val.{Val, Number}
 use Rattle.kmip_shape.specs.Shape.{Shape, OneOf, NoCase}
@@ -21,12 +20,6 @@ use Rattle.kmip_enums.specs.Operations.{operation_line}
 use Rattle.kmip_enums.specs.declared.operation.Operation.{Operation}
 use Rattle.kmip_enums.specs.declared.credential_type.CredentialType.{CredentialType}
 use Rattle.kmip_enums.specs.declared.credential_type.CredentialType.TheVariants as types
-use Rattle.kmip_enums.specs.ResultStatuses.{result_status_line}
-use Rattle.kmip_enums.specs.ResultReasons.{result_reason_line, result_reason_variants}
-use Rattle.kmip_enums.specs.declared.result_status.ResultStatus.TheVariants.{Success, OperationFailed}
-use Rattle.kmip_enums.specs.declared.result_reason.ResultReason.{ResultReason}
-use Rattle.kmip_enums.specs.declared.result_reason.ResultReason.TheVariants as reasons
-use Rattle.kmip_shape.specs.Enumerations.{variant_at}
 use Rattle.kmip_request.specs.declared.authentication.Authentication.{Authentication}
 use Rattle.kmip_request.specs.declared.authentication.CredentialValue.{CredentialValue}
 use Rattle.kmip_request.specs.declared.authentication.CredentialValue.TheVariants as values
@@ -34,15 +27,8 @@ use Rattle.kmip_request.specs.declared.header.ProtocolVersion.{ProtocolVersion}
 use Rattle.kmip_request.specs.Tables.{request_header}
 use Rattle.kmip_request.specs.Values.{lent_header_val}
 use Rattle.kmip_request.specs.Message.{message_tree, header_tree, authentication_trees, credential_of}
-use Rattle.kmip_client.specs.declared.error.Error.{Error}
-use Rattle.kmip_client.specs.declared.error.Error.TheVariants.{DeserializeError, InternalError, ServerError, ItemNotFound}
-use Rattle.kmip_client.specs.Message.{message_at, Whole}
-use Rattle.kmip_client.specs.Headline.{IsReadBy}
-use Rattle.kmip_client.specs.Outcome.{reading_failed}
-use Rattle.kmip_client.specs.Untyped.{not_response, listed_failure, numbered_failure, failure_of, payload_of, names, success_of, status_answer, items_answer, counts_one, message_answer, parsed_answer, untyped_answer, has_tag, all_under, number_under, text_under}
 use Rattle.kmip_client.specs.declared.operation.Version.{Version}
-use Rattle.kmip_client.specs.Operation.{minor_number, operation_tree, is_request_payload, operation_bytes, message_bytes, IsValidTree}
-use Rattle.kmip_client.proofs.Headlines.{parses_of, computed_of}
+use Rattle.kmip_client.specs.Operation.{minor_number, operation_bytes, message_bytes}
 
 -- ---- the bytes of a message
 
@@ -179,20 +165,18 @@ message_no_form val n payload header form even size long =
 -- ---- the request
 
 -- the request is the message round its payload's bytes
-request_is : (operation : Operation) (version : Version) (credential : Option Authentication) (payload : Tree) → is_request_payload payload ≡ true →
+request_is : (operation : Operation) (version : Version) (credential : Option Authentication) (payload : Tree) →
     message_bytes (bytes_of request_header REQUEST_HEADER (lent_header_val (version_number (minor_number version)) credential)) (operation_line operation).number (bytes payload)
     ≡ operation_bytes (record { operation = operation; version = version; payload = payload }) (option_map credential_of credential)
-request_is operation version credential payload is =
-    ap (λ o. message_bytes o (operation_line operation).number (bytes payload)) (header_bytes (minor_number version) credential)
-    ∙ sym (ap (λ (b : Bool). cond b (bytes (operation_tree operation version (option_map credential_of credential) payload)) None) is)
+request_is operation version credential payload = ap (λ o. message_bytes o (operation_line operation).number (bytes payload)) (header_bytes (minor_number version) credential)
 
-pub sent_is : (operation : Operation) (version : Version) (credential : Option Authentication) (payload : Tree) (made : ProtocolVersion) (blob sent : List ℕ) → is_request_payload payload ≡ true → made ≡ version_number (minor_number version) → bytes payload ≡ Some blob → sent ≡ blob →
+pub sent_is : (operation : Operation) (version : Version) (credential : Option Authentication) (payload : Tree) (made : ProtocolVersion) (blob sent : List ℕ) → made ≡ version_number (minor_number version) → bytes payload ≡ Some blob → sent ≡ blob →
     message_bytes (bytes_of request_header REQUEST_HEADER (lent_header_val made credential)) (operation_line operation).number (Some sent)
     ≡ operation_bytes (record { operation = operation; version = version; payload = payload }) (option_map credential_of credential)
-sent_is operation version credential payload made blob sent is in_version written same =
+sent_is operation version credential payload made blob sent in_version written same =
     ap (λ (v : ProtocolVersion). message_bytes (bytes_of request_header REQUEST_HEADER (lent_header_val v credential)) (operation_line operation).number (Some sent)) in_version
     ∙ (ap (λ o. message_bytes (bytes_of request_header REQUEST_HEADER (lent_header_val (version_number (minor_number version)) credential)) (operation_line operation).number o) (ap Some same ∙ sym written)
-    ∙ request_is operation version credential payload is)
+    ∙ request_is operation version credential payload)
 
 no_order : (o : Option (List ℕ)) → in_order o None ≡ None
 no_order None = refl
@@ -203,82 +187,10 @@ no_payload o n =
     ap (λ i. structure_bytes REQUEST_MESSAGE (in_order o (in_order (structure_bytes BATCH_ITEM i) (Some [])))) (no_order (bytes (scalar OPERATION (enumeration n))))
     ∙ ap (structure_bytes REQUEST_MESSAGE) (no_order o)
 
--- a payload without bytes, and one that is none
-pub no_payload_bytes : (operation : Operation) (version : Version) (credential : Option Authentication) (payload : Tree) → is_request_payload payload ≡ true → bytes payload ≡ None →
+-- a payload without bytes
+pub no_payload_bytes : (operation : Operation) (version : Version) (credential : Option Authentication) (payload : Tree) → bytes payload ≡ None →
     operation_bytes (record { operation = operation; version = version; payload = payload }) (option_map credential_of credential) ≡ None
-no_payload_bytes operation version credential payload is none =
-    sym (request_is operation version credential payload is)
+no_payload_bytes operation version credential payload none =
+    sym (request_is operation version credential payload)
     ∙ (ap (λ o. message_bytes (bytes_of request_header REQUEST_HEADER (lent_header_val (version_number (minor_number version)) credential)) (operation_line operation).number o) none
     ∙ no_payload (bytes_of request_header REQUEST_HEADER (lent_header_val (version_number (minor_number version)) credential)) (operation_line operation).number)
-
-pub no_request_payload : (operation : Operation) (version : Version) (credential : Option Authentication) (payload : Tree) → is_request_payload payload ≡ false →
-    operation_bytes (record { operation = operation; version = version; payload = payload }) (option_map credential_of credential) ≡ None
-no_request_payload operation version credential payload is =
-    ap (λ (b : Bool). cond b (bytes (operation_tree operation version (option_map credential_of credential) payload)) None) is
-
--- ---- what a message answers
-
--- it holds of each answer to a whole message
-record OfTrees (P : Result Tree Error → Type 0) : Type 0 where
-  ok : (payload : Tree) → P (Ok payload)
-  malformed : (text : List ℕ) → P (Err (DeserializeError text))
-  internal : (text : List ℕ) → P (Err (InternalError text))
-  server : (text : List ℕ) → P (Err (ServerError text))
-  not_found : (text : List ℕ) → P (Err (ItemNotFound text))
-
-either : (P : Result Tree Error → Type 0) (b : Bool) (x y : Result Tree Error) → P x → P y → P (cond b x y)
-either P true x y p q = p
-either P false x y p q = q
-
-listed_says : {P : Result Tree Error → Type 0} → OfTrees P → (operation : Operation) (message : List ℕ) (reason : ResultReason) → P (Err (listed_failure operation message reason))
-listed_says all operation message reasons.ItemNotFound = all.not_found _
-listed_says all operation message reason = all.server _
-
-numbered_says : {P : Result Tree Error → Type 0} → OfTrees P → (operation : Operation) (message : List ℕ) (number : ℕ) (reason : Option ResultReason) → P (Err (numbered_failure operation message number reason))
-numbered_says all operation message number None = all.server _
-numbered_says all operation message number (Some reason) = listed_says all operation message reason
-
-failure_says : {P : Result Tree Error → Type 0} → OfTrees P → (operation : Operation) (message : List ℕ) (reason : Option ℕ) → P (Err (failure_of operation message reason))
-failure_says all operation message None = all.server _
-failure_says all operation message (Some number) = numbered_says all operation message number (variant_at result_reason_line result_reason_variants number)
-
-payload_says : {P : Result Tree Error → Type 0} → OfTrees P → (payloads : List Tree) → P (payload_of payloads)
-payload_says all [] = all.ok _
-payload_says all (payload ∷ []) = all.ok payload
-payload_says all (payload ∷ next ∷ payloads) = all.internal _
-
-status_says : {P : Result Tree Error → Type 0} → OfTrees P → (operation : Operation) (item : Tree) (status : Option ℕ) → P (status_answer operation item status)
-status_says all operation item None = all.internal _
-status_says {P} all operation item (Some status) =
-    either P (status == (result_status_line Success).number) _ _
-    (either P (names operation (number_under OPERATION item)) _ _ (payload_says all (all_under RESPONSE_PAYLOAD item)) (all.internal _))
-    (either P (status == (result_status_line OperationFailed).number) _ _ (failure_says all operation (text_under RESULT_MESSAGE item) (number_under RESULT_REASON item)) (all.internal _))
-
-items_say : {P : Result Tree Error → Type 0} → OfTrees P → (operation : Operation) (counted : Bool) (items : List Tree) → P (items_answer operation counted items)
-items_say all operation true [] = all.internal _
-items_say all operation true (item ∷ []) = status_says all operation item (number_under RESULT_STATUS item)
-items_say all operation true (item ∷ next ∷ items) = all.internal _
-items_say all operation false items = all.internal _
-
-tree_says : {P : Result Tree Error → Type 0} → OfTrees P → (operation : Operation) (message : Option Tree) → P (parsed_answer operation message)
-tree_says all operation None = all.malformed _
-tree_says {P} all operation (Some message) =
-    either P (has_tag RESPONSE_MESSAGE message) _ _ (items_say all operation (counts_one message) (all_under BATCH_ITEM message)) (all.internal _)
-
-none_fails : OfTrees (λ answer. answer ≡ reading_failed → ⊥)
-none_fails = record { ok = λ p is. cc; malformed = λ t is. cc; internal = λ t is. cc; server = λ t is. cc; not_found = λ t is. cc }
-
-pub never_fails : (operation : Operation) (m : List ℕ) → untyped_answer operation m ≡ reading_failed → ⊥
-never_fails operation m = tree_says none_fails operation (item_of 64 m)
-
--- a message that answers a tree parses
-from_tree : (operation : Operation) (limit : Option ℕ) (rest m : List ℕ) (payload : Tree) (message : Option Tree) → message_at rest limit ≡ Whole m → item_of 64 m ≡ message → parsed_answer operation message ≡ Ok payload → IsValidTree operation limit rest m payload
-from_tree operation limit rest m payload None front is answers = absurd (cc)
-from_tree operation limit rest m payload (Some message) front is answers = record { message = message; front = front; parses = parses_of message m is; answers = answers }
-
-pub tree_valid : (operation : Operation) (limit : Option ℕ) → IsReadBy (untyped_answer operation) limit (IsValidTree operation limit)
-tree_valid operation limit = record {
-  valid = λ rest m payload front answers. from_tree operation limit rest m payload (item_of 64 m) front refl answers;
-  front = λ rest m payload it. it.front;
-  read = λ rest m payload it. ap (parsed_answer operation) (computed_of it.message m it.parses) ∙ it.answers;
-}

@@ -14,7 +14,7 @@ use Rattle.kmip_client.specs.Message.{Message, message_at, taken_for, Ended, Ref
 use Rattle.kmip_client.specs.Outcome.{Answer, Outcome, outcome, outcome_of, answer_of, read_answer}
 use Rattle.kmip_client.specs.Client.{loses_connection}
 use Rattle.kmip_client.specs.Diagnostics.{diagnostic_for}
-use Rattle.kmip_client.specs.Session.{SessionTurn, turn_of, then_on, session, call_report, turn_report, response_text_of}
+use Rattle.kmip_client.specs.Session.{Turn, turn_of, then_on, session, call_report, turn_report, response_text_of}
 use Rattle.kmip_client.specs.Order.{AreServed, answers_to}
 use Rattle.kmip_client.specs.Skeletons.{taken_by, Parse, AllParse, skeletons_of, texts_of}
 use Rattle.kmip_client.proofs.Said.{OfMessages, message_says}
@@ -31,7 +31,7 @@ on_message None operation limit m rest valid front = absurd (cc)
 on_message (Some bytes) operation limit m rest valid front = (ap (answer_of operation) front, ap (taken_for rest) front)
 
 -- the session goes on after it
-goes_on : (turn : SessionTurn) (later : List SessionTurn) → loses_connection turn.outcome.answer ≡ false → then_on turn later ≡ turn ∷ later
+goes_on : (turn : Turn) (later : List Turn) → loses_connection turn.outcome.answer ≡ false → then_on turn later ≡ turn ∷ later
 goes_on turn later kept = rw kept refl
 
 pub in_order : (payloads : List RequestPayload) (credential : Option CredentialType) (limit : Option ℕ) (messages : List (List ℕ)) (rest : List ℕ) →
@@ -44,16 +44,16 @@ in_order (payload ∷ payloads) credential limit (m ∷ messages) rest served =
     let o : Outcome = outcome payload credential limit rest in
     let here = on_message (request_bytes payload credential) (operation_of payload) limit m rest served.0 served.1 in
     let kept : loses_connection o.answer ≡ false = ap loses_connection here.0 ∙ message_says keeps_on (operation_of payload) m in
-    let later : List SessionTurn = session payloads credential limit (drop o.taken rest) in
+    let later : List Turn = session payloads credential limit (drop o.taken rest) in
     let next : map (λ turn. turn.outcome.answer) later ≡ answers_to payloads messages =
     in_order payloads credential limit messages (drop o.taken rest) (subst (λ (n : ℕ). AreServed payloads credential limit messages (drop n rest)) (sym here.1) served.2) in
-    ap (λ (turns : List SessionTurn). map (λ turn. turn.outcome.answer) turns) (goes_on (turn_of payload credential limit rest) later kept)
+    ap (λ (turns : List Turn). map (λ turn. turn.outcome.answer) turns) (goes_on (turn_of payload credential limit rest) later kept)
     ∙ (ap (λ (a : Answer). a ∷ map (λ turn. turn.outcome.answer) later) here.0 ∙ ap (λ (l : List Answer). read_answer (operation_of payload) m ∷ l) next)
 
 -- ---- what diagnostics tell
 
 -- the response of a turn is told
-abbrev IsReported : SessionTurn → Type 0
+abbrev IsReported : Turn → Type 0
 IsReported turn = (taken : List ℕ) → response_text_of true taken turn.outcome.answer ≡ diagnostic_for true taken
 
 tells : (taken : List ℕ) → OfMessages (λ answer. response_text_of true taken answer ≡ diagnostic_for true taken)
@@ -73,14 +73,14 @@ abbrev Texts : Type 0
 Texts = Option (List ℕ) × Option (List ℕ)
 
 -- the diagnostics of what parses
-abbrev diagnostics : (turns : List SessionTurn) → AllParse turns → List Texts
+abbrev diagnostics : (turns : List Turn) → AllParse turns → List Texts
 diagnostics [] all = []
 diagnostics (turn ∷ turns) all = (Some (diagnostic (Some 0x4200) all.0.message), Some (diagnostic (Some 0x4200) (taken_by turn))) ∷ diagnostics turns all.1
 
-abbrev AreReported : List SessionTurn → Type 0
+abbrev AreReported : List Turn → Type 0
 AreReported turns = (all : AllParse turns) → texts_of turns ≡ diagnostics turns all
 
-reported_next : (turn : SessionTurn) (turns : List SessionTurn) → IsReported turn → AreReported turns → AreReported (turn ∷ turns)
+reported_next : (turn : Turn) (turns : List Turn) → IsReported turn → AreReported turns → AreReported (turn ∷ turns)
 reported_next turn turns told rest all =
     let own : (turn_report true turn).request_text ≡ Some (diagnostic (Some 0x4200) all.0.message) = rw all.0.is_request refl in
     let taken : (turn_report true turn).response_text ≡ Some (diagnostic (Some 0x4200) (taken_by turn)) = told (taken_by turn) in
@@ -89,12 +89,12 @@ reported_next turn turns told rest all =
     ∙ ap (λ (l : List Texts). (Some (diagnostic (Some 0x4200) all.0.message), Some (diagnostic (Some 0x4200) (taken_by turn))) ∷ l) (rest all.1))
 
 -- where a turn's request is known to be some bytes, what it took is told
-reported_first : (payload : RequestPayload) (credential : Option CredentialType) (limit : Option ℕ) (rest : List ℕ) (turns : List SessionTurn) → AreReported turns → AreReported (turn_of payload credential limit rest ∷ turns)
+reported_first : (payload : RequestPayload) (credential : Option CredentialType) (limit : Option ℕ) (rest : List ℕ) (turns : List Turn) → AreReported turns → AreReported (turn_of payload credential limit rest ∷ turns)
 reported_first payload credential limit rest turns later all =
     reported_next (turn_of payload credential limit rest) turns
     (λ taken. turn_is_reported (request_bytes payload credential) all.0.message (operation_of payload) limit rest taken all.0.is_request) later all
 
-either_reported : (lost : Bool) (turn : SessionTurn) (later : List SessionTurn) → AreReported (turn ∷ []) → AreReported (turn ∷ later) → AreReported (cond lost (turn ∷ []) (turn ∷ later))
+either_reported : (lost : Bool) (turn : Turn) (later : List Turn) → AreReported (turn ∷ []) → AreReported (turn ∷ later) → AreReported (cond lost (turn ∷ []) (turn ∷ later))
 either_reported true turn later one more = one
 either_reported false turn later one more = more
 
@@ -102,8 +102,8 @@ are_reported : (payloads : List RequestPayload) (credential : Option CredentialT
 unfolding session
 are_reported [] credential limit rest = λ all. refl
 are_reported (payload ∷ payloads) credential limit rest =
-    let turn : SessionTurn = turn_of payload credential limit rest in
-    let later : List SessionTurn = session payloads credential limit (drop (outcome payload credential limit rest).taken rest) in
+    let turn : Turn = turn_of payload credential limit rest in
+    let later : List Turn = session payloads credential limit (drop (outcome payload credential limit rest).taken rest) in
     either_reported (loses_connection turn.outcome.answer) turn later
     (reported_first payload credential limit rest [] (λ all. refl))
     (reported_first payload credential limit rest later (are_reported payloads credential limit (drop (outcome payload credential limit rest).taken rest)))
@@ -125,7 +125,7 @@ pair p q = λ i. (p i, q i)
 cons : {A : Type 0} {x y : A} {xs ys : List A} → x ≡ y → xs ≡ ys → x ∷ xs ≡ y ∷ ys
 cons p q = λ i. p i ∷ q i
 
-lists_tell : Tell → (ts us : List SessionTurn) (all : AllParse ts) (each : AllParse us) → (diagnostics ts all ≡ diagnostics us each) ↔ (skeletons_of ts all ≡ skeletons_of us each)
+lists_tell : Tell → (ts us : List Turn) (all : AllParse ts) (each : AllParse us) → (diagnostics ts all ≡ diagnostics us each) ↔ (skeletons_of ts all ≡ skeletons_of us each)
 lists_tell tell [] [] all each = (λ h. refl, λ h. refl)
 lists_tell tell [] (u ∷ us) all each = (λ h. absurd (cc), λ h. absurd (cc))
 lists_tell tell (t ∷ ts) [] all each = (λ h. absurd (cc), λ h. absurd (cc))

@@ -15,7 +15,7 @@ use Rattle.kmip_client.specs.Outcome.{Answer, seen_by, OutcomeOf, outcome, left_
 use Rattle.kmip_client.specs.Client.{ClientState, loses_connection, lacks_memory}
 use Rattle.kmip_client.specs.Calls.{IsCall}
 use Rattle.kmip_client.specs.Diagnostics.{diagnostic_of, IsRequestText, IsResponseText}
-use Rattle.kmip_client.specs.Session.{SessionTurn, turn_of, then_on, session, CallReport, exchange_report, call_report, turn_report, all_sent, all_taken, BrokenOff, writing, reading, Ran, whole, broken, GoesOn, GoOn, Stops, at_end, at_loss, later, client_report, Calls, CutOff, held_texts, last_texts, AreRequestTexts, ends_lost}
+use Rattle.kmip_client.specs.Session.{Turn, turn_of, then_on, session, CallReport, exchange_report, call_report, turn_report, all_sent, all_taken, BrokenOff, writing, reading, Ran, whole, broken, GoesOn, GoOn, Stops, at_end, at_loss, later, client_report, Calls, CutOff, held_texts, last_texts, AreRequestTexts, ends_lost}
 use Rattle.kmip_client.proofs.Helped.{seen_same}
 
 append_none : {A : Type 0} (xs : List A) → xs ≡ xs ++ []
@@ -126,29 +126,29 @@ step_report {state = state} {buffered = buffered} {credential = credential} {pay
     ∙ ap (λ k. call_report buffered (request_bytes payload credential) answer (take k (left (state now)))) passed
     ∙ ap (λ a. call_report buffered (request_bytes payload credential) a (take n (left (state now)))) is
 
-pub record SoFar (buffered : Bool) (all : List SessionTurn) (before now : LinkState) (exchanges : List CallReport) (rest : List SessionTurn) : Type 0 where
-  pub done : List SessionTurn
+pub record SoFar (buffered : Bool) (all : List Turn) (before now : LinkState) (exchanges : List CallReport) (rest : List Turn) : Type 0 where
+  pub done : List Turn
   pub split : all ≡ done ++ rest
   pub reports_are : exchanges ≡ map (turn_report buffered) done
   pub moves : Moves before now (all_sent done) (all_taken done)
 
-pub nothing_yet : (buffered : Bool) (all : List SessionTurn) (a : LinkState) → SoFar buffered all a a [] all
+pub nothing_yet : (buffered : Bool) (all : List Turn) (a : LinkState) → SoFar buffered all a a [] all
 nothing_yet buffered all a = record { done = []; split = refl; reports_are = refl; moves = record { sent_is = append_none a.sent; pos = omega arith; ever = grows_none a; still = λ h. refl } }
 
-sent_one : (done : List SessionTurn) (t : SessionTurn) → all_sent (done ++ t ∷ []) ≡ all_sent done ++ t.outcome.sent
+sent_one : (done : List Turn) (t : Turn) → all_sent (done ++ t ∷ []) ≡ all_sent done ++ t.outcome.sent
 sent_one [] t = sym (append_none t.outcome.sent)
 sent_one (d ∷ done) t = ap (λ l. d.outcome.sent ++ l) (sent_one done t) ∙ sym (append_assoc d.outcome.sent (all_sent done) t.outcome.sent)
 
-taken_one : (done : List SessionTurn) (t : SessionTurn) → all_taken (done ++ t ∷ []) ≡ all_taken done + t.outcome.taken
+taken_one : (done : List Turn) (t : Turn) → all_taken (done ++ t ∷ []) ≡ all_taken done + t.outcome.taken
 taken_one [] t = omega arith
 taken_one (d ∷ done) t = omega (arith, taken_one done t)
 
-split_one : (done : List SessionTurn) (t : SessionTurn) (rest : List SessionTurn) → done ++ t ∷ rest ≡ (done ++ t ∷ []) ++ rest
+split_one : (done : List Turn) (t : Turn) (rest : List Turn) → done ++ t ∷ rest ≡ (done ++ t ∷ []) ++ rest
 split_one [] t rest = refl
 split_one (d ∷ done) t rest = ap (λ l. d ∷ l) (split_one done t rest)
 
 -- one turn more
-one_more : {buffered : Bool} {all : List SessionTurn} {before now after : LinkState} {exchanges : List CallReport} {t : SessionTurn} {told : CallReport} (rest : List SessionTurn) →
+one_more : {buffered : Bool} {all : List Turn} {before now after : LinkState} {exchanges : List CallReport} {t : Turn} {told : CallReport} (rest : List Turn) →
     Keeps before now → SoFar buffered all before now exchanges (t ∷ rest) → told ≡ turn_report buffered t → Moves now after t.outcome.sent t.outcome.taken →
     SoFar buffered all before after (exchanges ++ told ∷ []) rest
 one_more {buffered = buffered} {before = before} {after = after} {t = t} {told = told} rest keeps so_far is moves = record {
@@ -170,24 +170,24 @@ session_next payload payloads credential limit rest = refl
 left_on : {now after : LinkState} {sent : List ℕ} {n : ℕ} → after.ever ≡ now.ever → Moves now after sent n → drop n (left now) ≡ left after
 left_on {now = now} {n = n} same moves = drop-drop n now.pos now.ever ∙ sym (rw (same, moves.pos) refl)
 
-keeps_on_loss : (t : SessionTurn) (turns : List SessionTurn) → loses_connection t.outcome.answer ≡ false → then_on t turns ≡ t ∷ turns
+keeps_on_loss : (t : Turn) (turns : List Turn) → loses_connection t.outcome.answer ≡ false → then_on t turns ≡ t ∷ turns
 keeps_on_loss t turns kept = rw kept refl
 
-loss_ends : (t : SessionTurn) (turns : List SessionTurn) → loses_connection t.outcome.answer ≡ true → then_on t turns ≡ t ∷ []
+loss_ends : (t : Turn) (turns : List Turn) → loses_connection t.outcome.answer ≡ true → then_on t turns ≡ t ∷ []
 loss_ends t turns lost = rw lost refl
 
-begins : (t : SessionTurn) (turns : List SessionTurn) (b : Bool) → (more : List SessionTurn) × (cond b (t ∷ []) (t ∷ turns) ≡ t ∷ more)
+begins : (t : Turn) (turns : List Turn) (b : Bool) → (more : List Turn) × (cond b (t ∷ []) (t ∷ turns) ≡ t ∷ more)
 begins t turns true = ([], refl)
 begins t turns false = (turns, refl)
 
 -- an answer that keeps the connection
-pub turn : {T : Type 0} {state : T → LinkState} {buffered : Bool} {all : List SessionTurn} {before : LinkState} {now after : T} {asked said : Option (List ℕ)} (exchanges : List CallReport) (credential : Option CredentialType) (limit : Option ℕ) (payload : RequestPayload) (payloads : List RequestPayload) (answer : Answer) →
+pub turn : {T : Type 0} {state : T → LinkState} {buffered : Bool} {all : List Turn} {before : LinkState} {now after : T} {asked said : Option (List ℕ)} (exchanges : List CallReport) (credential : Option CredentialType) (limit : Option ℕ) (payload : RequestPayload) (payloads : List RequestPayload) (answer : Answer) →
     Keeps before (state now) → SoFar buffered all before (state now) exchanges (session (payload ∷ payloads) credential limit (left (state now))) →
     Step state buffered credential limit payload now after answer asked said → Exchanged (outcome payload credential limit (left (state now))) (state now) (state after) answer → loses_connection answer ≡ false →
     SoFar buffered all before (state after) (exchanges ++ report_with answer asked said ∷ []) (session payloads credential limit (left (state after)))
 turn {state = state} {buffered = buffered} {all = all} {before = before} {now = now} {after = after} {asked = asked} {said = said} exchanges credential limit payload payloads answer keeps so_far step (completed is moves) kept =
-    let t : SessionTurn = turn_of payload credential limit (left (state now)) in
-    let P : List SessionTurn → Type 0 = λ l. SoFar buffered all before (state now) exchanges l in
+    let t : Turn = turn_of payload credential limit (left (state now)) in
+    let P : List Turn → Type 0 = λ l. SoFar buffered all before (state now) exchanges l in
     let Q : List ℕ → Type 0 = λ rest. SoFar buffered all before (state after) (exchanges ++ report_with answer asked said ∷ []) (session payloads credential limit rest) in
     let begun = subst P (session_next payload payloads credential limit (left (state now)) ∙ keeps_on_loss t _ (ap loses_connection (sym is) ∙ kept)) so_far in
     subst Q (left_on step.same moves) (one_more {t = t} _ keeps begun (step_report t.outcome.answer step is moves) moves)
@@ -197,13 +197,13 @@ turn exchanges credential limit payload payloads answer keeps so_far step (sendi
 turn exchanges credential limit payload payloads answer keeps so_far step (reading_cut is n h moves) kept = absurd (let e : true ≡ false = rw is at step.room in cc)
 
 -- all turns are there
-all_done : {T : Type 0} {state : T → LinkState} {buffered : Bool} {all : List SessionTurn} {before now : T} {exchanges : List CallReport} → SoFar buffered all (state before) (state now) exchanges [] → Ran state buffered all before now exchanges
+all_done : {T : Type 0} {state : T → LinkState} {buffered : Bool} {all : List Turn} {before now : T} {exchanges : List CallReport} → SoFar buffered all (state before) (state now) exchanges [] → Ran state buffered all before now exchanges
 all_done {state = state} {buffered = buffered} {all = all} {before = before} {now = now} so_far =
     let is : all ≡ so_far.done = so_far.split ∙ sym (append_none so_far.done) in
-    let P : List SessionTurn → Type 0 = λ l. Moves (state before) (state now) (all_sent l) (all_taken l) in
+    let P : List Turn → Type 0 = λ l. Moves (state before) (state now) (all_sent l) (all_taken l) in
     whole (so_far.reports_are ∙ ap (λ l. map (turn_report buffered) l) (sym is)) (subst P (sym is) so_far.moves)
 
-pub end : {T : Type 0} (state : T → LinkState) {buffered : Bool} {all : List SessionTurn} (before now : T) {exchanges : List CallReport} (credential : Option CredentialType) (limit : Option ℕ) (rest : List ℕ) →
+pub end : {T : Type 0} (state : T → LinkState) {buffered : Bool} {all : List Turn} (before now : T) {exchanges : List CallReport} (credential : Option CredentialType) (limit : Option ℕ) (rest : List ℕ) →
     SoFar buffered all (state before) (state now) exchanges (session [] credential limit rest) → Ran state buffered all before now exchanges
 unfolding session
 end state before now credential limit rest so_far = all_done {state = state} {before = before} {now = now} so_far
@@ -212,17 +212,17 @@ not_reading : {R : Type 0} (text : List ℕ) → ◌≡◌ {A = Answer} (Err (Re
 not_reading text is = absurd (cc)
 
 -- an answer that ends the session
-pub stop : {T : Type 0} {state : T → LinkState} {buffered : Bool} {all : List SessionTurn} {before now after : T} {asked said : Option (List ℕ)} (exchanges : List CallReport) (credential : Option CredentialType) (limit : Option ℕ) (payload : RequestPayload) (payloads : List RequestPayload) (answer : Answer) →
+pub stop : {T : Type 0} {state : T → LinkState} {buffered : Bool} {all : List Turn} {before now after : T} {asked said : Option (List ℕ)} (exchanges : List CallReport) (credential : Option CredentialType) (limit : Option ℕ) (payload : RequestPayload) (payloads : List RequestPayload) (answer : Answer) →
     Keeps (state before) (state now) → SoFar buffered all (state before) (state now) exchanges (session (payload ∷ payloads) credential limit (left (state now))) →
     Step state buffered credential limit payload now after answer asked said → Exchanged (outcome payload credential limit (left (state now))) (state now) (state after) answer → loses_connection answer ≡ true →
     Ran state buffered all before after (exchanges ++ report_with answer asked said ∷ [])
 stop {state = state} {buffered = buffered} {all = all} {before = before} {now = now} {after = after} exchanges credential limit payload payloads answer keeps so_far step (completed is moves) lost =
-    let t : SessionTurn = turn_of payload credential limit (left (state now)) in
-    let P : List SessionTurn → Type 0 = λ l. SoFar buffered all (state before) (state now) exchanges l in
+    let t : Turn = turn_of payload credential limit (left (state now)) in
+    let P : List Turn → Type 0 = λ l. SoFar buffered all (state before) (state now) exchanges l in
     let begun = subst P (session_next payload payloads credential limit (left (state now)) ∙ loss_ends t _ (ap loses_connection (sym is) ∙ lost)) so_far in
     all_done {state = state} {before = before} {now = after} (one_more {t = t} [] keeps begun (step_report t.outcome.answer step is moves) moves)
 stop {state = state} {buffered = buffered} {all = all} {before = before} {now = now} {after = after} {asked = asked} {said = said} exchanges credential limit payload payloads answer keeps so_far step (write_failed is rose n h moves) lost =
-    let t : SessionTurn = turn_of payload credential limit (left (state now)) in
+    let t : Turn = turn_of payload credential limit (left (state now)) in
     let last : Answer = Err (RequestWriteError (codes "link failed")) in
     let first = begins t (session payloads credential limit (drop t.outcome.taken (left (state now)))) (loses_connection t.outcome.answer) in
     broken so_far.done t first.0 last (take n t.outcome.sent) 0
@@ -231,7 +231,7 @@ stop {state = state} {buffered = buffered} {all = all} {before = before} {now = 
     (writing n h) (omega (arith, keeps.faults)) (moves_on keeps so_far.moves moves)
     (record { between = now; keeps = keeps; moves = so_far.moves; later = step.keeps; last_moves = moves; rose = rose; reading = not_reading _ })
 stop {state = state} {buffered = buffered} {all = all} {before = before} {now = now} {after = after} {asked = asked} {said = said} exchanges credential limit payload payloads answer keeps so_far step (read_failed is rose n h moves) lost =
-    let t : SessionTurn = turn_of payload credential limit (left (state now)) in
+    let t : Turn = turn_of payload credential limit (left (state now)) in
     let last : Answer = Err (ResponseReadError (codes "link failed")) in
     let first = begins t (session payloads credential limit (drop t.outcome.taken (left (state now)))) (loses_connection t.outcome.answer) in
     broken so_far.done t first.0 last t.outcome.sent n

@@ -1,5 +1,5 @@
 -- Items by their tags, and messages as trees.
-use Rattle.std.proofs.Common.{◌≡◌, ℕ, ◌+◌, ◌<◌, ◌≤◌, suc, List, [], ◌∷◌, ◌++◌, length, take, drop, get_or, refl, ◌∙◌, ap, sym, subst, arith, Bool, true, false, cond, Option, Some, None, drop-cons}
+use Rattle.std.proofs.Common.{◌≡◌, ℕ, ◌+◌, ◌<◌, ◌≤◌, suc, List, [], ◌∷◌, ◌++◌, length, take, drop, get_or, refl, ◌∙◌, ap, sym, subst, arith, Bool, true, false, cond, Option, Some, None, Err, drop-cons}
 use Rattle.std.specs.List.{filter, slice_get}
 use Rattle.std.proofs.lemmas.List.{take-append-drop, take_all, length-drop}
 use Rattle.std.proofs.lemmas.List.Elements.{filter-append, filter_more}
@@ -10,6 +10,9 @@ use mir.Val.{bool_byte}
 use Rattle.kmip_tags.specs.Tags.{BATCH_ITEM, RESPONSE_MESSAGE, RESULT_STATUS}
 use Rattle.kmip_wire.specs.Tree.{Tree, structure, trees_of, list_of-trees_of}
 use Rattle.kmip_wire.specs.Parses.{Parses, NoFront}
+use Rattle.kmip_wire.specs.Found.{Finds}
+use Rattle.kmip_wire.specs.declared.error.WireError.{WireError}
+use Rattle.kmip_wire.specs.declared.error.WireError.TheVariants.{Malformed}
 use Rattle.kmip_wire.specs.Reading.{item_of}
 use Rattle.kmip_wire.proofs.Computed.{no_longer}
 use Rattle.kmip_enums.specs.declared.operation.Operation.{Operation}
@@ -92,9 +95,14 @@ no_item : (m : List ℕ) (o : Option Tree) → item_of 64 m ≡ o → ((t : Tree
 no_item m None is never = refl
 no_item m (Some t) is never = absurd (never t (parses_of t m is))
 
-pub no_front : (m : List ℕ) → NoFront 1 m → None ≡ item_of 64 m
+no_front : (m : List ℕ) → NoFront 1 m → None ≡ item_of 64 m
 no_front m never =
     no_item m (item_of 64 m) refl (λ t parses. never (length m) (omega arith, (t, subst (λ b. Parses t 1 b) (sym (take-length m)) parses)))
+
+pub no_tree : (error : WireError) (m : List ℕ) → error ≡ Malformed → Finds (Err error) m → None ≡ item_of 64 m
+no_tree error m is found =
+    let F : WireError → Type 0 = λ e. Finds (Err e) m in
+    no_front m (subst F is found)
 
 -- a shorter item stands at the front
 pub no_whole : (m : List ℕ) (n : ℕ) (u : Tree) → n ≤ length m → (n ≡ length m → ⊥) → Parses u 1 (take n m) → None ≡ item_of 64 m

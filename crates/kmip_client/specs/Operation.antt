@@ -1,6 +1,6 @@
 -- A request of any operation, whose payload is a tree, and a call of it.
-use Rattle.std.specs.Prelude.{◌≡◌, ℕ, List, [], Bool, true, false, ◌==◌, Option, None, Some, if◌then◌else◌, Result, Ok}
-use Rattle.kmip_tags.specs.Tags.{BATCH_ITEM, OPERATION, REQUEST_MESSAGE, REQUEST_PAYLOAD}
+use Rattle.std.specs.Prelude.{◌≡◌, ℕ, List, [], Option, Some, Result}
+use Rattle.kmip_tags.specs.Tags.{BATCH_ITEM, OPERATION, REQUEST_MESSAGE}
 use Rattle.kmip_wire.specs.Tree.{Tree, scalar, structure, enumeration}
 use Rattle.kmip_wire.specs.Bytes.{bytes, structure_bytes, in_order}
 use Rattle.kmip_wire.specs.Parses.{Parses}
@@ -13,12 +13,12 @@ use Rattle.kmip_client.specs.declared.error.Error.{Error}
 use Rattle.kmip_client.specs.declared.operation.Version.{Version}
 use Rattle.kmip_client.specs.declared.operation.Version.TheVariants.{V1_0, V1_1, V1_2}
 use Rattle.kmip_client.specs.Message.{message_at, Whole}
-use Rattle.kmip_client.specs.Untyped.{message_answer, untyped_answer}
+use Rattle.kmip_client.specs.Untyped.{IsSuccess, untyped_answer}
 use Rattle.kmip_client.specs.Client.{ClientState}
 use Rattle.kmip_client.specs.Calls.{CallKind, IsCallOf}
 
--- what is asked
-pub record Asking : Type 0 where
+-- a request of an operation, whose payload is a tree
+pub record TreeRequest : Type 0 where
   pub operation : Operation
   pub version : Version
   pub payload : Tree
@@ -36,39 +36,33 @@ operation_tree operation version credential payload =
     message_tree (header_tree (minor_number version) (authentication_trees credential))
     (operation_line operation).number payload
 
--- a structure with the tag of a request's payload
-abbrev pub is_request_payload : Tree → Bool
-is_request_payload (scalar tag s) = false
-is_request_payload (structure tag trees) = tag == REQUEST_PAYLOAD
+-- the one canonical message of a request, where there is one
+abbrev pub operation_bytes : TreeRequest → Option CredentialType → Option (List ℕ)
+operation_bytes request credential =
+    bytes (operation_tree request.operation request.version credential request.payload)
 
--- the one canonical message, where there is one
-abbrev pub operation_bytes : Asking → Option CredentialType → Option (List ℕ)
-operation_bytes asking credential =
-    if is_request_payload asking.payload
-    then bytes (operation_tree asking.operation asking.version credential asking.payload) else None
-
--- The bytes left begin with a response to a request of this operation: with the message m, which
--- answers this payload.
+-- The bytes left begin with the message m, which parses and is a success of this operation with
+-- this payload.
 pub record IsValidTree (operation : Operation) (limit : Option ℕ) (rest m : List ℕ)
     (payload : Tree) : Type 0 where
   pub message : Tree
   pub front : message_at rest limit ≡ Whole m
   pub parses : Parses message 1 m
-  pub answers : message_answer operation message ≡ Ok payload
+  pub success : IsSuccess operation message payload
 
 -- the calls of any operation
-abbrev pub operation_calls : CallKind Asking Tree
+abbrev pub operation_calls : CallKind TreeRequest Tree
 operation_calls = record {
   bytes_of = operation_bytes;
-  reads = λ asking. untyped_answer asking.operation;
-  IsValid = λ asking. IsValidTree asking.operation;
+  reads = λ request. untyped_answer request.operation;
+  IsValid = λ request. IsValidTree request.operation;
 }
 
 -- what `do_operation` promises of a call
-abbrev pub IsOperationCall : {T : Type 0} → (T → LinkState) → Asking → ClientState T →
+abbrev pub IsOperationCall : {T : Type 0} → (T → LinkState) → TreeRequest → ClientState T →
     ClientState T → Result Tree Error → Type 0
-IsOperationCall state asking before after answer =
-    IsCallOf operation_calls state asking before after answer
+IsOperationCall state request before after answer =
+    IsCallOf operation_calls state request before after answer
 
 -- the bytes of a message, from those of its header and of its payload: the word by which the writer
 -- is proved

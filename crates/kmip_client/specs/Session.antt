@@ -18,7 +18,7 @@ use Rattle.kmip_client.specs.Calls.{IsCall}
 use Rattle.kmip_client.specs.Diagnostics.{diagnostic_for, diagnostic_of}
 
 -- one request of a session
-pub record SessionTurn : Type 0 where
+pub record Turn : Type 0 where
   -- its canonical bytes
   pub request : Option (List ℕ)
   -- the bytes left before it
@@ -26,7 +26,7 @@ pub record SessionTurn : Type 0 where
   -- what it comes to
   pub outcome : Outcome
 
-abbrev pub turn_of : RequestPayload → Option CredentialType → Option ℕ → List ℕ → SessionTurn
+abbrev pub turn_of : RequestPayload → Option CredentialType → Option ℕ → List ℕ → Turn
 turn_of payload credential limit rest = record {
   request = request_bytes payload credential;
   rest = rest;
@@ -34,11 +34,11 @@ turn_of payload credential limit rest = record {
 }
 
 -- a turn, and the later ones where its answer keeps the connection
-abbrev pub then_on : SessionTurn → List SessionTurn → List SessionTurn
+abbrev pub then_on : Turn → List Turn → List Turn
 then_on turn later = if loses_connection turn.outcome.answer then turn ∷ [] else turn ∷ later
 
 -- The turns of these requests on these bytes, each on what the one before it left.
-unfoldable pub session : List RequestPayload → Option CredentialType → Option ℕ → List ℕ → List SessionTurn
+unfoldable pub session : List RequestPayload → Option CredentialType → Option ℕ → List ℕ → List Turn
 session [] credential limit rest = []
 session (payload ∷ payloads) credential limit rest =
     then_on (turn_of payload credential limit rest)
@@ -72,15 +72,15 @@ call_report buffered request answer taken = record {
   response_text = response_text_of buffered taken answer;
 }
 
-abbrev pub turn_report : Bool → SessionTurn → CallReport
+abbrev pub turn_report : Bool → Turn → CallReport
 turn_report buffered turn =
     call_report buffered turn.request turn.outcome.answer (take turn.outcome.taken turn.rest)
 
-abbrev pub all_sent : List SessionTurn → List ℕ
+abbrev pub all_sent : List Turn → List ℕ
 all_sent [] = []
 all_sent (turn ∷ turns) = turn.outcome.sent ++ all_sent turns
 
-abbrev pub all_taken : List SessionTurn → ℕ
+abbrev pub all_taken : List Turn → ℕ
 all_taken [] = 0
 all_taken (turn ∷ turns) = turn.outcome.taken + all_taken turns
 
@@ -94,7 +94,7 @@ pub data BrokenOff (o : Outcome) : Answer → List ℕ → ℕ → Type 0 where
 -- A session broke off at the call of this turn: that call found the link as `between`, after all
 -- that the turns before it sent and took, sent and took these itself, and in it the count of faults
 -- rose.
-pub record BreaksIn {T : Type 0} (state : T → LinkState) (done : List SessionTurn) (turn : SessionTurn)
+pub record BreaksIn {T : Type 0} (state : T → LinkState) (done : List Turn) (turn : Turn)
     (last : Answer) (sent : List ℕ) (taken : ℕ) (before after : T) : Type 0 where
   pub between : T
   pub keeps : Keeps (state before) (state between)
@@ -106,13 +106,13 @@ pub record BreaksIn {T : Type 0} (state : T → LinkState) (done : List SessionT
       FailsReading state turn.request turn.outcome.taken between after
 
 -- How a session of these turns went, and what it reported.
-pub data Ran {T : Type 0} (state : T → LinkState) (buffered : Bool) (turns : List SessionTurn)
+pub data Ran {T : Type 0} (state : T → LinkState) (buffered : Bool) (turns : List Turn)
     (before after : T) (exchanges : List CallReport) : Type 0 where
   whole : exchanges ≡ map (turn_report buffered) turns →
       Moves (state before) (state after) (all_sent turns) (all_taken turns) →
       Ran state buffered turns before after exchanges
   -- the link failed after some of them
-  broken : (done : List SessionTurn) (turn : SessionTurn) (more : List SessionTurn) (last : Answer) (sent : List ℕ)
+  broken : (done : List Turn) (turn : Turn) (more : List Turn) (last : Answer) (sent : List ℕ)
       (taken : ℕ) → turns ≡ done ++ turn ∷ more →
       exchanges ≡ map (turn_report buffered) done ++
       call_report buffered turn.request last (take taken turn.rest) ∷ [] →

@@ -1,6 +1,6 @@
 -- Calls of any operation whose payloads are trees, whatever KMIP's tables say of them: what a
 -- response message answers (KMIP 1.0, 6.2, 6.9 to 6.11, 6.14 and 7.1).
-use Rattle.std.specs.Prelude.{ℕ, pos, List, [], ◌∷◌, ◌++◌, length, Bool, true, false, not, ◌==◌, Option, Some, None, if◌then◌else◌, Result, Ok, Err, codes}
+use Rattle.std.specs.Prelude.{◌≡◌, ℕ, pos, List, [], ◌∷◌, ◌++◌, length, Bool, true, false, ◌==◌, Option, Some, None, if◌then◌else◌, Result, Ok, Err, codes}
 use Rattle.std.specs.List.{filter}
 use Rattle.std.specs.Option.{option_and_then}
 use Rattle.std.specs.Ordering.{int_eq}
@@ -137,3 +137,14 @@ parsed_answer operation (Some message) = message_answer operation message
 -- what a whole message answers
 abbrev pub untyped_answer : Operation → List ℕ → Result Tree Error
 untyped_answer operation m = parsed_answer operation (item_of 64 m)
+
+-- The message is a success of this operation with this payload: a response message whose header
+-- counts one batch item and which has one, with status success, this operation and this payload.
+pub record IsSuccess (operation : Operation) (message payload : Tree) : Type 0 where
+  pub is_response : has_tag RESPONSE_MESSAGE message ≡ true
+  pub counts : counts_one message ≡ true
+  pub item : Tree
+  pub items : all_under BATCH_ITEM message ≡ item ∷ []
+  pub status_is : number_under RESULT_STATUS item ≡ Some (result_status_line Success).number
+  pub operation_is : number_under OPERATION item ≡ Some (operation_line operation).number
+  pub payload_is : payload_of (all_under RESPONSE_PAYLOAD item) ≡ Ok payload

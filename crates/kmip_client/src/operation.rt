@@ -11,8 +11,8 @@ ghost use Rattle.kmip_request.specs.Tables.{request_header};
 ghost use Rattle.kmip_request.specs.Values.{lent_header_val};
 ghost use Rattle.kmip_client.specs.Headline.{IsReadBy};
 ghost use Rattle.kmip_client.specs.Outcome.{reading_failed};
-ghost use Rattle.kmip_client.specs.Operation.{Asking, operation_calls, minor_number};
-ghost use Rattle.kmip_client.specs.Operation.{is_request_payload, message_bytes};
+ghost use Rattle.kmip_client.specs.Operation.{TreeRequest, operation_calls, minor_number};
+ghost use Rattle.kmip_client.specs.Operation.{message_bytes};
 
 use crate::call_request::CallRequest;
 use crate::error::Error;
@@ -28,9 +28,9 @@ use kmip_shape::scalars::{put_enumeration, put_structure};
 use kmip_shape::{Enumeration, fields, record_len, write_record};
 use kmip_tags::tags::{
     AUTHENTICATION, BATCH_COUNT, BATCH_ITEM, MAXIMUM_RESPONSE_SIZE, OPERATION, PROTOCOL_VERSION,
-    REQUEST_HEADER, REQUEST_MESSAGE, REQUEST_PAYLOAD,
+    REQUEST_HEADER, REQUEST_MESSAGE,
 };
-use kmip_wire::{Buffer, Node, Tag, Tree, WireError, write_tree};
+use kmip_wire::{Buffer, Tag, Tree, WireError, write_tree};
 use std::alloc::Global;
 
 /// A version of KMIP, which a request's header names: KMIP 1.0, 6.1.
@@ -179,16 +179,6 @@ fn write_message(
     Ok(())
 }
 
-/// Whether it is a structure with the tag of a request's payload.
-fn is_request_payload(tree: &Tree) -> bool
-    ensures { result ≡ is_request_payload tree.now }
-{
-    match &tree.node {
-        Node::Structure(_) => tree.tag.number() == REQUEST_PAYLOAD,
-        _ => false,
-    }
-}
-
 /// A request of an operation, whose payload is a tree.
 #[derive(Clone, Copy)]
 pub struct OperationRequest<'a> {
@@ -200,7 +190,7 @@ pub struct OperationRequest<'a> {
 impl<'a> CallRequest for OperationRequest<'a> {
     type Payload = Tree;
 
-    ghost Request = { Asking };
+    ghost Request = { TreeRequest };
 
     ghost Seen = { TheTree };
 
@@ -219,9 +209,6 @@ impl<'a> CallRequest for OperationRequest<'a> {
         authentication: &Option<Authentication>,
         out: &mut Buffer,
     ) -> Result<(), WireError> {
-        if !is_request_payload(self.payload) {
-            return Err(WireError::NoForm);
-        }
         let payload = write_tree(alloc, self.payload)?;
         let version = self.version.number();
         write_message(
@@ -238,9 +225,9 @@ impl<'a> CallRequest for OperationRequest<'a> {
     }
 
     fn readings_hold()
-        ensures never_fails { (r : Asking) (m : List ℕ) →
+        ensures never_fails { (r : TreeRequest) (m : List ℕ) →
             operation_calls.reads r m ≡ reading_failed → ⊥ }
-        ensures valid { (r : Asking) (limit : Option ℕ) →
+        ensures valid { (r : TreeRequest) (limit : Option ℕ) →
             IsReadBy (operation_calls.reads r) limit (operation_calls.IsValid r limit) }
     {}
 }
