@@ -105,6 +105,7 @@ from_status operation item payload (Some status) is answers = by_status (status 
     failed : (b : Bool) → cond b (Err (failure_of operation (text_under RESULT_MESSAGE item) (number_under RESULT_REASON item))) (Err (InternalError (status_text status))) ≡ Ok payload → IsGood operation item payload
     failed false answers = error_payload answers
     failed true answers = error_payload answers
+
     by_status : (b : Bool) → (status == (result_status_line Success).number) ≡ b →
         cond b (success_of operation item) (cond (status == (result_status_line OperationFailed).number) (Err (failure_of operation (text_under RESULT_MESSAGE item) (number_under RESULT_REASON item))) (Err (InternalError (status_text status)))) ≡ Ok payload → IsGood operation item payload
     by_status false same answers = failed (status == (result_status_line OperationFailed).number) answers

@@ -199,23 +199,24 @@ impl<T: Link> Client<T> {
 
     /// Sends a request of any operation, whose payload is a tree, and returns the payload of its
     /// response as a tree: so it makes the calls that KMIP's tables have not, and reads the
-    /// responses that are past them.
+    /// responses that are past them. No unknown item or number makes a response unreadable.
     ///
-    /// The request has the header that `do_request` writes, with this version. Its payload is a
-    /// structure with the tag Request Payload (KMIP 1.0, 9.1.3.1). The response's payload is
-    /// returned as it stands, and is an empty structure with the tag Response Payload where there is
-    /// none. Its errors are those of `do_request`, but for these:
+    /// It sends the one canonical message that `do_request` would send with this version, operation
+    /// and payload, and the client's credential (`operation_tree`, specs/Operation.antt). The
+    /// payload is sent as it stands: KMIP wants a structure with the tag Request Payload (KMIP 1.0,
+    /// 9.1.3.1). Link faults and lack of memory aside, it returns a payload exactly where the bytes
+    /// left begin with a message that parses and is a success (`IsSuccess`, specs/Untyped.antt): a
+    /// Response Message whose header counts one batch item and which has one, with the status
+    /// Success and this operation. The payload is that of the item, and an empty structure with the
+    /// tag Response Payload where it has none. Its errors are those of `do_request`, but for these:
     ///
-    /// - `SerializeError`: also where the payload is no such structure.
-    /// - `ServerError`, `ItemNotFound`: the server refused the request. The text has the server's
-    ///   message, and the number of a reason that KMIP 1.2 does not list.
-    /// - `InternalError`: the message is well formed and is neither such a refusal nor a response
-    ///   with one batch item, which is a success of the request's operation.
+    /// - `ServerError`, `ItemNotFound`: the server refused the request. The text always has the
+    ///   server's message, and the number of a reason that KMIP 1.2 does not list.
+    /// - `InternalError`: the message is well formed and is neither a success nor such a refusal.
     ///
-    /// Its contract is that of `do_request`: what was sent and taken, the cause of each answer, the
-    /// diagnostics and the count of connection errors are the same fields of the same record, with
-    /// the request `operation_tree` (specs/Operation.antt) and the reading `untyped_answer`
-    /// (specs/Untyped.antt).
+    /// Its contract has the fields of `IsCall`, for this request and this reading of a response:
+    /// `exchange`, `caused`, `reading`, `headline`, `keeps`, `credential`, `limit`, `buffered`,
+    /// `count`, `request_text`, `response_text` and `quiet`.
     pub fn do_operation(
         &mut self,
         alloc: Global,
