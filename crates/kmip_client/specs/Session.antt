@@ -1,13 +1,12 @@
 -- Several requests over one client.
 use Rattle.std.specs.Prelude.{◌≡◌, ℕ, ◌+◌, ◌<◌, ◌≤◌, List, [], ◌∷◌, ◌++◌, length, take, drop, map}
-use Rattle.std.specs.Prelude.{Bool, true, false, Option, None, if◌then◌else◌, Ok, Err, IsTrue}
+use Rattle.std.specs.Prelude.{Bool, true, false, Option, None, if◌then◌else◌, Err, IsTrue}
 use Rattle.std.specs.Prelude.{codes}
 use Rattle.kmip_shape.specs.Val.{Val}
 use Rattle.kmip_types.specs.declared.auth.CredentialType.{CredentialType}
 use Rattle.kmip_request.specs.Message.{request_bytes}
 use Rattle.kmip_request.specs.declared.payload.RequestPayload.{RequestPayload}
 use Rattle.kmip_link.specs.State.{LinkState, FaultCountRose, Keeps, left}
-use Rattle.kmip_client.specs.declared.error.Error.{Error}
 use Rattle.kmip_client.specs.declared.error.Error.TheVariants.{SerializeError}
 use Rattle.kmip_client.specs.declared.error.Error.TheVariants.{RequestWriteError, ResponseReadError}
 use Rattle.kmip_client.specs.declared.session.Exchange.{Exchange}
