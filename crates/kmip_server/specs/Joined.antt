@@ -16,7 +16,7 @@ use Rattle.kmip_store.specs.declared.call.Call.TheVariants.{CreateRsaKeyPair, Ac
 use Rattle.kmip_store.specs.declared.object.Object.{Object}
 use Rattle.kmip_store.specs.declared.maker.Asked.{Asked}
 use Rattle.kmip_store.specs.declared.maker.Made.{Made}
-use Rattle.kmip_server_core.specs.Answering.{list_of_option}
+use Rattle.std.specs.Option.{option_to_list}
 use Rattle.kmip_server_core.specs.Served.{Served, served, asks}
 use Rattle.kmip_server_core.specs.Requests.{request_of}
 use Rattle.kmip_server.specs.Machine.{first_for, rest_for}
@@ -125,7 +125,7 @@ sent_with settings call now (Some request) =
     (record {
       objects = s.objects;
       given = rest_for q now.given;
-      asked = now.asked ++ list_of_option q;
+      asked = now.asked ++ option_to_list q;
       rest = now.rest;
     }) request
     (response_bytes s.message)
