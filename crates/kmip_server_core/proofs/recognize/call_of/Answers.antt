@@ -1,6 +1,6 @@
 use Rattle.std.proofs.Common.{sym, ◌∙◌}
 use Rattle.kmip_server_core.proofs.Requested.{same_read, other_bytes}
-use Rattle.kmip_server_core.proofs.picking.call_of.Goals as goal
+use Rattle.kmip_server_core.proofs.recognize.call_of.Goals as goal
 
 pub returns-then-same : goal.returns-then-same
 returns-then-same c = same_read c.args.bytes.now c.args.payload.now c.in-Some.call c.requires.read (c.in_ok-same-in-Some.ensures.same c.if-same.true)

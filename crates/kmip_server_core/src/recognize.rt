@@ -8,7 +8,7 @@ ghost use Rattle.kmip_server_core.specs.Picked.{second_number, length_in, privat
 ghost use Rattle.kmip_server_core.specs.Picked.{candidate_call};
 ghost use Rattle.kmip_server_core.specs.Requests as calls;
 
-use crate::own::is_made_by;
+use crate::request::is_made_by;
 use kmip_request::{
     Attribute, CommonTemplateAttribute, PrivateKeyTemplateAttribute, PublicKeyTemplateAttribute,
     RequestPayload,

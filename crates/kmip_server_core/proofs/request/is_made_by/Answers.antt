@@ -1,7 +1,7 @@
 use Rattle.std.proofs.Common.{sym, ◌∙◌, ap, Some}
 use Rattle.std.proofs.lemmas.Slice.Eq.{bytes_eq-Decides}
 use Rattle.kmip_server_core.proofs.Requested.{made_read}
-use Rattle.kmip_server_core.proofs.own.is_made_by.Goals as goal
+use Rattle.kmip_server_core.proofs.request.is_made_by.Goals as goal
 
 pub returns-in-Ok-clause-same : goal.returns-in-Ok-clause-same
 returns-in-Ok-clause-same c same =

@@ -1,6 +1,6 @@
 //! The request of a helper's call.
 
-ghost use Rattle.std.specs.Prelude.{◌≡◌, true, false, Some, IfOk};
+ghost use Rattle.std.specs.Prelude.{◌≡◌, ◌↔◌, true, false, IsTrue, Some, IfOk};
 ghost use Rattle.kmip_shape.specs.Fits.{Fits};
 ghost use Rattle.kmip_request.specs.Fits.{FitsCredential};
 ghost use Rattle.kmip_request.specs.Message.{request_bytes};
@@ -98,10 +98,10 @@ pub fn is_made_by(
     }
 }
 
-/// True only where the bytes are the request of this call, with any credential.
+/// Whether the bytes are the request of this call, with any credential.
 pub fn is_request_of(alloc: Global, call: &Call, bytes: &[u8]) -> Result<bool, OutOfMemory>
-    ensures { IfOk result (λ is. is ≡ true →
-        request_read bytes.now ≡ Some (request_for (calls.request_of call.now))) }
+    ensures { IfOk result (λ is. IsTrue is ↔
+        (request_read bytes.now ≡ Some (request_for (calls.request_of call.now)))) }
 {
     match from_slice(alloc, bytes) {
         Ok((_, credential)) => is_made_by(alloc, call, credential, bytes),
