@@ -1,5 +1,5 @@
 -- What the words of the calls that make or register keys ask for.
-use Rattle.std.specs.Prelude.{ℕ, ℤ, List, [], ◌∷◌, ◌++◌, Option, Some, None, if◌then◌else◌, codes, bytes_eq}
+use Rattle.std.specs.Prelude.{ℕ, ℤ, Bool, List, [], ◌∷◌, ◌++◌, Option, Some, None, if◌then◌else◌, codes, bytes_eq}
 use Rattle.std.specs.Int.{cast_signed, w32}
 use Rattle.std.specs.Int.RustNames.{bit_or}
 use Rattle.std.specs.Option.{option_map, option_and_then}
@@ -71,7 +71,7 @@ create_with (Some algorithm) (Some key_length) (Some attributes) =
 create_with algorithm key_length attributes = None
 
 -- Encrypt and Decrypt, unless others are named
-abbrev pub create_asked : List (List ℕ) → Option RequestPayload
+unfoldable pub create_asked : List (List ℕ) → Option RequestPayload
 create_asked (algorithm ∷ number ∷ name ∷ options) =
     if are_options (codes "usage=" ∷ []) options
     then create_with
@@ -92,7 +92,7 @@ create_pair_with (Some key_length) (Some private) (Some public) =
 create_pair_with key_length private public = None
 
 -- Sign and Verify, unless others are named
-abbrev pub create_pair_asked : List (List ℕ) → Option RequestPayload
+unfoldable pub create_pair_asked : List (List ℕ) → Option RequestPayload
 create_pair_asked (number ∷ private ∷ public ∷ options) =
     if are_options (codes "private-usage=" ∷ codes "public-usage=" ∷ []) options
     then create_pair_with (int_of number)
@@ -127,7 +127,7 @@ key_block_of options bytes =
     (value_given (codes "algorithm=") options))
     (option_and_then int_of (value_given (codes "length=") options))
 
-abbrev pub key_block_given : List ℕ → List (List ℕ) → Option KeyBlock
+unfoldable pub key_block_given : List ℕ → List (List ℕ) → Option KeyBlock
 key_block_given word options = option_and_then (key_block_of options) (bytes_of word)
 
 -- the attributes that are given: the uses, and the name
@@ -141,13 +141,13 @@ and_name (Some attributes) (Some None) = Some attributes
 and_name (Some attributes) (Some (Some name)) = Some (attributes ++ name_attribute name ∷ [])
 and_name attributes name = None
 
-abbrev pub attributes_given : List (List ℕ) → Option (List Attribute)
+unfoldable pub attributes_given : List (List ℕ) → Option (List Attribute)
 attributes_given options =
     and_name (uses_given (value_given (codes "usage=") options))
     (text_given (value_given (codes "name=") options))
 
 -- the object of a kind, and its type
-abbrev pub object_of : List ℕ → KeyBlock → Option (ObjectType × ManagedObject)
+unfoldable pub object_of : List ℕ → KeyBlock → Option (ObjectType × ManagedObject)
 object_of kind block =
     if bytes_eq kind (codes "public")
     then Some (ObjectType.PublicKey, ManagedObject.PublicKey (record { 0 = block }))
@@ -166,11 +166,15 @@ register_with kind (Some block) (Some attributes) =
     (object_of kind block)
 register_with kind block attributes = None
 
-abbrev pub register_asked : List (List ℕ) → Option RequestPayload
-register_asked (kind ∷ bytes ∷ options) =
-    if are_options
+unfoldable pub are_register_options : List (List ℕ) → Bool
+are_register_options options =
+    are_options
     (codes "format=" ∷ codes "algorithm=" ∷ codes "length=" ∷ codes "usage=" ∷ codes "name=" ∷ [])
     options
+
+unfoldable pub register_asked : List (List ℕ) → Option RequestPayload
+register_asked (kind ∷ bytes ∷ options) =
+    if are_register_options options
     then register_with kind (key_block_given bytes options) (attributes_given options)
     else None
 register_asked words = None

@@ -107,6 +107,7 @@ fn with_algorithm(
 }
 
 /// `create ALGORITHM BITS NAME`, with `usage=`: KMIP 1.0, 4.1.
+#[tactic(auto, unfolding(crate::specs::Keys::create_asked))]
 fn create_asked(alloc: Global, words: &[Text]) -> Result<Option<RequestPayload>, OutOfMemory>
     ensures { IfOk result (λ made. made ≡ keys.create_asked words.now) }
 {
@@ -142,6 +143,7 @@ fn pair_attributes(alloc: Global, key_length: i32) -> Result<List<Attribute>, Ou
 }
 
 /// `create-rsa BITS PRIVATE PUBLIC`, with `private-usage=` and `public-usage=`: KMIP 1.0, 4.2.
+#[tactic(auto, unfolding(crate::specs::Keys::create_pair_asked))]
 fn create_pair_asked(alloc: Global, words: &[Text]) -> Result<Option<RequestPayload>, OutOfMemory>
     ensures { IfOk result (λ made. made ≡ keys.create_pair_asked words.now) }
 {
@@ -189,6 +191,7 @@ fn key_block_of(options: &[Text], bytes: Blob) -> Option<KeyBlock>
 }
 
 /// The block of a key that is registered.
+#[tactic(auto, unfolding(crate::specs::Keys::key_block_given))]
 fn key_block_given(
     alloc: Global,
     word: &str,
@@ -220,6 +223,7 @@ fn uses_given(alloc: Global, words: &[Text]) -> Result<Option<List<Attribute>>, 
 }
 
 /// The attributes of a key that is registered.
+#[tactic(auto, unfolding(crate::specs::Keys::attributes_given))]
 fn attributes_given(alloc: Global, words: &[Text]) -> Result<Option<List<Attribute>>, OutOfMemory>
     ensures { IfOk result (λ made. made ≡ keys.attributes_given words.now) }
 {
@@ -237,6 +241,7 @@ fn attributes_given(alloc: Global, words: &[Text]) -> Result<Option<List<Attribu
 }
 
 /// The object of a kind with this key block, and its type.
+#[tactic(auto, unfolding(crate::specs::Keys::object_of))]
 fn object_of(
     alloc: Global,
     kind: &str,
@@ -262,18 +267,25 @@ fn object_of(
     }
 }
 
+/// Whether these are options of `register`.
+#[tactic(auto, unfolding(crate::specs::Keys::are_register_options))]
+fn are_register_options(options: &[Text]) -> bool
+    ensures { result ≡ keys.are_register_options options.now }
+{
+    let names = ["format=", "algorithm=", "length=", "usage=", "name="];
+    are_options(&names, options)
+}
+
 /// `register KIND HEX`, with `format=`, `algorithm=`, `length=`, `usage=` and `name=`: KMIP 1.0,
 /// 4.3.
+#[tactic(auto, unfolding(crate::specs::Keys::register_asked))]
 fn register_asked(alloc: Global, words: &[Text]) -> Result<Option<RequestPayload>, OutOfMemory>
     ensures { IfOk result (λ made. made ≡ keys.register_asked words.now) }
 {
     let [kind, bytes, options @ ..] = words else {
         return Ok(None);
     };
-    if !are_options(
-        &["format=", "algorithm=", "length=", "usage=", "name="],
-        options,
-    ) {
+    if !are_register_options(options) {
         return Ok(None);
     }
     let Some(block) = key_block_given(alloc, bytes.as_str(), options)? else {
