@@ -7,7 +7,7 @@ use Rattle.kmip_store.specs.declared.maker.Made.{Made}
 use Rattle.std.specs.Option.{option_to_list}
 use Rattle.kmip_server_core.specs.Served.{Served, served, asks}
 
--- what serving messages came to
+-- the result of serving messages
 pub record Run : Type 0 where
   pub objects : List Object
   -- the bytes of the responses, one after the other; `None` once a response has no wire form
