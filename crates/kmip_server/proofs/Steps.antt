@@ -10,7 +10,7 @@ use Rattle.kmip_request.specs.declared.payload.RequestPayload.{RequestPayload}
 use Rattle.kmip_link.specs.State.{LinkState, left}
 use Rattle.kmip_client.specs.Outcome.{Answer, Outcome, outcome_of, outcome, left_for, Moves}
 use Rattle.kmip_client.specs.Client.{loses_connection}
-use Rattle.kmip_client.specs.Session.{Turn, told_of}
+use Rattle.kmip_client.specs.Session.{Turn, call_report}
 use Rattle.kmip_store.specs.declared.call.Call.{Call}
 use Rattle.kmip_store.specs.declared.object.Object.{Object}
 use Rattle.kmip_store.specs.declared.maker.Asked.{Asked}

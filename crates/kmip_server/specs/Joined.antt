@@ -7,7 +7,7 @@ use Rattle.kmip_response_write.specs.Settled.{response_bytes, IsHeld as IsHeldRe
 use Rattle.kmip_types.specs.declared.auth.CredentialType.{CredentialType}
 use Rattle.kmip_client.specs.Outcome.{Answer, outcome_of}
 use Rattle.kmip_client.specs.Client.{loses_connection}
-use Rattle.kmip_client.specs.Session.{Turn, told_of, Told}
+use Rattle.kmip_client.specs.Session.{Turn, call_report}
 use Rattle.kmip_client.specs.Diagnostics.{diagnostic_of}
 use Rattle.kmip_client.specs.declared.error.Error.{Error}
 use Rattle.kmip_client.specs.declared.error.Error.TheVariants.{RequestWriteError}
@@ -67,7 +67,7 @@ pub record CallTold : Type 0 where
 
 abbrev pub turn_call_told : Settings → Call → Turn → CallTold
 turn_call_told settings call turn =
-    let told = told_of settings.buffered turn.request turn.outcome.answer (take turn.outcome.taken turn.rest) in
+    let told = call_report settings.buffered turn.request turn.outcome.answer (take turn.outcome.taken turn.rest) in
     record {
       sent = turn.outcome.sent;
       answer = helper_answer call turn.outcome.answer;
