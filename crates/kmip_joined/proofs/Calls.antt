@@ -17,7 +17,7 @@ use Rattle.kmip_server_core.specs.Requests.{request_of, call_operation}
 use Rattle.kmip_server_core.specs.Served.{served, asks}
 use Rattle.kmip_server.specs.Calls.{report_of, call_settings, before_all, expected_of, finish_of}
 use Rattle.kmip_server.specs.OneCall.{standing}
-use Rattle.kmip_server.specs.Joined.{CallSettings, Between, Expected, Reported, Unsent, CallReport, Next, turn_with, turn_report, answered_with, sent_with, next, expected_calls, finish, has_unsent, ReportsMatch}
+use Rattle.kmip_server.specs.Joined.{CallSettings, Between, Expected, Reported, Unsent, JoinedReport, Next, turn_with, joined_report, answered_with, sent_with, next, expected_calls, finish, has_unsent, ReportsMatch}
 use Rattle.kmip_server.specs.Link.{ServerLinkState, IsOpen, LinkFacts}
 use Rattle.kmip_server.specs.Machine.{first_for}
 use Rattle.kmip_server.specs.declared.answers.CallAnswer.{CallAnswer}
@@ -44,24 +44,24 @@ after_asked : (settings : CallSettings) (call : Call) (now : Between) (request :
 after_asked settings call now None = sym (append_none now.asked)
 after_asked settings call now (Some request) = asked_with settings call now _ request _
 
-told_same : (a b : CallReport) → Reported a ≡ Reported b → b ≡ a
+told_same : (a b : JoinedReport) → Reported a ≡ Reported b → b ≡ a
 told_same a b e = cc
 
 -- a response was made
-record Formed (settings : CallSettings) (call : Call) (now after : Between) (request : List ℕ) (response : Option (List ℕ)) (x : CallReport) : Type 0 where
-  told : x ≡ turn_report settings call (turn_with settings call (Some request) (after.rest ++ or_empty response))
+record Formed (settings : CallSettings) (call : Call) (now after : Between) (request : List ℕ) (response : Option (List ℕ)) (x : JoinedReport) : Type 0 where
+  told : x ≡ joined_report settings call (turn_with settings call (Some request) (after.rest ++ or_empty response))
   objects : (answered_with settings call now after request response).after.objects ≡ after.objects
   rest : (answered_with settings call now after request response).after.rest
       ≡ drop (outcome_of (Some request) (call_operation call) settings.limit (after.rest ++ or_empty response)).taken (after.rest ++ or_empty response)
 
-formed : (settings : CallSettings) (call : Call) (now after : Between) (request : List ℕ) (response : Option (List ℕ)) (x : CallReport) → (answered_with settings call now after request response).expected ≡ Reported x →
+formed : (settings : CallSettings) (call : Call) (now after : Between) (request : List ℕ) (response : Option (List ℕ)) (x : JoinedReport) → (answered_with settings call now after request response).expected ≡ Reported x →
     Formed settings call now after request response x
 formed settings call now after request None x is = absurd (cc)
 formed settings call now after request (Some response) x is = record { told = told_same _ _ is; objects = refl; rest = refl }
 
 -- what the program's definitions say of a call that is told so
-record Comes (settings : CallSettings) (call : Call) (now : Between) (request : Option (List ℕ)) (after : World) (x : CallReport) : Type 0 where
-  told : x ≡ turn_report settings call (turn_with settings call request after.rest)
+record Comes (settings : CallSettings) (call : Call) (now : Between) (request : Option (List ℕ)) (after : World) (x : JoinedReport) : Type 0 where
+  told : x ≡ joined_report settings call (turn_with settings call request after.rest)
   objects : (sent_with settings call now request).after.objects ≡ after.objects
   rest : (sent_with settings call now request).after.rest ≡ drop (outcome_of request (call_operation call) settings.limit after.rest).taken after.rest
   answers : length (sent_with settings call now request).after.asked ≡ after.answers
@@ -70,7 +70,7 @@ record Comes (settings : CallSettings) (call : Call) (now : Between) (request : 
 abbrev IsNext : Between → Option (List ℕ) → Type 0
 IsNext now request = now.given ≡ plain_answers (length now.asked) (extra_of now request)
 
-comes : (settings : CallSettings) (call : Call) (now : Between) (request : Option (List ℕ)) (x : CallReport) → settings.time ≡ pos 0 → IsNext now request → (sent_with settings call now request).expected ≡ Reported x →
+comes : (settings : CallSettings) (call : Call) (now : Between) (request : Option (List ℕ)) (x : JoinedReport) → settings.time ≡ pos 0 → IsNext now request → (sent_with settings call now request).expected ≡ Reported x →
     Comes settings call now request (after_sending (world_at now) request) x
 comes settings call now None x time made is = record { told = told_same _ _ is; objects = refl; rest = refl; answers = refl }
 comes settings call now (Some request) x time made is =
@@ -84,7 +84,7 @@ comes settings call now (Some request) x time made is =
     let rest : now.rest ++ or_empty (response_bytes (served now.objects request (first_for q now.given) settings.time).message) ≡ (after_request (world_at now) request).rest =
     ap (λ (b : Option (List ℕ)). now.rest ++ or_empty b) bytes in
     record {
-      told = f.told ∙ ap (λ (l : List ℕ). turn_report settings call (turn_with settings call (Some request) l)) rest;
+      told = f.told ∙ ap (λ (l : List ℕ). joined_report settings call (turn_with settings call (Some request) l)) rest;
       objects = f.objects ∙ ap (λ s. s.objects) same;
       rest = f.rest ∙ ap (λ (l : List ℕ). drop (outcome_of (Some request) (call_operation call) settings.limit l).taken l) rest;
       answers = ap length (after_asked settings call now (Some request)) ∙ length-append now.asked (option_to_list q);

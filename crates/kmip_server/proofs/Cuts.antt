@@ -33,7 +33,7 @@ use Rattle.kmip_server_core.specs.Served.{Served, served, served_request, asks, 
 use Rattle.kmip_server_core.specs.Requests.{request_of}
 use Rattle.kmip_server.specs.Machine.{Run, first_for, rest_for, then_bytes, serve, fresh, run_of}
 use Rattle.kmip_server.specs.Serving.{AreResponsesHeld}
-use Rattle.kmip_server.specs.Joined.{CallSettings, Between, CallReport, IsReadBack, Next, next, helper_answer, IsUnsent}
+use Rattle.kmip_server.specs.Joined.{CallSettings, Between, JoinedReport, IsReadBack, Next, next, helper_answer, IsUnsent}
 use Rattle.kmip_server.specs.Link.{ServerLinkState, server_link_state, IsCut, LinkFacts, IsOpen}
 use Rattle.kmip_server.specs.OneCall.{between, standing, Agrees, CutCall, CallEffect, IsRequestOf, fails_writing}
 use Rattle.kmip_server.specs.Calls.{call_settings}
@@ -171,7 +171,7 @@ response_text_is : (buffered : Bool) (answer : Answer) (b : Option (List ℕ)) �
 response_text_is buffered answer b is taken q = let q' : IsResponseText buffered taken (Err (RequestWriteError (codes "link failed"))) b = subst (λ x. IsResponseText buffered taken x b) is q in q'
 
 -- what serving came to before the message that was kept
-pub cut_of : AreMessages → AreRequests → {M : Type 0} (state : M → MakerState) (settings : CallSettings) (call : Call) (before : LinkState) (after : ServerLinkState M) (told : CallReport) (b : List ℕ) (n : ℕ) →
+pub cut_of : AreMessages → AreRequests → {M : Type 0} (state : M → MakerState) (settings : CallSettings) (call : Call) (before : LinkState) (after : ServerLinkState M) (told : JoinedReport) (b : List ℕ) (n : ℕ) →
     request_bytes (request_of call) settings.credential ≡ Some b → IsReadBack call settings.credential → n < length b → Moves before (server_link_state state after) (take n b) 0 → IsReady settings.time before →
     0 < after.faults → IsRequestOf call after.kept → IsCut settings.time after.server.objects (state after.server.maker) after.ever after.sent after.kept → IsUnsent settings b told →
     CutCall state settings call before after told

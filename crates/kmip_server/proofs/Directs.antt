@@ -31,7 +31,7 @@ use Rattle.kmip_response.specs.declared.batch_item.BatchItem.{BatchItem}
 use Rattle.kmip_response.specs.declared.payload.ResponsePayload.{ResponsePayload}
 use Rattle.kmip_server_core.specs.Items.{payload_for, done_item, item_for, message_with}
 use Rattle.kmip_server.specs.Machine.{first_for, rest_for}
-use Rattle.kmip_server.specs.Joined.{CallSettings, Between, CallReport, Expected, Reported, Next, IsHeldNext, Unless, AreHeldNext, helper_answer, turn_report, turn_with, next_with, next, expected_calls, ReportMatches, ReportsMatch, finish, last_is_lost}
+use Rattle.kmip_server.specs.Joined.{CallSettings, Between, JoinedReport, Expected, Reported, Next, IsHeldNext, Unless, AreHeldNext, helper_answer, joined_report, turn_with, next_with, next, expected_calls, ReportMatches, ReportsMatch, finish, last_is_lost}
 use Rattle.kmip_server.specs.Direct.{done_answer, reply_answer, direct, answered_calls, IsWithinLimit, OneFits, AllFit, answers_of}
 use Rattle.kmip_server.proofs.Steps.{after_bytes, next_formed, same_next, same_between}
 use Rattle.kmip_client.specs.declared.error.Error.{Error}
@@ -139,7 +139,7 @@ starts objects given asked = record { objects = objects; given = given; asked = 
 
 -- what a call is told as, whose answer is the object map's
 record Own (settings : CallSettings) (objects : List Object) (given : List Made) (asked : List Asked) (call : Call) : Type 0 where
-  pub told : CallReport
+  pub told : JoinedReport
   pub answer : told.answer ≡ reply_answer call (step objects call (first_for (question objects call) given)).answer
   pub next_is : next settings (starts objects given asked) call ≡ record {
     expected = Reported told;
@@ -182,14 +182,14 @@ own_next laws settings objects given askeds call fits held =
     let given_is : (after_bytes settings now b).given ≡ rest_for (question objects call) given = ap (λ q. rest_for q given) asked in
     let asked_is : (after_bytes settings now b).asked ≡ askeds ++ option_to_list (question objects call) = ap (λ q. askeds ++ option_to_list q) asked in
     record {
-      told = turn_report settings call turn;
+      told = joined_report settings call turn;
       answer = helped_is;
       next_is = next_formed settings now call b r fits.valid formed ∙ same_next _ _ _ _ _ _ refl stops (same_between _ _ _ _ _ _ _ _ objects_is given_is asked_is rests);
     }
 
 -- ---- all calls
 
-expected_on : (settings : CallSettings) (now : Between) (call : Call) (calls : List Call) (told : CallReport) (after : Between) → next settings now call ≡ record { expected = Reported told; stops = false; after = after } →
+expected_on : (settings : CallSettings) (now : Between) (call : Call) (calls : List Call) (told : JoinedReport) (after : Between) → next settings now call ≡ record { expected = Reported told; stops = false; after = after } →
     expected_calls settings now (call ∷ calls) ≡ Reported told ∷ expected_calls settings after calls
 unfolding expected_calls
 expected_on settings now call calls told after e = rw e refl
@@ -202,18 +202,18 @@ held_first : (settings : CallSettings) (now : Between) (call : Call) (calls : Li
 unfolding AreHeldNext
 held_first settings now call calls held = held.0
 
-held_later : (settings : CallSettings) (now : Between) (call : Call) (calls : List Call) (told : CallReport) (after : Between) → next settings now call ≡ record { expected = Reported told; stops = false; after = after } →
+held_later : (settings : CallSettings) (now : Between) (call : Call) (calls : List Call) (told : JoinedReport) (after : Between) → next settings now call ≡ record { expected = Reported told; stops = false; after = after } →
     AreHeldNext settings now (call ∷ calls) → AreHeldNext settings after calls
 unfolding AreHeldNext
 held_later settings now call calls told after e held = let later : Unless (next settings now call).stops (AreHeldNext settings (next settings now call).after calls) = held.1 in
     subst (λ (n : Next). Unless n.stops (AreHeldNext settings n.after calls)) e later
 
 -- Client and server joined answer as the object map.
-pub joined_is_direct : Laws → (settings : CallSettings) (objects : List Object) (given : List Made) (asked : List Asked) (calls : List Call) (xs : List CallReport) → AllFit settings objects given calls →
+pub joined_is_direct : Laws → (settings : CallSettings) (objects : List Object) (given : List Made) (asked : List Asked) (calls : List Call) (xs : List JoinedReport) → AllFit settings objects given calls →
     AreHeldNext settings (starts objects given asked) calls → ReportsMatch settings (expected_calls settings (starts objects given asked) calls) xs → answers_of xs ≡ direct objects given calls
 joined_is_direct laws settings objects given asked [] xs fit held meet = go xs (subst (λ es. ReportsMatch settings es xs) (expected_end settings _) meet)
   where
-    go : (ys : List CallReport) → ReportsMatch settings [] ys → answers_of ys ≡ []
+    go : (ys : List JoinedReport) → ReportsMatch settings [] ys → answers_of ys ≡ []
     go [] m = refl
     go (y ∷ ys) m = absurd m
 joined_is_direct laws settings objects given asked (call ∷ calls) xs fit held meet =
@@ -224,18 +224,18 @@ joined_is_direct laws settings objects given asked (call ∷ calls) xs fit held 
     own : Own settings objects given asked call
     own = own_next laws settings objects given asked call fit.0 (held_first settings _ call calls held)
 
-    go : ((ys : List CallReport) → ReportsMatch settings (expected_calls settings (starts (step objects call (first_for (question objects call) given)).objects (rest_for (question objects call) given) (asked ++ option_to_list (question objects call))) calls) ys →
+    go : ((ys : List JoinedReport) → ReportsMatch settings (expected_calls settings (starts (step objects call (first_for (question objects call) given)).objects (rest_for (question objects call) given) (asked ++ option_to_list (question objects call))) calls) ys →
         answers_of ys ≡ direct (step objects call (first_for (question objects call) given)).objects (rest_for (question objects call) given) calls) →
-        (ys : List CallReport) → ReportsMatch settings (Reported own.told ∷ expected_calls settings (starts (step objects call (first_for (question objects call) given)).objects (rest_for (question objects call) given) (asked ++ option_to_list (question objects call))) calls) ys →
+        (ys : List JoinedReport) → ReportsMatch settings (Reported own.told ∷ expected_calls settings (starts (step objects call (first_for (question objects call) given)).objects (rest_for (question objects call) given) (asked ++ option_to_list (question objects call))) calls) ys →
         answers_of ys ≡ direct objects given (call ∷ calls)
     go hypothesis [] m = absurd m
     go hypothesis (y ∷ ys) m =
-        let first : y.answer ≡ reply_answer call (step objects call (first_for (question objects call) given)).answer = ap (λ (x : CallReport). x.answer) m.0 ∙ own.answer in
+        let first : y.answer ≡ reply_answer call (step objects call (first_for (question objects call) given)).answer = ap (λ (x : JoinedReport). x.answer) m.0 ∙ own.answer in
         let later = hypothesis ys m.1 in
         ap (λ a. a ∷ answers_of ys) first ∙ ap (λ as'. reply_answer call (step objects call (first_for (question objects call) given)).answer ∷ as') later
 
 -- over a link that was just made
-pub direct_new : Laws → (settings : CallSettings) (now : Between) (given : List Made) (calls : List Call) (xs : List CallReport) → now ≡ record { objects = []; given = given; asked = []; rest = [] } → AllFit settings [] given calls →
+pub direct_new : Laws → (settings : CallSettings) (now : Between) (given : List Made) (calls : List Call) (xs : List JoinedReport) → now ≡ record { objects = []; given = given; asked = []; rest = [] } → AllFit settings [] given calls →
     AreHeldNext settings now calls → ReportsMatch settings (expected_calls settings now calls) xs → answers_of xs ≡ direct [] given calls
 direct_new laws settings now given calls xs is fit held meet =
     joined_is_direct laws settings [] given [] calls xs fit (subst (λ n. AreHeldNext settings n calls) is held) (subst (λ n. ReportsMatch settings (expected_calls settings n calls) xs) is meet)

@@ -12,7 +12,7 @@ use Rattle.kmip_server.specs.Link.{ServerLinkState, server_link_state, IsServed,
 use Rattle.kmip_server.specs.Split.{messages_in}
 use Rattle.kmip_server.specs.Machine.{Run, fresh, run_of}
 use Rattle.kmip_server.specs.Serving.{AreResponsesHeld}
-use Rattle.kmip_server.specs.Joined.{CallSettings, Between, CallReport, Expected, Reported, Unsent, next, expected_calls, finish, has_unsent, IsHeldNext, Unless, AreHeldNext, ReportMatches, ReportsMatch, last_is_lost}
+use Rattle.kmip_server.specs.Joined.{CallSettings, Between, JoinedReport, Expected, Reported, Unsent, next, expected_calls, finish, has_unsent, IsHeldNext, Unless, AreHeldNext, ReportMatches, ReportsMatch, last_is_lost}
 use Rattle.kmip_server.specs.Direct.{AllFit, direct}
 use Rattle.kmip_server.specs.OneCall.{between, standing, Agrees, CallMatches, CallAlwaysMatches, CutCall, CallEffect, as_expected, cut_short, CallsEnd}
 use Rattle.kmip_server.specs.Calls.{report_of}
@@ -21,15 +21,15 @@ use Rattle.kmip_server.proofs.Steps.{same_between}
 use Rattle.kmip_server.proofs.Opened.{serves_agree}
 
 -- with these answers of the maker, what is expected of the calls that are left completes what was told
-pub record GoesOn (settings : CallSettings) (start now : LinkState) (all later : List Call) (xs : List CallReport) (given : List Made) : Type 0 where
+pub record GoesOn (settings : CallSettings) (start now : LinkState) (all later : List Call) (xs : List JoinedReport) (given : List Made) : Type 0 where
   pub agrees : Agrees settings.time given start
-  pub meets : (ys : List CallReport) → ReportsMatch settings (expected_calls settings (between settings.time given now) later) ys → ReportsMatch settings (expected_calls settings (between settings.time given start) all) (xs ++ ys)
+  pub meets : (ys : List JoinedReport) → ReportsMatch settings (expected_calls settings (between settings.time given now) later) ys → ReportsMatch settings (expected_calls settings (between settings.time given start) all) (xs ++ ys)
   pub ends : finish settings (between settings.time given now) later ≡ finish settings (between settings.time given start) all
   pub cuts : has_unsent (expected_calls settings (between settings.time given now) later) ≡ has_unsent (expected_calls settings (between settings.time given start) all)
   pub holds : AreHeldNext settings (between settings.time given now) later → AreHeldNext settings (between settings.time given start) all
 
 -- whatever the maker's answers are in the end, where they agree with the link now
-abbrev pub Going : CallSettings → LinkState → LinkState → List Call → List Call → List CallReport → Type 0
+abbrev pub Going : CallSettings → LinkState → LinkState → List Call → List Call → List JoinedReport → Type 0
 Going settings start now all later xs = (given : List Made) → Agrees settings.time given now → GoesOn settings start now all later xs given
 
 pub going_none : (settings : CallSettings) (start : LinkState) (all : List Call) → Going settings start start all all []
@@ -58,7 +58,7 @@ held_end : (settings : CallSettings) (now : Between) → AreHeldNext settings no
 unfolding AreHeldNext
 held_end settings now = tt
 
-pub going_more : (settings : CallSettings) (start now after : LinkState) (all : List Call) (call : Call) (later : List Call) (xs : List CallReport) (told : CallReport) →
+pub going_more : (settings : CallSettings) (start now after : LinkState) (all : List Call) (call : Call) (later : List Call) (xs : List JoinedReport) (told : JoinedReport) →
     Going settings start now all (call ∷ later) xs → CallAlwaysMatches settings call now after told false → Going settings start after all later (xs ++ told ∷ [])
 going_more settings start now after all call later xs told going came given agrees =
     let one : CallMatches settings call now after told false given = came.came given agrees in
@@ -81,14 +81,14 @@ append_none [] = refl
 append_none (x ∷ xs) = ap (λ l. x ∷ l) (append_none xs)
 
 -- what the calls came to, with these answers of the maker
-pub record Ended (settings : CallSettings) (start : LinkState) (all : List Call) (xs : List CallReport) (given : List Made) (after : Between) (cut : Bool) : Type 0 where
+pub record Ended (settings : CallSettings) (start : LinkState) (all : List Call) (xs : List JoinedReport) (given : List Made) (after : Between) (cut : Bool) : Type 0 where
   pub meet : ReportsMatch settings (expected_calls settings (between settings.time given start) all) xs
   pub ends : after ≡ finish settings (between settings.time given start) all
   pub cuts : has_unsent (expected_calls settings (between settings.time given start) all) ≡ cut
   pub held : AreHeldNext settings (between settings.time given start) all
 
 -- the last call, after which none is made
-pub going_stop : (settings : CallSettings) (start now : LinkState) (all : List Call) (call : Call) (later : List Call) (xs : List CallReport) (told : CallReport) (given : List Made) (x : Expected) (after : Between) →
+pub going_stop : (settings : CallSettings) (start now : LinkState) (all : List Call) (call : Call) (later : List Call) (xs : List JoinedReport) (told : JoinedReport) (given : List Made) (x : Expected) (after : Between) →
     Going settings start now all (call ∷ later) xs → Agrees settings.time given now → next settings (between settings.time given now) call ≡ record { expected = x; stops = true; after = after } →
     IsHeldNext settings (between settings.time given now) call → ReportMatches settings x told → Ended settings start all (xs ++ told ∷ []) given after (has_unsent (x ∷ []))
 going_stop settings start now all call later xs told given x after going agrees next_is held meets =
@@ -106,7 +106,7 @@ expected_end : (settings : CallSettings) (now : Between) → expected_calls sett
 unfolding expected_calls
 expected_end settings now = refl
 
-pub going_end : (settings : CallSettings) (start now : LinkState) (all : List Call) (xs : List CallReport) (given : List Made) → Going settings start now all [] xs → Agrees settings.time given now →
+pub going_end : (settings : CallSettings) (start now : LinkState) (all : List Call) (xs : List JoinedReport) (given : List Made) → Going settings start now all [] xs → Agrees settings.time given now →
     Ended settings start all xs given (between settings.time given now) false
 going_end settings start now all xs given going agrees =
     let before : GoesOn settings start now all [] xs given = going given agrees in
@@ -132,7 +132,7 @@ between_new t given link sent ever pos = rw (sent, ever, pos) refl
 pub rest_is : (items : List Call) (i : ℕ) (call : Call) → i < length items → call ≡ get_or items i call → drop i items ≡ call ∷ drop (i + 1) items
 rest_is items i call h is = rw (add-one, drop-cons items i call) (ap (λ x. x ∷ drop (suc i) items) (sym is))
 
-called_so : {M : Type 0} (state : M → MakerState) (settings settings' : CallSettings) (call : Call) (now after : ServerLinkState M) (told : CallReport) (stops stops' : Bool) → settings' ≡ settings → stops ≡ stops' →
+called_so : {M : Type 0} (state : M → MakerState) (settings settings' : CallSettings) (call : Call) (now after : ServerLinkState M) (told : JoinedReport) (stops stops' : Bool) → settings' ≡ settings → stops ≡ stops' →
     CallEffect state settings' call now after told stops → CallEffect state settings call now after told stops'
 called_so state settings settings' call now after told stops stops' same is called =
     let P : CallSettings → Type 0 = λ s. CallEffect state s call now after told stops' in
@@ -140,11 +140,11 @@ called_so state settings settings' call now after told stops stops' same is call
     subst P same (subst Q is called)
 
 -- a call that does not stop came as expected, and left the link open
-pub record Went {M : Type 0} (state : M → MakerState) (settings : CallSettings) (call : Call) (before after : ServerLinkState M) (told : CallReport) (stops : Bool) : Type 0 where
+pub record Went {M : Type 0} (state : M → MakerState) (settings : CallSettings) (call : Call) (before after : ServerLinkState M) (told : JoinedReport) (stops : Bool) : Type 0 where
   pub opened : IsOpen state after
   pub came : CallAlwaysMatches settings call (server_link_state state before) (server_link_state state after) told stops
 
-went_so : {M : Type 0} {state : M → MakerState} {settings : CallSettings} {call : Call} {now after : ServerLinkState M} {told : CallReport} {stops : Bool} → stops ≡ false → CallEffect state settings call now after told stops → Went state settings call now after told stops
+went_so : {M : Type 0} {state : M → MakerState} {settings : CallSettings} {call : Call} {now after : ServerLinkState M} {told : JoinedReport} {stops : Bool} → stops ≡ false → CallEffect state settings call now after told stops → Went state settings call now after told stops
 went_so not (as_expected opened came) = record { opened = opened; came = came }
 went_so not (cut_short so cut) = absurd (let e : false ≡ true = sym not ∙ so in cc)
 
@@ -163,7 +163,7 @@ going_called state settings settings' start now after items i call answers answe
     subst (λ xs. Going settings start (server_link_state state after) items (drop (i + 1) items) xs) (sym (told_on answers answers' x pushed_is))
     (going_more settings start (server_link_state state now) (server_link_state state after) items call (drop (i + 1) items) (map report_of answers) (report_of x) going' came)
 
-pub still_open : {M : Type 0} (state : M → MakerState) (settings : CallSettings) (call : Call) (now after : ServerLinkState M) (told : CallReport) (stops : Bool) → stops ≡ false → CallEffect state settings call now after told stops → IsOpen state after
+pub still_open : {M : Type 0} (state : M → MakerState) (settings : CallSettings) (call : Call) (now after : ServerLinkState M) (told : JoinedReport) (stops : Bool) → stops ≡ false → CallEffect state settings call now after told stops → IsOpen state after
 still_open state settings call now after told stops not called = (went_so not called).opened
 
 agreed : {M : Type 0} (state : M → MakerState) (t : ℤ) (link : ServerLinkState M) → IsOpen state link → LinkFacts state link → t ≡ link.server.time → Agrees t (state link.server.maker).given (server_link_state state link)
@@ -178,7 +178,7 @@ standing_is state t link opened known same =
     let run = ap (λ l. run_of t l (messages_in link.sent).whole) (sym none) ∙ serves.run [] in
     same_between _ _ _ _ _ _ _ _ (ap (λ (r : Run). r.objects) (sym run)) (ap (λ (r : Run). r.given) (sym run)) (ap (λ (r : Run). r.asked) (sym run)) refl
 
-ended_open : {M : Type 0} (state : M → MakerState) (settings : CallSettings) (start : LinkState) (now : ServerLinkState M) (all : List Call) (xs : List CallReport) → IsOpen state now → LinkFacts state now → settings.time ≡ now.server.time →
+ended_open : {M : Type 0} (state : M → MakerState) (settings : CallSettings) (start : LinkState) (now : ServerLinkState M) (all : List Call) (xs : List JoinedReport) → IsOpen state now → LinkFacts state now → settings.time ≡ now.server.time →
     Ended settings start all xs (state now.server.maker).given (between settings.time (state now.server.maker).given (server_link_state state now)) false → CallsEnd state settings start now all xs
 ended_open state settings start now all xs opened known time ended = record {
   meet = ended.meet;
@@ -188,7 +188,7 @@ ended_open state settings start now all xs opened known time ended = record {
   held = ended.held;
 }
 
-ended_cut : {M : Type 0} (state : M → MakerState) (settings : CallSettings) (start : LinkState) (now : ServerLinkState M) (all : List Call) (xs : List CallReport) → 0 < now.faults →
+ended_cut : {M : Type 0} (state : M → MakerState) (settings : CallSettings) (start : LinkState) (now : ServerLinkState M) (all : List Call) (xs : List JoinedReport) → 0 < now.faults →
     Ended settings start all xs (state now.server.maker).given (standing state now) true → CallsEnd state settings start now all xs
 ended_cut state settings start now all xs faults ended = record {
   meet = ended.meet;
@@ -198,7 +198,7 @@ ended_cut state settings start now all xs faults ended = record {
   held = ended.held;
 }
 
-stopped : {M : Type 0} (state : M → MakerState) (settings : CallSettings) (start : LinkState) (now after : ServerLinkState M) (all : List Call) (call : Call) (later : List Call) (xs : List CallReport) (told : CallReport) →
+stopped : {M : Type 0} (state : M → MakerState) (settings : CallSettings) (start : LinkState) (now after : ServerLinkState M) (all : List Call) (call : Call) (later : List Call) (xs : List JoinedReport) (told : JoinedReport) →
     LinkFacts state after → settings.time ≡ after.server.time → Going settings start (server_link_state state now) all (call ∷ later) xs → CallEffect state settings call now after told true →
     CallsEnd state settings start after all (xs ++ told ∷ [])
 stopped state settings start now after all call later xs told known time going (as_expected opened came) =
@@ -242,7 +242,7 @@ unfolding messages_in
 open_new state link n = record { fed = n.fed; sound = n.sound; whole = rw n.sent refl; tells = n.tells }
 
 -- the last answer told is that of the last call
-ends_one : (xs : List CallReport) (x : CallReport) → last_is_lost (xs ++ x ∷ []) ≡ loses_connection x.answer
+ends_one : (xs : List JoinedReport) (x : JoinedReport) → last_is_lost (xs ++ x ∷ []) ≡ loses_connection x.answer
 ends_one [] x = refl
 ends_one (y ∷ []) x = refl
 ends_one (y ∷ z ∷ xs) x = ends_one (z ∷ xs) x

@@ -11,7 +11,7 @@ use Rattle.kmip_client.specs.declared.error.Error.TheVariants.{OutOfMemory}
 use Rattle.kmip_store.specs.declared.call.Call.{Call}
 use Rattle.kmip_store.specs.Makers.{MakerState}
 use Rattle.kmip_server_core.specs.Requests.{request_of}
-use Rattle.kmip_server.specs.Joined.{CallSettings, CallReport, IsReadBack, helper_answer}
+use Rattle.kmip_server.specs.Joined.{CallSettings, JoinedReport, IsReadBack, helper_answer}
 use Rattle.kmip_server.specs.Link.{ServerLinkState, server_link_state, LinkFacts, IsOpen}
 use Rattle.kmip_server.specs.OneCall.{CallEffect, IsLinkAfterCall, IsRequestOf, fails_writing}
 use Rattle.kmip_server.specs.Calls.{HelperRan, called, not_made, answered_seen, report_of, call_settings}

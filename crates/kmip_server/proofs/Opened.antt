@@ -20,7 +20,7 @@ use Rattle.kmip_store.specs.Makers.{MakerState}
 use Rattle.kmip_server_core.specs.Requests.{request_of}
 use Rattle.kmip_server.specs.Machine.{Run, fresh, run_of}
 use Rattle.kmip_server.specs.Serving.{AreResponsesHeld}
-use Rattle.kmip_server.specs.Joined.{CallSettings, CallReport, IsReadBack, helper_answer, turn_with, turn_report}
+use Rattle.kmip_server.specs.Joined.{CallSettings, JoinedReport, IsReadBack, helper_answer, turn_with, joined_report}
 use Rattle.kmip_server_core.specs.State.{ServerState}
 use Rattle.kmip_server.specs.Link.{ServerLinkState, time_number, bit_of, server_link_state, IsServed, HasServed, LinkFacts, IsOpen}
 use Rattle.kmip_server.specs.OneCall.{Agrees, CallAlwaysMatches, CallEffect}
@@ -76,11 +76,11 @@ response_is buffered taken (Err OutOfMemory) b p room = absurd (let e : true ≡
 -- ---- a call
 
 -- a call as the code tells it: what the link's `sent` grew by, and the client's texts
-abbrev pub code_told : LinkState → LinkState → Answer → Option (List ℕ) → Option (List ℕ) → CallReport
+abbrev pub code_told : LinkState → LinkState → Answer → Option (List ℕ) → Option (List ℕ) → JoinedReport
 code_told before after answer request_text response_text = record { sent = drop (length before.sent) after.sent; answer = answer; request_text = request_text; response_text = response_text }
 
 same_told : (s s' : List ℕ) (a a' : Answer) (q q' r r' : Option (List ℕ)) → s ≡ s' → a ≡ a' → q ≡ q' → r ≡ r' →
-    let x : CallReport = record { sent = s; answer = a; request_text = q; response_text = r } in let y : CallReport = record { sent = s'; answer = a'; request_text = q'; response_text = r' } in x ≡ y
+    let x : JoinedReport = record { sent = s; answer = a; request_text = q; response_text = r } in let y : JoinedReport = record { sent = s'; answer = a'; request_text = q'; response_text = r' } in x ≡ y
 same_told s s' a a' q q' r r' e f g h = rw (e, f, g, h) refl
 
 abbrev turn_for : CallSettings → Call → Option (List ℕ) → LinkState → LinkState → Turn
@@ -90,7 +90,7 @@ told_as : (settings : CallSettings) (call : Call) (before after : LinkState) (re
     let turn = turn_for settings call request before after in
     answer ≡ turn.outcome.answer → Moves before after turn.outcome.sent turn.outcome.taken →
     IsRequestText settings.buffered request answer a → IsResponseText settings.buffered (take (after.pos - before.pos) (left_for before after)) answer b → lacks_memory answer ≡ false →
-    code_told before after (helper_answer call answer) a b ≡ turn_report settings call turn
+    code_told before after (helper_answer call answer) a b ≡ joined_report settings call turn
 told_as settings call before after request answer a b is moves p q room =
     let turn : Turn = turn_for settings call request before after in
     let passed : after.pos - before.pos ≡ turn.outcome.taken = omega (arith, moves.pos) in
@@ -110,15 +110,15 @@ came_with : AreMessages → AreRequests → (settings : CallSettings) (call : Ca
     request_bytes (request_of call) settings.credential ≡ request → IsReadBack call settings.credential → IsReady settings.time before → (after.sent ≡ before.sent → IsReady settings.time (record after { sent = before.sent })) →
     let turn = turn_for settings call request before after in
     answer ≡ turn.outcome.answer → Moves before after turn.outcome.sent turn.outcome.taken →
-    code_told before after (helper_answer call answer) a b ≡ turn_report settings call turn →
+    code_told before after (helper_answer call answer) a b ≡ joined_report settings call turn →
     CallAlwaysMatches settings call before after (code_told before after (helper_answer call answer) a b) (loses_connection answer)
 came_with responses requests settings call before after (Some bytes) answer a b valid reads ready ready' is moves told =
-    let P : CallReport → Type 0 = λ x. CallAlwaysMatches settings call before after x (loses_connection answer) in
-    let Q : Bool → Type 0 = λ s. CallAlwaysMatches settings call before after (turn_report settings call (turn_for settings call (Some bytes) before after)) s in
+    let P : JoinedReport → Type 0 = λ x. CallAlwaysMatches settings call before after x (loses_connection answer) in
+    let Q : Bool → Type 0 = λ s. CallAlwaysMatches settings call before after (joined_report settings call (turn_for settings call (Some bytes) before after)) s in
     subst P (sym told) (subst Q (sym (ap loses_connection is)) (valid_call responses settings call before after bytes valid (requests (request_of call) settings.credential bytes valid) reads ready moves))
 came_with responses requests settings call before after None answer a b valid reads ready ready' is moves told =
-    let P : CallReport → Type 0 = λ x. CallAlwaysMatches settings call before after x (loses_connection answer) in
-    let Q : Bool → Type 0 = λ s. CallAlwaysMatches settings call before after (turn_report settings call (turn_for settings call None before after)) s in
+    let P : JoinedReport → Type 0 = λ x. CallAlwaysMatches settings call before after x (loses_connection answer) in
+    let Q : Bool → Type 0 = λ s. CallAlwaysMatches settings call before after (joined_report settings call (turn_for settings call None before after)) s in
     let none : before.sent ++ [] ≡ before.sent = append_none before.sent in
     subst P (sym told) (subst Q (sym (ap loses_connection is)) (invalid_call responses settings call before after valid ready (ready' (moves.sent_is ∙ none)) moves))
   where

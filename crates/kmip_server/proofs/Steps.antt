@@ -10,7 +10,7 @@ use Rattle.kmip_request.specs.declared.payload.RequestPayload.{RequestPayload}
 use Rattle.kmip_link.specs.State.{LinkState, left}
 use Rattle.kmip_client.specs.Outcome.{Answer, Outcome, outcome_of, outcome, left_for, Moves}
 use Rattle.kmip_client.specs.Client.{loses_connection}
-use Rattle.kmip_client.specs.Session.{Turn, told_of}
+use Rattle.kmip_client.specs.Session.{Turn, call_report}
 use Rattle.kmip_store.specs.declared.call.Call.{Call}
 use Rattle.kmip_store.specs.declared.object.Object.{Object}
 use Rattle.kmip_store.specs.declared.maker.Asked.{Asked}
@@ -20,7 +20,7 @@ use Rattle.kmip_server_core.specs.Served.{Served, served, asks}
 use Rattle.kmip_server_core.specs.Requests.{request_of}
 use Rattle.kmip_server.specs.Machine.{Run, first_for, rest_for, serve, fresh, run_of}
 use Rattle.kmip_server.specs.Serving.{IsHeldTo, AreResponsesHeld}
-use Rattle.kmip_server.specs.Joined.{CallSettings, Between, CallReport, Expected, Reported, Next, IsReadBack, IsHeldNext, turn_report, turn_with, next_with, answered_with, sent_with, next, expected_calls}
+use Rattle.kmip_server.specs.Joined.{CallSettings, Between, JoinedReport, Expected, Reported, Next, IsReadBack, IsHeldNext, joined_report, turn_with, next_with, answered_with, sent_with, next, expected_calls}
 use Rattle.kmip_server.specs.OneCall.{between, Agrees, CallMatches, CallAlwaysMatches}
 use Rattle.kmip_server.proofs.Splits.{split_message}
 use Rattle.kmip_server.proofs.Frames.{AreMessages, Framed, same_frames, response_to, run_framed, run_on, serve_objects, serve_given, serve_asked, Back, back_from}
@@ -93,7 +93,7 @@ held_next settings call b t given link time valid reads one = record {
 pub valid_call : AreMessages → (settings : CallSettings) (call : Call) (before after : LinkState) (b : List ℕ) → request_bytes (request_of call) settings.credential ≡ Some b → IsMessage b → IsReadBack call settings.credential →
     IsReady settings.time before → Moves before after b (outcome_of (Some b) (operation_of (request_of call)) settings.limit (left_for before after)).taken →
     let turn = turn_with settings call (Some b) (left_for before after) in
-    CallAlwaysMatches settings call before after (turn_report settings call turn) (loses_connection turn.outcome.answer)
+    CallAlwaysMatches settings call before after (joined_report settings call turn) (loses_connection turn.outcome.answer)
 valid_call law settings call before after b valid message reads ready moves =
     let t : ℤ = settings.time in
     let w : List (List ℕ) = (messages_in before.sent).whole in
@@ -127,7 +127,7 @@ valid_call law settings call before after b valid message reads ready moves =
 pub invalid_call : AreMessages → (settings : CallSettings) (call : Call) (before after : LinkState) → request_bytes (request_of call) settings.credential ≡ None →
     IsReady settings.time before → IsReady settings.time (record after { sent = before.sent }) → Moves before after [] 0 →
     let turn = turn_with settings call None (left_for before after) in
-    CallAlwaysMatches settings call before after (turn_report settings call turn) (loses_connection turn.outcome.answer)
+    CallAlwaysMatches settings call before after (joined_report settings call turn) (loses_connection turn.outcome.answer)
 invalid_call law settings call before after none ready now_ready moves =
     let t : ℤ = settings.time in
     let w : List (List ℕ) = (messages_in before.sent).whole in

@@ -12,7 +12,7 @@ use Rattle.kmip_client.specs.declared.error.Error.TheVariants.{OutOfMemory}
 use Rattle.kmip_store.specs.declared.call.Call.{Call}
 use Rattle.kmip_server_core.specs.Requests.{request_of}
 use Rattle.kmip_store.specs.Makers.{MakerState}
-use Rattle.kmip_server.specs.Joined.{CallSettings, Between, Expected, no_val, helper_answer, CallReport, expected_calls, finish}
+use Rattle.kmip_server.specs.Joined.{CallSettings, Between, Expected, no_val, helper_answer, JoinedReport, expected_calls, finish}
 use Rattle.kmip_server.specs.OneCall.{between}
 use Rattle.kmip_server.specs.Link.{ServerLinkState, server_link_state}
 use Rattle.kmip_server.specs.declared.answers.Answered.{Answered}
@@ -34,7 +34,7 @@ answered_val (answered.Got payload) = response_payload_val (payloads.Get payload
 abbrev pub answered_seen : Result Answered Error → Answer
 answered_seen = seen_by answered_val
 
-abbrev pub report_of : CallAnswer → CallReport
+abbrev pub report_of : CallAnswer → JoinedReport
 report_of x = record {
   sent = x.sent;
   answer = answered_seen x.answer;

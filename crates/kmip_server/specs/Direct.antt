@@ -16,7 +16,7 @@ use Rattle.kmip_server_core.specs.Requests.{request_of, call_operation}
 use Rattle.kmip_server_core.specs.Items.{payload_for}
 use Rattle.kmip_server_core.specs.Served.{served_call}
 use Rattle.kmip_server.specs.Machine.{first_for, rest_for}
-use Rattle.kmip_server.specs.Joined.{CallSettings, part_for, CallReport}
+use Rattle.kmip_server.specs.Joined.{CallSettings, part_for, JoinedReport}
 
 -- what a helper returns where a call was done; no call has the payload of another
 abbrev pub done_answer : Call → Option ResponsePayload → Answer
@@ -71,5 +71,5 @@ AllFit settings objects given (call ∷ calls) =
     OneFits settings objects call (first_for q given)
     × AllFit settings (step objects call (first_for q given)).objects (rest_for q given) calls
 
-abbrev pub answers_of : List CallReport → List Answer
-answers_of xs = map (λ (x : CallReport). x.answer) xs
+abbrev pub answers_of : List JoinedReport → List Answer
+answers_of xs = map (λ (x : JoinedReport). x.answer) xs

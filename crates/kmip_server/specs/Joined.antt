@@ -7,7 +7,7 @@ use Rattle.kmip_response_write.specs.Settled.{response_bytes, IsHeld as IsHeldRe
 use Rattle.kmip_types.specs.declared.auth.CredentialType.{CredentialType}
 use Rattle.kmip_client.specs.Outcome.{Answer, outcome_of}
 use Rattle.kmip_client.specs.Client.{loses_connection}
-use Rattle.kmip_client.specs.Session.{Turn, told_of, Told}
+use Rattle.kmip_client.specs.Session.{Turn, call_report}
 use Rattle.kmip_client.specs.Diagnostics.{diagnostic_of}
 use Rattle.kmip_client.specs.declared.error.Error.{Error}
 use Rattle.kmip_client.specs.declared.error.Error.TheVariants.{RequestWriteError}
@@ -59,15 +59,15 @@ helper_answer call (Ok val) = Ok (part_for call val)
 helper_answer call (Err error) = Err error
 
 -- the report of a call: what it sent, its answer, and its diagnostics
-pub record CallReport : Type 0 where
+pub record JoinedReport : Type 0 where
   pub sent : List ℕ
   pub answer : Answer
   pub request_text : Option (List ℕ)
   pub response_text : Option (List ℕ)
 
-abbrev pub turn_report : CallSettings → Call → Turn → CallReport
-turn_report settings call turn =
-    let texts = told_of settings.buffered turn.request turn.outcome.answer
+abbrev pub joined_report : CallSettings → Call → Turn → JoinedReport
+joined_report settings call turn =
+    let texts = call_report settings.buffered turn.request turn.outcome.answer
     (take turn.outcome.taken turn.rest) in
     record {
       sent = turn.outcome.sent;
@@ -79,7 +79,7 @@ turn_report settings call turn =
 -- what is to come of a call
 pub data Expected : Type 0 where
   -- it is reported so
-  Reported : CallReport → Expected
+  Reported : JoinedReport → Expected
   -- the response has no wire form, so the request, of these bytes, is not sent whole
   Unsent : List ℕ → Expected
 
@@ -100,7 +100,7 @@ turn_with settings call request rest =
 
 abbrev pub next_with : CallSettings → Call → Turn → Between → Next
 next_with settings call turn after = record {
-  expected = Reported (turn_report settings call turn);
+  expected = Reported (joined_report settings call turn);
   stops = loses_connection turn.outcome.answer;
   after = record after { rest = drop turn.outcome.taken turn.rest };
 }
@@ -188,7 +188,7 @@ AreHeldNext settings now (call ∷ calls) =
 
 -- a call that the link cut short: a proper part of the request was sent
 pub record IsUnsent (settings : CallSettings) (request : List ℕ)
-    (report : CallReport) : Type 0 where
+    (report : JoinedReport) : Type 0 where
   pub n : ℕ
   pub part : n < length request
   pub sent : report.sent ≡ take n request
@@ -196,18 +196,18 @@ pub record IsUnsent (settings : CallSettings) (request : List ℕ)
   pub request_text : report.request_text ≡ diagnostic_of settings.buffered (Some request)
   pub response_text : report.response_text ≡ None
 
-abbrev pub ReportMatches : CallSettings → Expected → CallReport → Type 0
+abbrev pub ReportMatches : CallSettings → Expected → JoinedReport → Type 0
 ReportMatches settings (Reported report) report' = report' ≡ report
 ReportMatches settings (Unsent request) report' = IsUnsent settings request report'
 
 -- The calls were reported as expected, one for one.
-abbrev pub ReportsMatch : CallSettings → List Expected → List CallReport → Type 0
+abbrev pub ReportsMatch : CallSettings → List Expected → List JoinedReport → Type 0
 ReportsMatch settings [] [] = Unit {0}
 ReportsMatch settings (e ∷ es) (x ∷ xs) = ReportMatches settings e x × ReportsMatch settings es xs
 ReportsMatch settings es xs = ⊥
 
 -- whether the last answer is a connection error
-abbrev pub last_is_lost : List CallReport → Bool
+abbrev pub last_is_lost : List JoinedReport → Bool
 last_is_lost [] = false
 last_is_lost (x ∷ []) = loses_connection x.answer
 last_is_lost (x ∷ y ∷ xs) = last_is_lost (y ∷ xs)

@@ -11,7 +11,7 @@ use Rattle.kmip_server_core.specs.Requests.{request_of}
 use Rattle.kmip_server.specs.Split.{messages_in}
 use Rattle.kmip_server.specs.Machine.{Run, fresh, run_of}
 use Rattle.kmip_server.specs.Serving.{AreResponsesHeld}
-use Rattle.kmip_server.specs.Joined.{CallSettings, Between, CallReport, Expected, Reported, Unsent, Next, next, expected_calls, finish, has_unsent, IsUnsent, IsHeldNext, AreHeldNext, ReportsMatch}
+use Rattle.kmip_server.specs.Joined.{CallSettings, Between, JoinedReport, Expected, Reported, Unsent, Next, next, expected_calls, finish, has_unsent, IsUnsent, IsHeldNext, AreHeldNext, ReportsMatch}
 use Rattle.kmip_server.specs.Link.{ServerLinkState, server_link_state, IsOpen}
 use Rattle.kmip_server.specs.declared.called.LinkAfter.{LinkAfter}
 
@@ -43,7 +43,7 @@ pub record Agrees (t : ℤ) (given : List Made) (link : LinkState) : Type 0 wher
 -- With these answers of the maker, the call was reported as expected, and client and server are as
 -- expected after it.
 pub record CallMatches (settings : CallSettings) (call : Call) (before after : LinkState)
-    (report : CallReport) (stops : Bool) (given : List Made) : Type 0 where
+    (report : JoinedReport) (stops : Bool) (given : List Made) : Type 0 where
   pub agrees : Agrees settings.time given before
   pub next_is : next settings (between settings.time given before)
       call ≡ record {
@@ -55,7 +55,7 @@ pub record CallMatches (settings : CallSettings) (call : Call) (before after : L
 
 -- so it is for any answers of the maker that agree with the link after the call
 pub record CallAlwaysMatches (settings : CallSettings) (call : Call) (before after : LinkState)
-    (report : CallReport) (stops : Bool) : Type 0 where
+    (report : JoinedReport) (stops : Bool) : Type 0 where
   pub whole : (messages_in after.sent).begun ≡ []
   pub came : (given : List Made) → Agrees settings.time given after →
       CallMatches settings call before after report stops given
@@ -63,7 +63,7 @@ pub record CallAlwaysMatches (settings : CallSettings) (call : Call) (before aft
 -- The call's request was not sent whole, since the response to it has no wire form, with the
 -- maker's answers as they are.
 pub record CutCall {M : Type 0} (state : M → MakerState) (settings : CallSettings) (call : Call)
-    (before : LinkState) (after : ServerLinkState M) (report : CallReport) : Type 0 where
+    (before : LinkState) (after : ServerLinkState M) (report : JoinedReport) : Type 0 where
   pub faults : 0 < after.faults
   pub agrees : Agrees settings.time (state after.server.maker).given before
   pub request : List ℕ
@@ -75,7 +75,7 @@ pub record CutCall {M : Type 0} (state : M → MakerState) (settings : CallSetti
 
 -- what a call did to its link, and how it was reported
 pub data CallEffect {M : Type 0} (state : M → MakerState) (settings : CallSettings) (call : Call)
-    (before after : ServerLinkState M) (report : CallReport) (stops : Bool) : Type 0 where
+    (before after : ServerLinkState M) (report : JoinedReport) (stops : Bool) : Type 0 where
   -- the link is open, and the call was reported as expected
   as_expected : IsOpen state after →
       CallAlwaysMatches settings call (server_link_state state before)
@@ -113,7 +113,7 @@ IsLinkAfterCall call answer link =
 -- and server are as expected afterwards.
 pub record CallsEnd {M : Type 0} (state : M → MakerState) (settings : CallSettings)
     (before : LinkState) (after : ServerLinkState M) (calls : List Call)
-    (xs : List CallReport) : Type 0 where
+    (xs : List JoinedReport) : Type 0 where
   pub meet : ReportsMatch settings
       (expected_calls settings (between settings.time (state after.server.maker).given before)
       calls) xs

@@ -1,7 +1,7 @@
 -- What `call_all` promises of the calls of a client over a server.
 use Rattle.std.specs.Prelude.{◌≡◌, ◌<◌, List, [], ◌∷◌, ◌++◌, Bool, true, false, Result, map}
 use Rattle.kmip_client.specs.Client.{ClientState, loses_connection, count_after}
-use Rattle.kmip_client.specs.Session.{Told, GoesOn, held_texts, last_texts, AreRequestTexts}
+use Rattle.kmip_client.specs.Session.{CallReport, GoesOn, held_texts, last_texts, AreRequestTexts}
 use Rattle.kmip_client.specs.declared.error.Error.{Error}
 use Rattle.kmip_store.specs.Makers.{MakerState}
 use Rattle.kmip_store.specs.Runs.{objects_after}
@@ -62,7 +62,7 @@ pub data CallsCut {M : Type 0} (state : M → MakerState) :
       CallsCut state (call ∷ calls) before after
 
 -- a report as that of an exchange
-abbrev pub exchange_of : CallAnswer → Told
+abbrev pub exchange_of : CallAnswer → CallReport
 exchange_of report = record {
   answer = answered_seen report.answer;
   request_text = report.req_diag;
