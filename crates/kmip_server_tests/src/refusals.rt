@@ -6,6 +6,7 @@ use crate::responses::{Row, check_response, check_responses, server, written};
 use kmip_enums::{Operation, ResultReason, RevocationReasonCode};
 use kmip_request::{RequestPayload, RevocationReason};
 use kmip_store::{Made, MemoryMaker, PlainMaker};
+use kmip_test_messages::message;
 use kmip_types::UniqueIdentifier;
 use kmip_wire::{Blob, List};
 use std::alloc::Global;
@@ -31,30 +32,15 @@ fn check_refusal(
     )
 }
 
-/// A request to locate objects of type PrivateKey, which no helper makes: the head of the message, its
-/// header, and its batch item.
-const LOCATE: &[&str] = &[
-    "4200780100000090",
-    "4200770100000038420069010000002042006a02000000040000000100000000",
-    "42006b0200000004000000000000000042000d02000000040000000100000000",
-    "42000f010000004842005c050000000400000008000000004200790100000030",
-    "420008010000002842000a070000000b4f626a65637420547970650000000000",
-    "42000b05000000040000000400000000",
-];
-
-/// The bytes of pieces of hex text, one after the other.
-fn bytes_of(alloc: Global, pieces: &[&str]) -> Result<Blob, Fail> {
-    let mut bytes = Blob::new(alloc);
-    for piece in pieces {
-        bytes.push_slice(hex::decode(alloc, piece)?.as_slice())?;
-    }
-    Ok(bytes)
+/// The bytes of a request to locate objects of type PrivateKey, which no helper makes.
+fn locate(alloc: Global) -> Result<Vec<u8>, Fail> {
+    Ok(message(alloc, "REQ0(8, 08{0A \"Object Type\",0B e4})")?)
 }
 
 #[test]
 fn an_operation_that_no_helper_has_is_refused(rt: HostRuntime) -> Result<(), Fail> {
     let alloc = rt.alloc();
-    let locate = bytes_of(alloc, LOCATE)?;
+    let locate = locate(alloc)?;
     let refusal = (
         Some(Operation::Locate),
         ResultReason::OperationNotSupported,
