@@ -32,17 +32,17 @@ moved (read_failed is rose n h moves) = (_, moves.sent_is)
 moved (sending_cut is n h moves) = (_, moves.sent_is)
 moved (reading_cut is n h moves) = (_, moves.sent_is)
 
-sent_more : {M : Type 0} {state : M → MakerState} {call : Call} {before after : ClientState (ServerLinkState M)} {result : Result Answered Error} → HelperRan (server_link_state state) call before after result →
+sent_more : {M : Type 0} (state : M → MakerState) {call : Call} {before after : ClientState (ServerLinkState M)} {result : Result Answered Error} → HelperRan (server_link_state state) call before after result →
     (more : List ℕ) × (after.link.sent ≡ before.link.sent ++ more)
-sent_more (called answer is_call is) = moved (is_call.exchange refl)
-sent_more {before = before} (not_made is stays) = ([], ap (λ (c : ClientState (ServerLinkState _)). c.link.sent) stays ∙ sym (append-nil before.link.sent))
+sent_more state (called answer is_call is) = moved (is_call.exchange refl)
+sent_more state {before = before} (not_made is stays) = ([], ap (λ (c : ClientState (ServerLinkState _)). c.link.sent) stays ∙ sym (append-nil before.link.sent))
 
 -- a call as the code reports it
 pub ran_as : {M : Type 0} (state : M → MakerState) (call : Call) (before after : ClientState (ServerLinkState M)) (result : Result Answered Error) → HelperRan (server_link_state state) call before after result →
     IsLinkAfterCall call (answered_seen result) after.link →
     CallRan state call before after (record { sent = drop (length before.link.sent) after.link.sent; answer = result; req_diag = after.request_text; res_diag = after.response_text })
 ran_as state call before after result ran link =
-    let more = sent_more ran in
+    let more = sent_more state ran in
     record {
       ran = ran;
       sent = more.1 ∙ ap (λ l. before.link.sent ++ l) (sym (ap (λ l. drop (length before.link.sent) l) more.1 ∙ drop-append_seam before.link.sent more.0));
@@ -106,9 +106,9 @@ pub ran_texts : {M : Type 0} {state : M → MakerState} {calls : List Call} {bef
     held_texts after ≡ last_texts (held_texts before) (map exchange_of reports)
 ran_texts (CallsRan.at_end client) = refl
 ran_texts (CallsRan.at_loss call calls before after report ran lost) = rw (ran.request_text, ran.response_text) refl
-ran_texts (CallsRan.later call calls before between after report reports ran on later) =
+ran_texts (CallsRan.later call calls before between after report reports ran on more) =
     let held : held_texts between ≡ (report.req_diag, report.res_diag) = rw (ran.request_text, ran.response_text) refl in
-    ran_texts later ∙ ap (λ (texts : Texts). last_texts texts (map exchange_of reports)) held
+    ran_texts more ∙ ap (λ (texts : Texts). last_texts texts (map exchange_of reports)) held
 
 -- a call that lost its connection had memory
 lost_room : (answer : Answer) → loses_connection answer ≡ true → lacks_memory answer ≡ false
@@ -130,22 +130,22 @@ record Kept {M : Type 0} (call : Call) (before after : ClientState (ServerLinkSt
   pub credential : after.credential ≡ before.credential
   pub text : after.request_text ≡ diagnostic_of before.buffered (request_bytes (request_of call) before.credential)
 
-kept_by : {M : Type 0} {state : M → MakerState} {call : Call} {before after : ClientState (ServerLinkState M)} {result : Result Answered Error} → HelperRan (server_link_state state) call before after result → lacks_memory (answered_seen result) ≡ false → Kept call before after
-kept_by {call = call} {before = before} {after = after} (called answer is_call is) room = record {
+kept_by : {M : Type 0} (state : M → MakerState) {call : Call} {before after : ClientState (ServerLinkState M)} {result : Result Answered Error} → HelperRan (server_link_state state) call before after result → lacks_memory (answered_seen result) ≡ false → Kept call before after
+kept_by state {call = call} {before = before} {after = after} (called answer is_call is) room = record {
   buffered = is_call.buffered;
   credential = is_call.credential;
   text = request_is before.buffered (request_bytes (request_of call) before.credential) answer after.request_text is_call.request_text (sym (helped_room call answer) ∙ ap lacks_memory (sym is) ∙ room);
 }
-kept_by {result = result} (not_made is stays) room = absurd (let e : lacks_memory (answered_seen result) ≡ true = ap (λ r. lacks_memory (answered_seen r)) is in cc)
+kept_by state {result = result} (not_made is stays) room = absurd (let e : lacks_memory (answered_seen result) ≡ true = ap (λ r. lacks_memory (answered_seen r)) is in cc)
 
-pub ran_requests : {M : Type 0} {state : M → MakerState} {calls : List Call} {before after : ClientState (ServerLinkState M)} {reports : List CallAnswer} (buffered : Bool) (credential : Option CredentialType) → before.buffered ≡ buffered → before.credential ≡ credential →
+pub ran_requests : {M : Type 0} (state : M → MakerState) {calls : List Call} {before after : ClientState (ServerLinkState M)} {reports : List CallAnswer} (buffered : Bool) (credential : Option CredentialType) → before.buffered ≡ buffered → before.credential ≡ credential →
     CallsRan state calls before reports after → AreRequestTexts buffered credential (map request_of calls) (map exchange_of reports)
-ran_requests buffered credential b c (CallsRan.at_end client) = tt
-ran_requests buffered credential b c (CallsRan.at_loss call calls before after report ran lost) =
-    let kept = kept_by ran.ran (lost_room (answered_seen report.answer) lost) in
+ran_requests state buffered credential b c (CallsRan.at_end client) = tt
+ran_requests state buffered credential b c (CallsRan.at_loss call calls before after report ran lost) =
+    let kept = kept_by state ran.ran (lost_room (answered_seen report.answer) lost) in
     (ran.request_text ∙ kept.text ∙ ap (λ x. diagnostic_of x (request_bytes (request_of call) before.credential)) b ∙ ap (λ x. diagnostic_of buffered (request_bytes (request_of call) x)) c, tt)
-ran_requests buffered credential b c (CallsRan.later call calls before between after report reports ran on later) =
-    let kept = kept_by ran.ran on.1 in (
+ran_requests state buffered credential b c (CallsRan.later call calls before between after report reports ran on more) =
+    let kept = kept_by state ran.ran on.1 in (
       ran.request_text ∙ kept.text ∙ ap (λ x. diagnostic_of x (request_bytes (request_of call) before.credential)) b ∙ ap (λ x. diagnostic_of buffered (request_bytes (request_of call) x)) c,
-      ran_requests buffered credential (kept.buffered ∙ b) (kept.credential ∙ c) later,
+      ran_requests state buffered credential (kept.buffered ∙ b) (kept.credential ∙ c) more,
     )

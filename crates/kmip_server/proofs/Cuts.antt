@@ -165,10 +165,10 @@ unsent_of settings call before after answer a b request broke p none taken q tex
 }
 
 request_text_is : (buffered : Bool) (request : Option (List ℕ)) (answer : Answer) (a : Option (List ℕ)) → IsRequestText buffered request answer a → answer ≡ Err (RequestWriteError (codes "link failed")) → a ≡ diagnostic_of buffered request
-request_text_is buffered request answer a p is = let p' : IsRequestText buffered request (Err (RequestWriteError (codes "link failed"))) a = subst (λ x. IsRequestText buffered request x a) is p in p'
+request_text_is buffered request answer a p is = let p' : IsRequestText {A = Val} buffered request (Err (RequestWriteError (codes "link failed"))) a = subst (λ (x : Answer). IsRequestText buffered request x a) is p in p'
 
 response_text_is : (buffered : Bool) (answer : Answer) (b : Option (List ℕ)) → answer ≡ Err (RequestWriteError (codes "link failed")) → (taken : List ℕ) → IsResponseText buffered taken answer b → b ≡ None
-response_text_is buffered answer b is taken q = let q' : IsResponseText buffered taken (Err (RequestWriteError (codes "link failed"))) b = subst (λ x. IsResponseText buffered taken x b) is q in q'
+response_text_is buffered answer b is taken q = let q' : IsResponseText {A = Val} buffered taken (Err (RequestWriteError (codes "link failed"))) b = subst (λ (x : Answer). IsResponseText buffered taken x b) is q in q'
 
 -- what serving came to before the message that was kept
 pub cut_of : AreMessages → AreRequests → {M : Type 0} (state : M → MakerState) (settings : CallSettings) (call : Call) (before : LinkState) (after : ServerLinkState M) (told : JoinedReport) (b : List ℕ) (n : ℕ) →

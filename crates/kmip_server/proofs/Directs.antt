@@ -267,7 +267,7 @@ session_of laws state calls before after reports ran ended count =
     record {
       ran = ran;
       texts = ran_texts ran;
-      requests = ran_requests before.buffered before.credential refl refl ran;
+      requests = ran_requests state before.buffered before.credential refl refl ran;
       count = count;
       joined = λ opened. (ended opened).meet;
       finished = λ opened. (ended opened).ends;

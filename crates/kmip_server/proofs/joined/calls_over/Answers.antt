@@ -48,14 +48,14 @@ returns-in_err-report-clause-cut g c =
     let i = c.loop-call.invariant in
     let rest : drop c.loop-call.call-index c.as_slice-call-items.result.now ≡ c.call-item.result ∷ drop (c.loop-call.call-index + 1) c.as_slice-call-items.result.now =
     rest_is c.as_slice-call-items.result.now c.loop-call.call-index c.call-item.result c.loop-call-test.true c.call-item.is in
-    on_err _ (rw (← c.sent_len.ensures.stays, ← c.as_slice-call-items.ensures) (chain_cut (rw rest at i.chain) c.in_err-report.ensures.cut))
+    rw (← c.sent_len.ensures.stays, ← c.as_slice-call-items.ensures) (on_err _ (chain_cut (rw rest at i.chain) c.in_err-report.ensures.cut))
 
 pub returns-in_err-push-clause-cut : goal.returns-in_err-push-clause-cut
 returns-in_err-push-clause-cut g c =
     let i = c.loop-call.invariant in
     let rest : drop c.loop-call.call-index c.as_slice-call-items.result.now ≡ c.call-item.result ∷ drop (c.loop-call.call-index + 1) c.as_slice-call-items.result.now =
     rest_is c.as_slice-call-items.result.now c.loop-call.call-index c.call-item.result c.loop-call-test.true c.call-item.is in
-    on_err _ (rw (← c.sent_len.ensures.stays, ← c.as_slice-call-items.ensures) (chain_cut (rw rest at i.chain) (lost_after c.in_ok-report.ensures.ran)))
+    rw (← c.sent_len.ensures.stays, ← c.as_slice-call-items.ensures) (on_err _ (chain_cut (rw rest at i.chain) (lost_after c.in_ok-report.ensures.ran)))
 
 pub returns-then-lost-clause-ended : goal.returns-then-lost-clause-ended
 returns-then-lost-clause-ended g c =
