@@ -1,11 +1,11 @@
 -- The message round a payload tree.
-use Rattle.std.proofs.Common.{◌≡◌, ℕ, ◌+◌, ◌<◌, ◌≤◌, ◌%◌, ◌^◌, List, [], ◌∷◌, ◌++◌, length, refl, ◌∙◌, ap, sym, subst, arith, Bool, true, false, cond, nat_lt, pos, Option, Some, None, length-append, append-nil, lit<, inl, inr}
+use Rattle.std.proofs.Common.{◌≡◌, ℕ, ◌+◌, ◌<◌, ◌≤◌, ◌%◌, ◌^◌, List, [], ◌++◌, length, refl, ◌∙◌, ap, sym, subst, arith, pos, Option, Some, None, length-append, append-nil, lit<, inl, inr}
 use Rattle.std.specs.Prelude.{option_map, IfSome}
 use Rattle.std.specs.Option.{option_and_then}
 use Rattle.std.proofs.lemmas.Bool.{cases_lt}
 use Rattle.std.proofs.lemmas.Bool.Decides.{nat_tests}
 use Rattle.kmip_tags.specs.Tags.{BATCH_ITEM, OPERATION, REQUEST_HEADER, REQUEST_MESSAGE}
-use Rattle.kmip_wire.specs.Tree.{Tree, scalar, structure, more, none, enumeration}
+use Rattle.kmip_wire.specs.Tree.{Tree, scalar, more, none, enumeration}
 use Rattle.kmip_wire.specs.Bytes.{bytes, all_bytes, structure_bytes, in_order, item_bytes}
 use Rattle.kmip_wire.specs.Room.{Room, Appends}
 use Rattle.kmip_shape.specs.Val.{Val, Number}
@@ -26,7 +26,7 @@ use Rattle.kmip_request.specs.declared.authentication.CredentialValue.TheVariant
 use Rattle.kmip_request.specs.declared.header.ProtocolVersion.{ProtocolVersion}
 use Rattle.kmip_request.specs.Tables.{request_header}
 use Rattle.kmip_request.specs.Values.{lent_header_val}
-use Rattle.kmip_request.specs.Message.{message_tree, header_tree, authentication_trees, credential_of}
+use Rattle.kmip_request.specs.Message.{header_tree, authentication_trees, credential_of}
 use Rattle.kmip_client.specs.declared.operation.Version.{Version}
 use Rattle.kmip_client.specs.Operation.{minor_number, operation_bytes, message_bytes}
 
@@ -125,7 +125,7 @@ no_bytes None h = refl
 no_bytes (Some b) h = absurd (cc)
 
 pub no_length : (shape : Shape) (tag : ℕ) (val : Val) (len : Option ℕ) → len ≡ wire_len_of shape val → len ≡ None → bytes_of shape tag val ≡ None
-no_length shape tag val len h none = no_bytes (bytes_of shape tag val) (sym none ∙ (h ∙ wire_len_law shape tag val))
+no_length shape tag val len h missing = no_bytes (bytes_of shape tag val) (sym missing ∙ (h ∙ wire_len_law shape tag val))
 
 pub form_of_length : (shape : Shape) (val : Val) (len : Option ℕ) → len ≡ wire_len_of shape val → IfSome len (λ _. HasForm shape val)
 form_of_length shape val None h = tt
@@ -154,7 +154,7 @@ message_ok val n payload message item size a b form even long short small empty 
     ∙ (message_written header payload n message item (bytes_aligned (tree_of request_header REQUEST_HEADER val) header has.0) even (long ∙ ap (λ k. k + (8 + (16 + length payload))) (sym has.1)) short small ∙ ap Some (sym is))
 
 pub no_header : (o : Option (List ℕ)) (n : ℕ) (payload : Option (List ℕ)) → o ≡ None → message_bytes o n payload ≡ None
-no_header o n payload none = ap (λ o. message_bytes o n payload) none
+no_header o n payload missing = ap (λ o. message_bytes o n payload) missing
 
 pub message_no_form : (val : Val) (n : ℕ) (payload : List ℕ) (header : ℕ) → HasForm request_header val → length payload % 8 ≡ 0 → header ≡ size_of request_header val → 2 ^ 32 ≤ header + (8 + (16 + length payload)) →
     message_bytes (bytes_of request_header REQUEST_HEADER val) n (Some payload) ≡ None
@@ -177,20 +177,3 @@ sent_is operation version credential payload made blob sent in_version written s
     ap (λ (v : ProtocolVersion). message_bytes (bytes_of request_header REQUEST_HEADER (lent_header_val v credential)) (operation_line operation).number (Some sent)) in_version
     ∙ (ap (λ o. message_bytes (bytes_of request_header REQUEST_HEADER (lent_header_val (version_number (minor_number version)) credential)) (operation_line operation).number o) (ap Some same ∙ sym written)
     ∙ request_is operation version credential payload)
-
-no_order : (o : Option (List ℕ)) → in_order o None ≡ None
-no_order None = refl
-no_order (Some b) = refl
-
-no_payload : (o : Option (List ℕ)) (n : ℕ) → message_bytes o n None ≡ None
-no_payload o n =
-    ap (λ i. structure_bytes REQUEST_MESSAGE (in_order o (in_order (structure_bytes BATCH_ITEM i) (Some [])))) (no_order (bytes (scalar OPERATION (enumeration n))))
-    ∙ ap (structure_bytes REQUEST_MESSAGE) (no_order o)
-
--- a payload without bytes
-pub no_payload_bytes : (operation : Operation) (version : Version) (credential : Option Authentication) (payload : Tree) → bytes payload ≡ None →
-    operation_bytes (record { operation = operation; version = version; payload = payload }) (option_map credential_of credential) ≡ None
-no_payload_bytes operation version credential payload none =
-    sym (request_is operation version credential payload)
-    ∙ (ap (λ o. message_bytes (bytes_of request_header REQUEST_HEADER (lent_header_val (version_number (minor_number version)) credential)) (operation_line operation).number o) none
-    ∙ no_payload (bytes_of request_header REQUEST_HEADER (lent_header_val (version_number (minor_number version)) credential)) (operation_line operation).number)

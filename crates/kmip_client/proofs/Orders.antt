@@ -14,9 +14,9 @@ use Rattle.kmip_client.specs.Message.{Message, message_at, taken_for, Ended, Ref
 use Rattle.kmip_client.specs.Outcome.{Answer, Outcome, outcome, outcome_of, answer_of, read_answer}
 use Rattle.kmip_client.specs.Client.{loses_connection}
 use Rattle.kmip_client.specs.Diagnostics.{diagnostic_for}
-use Rattle.kmip_client.specs.Session.{Turn, turn_of, then_on, session, call_report, turn_report, response_text_of}
+use Rattle.kmip_client.specs.Session.{Turn, turn_of, then_on, session, turn_report, response_text_of}
 use Rattle.kmip_client.specs.Order.{AreServed, answers_to}
-use Rattle.kmip_client.specs.Skeletons.{taken_by, Parse, AllParse, skeletons_of, texts_of}
+use Rattle.kmip_client.specs.Skeletons.{taken_by, AllParse, skeletons_of, texts_of}
 use Rattle.kmip_client.proofs.Said.{OfMessages, message_says}
 
 -- ---- messages in order

@@ -1,12 +1,12 @@
 -- Several calls, one after the other.
-use Rattle.std.proofs.Common.{◌≡◌, ℕ, ◌+◌, ◌-◌, ◌<◌, ◌≤◌, List, [], ◌∷◌, ◌++◌, length, take, drop, map, refl, ◌∙◌, ap, sym, arith, append_assoc, IsTrue, subst, Bool, true, false, Option, Some, None, Result, Ok, Err, OnErr, codes, cond}
+use Rattle.std.proofs.Common.{◌≡◌, ℕ, ◌+◌, ◌-◌, List, [], ◌∷◌, ◌++◌, length, take, drop, map, refl, ◌∙◌, ap, sym, arith, append_assoc, IsTrue, subst, Bool, true, false, Option, Result, Ok, Err, OnErr, codes, cond}
 use Rattle.std.proofs.lemmas.Grind.{common_steps}
 use Rattle.std.proofs.lemmas.List.{drop-drop, length-append, map-append}
 use Rattle.kmip_shape.specs.Val.{Val}
 use Rattle.kmip_types.specs.declared.auth.CredentialType.{CredentialType}
-use Rattle.kmip_request.specs.Message.{request_bytes, operation_of}
+use Rattle.kmip_request.specs.Message.{request_bytes}
 use Rattle.kmip_request.specs.declared.payload.RequestPayload.{RequestPayload}
-use Rattle.kmip_link.specs.State.{LinkState, left, Keeps, FaultCountRose}
+use Rattle.kmip_link.specs.State.{LinkState, left, Keeps}
 use Rattle.kmip_client.specs.declared.error.Error.{Error}
 use Rattle.kmip_client.specs.declared.error.Error.TheVariants.{ConfigurationError, SerializeError, RequestWriteError, ResponseReadError, DeserializeError, ServerError, InternalError, ItemNotFound, Unknown, OutOfMemory}
 use Rattle.kmip_client.specs.declared.session.Exchange.{Exchange}
@@ -15,7 +15,7 @@ use Rattle.kmip_client.specs.Outcome.{Answer, seen_by, OutcomeOf, outcome, left_
 use Rattle.kmip_client.specs.Client.{ClientState, loses_connection, lacks_memory}
 use Rattle.kmip_client.specs.Calls.{IsCall}
 use Rattle.kmip_client.specs.Diagnostics.{diagnostic_of, IsRequestText, IsResponseText}
-use Rattle.kmip_client.specs.Session.{Turn, turn_of, then_on, session, CallReport, exchange_report, call_report, turn_report, all_sent, all_taken, BrokenOff, writing, reading, Ran, whole, broken, GoesOn, GoOn, Stops, at_end, at_loss, later, client_report, Calls, CutOff, held_texts, last_texts, AreRequestTexts, ends_lost}
+use Rattle.kmip_client.specs.Session.{Turn, turn_of, then_on, session, CallReport, exchange_report, call_report, turn_report, all_sent, all_taken, writing, reading, Ran, whole, broken, GoesOn, GoOn, Stops, at_end, later, client_report, Calls, CutOff, held_texts, last_texts, AreRequestTexts, ends_lost}
 use Rattle.kmip_client.proofs.Helped.{seen_same}
 
 append_none : {A : Type 0} (xs : List A) → xs ≡ xs ++ []

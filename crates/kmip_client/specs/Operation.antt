@@ -1,7 +1,7 @@
 -- A request of any operation, whose payload is a tree, and a call of it.
 use Rattle.std.specs.Prelude.{◌≡◌, ℕ, List, [], Option, Some, Result}
 use Rattle.kmip_tags.specs.Tags.{BATCH_ITEM, OPERATION, REQUEST_MESSAGE}
-use Rattle.kmip_wire.specs.Tree.{Tree, scalar, structure, enumeration}
+use Rattle.kmip_wire.specs.Tree.{Tree, scalar, enumeration}
 use Rattle.kmip_wire.specs.Bytes.{bytes, structure_bytes, in_order}
 use Rattle.kmip_wire.specs.Parses.{Parses}
 use Rattle.kmip_link.specs.State.{LinkState}

@@ -1,13 +1,12 @@
 -- Several requests over one client.
 use Rattle.std.specs.Prelude.{◌≡◌, ℕ, ◌+◌, ◌<◌, ◌≤◌, List, [], ◌∷◌, ◌++◌, length, take, drop, map}
-use Rattle.std.specs.Prelude.{Bool, true, false, Option, None, if◌then◌else◌, Ok, Err, IsTrue}
+use Rattle.std.specs.Prelude.{Bool, true, false, Option, None, if◌then◌else◌, Err, IsTrue}
 use Rattle.std.specs.Prelude.{codes}
 use Rattle.kmip_shape.specs.Val.{Val}
 use Rattle.kmip_types.specs.declared.auth.CredentialType.{CredentialType}
 use Rattle.kmip_request.specs.Message.{request_bytes}
 use Rattle.kmip_request.specs.declared.payload.RequestPayload.{RequestPayload}
 use Rattle.kmip_link.specs.State.{LinkState, FaultCountRose, Keeps, left}
-use Rattle.kmip_client.specs.declared.error.Error.{Error}
 use Rattle.kmip_client.specs.declared.error.Error.TheVariants.{SerializeError}
 use Rattle.kmip_client.specs.declared.error.Error.TheVariants.{RequestWriteError, ResponseReadError}
 use Rattle.kmip_client.specs.declared.session.Exchange.{Exchange}
@@ -144,15 +143,16 @@ client_report answer client = record {
   response_text = client.response_text;
 }
 
--- Over any link: each exchange is the report of a call of `do_request`, for the requests in order, each
--- call made on the client that the one before left.
+-- Over any link: each exchange is the report of a call of `do_request`, for the requests in order,
+-- each call made on the client that the one before left.
 abbrev pub Calls : {T : Type 0} → (T → LinkState) → List RequestPayload → ClientState T →
     List CallReport → ClientState T → Type 0
 Calls state payloads before [] after = after ≡ before
 Calls state [] before (exchange ∷ exchanges) after = ⊥
 Calls {T} state (payload ∷ payloads) before (exchange ∷ exchanges) after =
     (between : ClientState T) × IsCall state payload before between exchange.answer ×
-    (exchange ≡ client_report exchange.answer between) × Calls state payloads between exchanges after
+    (exchange ≡ client_report exchange.answer between) ×
+    Calls state payloads between exchanges after
 
 -- each but the last answer let the session go on
 abbrev pub GoOn : List CallReport → Type 0
@@ -200,7 +200,8 @@ ends_lost (exchange ∷ next ∷ exchanges) = ends_lost (next ∷ exchanges)
 -- left it as `after` and returned these exchanges. `state` is what the link means.
 pub record IsSession {T : Type 0} (state : T → LinkState) (payloads : List RequestPayload)
     (before after : ClientState T) (exchanges : List CallReport) : Type 0 where
-  -- what was sent, taken and reported, over a link whose bytes are known and that got none meanwhile
+  -- what was sent, taken and reported, over a link whose bytes are known and that got none
+  -- meanwhile
   pub ran : IsTrue (state before.link).tells → (state after.link).ever ≡ (state before.link).ever →
       Ran state before.buffered
       (session payloads before.credential before.limit (left (state before.link)))

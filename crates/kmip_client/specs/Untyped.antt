@@ -97,7 +97,8 @@ names operation (Some number) = number == (operation_line operation).number
 
 abbrev pub success_of : Operation → Tree → Result Tree Error
 success_of operation item =
-    if names operation (number_under OPERATION item) then payload_of (all_under RESPONSE_PAYLOAD item)
+    if names operation (number_under OPERATION item)
+    then payload_of (all_under RESPONSE_PAYLOAD item)
     else Err (InternalError (other_text operation))
 
 -- what a batch item of this status answers
@@ -106,7 +107,8 @@ status_answer operation item None = Err not_response
 status_answer operation item (Some status) =
     if status == (result_status_line Success).number then success_of operation item
     else if status == (result_status_line OperationFailed).number
-    then Err (failure_of operation (text_under RESULT_MESSAGE item) (number_under RESULT_REASON item))
+    then Err (failure_of operation (text_under RESULT_MESSAGE item)
+    (number_under RESULT_REASON item))
     else Err (InternalError (status_text status))
 
 -- what the batch items answer, where it is said whether the header counts one

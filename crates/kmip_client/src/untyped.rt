@@ -154,8 +154,8 @@ fn not_single(alloc: Global, count: usize) -> Result<Tree, Error>
     Err(Error::InternalError(Text::of_string(text)))
 }
 
-/// The error of a failure: with the server's message, and with the number of a reason that is not in
-/// the table.
+/// The error of a failure: with the server's message, and with the number of a reason that is not
+/// in the table.
 fn failure(
     alloc: Global,
     operation: Operation,

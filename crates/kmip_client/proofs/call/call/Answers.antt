@@ -2,7 +2,7 @@ use Rattle.std.specs.Prelude.{option_map}
 use Rattle.std.proofs.lemmas.Result.{err_from_is_err_and}
 use Rattle.kmip_request.specs.Message.{credential_of}
 use Rattle.kmip_client.specs.Outcome.{seen_by}
-use Rattle.kmip_client.proofs.Exchanges.{serialize_stopped, serialize_caused, serialize_not_reading, short_at_start, of_request, caused_by, reading_of, kept_is, kept_exchanged, kept_caused, kept_reading}
+use Rattle.kmip_client.proofs.Exchanges.{serialize_stopped, serialize_not_reading, short_at_start, of_request, caused_by, reading_of, kept_is, kept_exchanged, kept_caused, kept_reading}
 use Rattle.kmip_client.proofs.call.call.Goals as goal
 
 pub returns-in-Err-clause-exchange : goal.returns-in-Err-clause-exchange

@@ -1,5 +1,5 @@
 use Rattle.std.proofs.Common.{arith}
-use Rattle.kmip_client.proofs.Exchanges.{send_stopped, send_not_reading, read_ended, read_caused, fails_reading, read_bytes}
+use Rattle.kmip_client.proofs.Exchanges.{send_stopped, send_not_reading, read_ended, read_caused, fails_reading}
 use Rattle.kmip_client.proofs.exchange.exchange.Goals as goal
 
 pub returns-in-Err-clause-exchange : goal.returns-in-Err-clause-exchange

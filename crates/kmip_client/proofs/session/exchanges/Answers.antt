@@ -1,4 +1,4 @@
-use Rattle.std.proofs.Common.{◌≡◌, List, [], ◌∷◌, ◌++◌, ◌∙◌, sym, ap, length, arith, map, rules}
+use Rattle.std.proofs.Common.{◌≡◌, [], ◌∷◌, ◌++◌, ◌∙◌, sym, ap, length, arith, map, rules}
 use Rattle.std.specs.Vec.Iter.{into_iter_items}
 use Rattle.kmip_request.specs.Message.{operation_of}
 use Rattle.kmip_client.specs.Calls.{IsCall}

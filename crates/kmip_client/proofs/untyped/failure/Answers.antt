@@ -1,5 +1,4 @@
-use Rattle.std.proofs.Common.{◌≡◌, ◌∙◌, sym, ap, rules, None}
-use Rattle.kmip_client.specs.declared.error.Error.{Error}
+use Rattle.std.proofs.Common.{◌≡◌, ◌∙◌, sym, ap, rules}
 use Rattle.kmip_client.specs.declared.error.Error.TheVariants.{ServerError}
 use Rattle.kmip_client.specs.Untyped.{failure_of, numbered_failure, unlisted_text}
 use Rattle.kmip_client.proofs.untyped.failure.Goals as goal

@@ -1,4 +1,4 @@
-use Rattle.std.proofs.Common.{◌≡◌, ◌∙◌, sym, ap, subst, true, length, Result, rules, Some, ◌∷◌, []}
+use Rattle.std.proofs.Common.{◌≡◌, ◌∙◌, sym, ap, subst, true, length, Result, Some}
 use Rattle.std.specs.List.{filter, slice_get}
 use Rattle.kmip_tags.specs.Tags.{BATCH_ITEM, RESPONSE_MESSAGE}
 use Rattle.kmip_wire.specs.Tree.{Tree}

@@ -1,7 +1,6 @@
 use Rattle.std.proofs.Common.{◌≡◌, ◌∙◌, sym, ap, arith, length}
 use Rattle.std.specs.List.{slice_get}
 use Rattle.std.proofs.lemmas.Option.{slice_get_read, slice_get_past}
-use Rattle.std.proofs.lemmas.Grind.{common_steps}
 use Rattle.kmip_wire.specs.Sees.{tree_of_node}
 use Rattle.kmip_client.specs.Untyped.{children_of}
 use Rattle.kmip_client.proofs.Tagged.{children_are}

@@ -1,4 +1,3 @@
-use Rattle.kmip_client.specs.Outcome.{read_answer}
 use Rattle.kmip_request.specs.Message.{request_bytes, operation_of}
 use Rattle.kmip_client.proofs.Headlines.{seen_variant}
 use Rattle.kmip_client.proofs.client.Client.request.Goals as goal
