@@ -1,20 +1,20 @@
 -- What a server answered goes on with what it served before.
-use Rattle.std.proofs.Common.{◌≡◌, ℕ, ℤ, ◌+◌, ◌-◌, ◌<◌, ◌≤◌, List, [], ◌∷◌, ◌++◌, length, take, refl, ◌∙◌, ap, sym, subst, arith, append_assoc, Bool, true, false, Option, Some, None, Result, Ok, Err, IsTrue}
+use Rattle.std.proofs.Common.{◌≡◌, ℕ, ℤ, ◌+◌, ◌-◌, ◌<◌, List, [], ◌∷◌, ◌++◌, length, take, refl, ◌∙◌, ap, sym, subst, arith, append_assoc, Bool, true, false, Option, Some, None, Result, Ok, Err, IsTrue}
 use Rattle.std.specs.List.{fold}
 use Rattle.std.proofs.Math.Seq.{take-append_seam}
 use Rattle.std.proofs.lemmas.List.{length-append, length-take-le}
 use Rattle.std.proofs.lemmas.List.Sums.{fold-append}
 use Rattle.kmip_response_write.specs.Settled.{response_bytes, IsHeld as IsHeldResponse}
 use Rattle.kmip_wire.specs.declared.error.WireError.{WireError}
-use Rattle.kmip_wire.specs.declared.error.WireError.TheVariants.{NoForm, OutOfMemory}
+use Rattle.kmip_wire.specs.declared.error.WireError.TheVariants.{NoForm}
 use Rattle.kmip_store.specs.declared.object.Object.{Object}
 use Rattle.kmip_store.specs.declared.maker.Made.{Made}
 use Rattle.kmip_store.specs.declared.maker.Asked.{Asked}
 use Rattle.kmip_store.specs.Makers.{MakerState, MakerGrew}
 use Rattle.std.specs.Option.{option_to_list}
-use Rattle.kmip_server_core.specs.Answering.{AnswersBy, answered, no_form, no_memory}
+use Rattle.kmip_server_core.specs.Answering.{answered, no_form, no_memory}
 use Rattle.kmip_store.specs.Answers.{answers_question}
-use Rattle.kmip_server_core.specs.Served.{Served, served, asks}
+use Rattle.kmip_server_core.specs.Served.{served, asks}
 use Rattle.kmip_server.specs.Split.{Split, is_message, took, nothing_sent, messages_in, CutsMessage}
 use Rattle.kmip_server.specs.Machine.{Run, first_for, rest_for, then_bytes, serve, fresh, run_of}
 use Rattle.kmip_server.specs.Serving.{IsHeldTo, AreResponsesHeld}

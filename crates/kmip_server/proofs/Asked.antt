@@ -1,12 +1,11 @@
 -- A helper's call as a call of whichever helper.
-use Rattle.std.proofs.Common.{◌≡◌, ℕ, List, refl, ◌∙◌, ap, sym, subst, Result, Ok, Err}
+use Rattle.std.proofs.Common.{◌≡◌, refl, ◌∙◌, ap, Result, Ok, Err}
 use Rattle.kmip_link.specs.State.{LinkState}
-use Rattle.kmip_shape.specs.Val.{Val}
 use Rattle.kmip_response.specs.Values.{response_payload_val}
 use Rattle.kmip_response.specs.declared.payload.ResponsePayload.{ResponsePayload}
 use Rattle.kmip_client.specs.Calls.{IsCall, part_of, Helped, called, not_made}
 use Rattle.kmip_client.specs.Client.{ClientState}
-use Rattle.kmip_client.specs.Outcome.{Answer, seen_by}
+use Rattle.kmip_client.specs.Outcome.{seen_by}
 use Rattle.kmip_client.specs.declared.error.Error.{Error}
 use Rattle.kmip_store.specs.declared.call.Call.{Call}
 use Rattle.kmip_server_core.specs.Requests.{request_of}

@@ -1,5 +1,5 @@
 -- Calls that were made one after the other, and their reports.
-use Rattle.std.proofs.Common.{◌≡◌, ℕ, ◌+◌, ◌<◌, List, [], ◌∷◌, ◌++◌, length, drop, get_or, refl, ◌∙◌, ap, sym, subst, append_assoc, append-nil, Option, Bool, true, false, Result, Ok, Err, map}
+use Rattle.std.proofs.Common.{◌≡◌, ℕ, List, [], ◌∷◌, ◌++◌, length, drop, refl, ◌∙◌, ap, sym, subst, append_assoc, append-nil, Option, Bool, true, false, Result, Ok, Err, map}
 use Rattle.std.proofs.Math.Seq.{drop-append_seam}
 use Rattle.kmip_link.specs.State.{LinkState}
 use Rattle.kmip_request.specs.Message.{request_bytes}
@@ -7,7 +7,7 @@ use Rattle.kmip_types.specs.declared.auth.CredentialType.{CredentialType}
 use Rattle.kmip_client.specs.Client.{ClientState, loses_connection, lacks_memory}
 use Rattle.kmip_client.specs.Diagnostics.{diagnostic_of}
 use Rattle.kmip_client.specs.Outcome.{Answer, Outcome, Exchanged, completed, write_failed, read_failed, sending_cut, reading_cut}
-use Rattle.kmip_client.specs.Session.{CallReport, GoesOn, Texts, held_texts, last_texts, AreRequestTexts}
+use Rattle.kmip_client.specs.Session.{GoesOn, Texts, held_texts, last_texts, AreRequestTexts}
 use Rattle.kmip_client.specs.declared.error.Error.{Error}
 use Rattle.kmip_client.specs.declared.error.Error.TheVariants.{ConfigurationError, SerializeError, RequestWriteError, ResponseReadError, DeserializeError, ServerError, InternalError, ItemNotFound, Unknown, OutOfMemory}
 use Rattle.kmip_store.specs.Makers.{MakerState}

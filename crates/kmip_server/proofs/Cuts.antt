@@ -1,45 +1,43 @@
 -- A call whose response has no wire form: its request is not sent whole, and the link keeps it.
-use Rattle.std.proofs.Common.{◌≡◌, ℕ, ℤ, pos, not, ◌+◌, ◌<◌, ◌≤◌, List, [], ◌∷◌, ◌++◌, length, take, drop, refl, ◌∙◌, ap, sym, subst, arith, Option, Some, None, Bool, true, false, cond, Result, Ok, Err, IsTrue, codes}
+use Rattle.std.proofs.Common.{◌≡◌, ℕ, ℤ, pos, not, ◌+◌, ◌<◌, List, [], ◌∷◌, ◌++◌, length, take, drop, refl, ◌∙◌, ap, sym, subst, arith, Option, Some, None, Bool, true, false, cond, Err, IsTrue, codes}
 use Rattle.std.proofs.Math.Seq.{drop-append_seam}
 use Rattle.kmip_shape.specs.Val.{Val, Vals, NoVal, AndVal}
-use Rattle.kmip_server.specs.Split.{IsMessage, Split, messages_in}
+use Rattle.kmip_server.specs.Split.{Split, messages_in}
 use Rattle.kmip_wire.specs.Tree.{Tree}
 use Rattle.kmip_request.specs.Message.{request_bytes, operation_of}
-use Rattle.kmip_request_read.specs.Reading.{request_read, request_for}
+use Rattle.kmip_request_read.specs.Reading.{request_read}
 use Rattle.kmip_response_write.specs.Settled.{response_bytes}
 use Rattle.kmip_wire.specs.Reading.{item_of}
 use Rattle.kmip_shape.specs.Reads.{root_read}
 use Rattle.kmip_enums.specs.declared.operation.Operation.{Operation}
-use Rattle.kmip_types.specs.declared.auth.CredentialType.{CredentialType}
 use Rattle.kmip_link.specs.State.{LinkState, left}
 use Rattle.kmip_enums.specs.ResultReasons.{result_reason_line}
 use Rattle.kmip_enums.specs.declared.result_status.ResultStatus.TheVariants.{OperationFailed, OperationPending, OperationUndone}
 use Rattle.kmip_enums.specs.declared.result_reason.ResultReason.TheVariants as reasons
 use Rattle.kmip_client.specs.Calls.{IsCall}
-use Rattle.kmip_client.specs.Check.{check_response, batch_count, batch_items, check_items, check_item, failure, payload_answer, is_number, has_status, has_operation, one_of, field_at, text_in, failed_text, mismatch_text, operation_shown}
-use Rattle.kmip_client.specs.Client.{ClientState, loses_connection, lacks_memory}
+use Rattle.kmip_client.specs.Check.{batch_count, batch_items, check_items, check_item, failure, payload_answer, is_number, has_status, has_operation, one_of, field_at, text_in, failed_text, mismatch_text, operation_shown}
+use Rattle.kmip_client.specs.Client.{ClientState, loses_connection}
 use Rattle.kmip_client.specs.Diagnostics.{IsRequestText, IsResponseText, diagnostic_of}
 use Rattle.kmip_client.specs.Message.{Message, message_at}
 use Rattle.kmip_response.specs.Tables.{response_message}
-use Rattle.kmip_client.specs.Outcome.{Answer, response_tag, Outcome, outcome_of, outcome, left_for, Moves, Exchanged, completed, write_failed, read_failed, sending_cut, reading_cut, answer_of, read_answer, tree_answer, value_answer}
+use Rattle.kmip_client.specs.Outcome.{Answer, response_tag, outcome_of, left_for, Moves, Exchanged, completed, write_failed, read_failed, sending_cut, reading_cut, answer_of, tree_answer, value_answer}
 use Rattle.kmip_client.specs.declared.error.Error.TheVariants.{RequestWriteError, InternalError, ServerError, ItemNotFound}
 use Rattle.kmip_store.specs.declared.call.Call.{Call}
 use Rattle.kmip_store.specs.declared.object.Object.{Object}
 use Rattle.kmip_store.specs.declared.maker.Made.{Made}
-use Rattle.kmip_store.specs.declared.maker.Asked.{Asked}
 use Rattle.kmip_store.specs.Makers.{MakerState}
 use Rattle.std.specs.Option.{option_to_list}
 use Rattle.kmip_server_core.specs.Served.{Served, served, served_request, asks, asks_request}
 use Rattle.kmip_server_core.specs.Requests.{request_of}
 use Rattle.kmip_server.specs.Machine.{Run, first_for, rest_for, then_bytes, serve, fresh, run_of}
 use Rattle.kmip_server.specs.Serving.{AreResponsesHeld}
-use Rattle.kmip_server.specs.Joined.{CallSettings, Between, JoinedReport, IsReadBack, Next, next, helper_answer, IsUnsent}
+use Rattle.kmip_server.specs.Joined.{CallSettings, JoinedReport, IsReadBack, next, helper_answer, IsUnsent}
 use Rattle.kmip_server.specs.Link.{ServerLinkState, server_link_state, IsCut, LinkFacts, IsOpen}
-use Rattle.kmip_server.specs.OneCall.{between, standing, Agrees, CutCall, CallEffect, IsRequestOf, fails_writing}
+use Rattle.kmip_server.specs.OneCall.{between, CutCall, CallEffect, IsRequestOf, fails_writing}
 use Rattle.kmip_server.specs.Calls.{call_settings}
 use Rattle.kmip_server.proofs.Splits.{with_begun, split_part}
 use Rattle.kmip_server.proofs.Frames.{AreMessages, same_frames, response_to, run_framed, serve_ever, serve_given, serve_asked}
-use Rattle.kmip_server.proofs.Steps.{IsReady, next_unformed, after_bytes, same_next, same_between}
+use Rattle.kmip_server.proofs.Steps.{IsReady, next_unformed, same_next, same_between}
 use Rattle.kmip_server.proofs.Opened.{AreRequests, code_told, ready_of, time_same, tells_same}
 
 -- ---- only a link answers that a request was not sent

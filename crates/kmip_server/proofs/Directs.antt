@@ -1,23 +1,17 @@
 -- What is expected of calls over a server that starts with nothing to read is what the object map answers.
-use Rattle.std.proofs.Common.{◌≡◌, ℕ, ℤ, ◌+◌, ◌<◌, List, [], ◌∷◌, ◌++◌, length, take, drop, map, refl, ◌∙◌, ap, sym, subst, arith, Option, Some, None, Bool, true, false, cond, Result, Ok, Err}
+use Rattle.std.proofs.Common.{◌≡◌, ℕ, ℤ, List, [], ◌∷◌, ◌++◌, drop, map, refl, ◌∙◌, ap, sym, subst, Option, Some, None, true, false, Result, Ok, Err}
 use Rattle.std.specs.Prelude.{IfOk}
 use Rattle.std.proofs.Math.Seq.{drop-length}
 use Rattle.kmip_response.specs.Values.{response_message_val}
-use Rattle.kmip_request_read.specs.Reading.{Request, request_read, request_for, minor_for}
-use Rattle.kmip_server.specs.Split.{IsMessage}
+use Rattle.kmip_request_read.specs.Reading.{request_read, request_for}
 use Rattle.kmip_server.proofs.Responses.{AreReadBack, ReadsBack, reads_back}
 use Rattle.kmip_server.proofs.Readings.{answer_is, taken_is}
-use Rattle.kmip_request.specs.Fits.{FitsRequest}
 use Rattle.kmip_response_write.specs.Settled.{IsHeld as IsHeldResponse, IsSettled, response_bytes}
-use Rattle.kmip_request_read.specs.Matched.{IsMatched}
-use Rattle.kmip_request.specs.Message.{request_bytes, operation_of}
-use Rattle.kmip_types.specs.declared.auth.CredentialType.{CredentialType}
-use Rattle.kmip_request.specs.declared.payload.RequestPayload.{RequestPayload}
+use Rattle.kmip_request.specs.Message.{operation_of}
 use Rattle.kmip_response.specs.declared.message.ResponseMessage.{ResponseMessage}
 use Rattle.kmip_client.specs.Check.{check_response, check_item}
 use Rattle.kmip_client.specs.Client.{ClientState, loses_connection, count_after}
-use Rattle.kmip_client.specs.Outcome.{Answer, answer_of, outcome_of}
-use Rattle.kmip_client.specs.Message.{message_at}
+use Rattle.kmip_client.specs.Outcome.{Answer}
 use Rattle.kmip_store.specs.declared.call.Call.{Call}
 use Rattle.kmip_store.specs.declared.call.Call.TheVariants.{Query, CreateRsaKeyPair, RngRetrieve, Sign, ActivateKey, RevokeKey, DestroyKey, RenameKey, GetKey}
 use Rattle.kmip_store.specs.declared.object.Object.{Object}
@@ -25,22 +19,22 @@ use Rattle.kmip_store.specs.declared.maker.Made.{Made}
 use Rattle.kmip_store.specs.declared.maker.Asked.{Asked}
 use Rattle.std.specs.Option.{option_to_list}
 use Rattle.kmip_store.specs.Steps.{Answer as Reply, NotFound, Denied, Failed, Done, Supports, Created, Random, Signed, Got, question, step}
-use Rattle.kmip_server_core.specs.Served.{Served, served_call, served_request, asks_request, served, asks}
+use Rattle.kmip_server_core.specs.Served.{Served, served_call, served, asks}
 use Rattle.kmip_server_core.specs.Requests.{request_of, call_of, is_served, call_operation}
 use Rattle.kmip_response.specs.declared.batch_item.BatchItem.{BatchItem}
 use Rattle.kmip_response.specs.declared.payload.ResponsePayload.{ResponsePayload}
 use Rattle.kmip_server_core.specs.Items.{payload_for, done_item, item_for, message_with}
 use Rattle.kmip_server.specs.Machine.{first_for, rest_for}
-use Rattle.kmip_server.specs.Joined.{CallSettings, Between, JoinedReport, Expected, Reported, Next, IsHeldNext, Unless, AreHeldNext, helper_answer, joined_report, turn_with, next_with, next, expected_calls, ReportMatches, ReportsMatch, finish, last_is_lost}
-use Rattle.kmip_server.specs.Direct.{done_answer, reply_answer, direct, answered_calls, IsWithinLimit, OneFits, AllFit, answers_of}
+use Rattle.kmip_server.specs.Joined.{CallSettings, Between, JoinedReport, Reported, Next, IsHeldNext, Unless, AreHeldNext, helper_answer, joined_report, turn_with, next, expected_calls, ReportsMatch, finish, last_is_lost}
+use Rattle.kmip_server.specs.Direct.{done_answer, reply_answer, direct, answered_calls, OneFits, AllFit, answers_of}
 use Rattle.kmip_server.proofs.Steps.{after_bytes, next_formed, same_next, same_between}
 use Rattle.kmip_client.specs.declared.error.Error.{Error}
 use Rattle.kmip_store.specs.Makers.{MakerState}
 use Rattle.kmip_store.specs.Runs.{objects_after}
 use Rattle.kmip_server.proofs.Going.{finish_cons, finish_end, between_new, open_new}
 use Rattle.kmip_server.proofs.Chain.{ran_texts, ran_requests}
-use Rattle.kmip_server.specs.Link.{ServerLinkState, server_link_state, IsOpen, IsNew}
-use Rattle.kmip_server.specs.OneCall.{between, standing, CallsEnd}
+use Rattle.kmip_server.specs.Link.{ServerLinkState, server_link_state, IsOpen}
+use Rattle.kmip_server.specs.OneCall.{between, CallsEnd}
 use Rattle.kmip_server.specs.Calls.{report_of, call_settings}
 use Rattle.kmip_server.specs.Session.{CallsRan, IsCallSession}
 use Rattle.kmip_server.specs.declared.answers.CallAnswer.{CallAnswer}

@@ -1,20 +1,17 @@
 -- Calls one after the other: what is told so far, and what is still expected.
-use Rattle.std.proofs.Common.{◌≡◌, ℕ, ℤ, ◌+◌, ◌<◌, ◌≤◌, suc, length, drop, get_or, add-one, drop-cons, arith, List, [], ◌∷◌, ◌++◌, refl, ◌∙◌, ap, sym, subst, append_assoc, Some, Bool, true, false, cond, map}
+use Rattle.std.proofs.Common.{◌≡◌, ℕ, ℤ, ◌+◌, ◌<◌, ◌≤◌, suc, length, drop, get_or, add-one, drop-cons, arith, List, [], ◌∷◌, ◌++◌, refl, ◌∙◌, ap, sym, subst, append_assoc, Bool, true, false, cond, map}
 use Rattle.std.proofs.lemmas.List.{map-append}
-use Rattle.kmip_link.specs.State.{LinkState, left}
+use Rattle.kmip_link.specs.State.{LinkState}
 use Rattle.kmip_store.specs.declared.call.Call.{Call}
-use Rattle.kmip_store.specs.declared.object.Object.{Object}
 use Rattle.kmip_store.specs.declared.maker.Made.{Made}
 use Rattle.std.proofs.lemmas.Grind.{common_steps}
 use Rattle.kmip_store.specs.Makers.{MakerState}
 use Rattle.kmip_client.specs.Client.{loses_connection}
-use Rattle.kmip_server.specs.Link.{ServerLinkState, server_link_state, IsServed, HasServed, LinkFacts, IsOpen, IsNew, IsUnused}
+use Rattle.kmip_server.specs.Link.{ServerLinkState, server_link_state, HasServed, LinkFacts, IsOpen, IsNew, IsUnused}
 use Rattle.kmip_server.specs.Split.{messages_in}
-use Rattle.kmip_server.specs.Machine.{Run, fresh, run_of}
-use Rattle.kmip_server.specs.Serving.{AreResponsesHeld}
+use Rattle.kmip_server.specs.Machine.{Run, run_of}
 use Rattle.kmip_server.specs.Joined.{CallSettings, Between, JoinedReport, Expected, Reported, Unsent, next, expected_calls, finish, has_unsent, IsHeldNext, Unless, AreHeldNext, ReportMatches, ReportsMatch, last_is_lost}
-use Rattle.kmip_server.specs.Direct.{AllFit, direct}
-use Rattle.kmip_server.specs.OneCall.{between, standing, Agrees, CallMatches, CallAlwaysMatches, CutCall, CallEffect, as_expected, cut_short, CallsEnd}
+use Rattle.kmip_server.specs.OneCall.{between, standing, Agrees, CallMatches, CallAlwaysMatches, CallEffect, as_expected, cut_short, CallsEnd}
 use Rattle.kmip_server.specs.Calls.{report_of}
 use Rattle.kmip_server.specs.declared.answers.CallAnswer.{CallAnswer}
 use Rattle.kmip_server.proofs.Steps.{same_between}

@@ -1,5 +1,5 @@
 -- Responses that are messages which Rust can hold, one more or one less.
-use Rattle.std.proofs.Common.{◌≡◌, ℕ, ℤ, List, [], ◌∷◌, ◌++◌}
+use Rattle.std.proofs.Common.{ℕ, ℤ, List, [], ◌∷◌, ◌++◌}
 use Rattle.std.specs.List.{fold}
 use Rattle.kmip_store.specs.declared.maker.Made.{Made}
 use Rattle.kmip_server.specs.Machine.{Run, serve, fresh, run_of}

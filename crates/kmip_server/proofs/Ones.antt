@@ -1,17 +1,15 @@
 -- One call, as the code makes it.
-use Rattle.std.proofs.Common.{◌≡◌, ◌⊎◌, inl, inr, ℕ, ◌<◌, List, drop, length, refl, ◌∙◌, ap, sym, subst, Option, Some, None, Bool, true, false, Result, Ok, Err}
-use Rattle.kmip_shape.specs.Val.{Val}
+use Rattle.std.proofs.Common.{◌≡◌, ◌⊎◌, inl, inr, ℕ, ◌<◌, drop, length, refl, ◌∙◌, ap, sym, subst, Bool, true, false, Result, Ok, Err}
 use Rattle.kmip_link.specs.State.{LinkState, Keeps}
 use Rattle.kmip_client.specs.Calls.{IsCall}
 use Rattle.kmip_client.specs.Client.{ClientState, loses_connection, lacks_memory, count_after}
 use Rattle.kmip_client.specs.Outcome.{Answer}
 use Rattle.kmip_client.proofs.Transfers.{keeps_self}
 use Rattle.kmip_client.specs.declared.error.Error.{Error}
-use Rattle.kmip_client.specs.declared.error.Error.TheVariants.{OutOfMemory}
 use Rattle.kmip_store.specs.declared.call.Call.{Call}
 use Rattle.kmip_store.specs.Makers.{MakerState}
 use Rattle.kmip_server_core.specs.Requests.{request_of}
-use Rattle.kmip_server.specs.Joined.{CallSettings, JoinedReport, IsReadBack, helper_answer}
+use Rattle.kmip_server.specs.Joined.{IsReadBack, helper_answer}
 use Rattle.kmip_server.specs.Link.{ServerLinkState, server_link_state, LinkFacts, IsOpen}
 use Rattle.kmip_server.specs.OneCall.{CallEffect, IsLinkAfterCall, IsRequestOf, fails_writing}
 use Rattle.kmip_server.specs.Calls.{HelperRan, called, not_made, answered_seen, report_of, call_settings}

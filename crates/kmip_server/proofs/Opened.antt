@@ -1,18 +1,16 @@
 -- A call over a link that is open and stays so came as expected.
-use Rattle.std.proofs.Common.{◌≡◌, ℕ, ℤ, pos, negsuc, suc, ◌+◌, ◌-◌, ◌*◌, ◌<◌, ◌≤◌, List, [], ◌∷◌, ◌++◌, length, take, drop, refl, ◌∙◌, ap, sym, subst, arith, append_assoc, Option, Some, None, Bool, true, false, Result, Ok, Err, IsTrue, codes}
+use Rattle.std.proofs.Common.{◌≡◌, ℕ, ℤ, pos, negsuc, ◌-◌, List, [], ◌∷◌, ◌++◌, length, take, drop, refl, ◌∙◌, ap, sym, subst, arith, Option, Some, None, Bool, true, false, Ok, Err, IsTrue}
 use Rattle.std.proofs.Math.Seq.{drop-append_seam}
-use Rattle.kmip_shape.specs.Val.{Val}
-use Rattle.kmip_server.specs.Split.{IsMessage, Split, messages_in}
-use Rattle.kmip_request.specs.Message.{request_bytes, operation_of}
+use Rattle.kmip_server.specs.Split.{IsMessage, messages_in}
+use Rattle.kmip_request.specs.Message.{request_bytes}
 use Rattle.kmip_types.specs.declared.auth.CredentialType.{CredentialType}
 use Rattle.kmip_request.specs.declared.payload.RequestPayload.{RequestPayload}
-use Rattle.kmip_link.specs.State.{LinkState, left, FaultCountRose}
+use Rattle.kmip_link.specs.State.{LinkState, FaultCountRose}
 use Rattle.kmip_client.specs.Calls.{IsCall}
 use Rattle.kmip_client.specs.Client.{ClientState, loses_connection, lacks_memory}
 use Rattle.kmip_client.specs.Diagnostics.{IsRequestText, IsResponseText, diagnostic_of}
-use Rattle.kmip_client.specs.Outcome.{Answer, Outcome, outcome_of, outcome, left_for, Moves, Exchanged, completed, write_failed, read_failed, sending_cut, reading_cut}
+use Rattle.kmip_client.specs.Outcome.{Answer, outcome, left_for, Moves, Exchanged, completed, write_failed, read_failed, sending_cut, reading_cut}
 use Rattle.kmip_client.specs.Session.{Turn, response_text_of}
-use Rattle.kmip_client.specs.declared.error.Error.{Error}
 use Rattle.kmip_client.specs.declared.error.Error.TheVariants.{ConfigurationError, SerializeError, RequestWriteError, ResponseReadError, DeserializeError, ServerError, InternalError, ItemNotFound, Unknown, OutOfMemory}
 use Rattle.kmip_store.specs.declared.call.Call.{Call}
 use Rattle.kmip_store.specs.declared.object.Object.{Object}
@@ -21,8 +19,7 @@ use Rattle.kmip_server_core.specs.Requests.{request_of}
 use Rattle.kmip_server.specs.Machine.{Run, fresh, run_of}
 use Rattle.kmip_server.specs.Serving.{AreResponsesHeld}
 use Rattle.kmip_server.specs.Joined.{CallSettings, JoinedReport, IsReadBack, helper_answer, turn_with, joined_report}
-use Rattle.kmip_server_core.specs.State.{ServerState}
-use Rattle.kmip_server.specs.Link.{ServerLinkState, time_number, bit_of, server_link_state, IsServed, HasServed, LinkFacts, IsOpen}
+use Rattle.kmip_server.specs.Link.{ServerLinkState, time_number, bit_of, server_link_state, HasServed, LinkFacts, IsOpen}
 use Rattle.kmip_server.specs.OneCall.{Agrees, CallAlwaysMatches, CallEffect}
 use Rattle.kmip_server.specs.Calls.{call_settings}
 use Rattle.kmip_server.proofs.Frames.{AreMessages}

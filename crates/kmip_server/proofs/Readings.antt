@@ -1,19 +1,17 @@
 -- A response that has a wire form within the limit is the message that a client takes, and answers what it says.
-use Rattle.std.proofs.Common.{◌≡◌, ℕ, ℤ, ◌+◌, ◌<◌, ◌≤◌, List, [], ◌∷◌, ◌++◌, length, take, drop, refl, ◌∙◌, ap, sym, subst, arith, Option, Some, None, Bool, true, false, cond, get_or, Ok, Err, le-ltb}
-use Rattle.std.specs.Prelude.{nat_lt, ◌==◌}
+use Rattle.std.proofs.Common.{◌≡◌, ℕ, ◌+◌, ◌≤◌, List, length, take, drop, refl, ◌∙◌, ap, sym, arith, Option, Some, None, false, Ok, le-ltb}
+use Rattle.std.specs.Prelude.{nat_lt}
 use Rattle.std.proofs.Math.ListN.{get_or-append}
-use Rattle.std.proofs.Math.Seq.{take-length, drop-length}
+use Rattle.std.proofs.Math.Seq.{take-length}
 use Rattle.std.proofs.lemmas.List.{take-append-drop, length-take-le}
-use Rattle.std.proofs.lemmas.Bool.Decides.{nat_tests}
-use Rattle.kmip_shape.specs.Val.{Val}
 use Rattle.kmip_response.specs.Values.{response_message_val}
 use Rattle.kmip_wire.specs.Head.{head_code, head_length}
 use Rattle.kmip_wire.specs.Heads.{head_says, within}
 use Rattle.kmip_server.specs.Split.{IsMessage}
 use Rattle.kmip_enums.specs.declared.operation.Operation.{Operation}
 use Rattle.kmip_response.specs.declared.message.ResponseMessage.{ResponseMessage}
-use Rattle.kmip_client.specs.Message.{Message, Whole, message_at, message_by, taken_for}
-use Rattle.kmip_client.specs.Outcome.{Answer, answer_of, read_answer, tree_answer, value_answer}
+use Rattle.kmip_client.specs.Message.{Whole, message_at, taken_for}
+use Rattle.kmip_client.specs.Outcome.{answer_of, tree_answer, value_answer}
 use Rattle.kmip_client.specs.Check.{check_response}
 use Rattle.kmip_server.specs.Direct.{IsWithinLimit}
 use Rattle.kmip_server.proofs.Splits.{head_same}

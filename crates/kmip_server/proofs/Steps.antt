@@ -1,29 +1,26 @@
 -- One call over a server: from what the client did to its link, to what was expected of the call.
-use Rattle.std.proofs.Common.{◌≡◌, ℕ, ℤ, ◌+◌, ◌-◌, ◌<◌, ◌≤◌, List, [], ◌∷◌, ◌++◌, length, take, drop, refl, ◌∙◌, ap, sym, subst, arith, append_assoc, Option, Some, None, Bool, true, false}
+use Rattle.std.proofs.Common.{◌≡◌, ℕ, ℤ, ◌+◌, ◌≤◌, List, [], ◌∷◌, ◌++◌, length, drop, refl, ◌∙◌, ap, sym, subst, Some, None, Bool, true}
 use Rattle.std.proofs.lemmas.List.{drop-append-le, drop-drop}
 use Rattle.kmip_server.specs.Split.{IsMessage, Split, messages_in}
 use Rattle.kmip_request.specs.Message.{request_bytes, operation_of}
 use Rattle.kmip_response_write.specs.Settled.{response_bytes}
-use Rattle.kmip_response.specs.declared.message.ResponseMessage.{ResponseMessage}
-use Rattle.kmip_types.specs.declared.auth.CredentialType.{CredentialType}
-use Rattle.kmip_request.specs.declared.payload.RequestPayload.{RequestPayload}
 use Rattle.kmip_link.specs.State.{LinkState, left}
-use Rattle.kmip_client.specs.Outcome.{Answer, Outcome, outcome_of, outcome, left_for, Moves}
+use Rattle.kmip_client.specs.Outcome.{outcome_of, left_for, Moves}
 use Rattle.kmip_client.specs.Client.{loses_connection}
-use Rattle.kmip_client.specs.Session.{Turn, call_report}
+use Rattle.kmip_client.specs.Session.{Turn}
 use Rattle.kmip_store.specs.declared.call.Call.{Call}
 use Rattle.kmip_store.specs.declared.object.Object.{Object}
 use Rattle.kmip_store.specs.declared.maker.Asked.{Asked}
 use Rattle.kmip_store.specs.declared.maker.Made.{Made}
 use Rattle.std.specs.Option.{option_to_list}
-use Rattle.kmip_server_core.specs.Served.{Served, served, asks}
+use Rattle.kmip_server_core.specs.Served.{served, asks}
 use Rattle.kmip_server_core.specs.Requests.{request_of}
 use Rattle.kmip_server.specs.Machine.{Run, first_for, rest_for, serve, fresh, run_of}
 use Rattle.kmip_server.specs.Serving.{IsHeldTo, AreResponsesHeld}
-use Rattle.kmip_server.specs.Joined.{CallSettings, Between, JoinedReport, Expected, Reported, Next, IsReadBack, IsHeldNext, joined_report, turn_with, next_with, answered_with, sent_with, next, expected_calls}
-use Rattle.kmip_server.specs.OneCall.{between, Agrees, CallMatches, CallAlwaysMatches}
+use Rattle.kmip_server.specs.Joined.{CallSettings, Between, Expected, Next, IsReadBack, IsHeldNext, joined_report, turn_with, next_with, next}
+use Rattle.kmip_server.specs.OneCall.{between, Agrees, CallAlwaysMatches}
 use Rattle.kmip_server.proofs.Splits.{split_message}
-use Rattle.kmip_server.proofs.Frames.{AreMessages, Framed, same_frames, response_to, run_framed, run_on, serve_objects, serve_given, serve_asked, Back, back_from}
+use Rattle.kmip_server.proofs.Frames.{AreMessages, same_frames, run_framed, run_on, serve_objects, serve_given, serve_asked, Back, back_from}
 use Rattle.kmip_server.proofs.Helds.{held_last}
 
 append_none : (xs : List ℕ) → xs ≡ xs ++ []

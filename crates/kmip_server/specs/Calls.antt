@@ -1,5 +1,5 @@
 -- What a call of a helper returned.
-use Rattle.std.specs.Prelude.{◌≡◌, ℕ, ℤ, List, [], Bool, Option, Result, Ok, Err, length, drop}
+use Rattle.std.specs.Prelude.{◌≡◌, List, Result, Err}
 use Rattle.kmip_link.specs.State.{LinkState}
 use Rattle.kmip_shape.specs.Val.{Val, Text, Record, One, AndField, NoField}
 use Rattle.kmip_response.specs.Values.{response_payload_val}

@@ -1,5 +1,5 @@
 -- The object map asked directly, and when a client over a server comes to the same.
-use Rattle.std.specs.Prelude.{◌≡◌, ℕ, ℤ, ◌≤◌, List, [], ◌∷◌, Option, Some, None, Ok, Err, codes, length, map}
+use Rattle.std.specs.Prelude.{◌≡◌, ℕ, ◌≤◌, List, [], ◌∷◌, Option, Some, None, Ok, Err, codes, length, map}
 use Rattle.kmip_response.specs.Values.{response_payload_val}
 use Rattle.kmip_response.specs.declared.payload.ResponsePayload.{ResponsePayload}
 use Rattle.kmip_request.specs.Message.{request_bytes}

@@ -9,7 +9,6 @@ use Rattle.kmip_client.specs.Outcome.{Answer, outcome_of}
 use Rattle.kmip_client.specs.Client.{loses_connection}
 use Rattle.kmip_client.specs.Session.{Turn, call_report}
 use Rattle.kmip_client.specs.Diagnostics.{diagnostic_of}
-use Rattle.kmip_client.specs.declared.error.Error.{Error}
 use Rattle.kmip_client.specs.declared.error.Error.TheVariants.{RequestWriteError}
 use Rattle.kmip_store.specs.declared.call.Call.{Call}
 use Rattle.kmip_store.specs.declared.call.Call.TheVariants.{CreateRsaKeyPair, ActivateKey, RevokeKey, DestroyKey}
@@ -17,7 +16,7 @@ use Rattle.kmip_store.specs.declared.object.Object.{Object}
 use Rattle.kmip_store.specs.declared.maker.Asked.{Asked}
 use Rattle.kmip_store.specs.declared.maker.Made.{Made}
 use Rattle.std.specs.Option.{option_to_list}
-use Rattle.kmip_server_core.specs.Served.{Served, served, asks}
+use Rattle.kmip_server_core.specs.Served.{served, asks}
 use Rattle.kmip_server_core.specs.Requests.{request_of}
 use Rattle.kmip_server.specs.Machine.{first_for, rest_for}
 

@@ -1,5 +1,5 @@
 -- A link over a server of its own, as contracts see it, and what holds of each.
-use Rattle.std.specs.Prelude.{◌≡◌, ◌≢◌, ℕ, ℤ, pos, negsuc, ◌+◌, ◌*◌, ◌<◌, ◌≤◌, suc, List, [], ◌∷◌, ◌++◌, length, Bool, true, false, Option, Some, None, IsTrue, Result, Ok, Err, take}
+use Rattle.std.specs.Prelude.{◌≡◌, ℕ, ℤ, pos, negsuc, ◌*◌, ◌<◌, ◌≤◌, suc, List, [], ◌∷◌, ◌++◌, length, Bool, true, false, Some, None, IsTrue, Result, Ok, Err, take}
 use Rattle.kmip_link.specs.State.{LinkState}
 use Rattle.kmip_link.specs.declared.link.LinkError.{LinkError}
 use Rattle.kmip_link.specs.declared.link.LinkError.TheVariants.{Fault, OutOfMemory}
@@ -9,7 +9,7 @@ use Rattle.kmip_store.specs.declared.maker.Made.{Made}
 use Rattle.kmip_store.specs.Makers.{MakerState}
 use Rattle.kmip_server_core.specs.State.{ServerState, AnswersRequest}
 use Rattle.kmip_server.specs.Split.{is_message, messages_in}
-use Rattle.kmip_server.specs.Machine.{Run, fresh, serve, run_of}
+use Rattle.kmip_server.specs.Machine.{fresh, serve, run_of}
 use Rattle.kmip_server.specs.Serving.{AreResponsesHeld}
 use Rattle.kmip_server.specs.declared.link.Refusal.{Refusal}
 

@@ -1,5 +1,5 @@
 -- One call over a server, for any answers of the maker that agree with its link.
-use Rattle.std.specs.Prelude.{◌≡◌, ◌⊎◌, ℕ, ℤ, ◌<◌, ◌≤◌, List, [], length, Bool, true, false, Some, Err, IsTrue}
+use Rattle.std.specs.Prelude.{◌≡◌, ◌⊎◌, ℕ, ℤ, ◌<◌, List, [], Bool, true, false, Some, Err}
 use Rattle.kmip_request_read.specs.Reading.{request_read, request_for}
 use Rattle.kmip_link.specs.State.{LinkState, left}
 use Rattle.kmip_client.specs.Outcome.{Answer}
@@ -9,9 +9,9 @@ use Rattle.kmip_store.specs.declared.maker.Made.{Made}
 use Rattle.kmip_store.specs.Makers.{MakerState}
 use Rattle.kmip_server_core.specs.Requests.{request_of}
 use Rattle.kmip_server.specs.Split.{messages_in}
-use Rattle.kmip_server.specs.Machine.{Run, fresh, run_of}
+use Rattle.kmip_server.specs.Machine.{fresh, run_of}
 use Rattle.kmip_server.specs.Serving.{AreResponsesHeld}
-use Rattle.kmip_server.specs.Joined.{CallSettings, Between, JoinedReport, Expected, Reported, Unsent, Next, next, expected_calls, finish, has_unsent, IsUnsent, IsHeldNext, AreHeldNext, ReportsMatch}
+use Rattle.kmip_server.specs.Joined.{CallSettings, Between, JoinedReport, Reported, Unsent, next, expected_calls, finish, has_unsent, IsUnsent, IsHeldNext, AreHeldNext, ReportsMatch}
 use Rattle.kmip_server.specs.Link.{ServerLinkState, server_link_state, IsOpen}
 use Rattle.kmip_server.specs.declared.called.LinkAfter.{LinkAfter}
 

@@ -1,5 +1,5 @@
 -- What `call_all` promises of the calls of a client over a server.
-use Rattle.std.specs.Prelude.{◌≡◌, ◌<◌, List, [], ◌∷◌, ◌++◌, Bool, true, false, Result, map}
+use Rattle.std.specs.Prelude.{◌≡◌, ◌<◌, List, [], ◌∷◌, ◌++◌, true, false, Result, map}
 use Rattle.kmip_client.specs.Client.{ClientState, loses_connection, count_after}
 use Rattle.kmip_client.specs.Session.{CallReport, GoesOn, held_texts, last_texts, AreRequestTexts}
 use Rattle.kmip_client.specs.declared.error.Error.{Error}

@@ -1,14 +1,13 @@
-use Rattle.std.proofs.Common.{◌≡◌, ◌+◌, ◌≤◌, ◌++◌, ◌∷◌, [], drop, length, map, refl, sym, ◌∙◌, ap, arith, Bool, true, false, ℕ, List}
+use Rattle.std.proofs.Common.{◌≡◌, ◌+◌, ◌≤◌, ◌∷◌, [], drop, length, sym, ◌∙◌, ap, arith, Bool, ℕ}
 use Rattle.std.proofs.lemmas.Grind.{common_steps}
-use Rattle.kmip_client.specs.Client.{count_after, loses_connection}
+use Rattle.kmip_client.specs.Client.{count_after}
 use Rattle.kmip_client.proofs.Sessions.{on_err}
 use Rattle.kmip_client.proofs.Transfers.{keeps_on}
-use Rattle.kmip_store.specs.declared.call.Call.{Call}
-use Rattle.kmip_server.specs.Calls.{answered_seen, report_of, call_settings}
+use Rattle.kmip_server.specs.Calls.{report_of, call_settings}
 use Rattle.kmip_server.specs.Joined.{CallSettings}
 use Rattle.kmip_server.specs.Link.{server_link_state}
-use Rattle.kmip_server.proofs.Chain.{Chain, chain_on, chain_lost, chain_end, chain_cut, lost_after}
-use Rattle.kmip_server.proofs.Going.{Going, rest_is, going_called, still_open, going_lost, going_all, ends_with}
+use Rattle.kmip_server.proofs.Chain.{chain_on, chain_lost, chain_end, chain_cut, lost_after}
+use Rattle.kmip_server.proofs.Going.{rest_is, going_called, still_open, going_lost, going_all, ends_with}
 use Rattle.kmip_server.proofs.joined.calls_over.Goals as goal
 
 pub loop-call-preserved : goal.loop-call-preserved

@@ -1,4 +1,4 @@
-use Rattle.std.proofs.Common.{◌≡◌, ◌++◌, ◌-◌, length, take, ap, sym, subst, ◌∙◌, arith, true, false, Ok, Err, [], refl}
+use Rattle.std.proofs.Common.{◌≡◌, ◌++◌, ◌-◌, length, take, ap, sym, subst, ◌∙◌, arith, Err, [], refl}
 use Rattle.std.proofs.lemmas.Grind.{common_steps}
 use Rattle.kmip_server.specs.Split.{Split, CutsMessage}
 use Rattle.kmip_server.proofs.Accepts.{not_whole, is_whole, held_not_whole, held_whole, given_of, accepted_as, cut_whole, formless_of, did_not_whole, did_whole, did_formless}

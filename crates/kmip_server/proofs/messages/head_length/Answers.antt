@@ -1,4 +1,3 @@
-use Rattle.std.proofs.Common.{rules}
 use Rattle.kmip_wire.specs.Head.{head_length}
 use Rattle.kmip_server.proofs.messages.head_length.Goals as goal
 

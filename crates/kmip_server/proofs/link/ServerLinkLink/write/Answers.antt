@@ -1,4 +1,4 @@
-use Rattle.std.proofs.Common.{◌≡◌, refl, ap, sym, arith, Ok, Err, false}
+use Rattle.std.proofs.Common.{◌≡◌, refl, ap, sym, arith}
 use Rattle.std.proofs.lemmas.Grind.{common_steps}
 use Rattle.kmip_server.specs.Link.{kept_in, is_memory}
 use Rattle.kmip_server.proofs.Accepts.{writes_ok, writes_formless}
