@@ -34,10 +34,12 @@ HasPlainAnswers link = link.server.maker.given ≡ plain_answers 0 link.server.m
 abbrev pub answered_shown : Answered → List ℕ
 answered_shown answered.Unit = done_in_style Bare
 answered_shown (answered.Pair first second) = pair_in_style first second Bare
-answered_shown (answered.Query payload) = shown_in_style query_payload (query_payload_val payload) Bare
+answered_shown (answered.Query payload) =
+    shown_in_style query_payload (query_payload_val payload) Bare
 answered_shown (answered.Random payload) =
     shown_in_style rng_retrieve_payload (rng_retrieve_payload_val payload) Bare
-answered_shown (answered.Signed payload) = shown_in_style sign_payload (sign_payload_val payload) Bare
+answered_shown (answered.Signed payload) =
+    shown_in_style sign_payload (sign_payload_val payload) Bare
 answered_shown (answered.Renamed payload) =
     shown_in_style attribute_edit_payload (attribute_edit_payload_val payload) Bare
 answered_shown (answered.Got payload) = shown_in_style get_payload (get_payload_val payload) Bare

@@ -3,7 +3,8 @@ ghost use Rattle.std.specs.Prelude.{◌≡◌, true, false, IfOk, IfSome};
 ghost use Rattle.kmip_server.specs.Link.{LinkFacts};
 ghost use Rattle.kmip_store.specs.Plain.{plain_state};
 ghost use Rattle.kmip_joined.specs.World.{world_of, nothing_yet};
-ghost use Rattle.kmip_joined.specs.Told.{IsJoined, HasPlainAnswers, IsMade, IsSuited, makes_pair, is_pair};
+ghost use Rattle.kmip_joined.specs.Told.{IsJoined, HasPlainAnswers, IsMade, IsSuited, makes_pair};
+ghost use Rattle.kmip_joined.specs.Told.{is_pair};
 
 use kmip_client::{Client, Error};
 use kmip_server::{Answered, Call, CallAnswer, CallAnswers, ServerLink, call_all};

@@ -18,4 +18,5 @@ IsHeldTo time run b = (bytes : List ℕ) → response_bytes (message_to time run
 -- so it is for each of these messages in order
 abbrev pub AreResponsesHeld : ℤ → Run → List (List ℕ) → Type 0
 AreResponsesHeld time run [] = Unit {0}
-AreResponsesHeld time run (b ∷ bs) = IsHeldTo time run b × AreResponsesHeld time (serve time run b) bs
+AreResponsesHeld time run (b ∷ bs) =
+    IsHeldTo time run b × AreResponsesHeld time (serve time run b) bs

@@ -1,12 +1,14 @@
 //! One call of a client over a server.
-ghost use Rattle.std.specs.Prelude.{◌≡◌, ◌↔◌, List, IfOk, IfErr, OnErr, drop, length, IsTrue, false};
+ghost use Rattle.std.specs.Prelude.{◌≡◌, ◌↔◌, List, IfOk, IfErr, OnErr, drop, length, IsTrue};
+ghost use Rattle.std.specs.Prelude.{false};
 ghost use Rattle.kmip_link.specs.State.{Keeps};
 ghost use Rattle.kmip_client.specs.Client.{loses_connection, lacks_memory, count_after};
 ghost use Rattle.kmip_client.specs.Client.{ClientState};
 ghost use Rattle.kmip_client.specs.Outcome.{seen_by};
 ghost use Rattle.kmip_client.specs.declared.error.Error.TheVariants.{OutOfMemory as no_memory};
 ghost use Rattle.kmip_server.specs.Calls.{answered_val, answered_seen, report_of, call_settings};
-ghost use Rattle.kmip_server.specs.OneCall.{CallEffect, LinkIs, IsLinkAfterCall, IsRequestOf, fails_writing};
+ghost use Rattle.kmip_server.specs.OneCall.{CallEffect, LinkIs, IsLinkAfterCall, IsRequestOf};
+ghost use Rattle.kmip_server.specs.OneCall.{fails_writing};
 ghost use Rattle.kmip_server.specs.Link.{ServerLinkState, server_link_state, IsOpen, LinkFacts};
 ghost use Rattle.kmip_server.specs.Joined.{IsReadBack};
 ghost use Rattle.kmip_server.specs.Session.{CallRan, CallLost};

@@ -4,8 +4,10 @@ ghost use Rattle.std.specs.Prelude.{◌≢◌, IfOk, IfErr, OnErr, IsErrOf, ℕ,
 ghost use Rattle.kmip_link.specs.declared.link.LinkError.{LinkError};
 ghost use Rattle.kmip_link.specs.State.{Keeps, IsIdle, Reads, Writes, FaultCountRose};
 ghost use Rattle.kmip_store.specs.Makers.{MakerKeeps};
-ghost use Rattle.kmip_server.specs.Link.{ServerLinkState, server_link_state, LinkInvariant, LinkFacts};
-ghost use Rattle.kmip_server.specs.Link.{Holds, Accepted, IsRefused, IsUnused, WriteEffect, WritesTo};
+ghost use Rattle.kmip_server.specs.Link.{ServerLinkState, server_link_state, LinkInvariant};
+ghost use Rattle.kmip_server.specs.Link.{LinkFacts};
+ghost use Rattle.kmip_server.specs.Link.{Holds, Accepted, IsRefused, IsUnused, WriteEffect};
+ghost use Rattle.kmip_server.specs.Link.{WritesTo};
 ghost use Rattle.kmip_server.specs.Split.{messages_in};
 
 use crate::messages::{cut_message, grow_both};
@@ -203,7 +205,8 @@ impl<M: Maker> Link for ServerLink<M> {
             (server_link_state M.state self.new) into.new n) }
         ensures idle { OnErr result (IsIdle (server_link_state M.state self.old)
             (server_link_state M.state self.new)) }
-        ensures cause { IsErrOf result LinkError.Fault → FaultCountRose self.old.faults self.new.faults }
+        ensures cause { IsErrOf result LinkError.Fault →
+            FaultCountRose self.old.faults self.new.faults }
         ensures never { IfErr result (λ e. ⊥) }
         ensures rest { self.new ≡ record self.old { pos = self.new.pos } }
     {
@@ -227,7 +230,8 @@ impl<M: Maker> Link for ServerLink<M> {
             (server_link_state M.state self.new) (take n bytes.now)) }
         ensures idle { OnErr result (IsIdle (server_link_state M.state self.old)
             (server_link_state M.state self.new)) }
-        ensures cause { IsErrOf result LinkError.Fault → FaultCountRose self.old.faults self.new.faults }
+        ensures cause { IsErrOf result LinkError.Fault →
+            FaultCountRose self.old.faults self.new.faults }
         ensures answers { WritesTo M.state self.old self.new bytes.now result }
     {
         if self.faults > 0 {
