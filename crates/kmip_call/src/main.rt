@@ -55,7 +55,8 @@ digits stands for a byte.
 
 user=U, password=P   the credential of the request; without password=P the
                      password is that of the environment, KMIP_PASSWORD
-limit=N              the most bytes that a response may have
+limit=N              the most bytes that a response may have, its head counted;
+                     without it 1048576, and with limit=0 there is no limit
 record=FILE          adds CALL and the response to FILE, as a line that
                      `kmip_run replay` reads
 

@@ -205,6 +205,29 @@ const ERRORS: &[Row] = &[
         ..ANSWERED
     },
     Row {
+        shows: "a response of a byte more than 1 MiB, with no limit given",
+        response: "42007B01000FFFF9FFFF",
+        line: "{\"error\":\"DeserializeError\",\"text\":\"response size 1048577 exceeds limit 1048576\"}\n",
+        status: 3,
+        left: 2,
+        ..ANSWERED
+    },
+    Row {
+        shows: "the same with the limit 0, which is none",
+        words: &["limit=0", "rng", "16"],
+        response: "42007B01000FFFF9FFFF",
+        line: "{\"error\":\"ResponseReadError\",\"text\":\"end of input\"}\n",
+        status: 3,
+        ..ANSWERED
+    },
+    Row {
+        shows: "the connection ends within a message of 1 MiB",
+        response: "42007B01000FFFF8FFFF",
+        line: "{\"error\":\"ResponseReadError\",\"text\":\"end of input\"}\n",
+        status: 3,
+        ..ANSWERED
+    },
+    Row {
         shows: "the connection ends within the message",
         response: "42007B010000009042007A010000004842006901",
         line: "{\"error\":\"ResponseReadError\",\"text\":\"end of input\"}\n",
