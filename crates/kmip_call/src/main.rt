@@ -12,6 +12,7 @@ mod command;
 mod exchange;
 mod program;
 mod record;
+mod refusal;
 #[cfg(test)]
 mod tests;
 mod wire;
@@ -19,6 +20,7 @@ mod wire;
 use command::{Command, Order, command_of};
 use kmip_link::{MemorySink, StdSink, StdSource};
 use kmip_wire::{List, OutOfMemory, Text};
+use refusal::{NO_FILE, WRONG_LIMIT, refuse};
 use std::env::{self, VarError};
 use std::fs::OpenOptions;
 use std::process::ExitCode;
@@ -32,7 +34,8 @@ Makes one call of a KMIP client over standard input and output.
 
 Standard output is the request's message, standard input one response, which is
 read to its end and no further, and standard error one line of JSON:
-{\"answer\":..} or {\"error\":\"ItemNotFound\",\"text\":\"..\"}.
+{\"answer\":..} or {\"error\":\"ItemNotFound\",\"text\":\"..\"}, whose error is
+GrammarError where the words are no call.
 
 CALL is one of
     query
@@ -60,7 +63,7 @@ limit=N              the most bytes that a response may have, its head counted;
 record=FILE          adds CALL and the response to FILE, as a line that
                      `kmip_run replay` reads
 
-Status   0 answered   1 refused   2 the words are not of this grammar
+Status   0 answered   1 refused   2 the words are no call: nothing was sent
          3 the connection is lost   4 the answer could not be written
          5 out of memory, or a word or the password is not UTF-8
 After 3, 4 and 5 the connection is to be closed.
@@ -99,8 +102,13 @@ fn say(rt: &HostRuntime, text: &str) -> u8 {
     }
 }
 
+/// Writes on standard error why no call is made, and returns the status.
+fn refuse_with(rt: &HostRuntime, text: &str) -> u8 {
+    refuse(rt.alloc(), text, &mut StdSink::new(rt.stderr()))
+}
+
 /// Makes a call over standard input and output, and returns the status. Where the file for the
-/// record cannot be opened, it returns 2, as for a word out of the grammar, and nothing is sent.
+/// record cannot be opened, it returns 2, as for words that are no call, and nothing is sent.
 fn perform(rt: &HostRuntime, order: &Order) -> u8 {
     let mut wire = StdSink::new(rt.stdout());
     let mut source = StdSource::new(rt.stdin());
@@ -132,7 +140,7 @@ fn perform(rt: &HostRuntime, order: &Order) -> u8 {
                 &mut told,
             )
         }
-        Err(_) => 2,
+        Err(_) => refuse_with(rt, NO_FILE),
     }
 }
 
@@ -148,7 +156,7 @@ fn main(rt: HostRuntime) -> ExitCode {
         Ok(Some(Command::Help)) => say(&rt, HELP),
         Ok(Some(Command::Version)) => say(&rt, VERSION),
         Ok(Some(Command::Make(order))) => perform(&rt, &order),
-        Ok(None) => 2,
+        Ok(None) => refuse_with(&rt, WRONG_LIMIT),
         Err(OutOfMemory) => 5,
     };
     ExitCode::from(status)

@@ -5,11 +5,13 @@ ghost use Rattle.kmip_link.specs.State.{FaultCountRose};
 ghost use Rattle.kmip_words.specs.Streams.{WrotePart};
 ghost use Rattle.kmip_call.specs.Exchange.{response_if, Requests};
 ghost use Rattle.kmip_call.specs.Record.{record_of};
+ghost use Rattle.kmip_call.specs.Refusal.{refusal};
 ghost use Rattle.kmip_call.specs.Program.{is_allowed, call_for, status_of, Makes, Ran};
 
 use crate::command::Order;
 use crate::exchange::{CallEnd, exchange};
 use crate::record::{is_recordable, write_record};
+use crate::refusal::refuse_words;
 use kmip_link::{LinkError, Sink, Source};
 use kmip_wire::{OutOfMemory, Text};
 use kmip_words::{Ending, request_of, typed_call, write_out};
@@ -151,7 +153,8 @@ fn report<F: Sink, K: Sink>(
 ///
 /// - 0: the call returned a payload, or that it was done.
 /// - 1: it returned an error, and the connection is good for the next call.
-/// - 2: the words are not of the grammar, and nothing was sent, read or written.
+/// - 2: the words are not of the grammar, or a record cannot hold them; nothing was sent, read or
+///   recorded, and `told` got a line of JSON that says why, or a part of it where it failed.
 /// - 3: the connection failed or ended, or gave bytes that are no message: close it.
 /// - 4: the record or the answer could not be written; the exchange was made.
 /// - 5: memory ran out, and the request may have been sent: close the connection.
@@ -168,7 +171,12 @@ pub fn run<W: Sink, S: Source, F: Sink, K: Sink>(
     ensures refused { result ≡ 2 → call_for order.now ≡ None }
     ensures silent { call_for order.now ≡ None →
         (W.state wire.new ≡ W.state wire.old) × (S.state source.new ≡ S.state source.old)
-        × (F.state kept.new ≡ F.state kept.old) × (K.state told.new ≡ K.state told.old) }
+        × (F.state kept.new ≡ F.state kept.old) }
+    ensures refusal { result ≡ 2 → IsTrue (K.state told.old).tells →
+        (FaultCountRose (K.state told.old).faults (K.state told.new).faults → ⊥) →
+        (K.state told.new).sent ≡ (K.state told.old).sent ++ refusal order.now }
+    ensures refusal_part { call_for order.now ≡ None → IsTrue (K.state told.old).tells →
+        WrotePart (K.state told.old) (K.state told.new) (refusal order.now) }
     ensures ran { result ≢ 2 → result ≢ 5 →
         Ran order.now (W.state wire.old) (W.state wire.new) (S.state source.old)
         (S.state source.new)
@@ -178,7 +186,7 @@ pub fn run<W: Sink, S: Source, F: Sink, K: Sink>(
     let mut line = Text::new(alloc);
     match make_call(alloc, order, wire, source, &mut response, &mut line) {
         Ok(Some(end)) => report(alloc, order, end, &response, line.as_str(), kept, told),
-        Ok(None) => 2,
+        Ok(None) => refuse_words(alloc, order, told),
         Err(OutOfMemory) => 5,
     }
 }

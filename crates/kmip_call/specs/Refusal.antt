@@ -1,0 +1,55 @@
+-- The line that says why no call is made.
+use Rattle.std.specs.Prelude.{ℕ, List, [], ◌∷◌, ◌++◌, Bool, true, false, Option, Some, None, if◌then◌else◌, codes, bytes_eq}
+use Rattle.kmip_shape.specs.Shown.{text_in_style}
+use Rattle.kmip_shape.specs.declared.style.Style.TheVariants.{Json}
+use Rattle.kmip_words.specs.Calls.{typed_call}
+use Rattle.kmip_words.specs.declared.call.Call.{Call}
+use Rattle.kmip_call.specs.declared.command.Order.{Order}
+
+-- the line of JSON of a `GrammarError` with this text
+abbrev pub grammar_line : List ℕ → List ℕ
+grammar_line text =
+    codes "{\"error\":\"GrammarError\",\"text\":" ++ (text_in_style text Json ++ codes "}\n")
+
+-- the words of a call of one text
+abbrev pub form_of_text : List ℕ → Option (List ℕ)
+form_of_text name =
+    if bytes_eq name (codes "locate") then Some (codes "locate TEXT")
+    else if bytes_eq name (codes "attributes") then Some (codes "attributes TEXT")
+    else if bytes_eq name (codes "activate") then Some (codes "activate TEXT")
+    else if bytes_eq name (codes "get") then Some (codes "get TEXT")
+    else if bytes_eq name (codes "revoke") then Some (codes "revoke TEXT")
+    else if bytes_eq name (codes "destroy") then Some (codes "destroy TEXT")
+    else None
+
+-- the words of the call with this name
+abbrev pub form_of : List ℕ → Option (List ℕ)
+form_of name =
+    if bytes_eq name (codes "query") then Some (codes "query")
+    else if bytes_eq name (codes "discover") then Some (codes "discover")
+    else if bytes_eq name (codes "rng") then Some (codes "rng INT")
+    else if bytes_eq name (codes "raw") then Some (codes "raw HEX")
+    else if bytes_eq name (codes "sign") then Some (codes "sign TEXT HEX")
+    else if bytes_eq name (codes "rename") then Some (codes "rename TEXT TEXT")
+    else if bytes_eq name (codes "create-aes") then Some (codes "create-aes INT TEXT")
+    else if bytes_eq name (codes "create-rsa") then Some (codes "create-rsa INT TEXT TEXT")
+    else form_of_text name
+
+-- what is said of words that are no call: the words of the call that the first one names, or that
+-- it names none; no word is shown, since one may be a password
+abbrev pub wrong_words : Option (List ℕ) → List ℕ
+wrong_words (Some form) = codes "the words are not those of " ++ form
+wrong_words None = codes "the first word is no call, or is an option out of its place"
+
+-- what is said of words that are no call
+abbrev pub no_call : List (List ℕ) → List ℕ
+no_call [] = codes "no call"
+no_call (name ∷ words) = wrong_words (form_of name)
+
+-- why no call is made: the words are no call, or a record cannot hold them
+abbrev pub why_not : Option Call → List (List ℕ) → List ℕ
+why_not (Some call) words = codes "a record cannot hold these words"
+why_not None words = no_call words
+
+abbrev pub refusal : Order → List ℕ
+refusal order = grammar_line (why_not (typed_call order.words) order.words)

@@ -1,0 +1,128 @@
+//! Why no call is made, as a line of JSON.
+ghost use Rattle.std.specs.Prelude.{◌≡◌, ◌++◌, ◌⊎◌, option_map, IfOk, IsTrue};
+ghost use Rattle.kmip_words.specs.Streams.{WrotePart};
+ghost use Rattle.kmip_link.specs.State.{FaultCountRose};
+ghost use Rattle.kmip_words.specs.Calls.{typed_call};
+ghost use Rattle.kmip_call.specs.Refusal.{grammar_line, form_of_text, form_of, no_call, why_not};
+ghost use Rattle.kmip_call.specs.Refusal.{refusal};
+
+use crate::command::Order;
+use kmip_link::{LinkError, Sink};
+use kmip_shape::ShowItem;
+use kmip_wire::{OutOfMemory, Text};
+use kmip_words::{typed_call, write_out};
+use std::alloc::Global;
+
+/// What is said where `limit=N` has no number.
+pub const WRONG_LIMIT: &str = "limit= takes a number from 0 to 4294967295";
+
+/// What is said where the file of `record=FILE` cannot be opened.
+pub const NO_FILE: &str = "the file of record= cannot be opened";
+
+/// The words of a call of one text, by its name.
+fn form_of_text(name: &str) -> Option<&'static str>
+    ensures { option_map (λ form. form.now) result ≡ form_of_text name.now }
+{
+    match name {
+        "locate" => Some("locate TEXT"),
+        "attributes" => Some("attributes TEXT"),
+        "activate" => Some("activate TEXT"),
+        "get" => Some("get TEXT"),
+        "revoke" => Some("revoke TEXT"),
+        "destroy" => Some("destroy TEXT"),
+        _ => None,
+    }
+}
+
+/// The words of a call, by its name; `None` where there is no call of this name.
+fn form_of(name: &str) -> Option<&'static str>
+    ensures { option_map (λ form. form.now) result ≡ form_of name.now }
+{
+    match name {
+        "query" => Some("query"),
+        "discover" => Some("discover"),
+        "rng" => Some("rng INT"),
+        "raw" => Some("raw HEX"),
+        "sign" => Some("sign TEXT HEX"),
+        "rename" => Some("rename TEXT TEXT"),
+        "create-aes" => Some("create-aes INT TEXT"),
+        "create-rsa" => Some("create-rsa INT TEXT TEXT"),
+        _ => form_of_text(name),
+    }
+}
+
+/// What is said of words that are no call: the words of the call that the first one names, or that
+/// it names none, or that there is none.
+fn no_call(alloc: Global, words: &[Text]) -> Result<Text, OutOfMemory>
+    ensures { IfOk result (λ text. text ≡ no_call words.now) }
+{
+    let [name, ..] = words else {
+        return Text::of(alloc, "no call");
+    };
+    let Some(form) = form_of(name.as_str()) else {
+        return Text::of(
+            alloc,
+            "the first word is no call, or is an option out of its place",
+        );
+    };
+    let mut text = Text::of(alloc, "the words are not those of ")?;
+    text.push_str(form)?;
+    Ok(text)
+}
+
+/// Why no call of these words is made: they are no call, or a record cannot hold them.
+fn why_not(alloc: Global, words: &[Text]) -> Result<Text, OutOfMemory>
+    ensures { IfOk result (λ text. text ≡ why_not (typed_call words.now) words.now) }
+{
+    match typed_call(alloc, words)? {
+        Some(_) => Text::of(alloc, "a record cannot hold these words"),
+        None => no_call(alloc, words),
+    }
+}
+
+/// The line of JSON of a `GrammarError` with this text.
+#[tactic(auto, using(std::proofs::lemmas::List::append_assoc))]
+fn grammar_line(alloc: Global, text: &str) -> Result<Text, OutOfMemory>
+    ensures { IfOk result (λ line. line ≡ grammar_line text.now) }
+{
+    let text = Text::of(alloc, text)?;
+    let mut line = Text::of(alloc, "{\"error\":\"GrammarError\",\"text\":")?;
+    text.show_json(alloc, &mut line)?;
+    line.push_str("}\n")?;
+    Ok(line)
+}
+
+/// Writes a `GrammarError` with this text as a line of JSON, and returns the status 2, or 5 where
+/// memory ran out. Where the sink failed, a part of the line was written.
+pub fn refuse<K: Sink>(alloc: Global, text: &str, told: &mut K) -> u8
+    ensures status { (result ≡ 2) ⊎ (result ≡ 5) }
+    ensures line { result ≡ 2 → IsTrue (K.state told.old).tells →
+        (FaultCountRose (K.state told.old).faults (K.state told.new).faults → ⊥) →
+        (K.state told.new).sent ≡ (K.state told.old).sent ++ grammar_line text.now }
+    ensures part { IsTrue (K.state told.old).tells →
+        WrotePart (K.state told.old) (K.state told.new) (grammar_line text.now) }
+{
+    let Ok(line) = grammar_line(alloc, text) else {
+        return 5;
+    };
+    match write_out(told, line.as_str().as_bytes()) {
+        Ok(()) => 2,
+        Err(LinkError::Fault) => 2,
+        Err(LinkError::OutOfMemory) => 5,
+    }
+}
+
+/// Writes why no call of these words is made, in the same way.
+pub fn refuse_words<K: Sink>(alloc: Global, order: &Order, told: &mut K) -> u8
+    ensures status { (result ≡ 2) ⊎ (result ≡ 5) }
+    ensures line { result ≡ 2 → IsTrue (K.state told.old).tells →
+        (FaultCountRose (K.state told.old).faults (K.state told.new).faults → ⊥) →
+        (K.state told.new).sent ≡ (K.state told.old).sent ++ refusal order.now }
+    ensures part { IsTrue (K.state told.old).tells →
+        WrotePart (K.state told.old) (K.state told.new) (refusal order.now) }
+{
+    let Ok(text) = why_not(alloc, order.words.as_slice()) else {
+        return 5;
+    };
+    refuse(alloc, text.as_str(), told)
+}
