@@ -1,7 +1,11 @@
 -- The line that records a call and its response: a line of a script (docs/PROGRAM.md).
-use Rattle.std.specs.Prelude.{ℕ, List, [], ◌∷◌, ◌++◌, Bool, true, false, Option, Some, None, codes}
+use Rattle.std.specs.Prelude.{ℕ, List, [], ◌∷◌, ◌++◌, ◌==◌, Bool, true, false, Option, Some, None, if◌then◌else◌, codes}
+use Rattle.std.specs.List.{list_any}
 use Rattle.hex.specs.Hex.{encode_upper}
-use Rattle.kmip_words.specs.Calls.{call_of}
+use Rattle.kmip_words.specs.Calls.{call_of, typed_call}
+use Rattle.kmip_words.specs.Exchange.{request_asked, or_empty}
+use Rattle.kmip_words.specs.declared.call.Call.{Call}
+use Rattle.kmip_words.specs.declared.call.Call.TheVariants.{Locate, Attributes, CreateAes, Discover}
 use Rattle.kmip_words.specs.declared.call.Recorded.{Recorded}
 
 -- the words, each with a space after it
@@ -24,11 +28,40 @@ abbrev pub is_call : Option Recorded → Bool
 is_call (Some it) = true
 is_call None = false
 
+-- whether a line feed is in a text
+abbrev pub has_line_feed : List ℕ → Bool
+has_line_feed text = list_any (λ c. c == 10) text
+
+abbrev pub is_one_call : List ℕ → Bool
+is_one_call line = if has_line_feed line then false else is_call (call_of line)
+
 -- whether the words, with a response after them, are a line of a script
 abbrev pub is_recordable : List (List ℕ) → Bool
-is_recordable words = is_call (call_of (record_line words []))
+is_recordable words = is_one_call (record_line words [])
+
+-- `raw` and the bytes of a call's request, without a credential: the line of a script has that of
+-- whoever replays it
+abbrev pub raw_words : Call → List (List ℕ)
+raw_words call = codes "raw" ∷ encode_upper (or_empty (request_asked call None).message) ∷ []
+
+-- whether a script has no words for a call
+abbrev pub is_unscripted : Call → Bool
+is_unscripted (Locate name) = true
+is_unscripted (Attributes id) = true
+is_unscripted (CreateAes key_length name) = true
+is_unscripted Discover = true
+is_unscripted call = false
+
+-- the words that are recorded for a typed call: those of its request where a script has no words
+-- for it, and else those that were typed
+abbrev pub words_for : Option Call → List (List ℕ) → List (List ℕ)
+words_for (Some call) words = if is_unscripted call then raw_words call else words
+words_for None words = words
+
+abbrev pub recorded_words : List (List ℕ) → List (List ℕ)
+recorded_words words = words_for (typed_call words) words
 
 -- what is recorded of a call with this response, where a file for it is given
 abbrev pub record_of : Option (List ℕ) → List (List ℕ) → Option (List ℕ) → List ℕ
-record_of (Some file) words (Some response) = record_text words response
+record_of (Some file) words (Some response) = record_text (recorded_words words) response
 record_of file words response = []

@@ -18,11 +18,13 @@ mod tests;
 mod wire;
 
 use command::{Command, Order, command_of};
-use kmip_link::{MemorySink, StdSink, StdSource};
+use kmip_link::{MemorySink, Sink, StdSink, StdSource};
 use kmip_wire::{List, OutOfMemory, Text};
 use refusal::{NO_FILE, WRONG_LIMIT, refuse};
 use std::env::{self, VarError};
-use std::fs::OpenOptions;
+use std::fs::{File, OpenOptions};
+use std::io::{self, Write};
+use std::os::unix::fs::{FileExt, OpenOptionsExt};
 use std::process::ExitCode;
 
 const HELP: &str = "\
@@ -61,10 +63,11 @@ user=U, password=P   the credential of the request; without password=P the
 limit=N              the most bytes that a response may have, its head counted;
                      without it 1048576, and with limit=0 there is no limit
 record=FILE          adds CALL and the response to FILE, as a line that
-                     `kmip_run replay` reads
+                     `kmip_run replay` reads; a FILE that is not there is made
+                     for its owner alone
 
 Status   0 answered   1 refused   2 the words are no call: nothing was sent
-         3 the connection is lost   4 the answer could not be written
+         3 the connection is lost   4 the answer or record is not written
          5 out of memory, or a word or the password is not UTF-8
 After 3, 4 and 5 the connection is to be closed.
 ";
@@ -107,40 +110,61 @@ fn refuse_with(rt: &HostRuntime, text: &str) -> u8 {
     refuse(rt.alloc(), text, &mut StdSink::new(rt.stderr()))
 }
 
-/// Makes a call over standard input and output, and returns the status. Where the file for the
-/// record cannot be opened, it returns 2, as for words that are no call, and nothing is sent.
-fn perform(rt: &HostRuntime, order: &Order) -> u8 {
+/// Whether the file of records has this length and ends in a line feed, or is empty.
+fn ends_a_line(file: &File, len: u64) -> bool {
+    let mut last = [0u8];
+    len == 0 || (matches!(file.read_at(&mut last, len - 1), Ok(1)) && last == [b'\n'])
+}
+
+/// Opens the file of records to add to it, and returns it with its length. One that is not there is
+/// made for its owner alone. Where its last line lacks its line feed, that is added.
+fn open_record(rt: &HostRuntime, path: &str) -> io::Result<(File, u64)> {
+    let mut options = OpenOptions::new();
+    options.read(true).append(true).create(true).mode(0o600);
+    let mut file = options.open(rt, path)?;
+    let len = file.metadata()?.len();
+    if ends_a_line(&file, len) {
+        return Ok((file, len));
+    }
+    file.write_all(b"\n")?;
+    let len = file.metadata()?.len();
+    Ok((file, len))
+}
+
+/// Where a record was written in part, takes it off the end of the file again, so that the next one
+/// is a line of its own.
+fn take_back_part(file: &File, len: u64) -> io::Result<()> {
+    if ends_a_line(file, file.metadata()?.len()) {
+        return Ok(());
+    }
+    file.set_len(len)
+}
+
+/// Makes a call over standard input and output, with this sink for its record, and returns the
+/// status.
+fn perform_over<F: Sink>(rt: &HostRuntime, order: &Order, kept: &mut F) -> u8 {
     let mut wire = StdSink::new(rt.stdout());
     let mut source = StdSource::new(rt.stdin());
     let mut told = StdSink::new(rt.stderr());
-    let Some(file) = &order.file else {
-        let Ok(mut kept) = MemorySink::new(rt.alloc(), &[]) else {
-            return 5;
+    program::run(rt.alloc(), order, &mut wire, &mut source, kept, &mut told)
+}
+
+/// Makes a call, and returns the status. Where the file for the record cannot be opened, it returns
+/// 2, as for words that are no call, and nothing is sent.
+fn perform(rt: &HostRuntime, order: &Order) -> u8 {
+    let Some(path) = &order.file else {
+        return match MemorySink::new(rt.alloc(), &[]) {
+            Ok(mut kept) => perform_over(rt, order, &mut kept),
+            Err(_) => 5,
         };
-        return program::run(
-            rt.alloc(),
-            order,
-            &mut wire,
-            &mut source,
-            &mut kept,
-            &mut told,
-        );
     };
-    let mut options = OpenOptions::new();
-    options.append(true).create(true);
-    match options.open(rt, file.as_str()) {
-        Ok(file) => {
-            let mut kept = StdSink::new(file);
-            program::run(
-                rt.alloc(),
-                order,
-                &mut wire,
-                &mut source,
-                &mut kept,
-                &mut told,
-            )
-        }
-        Err(_) => refuse_with(rt, NO_FILE),
+    let Ok((file, len)) = open_record(rt, path.as_str()) else {
+        return refuse_with(rt, NO_FILE);
+    };
+    let status = perform_over(rt, order, &mut StdSink::new(&file));
+    match take_back_part(&file, len) {
+        Ok(()) => status,
+        Err(_) => 4,
     }
 }
 

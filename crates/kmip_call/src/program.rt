@@ -10,7 +10,7 @@ ghost use Rattle.kmip_call.specs.Program.{is_allowed, call_for, status_of, Makes
 
 use crate::command::Order;
 use crate::exchange::{CallEnd, exchange};
-use crate::record::{is_recordable, write_record};
+use crate::record::{is_recordable, recorded_words, write_record};
 use crate::refusal::refuse_words;
 use kmip_link::{LinkError, Sink, Source};
 use kmip_wire::{OutOfMemory, Text};
@@ -33,7 +33,10 @@ fn is_allowed(alloc: Global, order: &Order) -> Result<bool, OutOfMemory>
     ensures { IfOk result (λ allowed. allowed ≡ is_allowed order.now.file order.now.words) }
 {
     match &order.file {
-        Some(_) => is_recordable(alloc, order.words.as_slice()),
+        Some(_) => {
+            let words = recorded_words(alloc, order.words.as_slice())?;
+            is_recordable(alloc, words.as_slice())
+        }
         None => Ok(true),
     }
 }
@@ -104,6 +107,9 @@ fn keep<F: Sink>(
     ensures ok { OnOk result (IsTrue (F.state kept.old).tells →
         (F.state kept.new).sent ≡ (F.state kept.old).sent
         ++ record_of order.now.file order.now.words (response_if by_response response.now)) }
+    ensures part { IsTrue (F.state kept.old).tells →
+        WrotePart (F.state kept.old) (F.state kept.new)
+        (record_of order.now.file order.now.words (response_if by_response response.now)) }
     ensures cause { IsErrOf result LinkError.Fault →
         FaultCountRose (F.state kept.old).faults (F.state kept.new).faults }
 {
@@ -113,7 +119,8 @@ fn keep<F: Sink>(
     }
 }
 
-/// Records a call, writes the line of its answer, and returns the status.
+/// Records a call, and writes the line of its answer, also where the record could not be written.
+/// Returns the status.
 fn report<F: Sink, K: Sink>(
     alloc: Global,
     order: &Order,
@@ -127,20 +134,26 @@ fn report<F: Sink, K: Sink>(
     ensures recorded { result ≢ 4 → result ≢ 5 → IsTrue (F.state kept.old).tells →
         (F.state kept.new).sent ≡ (F.state kept.old).sent
         ++ record_of order.now.file order.now.words (response_if end.by_response response.now) }
+    ensures recorded_part { IsTrue (F.state kept.old).tells →
+        WrotePart (F.state kept.old) (F.state kept.new)
+        (record_of order.now.file order.now.words (response_if end.by_response response.now)) }
     ensures told { result ≢ 4 → result ≢ 5 → IsTrue (K.state told.old).tells →
+        (K.state told.new).sent ≡ (K.state told.old).sent ++ line.now }
+    ensures still_told { result ≡ 4 → IsTrue (K.state told.old).tells →
+        (FaultCountRose (K.state told.old).faults (K.state told.new).faults → ⊥) →
         (K.state told.new).sent ≡ (K.state told.old).sent ++ line.now }
     ensures part { IsTrue (K.state told.old).tells →
         WrotePart (K.state told.old) (K.state told.new) line.now }
     ensures cause { result ≡ 4 → FaultCountRose (F.state kept.old).faults (F.state kept.new).faults
         ⊎ FaultCountRose (K.state told.old).faults (K.state told.new).faults }
 {
-    match keep(alloc, order, end.by_response, response, kept) {
-        Ok(()) => {}
-        Err(LinkError::Fault) => return 4,
-        Err(LinkError::OutOfMemory) => return 5,
-    }
+    let recorded = keep(alloc, order, end.by_response, response, kept);
     match write_out(told, line.as_bytes()) {
-        Ok(()) => status_of(end.ending),
+        Ok(()) => match recorded {
+            Ok(()) => status_of(end.ending),
+            Err(LinkError::Fault) => 4,
+            Err(LinkError::OutOfMemory) => 5,
+        },
         Err(LinkError::Fault) => 4,
         Err(LinkError::OutOfMemory) => 5,
     }
@@ -156,7 +169,8 @@ fn report<F: Sink, K: Sink>(
 /// - 2: the words are not of the grammar, or a record cannot hold them; nothing was sent, read or
 ///   recorded, and `told` got a line of JSON that says why, or a part of it where it failed.
 /// - 3: the connection failed or ended, or gave bytes that are no message: close it.
-/// - 4: the record or the answer could not be written; the exchange was made.
+/// - 4: the record or the answer could not be written; the exchange was made, and the answer was
+///   written where `told` did not fail.
 /// - 5: memory ran out, and the request may have been sent: close the connection.
 pub fn run<W: Sink, S: Source, F: Sink, K: Sink>(
     alloc: Global,
