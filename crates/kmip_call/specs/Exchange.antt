@@ -27,8 +27,8 @@ request_bytes settings call = or_empty (request_asked call settings.credential).
 abbrev pub taken_by : Settings → Call → List ℕ → ℕ
 taken_by settings call rest = (call_outcome settings call rest).taken
 
--- A call went from these states of its sink and its source to those, and has this answer. What is
--- said of bytes holds where the sink, or the source, tells its bytes.
+-- A call took its sink and its source from the states `0` to the states `1`, and has this answer.
+-- What is said of bytes holds where contracts know those of the sink, or of the source.
 pub data Carried (settings : Settings) (call : Call) (w0 w1 : SinkState) (s0 s1 : SourceState)
     (response : Option (List ℕ)) (answer : Answer) : Type 0 where
   -- the request was sent, and at most one message was read: the answer is what its bytes say, which

@@ -25,7 +25,7 @@ pub struct CallEnd {
     pub by_response: bool,
 }
 
-/// Adds the answer that these bytes are to the call of these words, as a line of JSON.
+/// Adds the answer that these bytes give to the call of these words, as a line of JSON.
 fn answer_by(
     alloc: Global,
     settings: &Settings,
