@@ -1,5 +1,6 @@
 -- The line that says why no call is made.
-use Rattle.std.specs.Prelude.{ℕ, List, [], ◌∷◌, ◌++◌, Bool, true, false, Option, Some, None, if◌then◌else◌, codes, bytes_eq}
+use Rattle.std.specs.Prelude.{ℕ, List, [], ◌∷◌, ◌++◌, ◌==◌, Bool, true, false, Option, Some, None, if◌then◌else◌, codes, bytes_eq}
+use Rattle.std.specs.List.{list_any}
 use Rattle.kmip_shape.specs.Shown.{text_in_style}
 use Rattle.kmip_shape.specs.declared.style.Style.TheVariants.{Json}
 use Rattle.kmip_words.specs.Calls.{typed_call}
@@ -35,16 +36,26 @@ form_of name =
     else if bytes_eq name (codes "create-rsa") then Some (codes "create-rsa INT TEXT TEXT")
     else form_of_text name
 
+-- whether an equals sign is in a word, as in an option
+abbrev pub has_equals : List ℕ → Bool
+has_equals word = list_any (λ c. c == 61) word
+
+-- what is said of a word that names no call; an option is not shown, since it may be a password
+abbrev pub wrong_name : List ℕ → List ℕ
+wrong_name name =
+    if has_equals name then codes "an option is out of its place, or there is none of its name"
+    else codes "there is no call " ++ name
+
 -- what is said of words that are no call: the words of the call that the first one names, or that
--- it names none; no word is shown, since one may be a password
-abbrev pub wrong_words : Option (List ℕ) → List ℕ
-wrong_words (Some form) = codes "the words are not those of " ++ form
-wrong_words None = codes "the first word is no call, or is an option out of its place"
+-- it names none
+abbrev pub wrong_words : List ℕ → Option (List ℕ) → List ℕ
+wrong_words name (Some form) = codes "the words are not those of " ++ form
+wrong_words name None = wrong_name name
 
 -- what is said of words that are no call
 abbrev pub no_call : List (List ℕ) → List ℕ
-no_call [] = codes "no call"
-no_call (name ∷ words) = wrong_words (form_of name)
+no_call [] = codes "no call is given"
+no_call (name ∷ words) = wrong_words name (form_of name)
 
 -- why no call is made: the words are no call, or a record cannot hold them
 abbrev pub why_not : Option Call → List (List ℕ) → List ℕ

@@ -3,8 +3,8 @@ ghost use Rattle.std.specs.Prelude.{◌≡◌, ◌++◌, ◌⊎◌, option_map, 
 ghost use Rattle.kmip_words.specs.Streams.{WrotePart};
 ghost use Rattle.kmip_link.specs.State.{FaultCountRose};
 ghost use Rattle.kmip_words.specs.Calls.{typed_call};
-ghost use Rattle.kmip_call.specs.Refusal.{grammar_line, form_of_text, form_of, no_call, why_not};
-ghost use Rattle.kmip_call.specs.Refusal.{refusal};
+ghost use Rattle.kmip_call.specs.Refusal.{grammar_line, form_of_text, form_of, has_equals};
+ghost use Rattle.kmip_call.specs.Refusal.{wrong_name, no_call, why_not, refusal};
 
 use crate::command::Order;
 use kmip_link::{LinkError, Sink};
@@ -51,19 +51,38 @@ fn form_of(name: &str) -> Option<&'static str>
     }
 }
 
+/// Whether an equals sign is in a word, as in an option.
+fn has_equals(word: &str) -> bool
+    ensures { result ≡ has_equals word.now }
+{
+    word.as_bytes().contains(&b'=')
+}
+
+/// What is said of a word that names no call. An option is not shown, since it may be a password.
+fn wrong_name(alloc: Global, name: &str) -> Result<Text, OutOfMemory>
+    ensures { IfOk result (λ text. text ≡ wrong_name name.now) }
+{
+    if has_equals(name) {
+        return Text::of(
+            alloc,
+            "an option is out of its place, or there is none of its name",
+        );
+    }
+    let mut text = Text::of(alloc, "there is no call ")?;
+    text.push_str(name)?;
+    Ok(text)
+}
+
 /// What is said of words that are no call: the words of the call that the first one names, or that
 /// it names none, or that there is none.
 fn no_call(alloc: Global, words: &[Text]) -> Result<Text, OutOfMemory>
     ensures { IfOk result (λ text. text ≡ no_call words.now) }
 {
     let [name, ..] = words else {
-        return Text::of(alloc, "no call");
+        return Text::of(alloc, "no call is given");
     };
     let Some(form) = form_of(name.as_str()) else {
-        return Text::of(
-            alloc,
-            "the first word is no call, or is an option out of its place",
-        );
+        return wrong_name(alloc, name.as_str());
     };
     let mut text = Text::of(alloc, "the words are not those of ")?;
     text.push_str(form)?;
