@@ -1,3 +1,4 @@
 pub mod Messages
 pub mod Exchanges
 pub mod Orders
+pub mod Runs

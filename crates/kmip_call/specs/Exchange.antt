@@ -52,6 +52,24 @@ pub data Carried (settings : Settings) (call : Call) (w0 w1 : SinkState) (s0 s1 
       (IsTrue s0.tells → GivesPart s0 s1 (taken_by settings call (source_left s0))) →
       Carried settings call w0 w1 s0 s1 response answer
 
+-- the line of JSON that says what these bytes answer to a call, and how the call ended
+abbrev pub response_line : Settings → Call → List ℕ → List ℕ
+response_line settings call response = json_line call (call_outcome settings call response).answer
+
+abbrev pub response_ending : Settings → Call → List ℕ → Ending
+response_ending settings call response = ending_of (call_outcome settings call response).answer
+
+-- the line of an answer: that of the response's bytes, or that of the error of the sink or the
+-- source
+abbrev pub line_of : Settings → Call → Option (List ℕ) → Answer → List ℕ
+line_of settings call (Some response) answer = response_line settings call response
+line_of settings call None answer = json_line call answer
+
+-- and how the call ended
+abbrev pub ending_by : Settings → Call → Option (List ℕ) → Answer → Ending
+ending_by settings call (Some response) answer = response_ending settings call response
+ending_by settings call None answer = ending_of answer
+
 -- The request is that of the call of these words: its one canonical message, none where it has no
 -- wire form.
 pub record Requests (settings : Settings) (words : List (List ℕ))
@@ -68,5 +86,5 @@ pub record Exchanges (settings : Settings) (words : List (List ℕ)) (w0 w1 : Si
   pub is : typed_call words ≡ Some call
   pub answer : Answer
   pub carried : Carried settings call w0 w1 s0 s1 response answer
-  pub line : new ≡ old ++ json_line call answer
-  pub ending_is : ending ≡ ending_of answer
+  pub line : new ≡ old ++ line_of settings call response answer
+  pub ending_is : ending ≡ ending_by settings call response answer

@@ -1,11 +1,12 @@
 //! One call over a sink and a source, and the line of its answer.
 ghost use Rattle.std.specs.Prelude.{◌≡◌, ◌++◌, [], cond, true, false, Some, IsSome, option_map};
 ghost use Rattle.std.specs.Prelude.{IfOk, OnOk};
-ghost use Rattle.kmip_words.specs.Exchange.{ending_of, loses_link, json_line, call_outcome};
+ghost use Rattle.kmip_words.specs.Exchange.{loses_link, json_line};
 ghost use Rattle.kmip_words.specs.declared.ending.Ending.TheVariants as endings;
 ghost use Rattle.kmip_words.specs.declared.call.Call.{Call as TheCall};
 ghost use Rattle.kmip_words.specs.Calls.{typed_call};
-ghost use Rattle.kmip_call.specs.Exchange.{response_if, answer_err, Requests, Exchanges};
+ghost use Rattle.kmip_call.specs.Exchange.{response_if, answer_err, response_line};
+ghost use Rattle.kmip_call.specs.Exchange.{response_ending, Requests, Exchanges};
 
 use crate::wire::{TransferStop, transfer};
 use kmip_client::Error;
@@ -35,11 +36,9 @@ fn answer_by(
 ) -> Result<CallEnd, OutOfMemory>
     requires { IsSome (typed_call words.now) }
     ensures line { (call : TheCall) → typed_call words.now ≡ Some call →
-        OnOk result (line.new ≡ line.old
-        ++ json_line call (call_outcome settings.now call response.now).answer) }
+        OnOk result (line.new ≡ line.old ++ response_line settings.now call response.now) }
     ensures ending { (call : TheCall) → typed_call words.now ≡ Some call →
-        IfOk result
-        (λ end. end.ending ≡ ending_of (call_outcome settings.now call response.now).answer) }
+        IfOk result (λ end. end.ending ≡ response_ending settings.now call response.now) }
     ensures by { IfOk result (λ end. end.by_response ≡ true) }
 {
     let Some(call) = typed_call(alloc, words)? else {

@@ -4,7 +4,7 @@
 //! These are the wire: what it writes there is the request's one canonical message, and what it
 //! reads there is one response. So any program that carries bytes to a server and back, as
 //! `openssl s_client`, `socat` or `stunnel` does over TLS, makes it a client of that server. The
-//! answer is a line of JSON on standard error. The status is one from 0 to 5, as `program::run`
+//! answer is a line of JSON on standard error. The status is one from 0 to 5, as `Status::code`
 //! says.
 #![tactic(auto)]
 
@@ -13,6 +13,7 @@ mod exchange;
 mod program;
 mod record;
 mod refusal;
+mod status;
 #[cfg(test)]
 mod tests;
 mod wire;
@@ -20,7 +21,9 @@ mod wire;
 use command::{Command, Order, command_of};
 use kmip_link::{MemorySink, Sink, StdSink, StdSource};
 use kmip_wire::{List, OutOfMemory, Text};
+use kmip_words::Ending;
 use refusal::{NO_FILE, WRONG_LIMIT, refuse};
+use status::Status;
 use std::env::{self, VarError};
 use std::fs::{File, OpenOptions};
 use std::io::{self, Write};
@@ -96,17 +99,17 @@ fn given_password(rt: &HostRuntime) -> Result<Option<Text>, OutOfMemory> {
     }
 }
 
-/// Writes a text on standard output, and returns the status: 4 where that fails, and else 0.
-fn say(rt: &HostRuntime, text: &str) -> u8 {
+/// Writes a text on standard output, and returns the status.
+fn say(rt: &HostRuntime, text: &str) -> Status {
     let mut sink = StdSink::new(rt.stdout());
     match kmip_words::write_out(&mut sink, text.as_bytes()) {
-        Ok(()) => 0,
-        Err(_) => 4,
+        Ok(()) => Status::Ended(Ending::Answered),
+        Err(_) => Status::NotWritten,
     }
 }
 
 /// Writes on standard error why no call is made, and returns the status.
-fn refuse_with(rt: &HostRuntime, text: &str) -> u8 {
+fn refuse_with(rt: &HostRuntime, text: &str) -> Status {
     refuse(rt.alloc(), text, &mut StdSink::new(rt.stderr()))
 }
 
@@ -142,20 +145,20 @@ fn take_back_part(file: &File, len: u64) -> io::Result<()> {
 
 /// Makes a call over standard input and output, with this sink for its record, and returns the
 /// status.
-fn perform_over<F: Sink>(rt: &HostRuntime, order: &Order, kept: &mut F) -> u8 {
+fn perform_over<F: Sink>(rt: &HostRuntime, order: &Order, kept: &mut F) -> Status {
     let mut wire = StdSink::new(rt.stdout());
     let mut source = StdSource::new(rt.stdin());
     let mut told = StdSink::new(rt.stderr());
     program::run(rt.alloc(), order, &mut wire, &mut source, kept, &mut told)
 }
 
-/// Makes a call, and returns the status. Where the file for the record cannot be opened, it returns
-/// 2, as for words that are no call, and nothing is sent.
-fn perform(rt: &HostRuntime, order: &Order) -> u8 {
+/// Makes a call, and returns the status. Where the file for the record cannot be opened, that is
+/// `NoCall`, as for words that are no call, and nothing is sent.
+fn perform(rt: &HostRuntime, order: &Order) -> Status {
     let Some(path) = &order.file else {
         return match MemorySink::new(rt.alloc(), &[]) {
             Ok(mut kept) => perform_over(rt, order, &mut kept),
-            Err(_) => 5,
+            Err(_) => Status::OutOfMemory,
         };
     };
     let Ok((file, len)) = open_record(rt, path.as_str()) else {
@@ -164,13 +167,13 @@ fn perform(rt: &HostRuntime, order: &Order) -> u8 {
     let status = perform_over(rt, order, &mut StdSink::new(&file));
     match take_back_part(&file, len) {
         Ok(()) => status,
-        Err(_) => 4,
+        Err(_) => Status::NotWritten,
     }
 }
 
 fn main(rt: HostRuntime) -> ExitCode {
     let (Ok(words), Ok(password)) = (given_words(&rt), given_password(&rt)) else {
-        return ExitCode::from(5);
+        return ExitCode::from(Status::OutOfMemory.code());
     };
     let password = match &password {
         Some(password) => Some(password.as_str()),
@@ -181,7 +184,7 @@ fn main(rt: HostRuntime) -> ExitCode {
         Ok(Some(Command::Version)) => say(&rt, VERSION),
         Ok(Some(Command::Make(order))) => perform(&rt, &order),
         Ok(None) => refuse_with(&rt, WRONG_LIMIT),
-        Err(OutOfMemory) => 5,
+        Err(OutOfMemory) => Status::OutOfMemory,
     };
-    ExitCode::from(status)
+    ExitCode::from(status.code())
 }

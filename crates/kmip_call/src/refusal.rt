@@ -7,6 +7,7 @@ ghost use Rattle.kmip_call.specs.Refusal.{grammar_line, form_of_text, form_of, h
 ghost use Rattle.kmip_call.specs.Refusal.{wrong_name, no_call, why_not, refusal};
 
 use crate::command::Order;
+use crate::status::Status;
 use kmip_link::{LinkError, Sink};
 use kmip_shape::ShowItem;
 use kmip_wire::{OutOfMemory, Text};
@@ -111,37 +112,36 @@ fn grammar_line(alloc: Global, text: &str) -> Result<Text, OutOfMemory>
     Ok(line)
 }
 
-/// Writes a `GrammarError` with this text as a line of JSON, and returns the status 2, or 5 where
-/// memory ran out. Where the sink failed, a part of the line was written.
-pub fn refuse<K: Sink>(alloc: Global, text: &str, told: &mut K) -> u8
-    ensures status { (result ≡ 2) ⊎ (result ≡ 5) }
-    ensures line { result ≡ 2 → IsTrue (K.state told.old).tells →
+/// Writes a `GrammarError` with this text as a line of JSON, and returns `NoCall`, or `OutOfMemory`
+/// where memory ran out. Where the sink failed, a part of the line was written.
+pub fn refuse<K: Sink>(alloc: Global, text: &str, told: &mut K) -> Status
+    ensures status { (result ≡ Status.NoCall) ⊎ (result ≡ Status.OutOfMemory) }
+    ensures line { result ≡ Status.NoCall → IsTrue (K.state told.old).tells →
         (FaultCountRose (K.state told.old).faults (K.state told.new).faults → ⊥) →
         (K.state told.new).sent ≡ (K.state told.old).sent ++ grammar_line text.now }
     ensures part { IsTrue (K.state told.old).tells →
         WrotePart (K.state told.old) (K.state told.new) (grammar_line text.now) }
 {
     let Ok(line) = grammar_line(alloc, text) else {
-        return 5;
+        return Status::OutOfMemory;
     };
     match write_out(told, line.as_str().as_bytes()) {
-        Ok(()) => 2,
-        Err(LinkError::Fault) => 2,
-        Err(LinkError::OutOfMemory) => 5,
+        Ok(()) | Err(LinkError::Fault) => Status::NoCall,
+        Err(LinkError::OutOfMemory) => Status::OutOfMemory,
     }
 }
 
 /// Writes why no call of these words is made, in the same way.
-pub fn refuse_words<K: Sink>(alloc: Global, order: &Order, told: &mut K) -> u8
-    ensures status { (result ≡ 2) ⊎ (result ≡ 5) }
-    ensures line { result ≡ 2 → IsTrue (K.state told.old).tells →
+pub fn refuse_words<K: Sink>(alloc: Global, order: &Order, told: &mut K) -> Status
+    ensures status { (result ≡ Status.NoCall) ⊎ (result ≡ Status.OutOfMemory) }
+    ensures line { result ≡ Status.NoCall → IsTrue (K.state told.old).tells →
         (FaultCountRose (K.state told.old).faults (K.state told.new).faults → ⊥) →
         (K.state told.new).sent ≡ (K.state told.old).sent ++ refusal order.now }
     ensures part { IsTrue (K.state told.old).tells →
         WrotePart (K.state told.old) (K.state told.new) (refusal order.now) }
 {
     let Ok(text) = why_not(alloc, order.words.as_slice()) else {
-        return 5;
+        return Status::OutOfMemory;
     };
     refuse(alloc, text.as_str(), told)
 }

@@ -5,6 +5,7 @@
 use crate::command::{Command, command_of};
 use crate::program::run;
 use crate::refusal::{WRONG_LIMIT, refuse};
+use crate::status::Status;
 use kmip_client::Error;
 use kmip_link::{MemoryLink, MemorySink, MemorySource};
 use kmip_request::to_vec;
@@ -546,7 +547,7 @@ fn is_as_the_row_says(
 }
 
 /// Runs the program on a command, where that is a call, and refuses one that is none.
-fn ordered(alloc: Global, command: &Option<Command>, ends: &mut Ends) -> u8 {
+fn ordered(alloc: Global, command: &Option<Command>, ends: &mut Ends) -> Status {
     match command {
         Some(Command::Make(order)) => run(
             alloc,
@@ -557,7 +558,7 @@ fn ordered(alloc: Global, command: &Option<Command>, ends: &mut Ends) -> u8 {
             &mut ends.told,
         ),
         None => refuse(alloc, WRONG_LIMIT, &mut ends.told),
-        _ => 2,
+        _ => Status::NoCall,
     }
 }
 
@@ -567,7 +568,7 @@ fn is_made(rt: &impl Abort, alloc: Global, row: &Row) -> Result<(), Fail> {
     let command = commanded(alloc, row.words, row.password)?;
     let status = ordered(alloc, &command, &mut ends);
     drop(command);
-    is_as_the_row_says(rt, alloc, status, &mut ends, row)
+    is_as_the_row_says(rt, alloc, status.code(), &mut ends, row)
 }
 
 #[test]
