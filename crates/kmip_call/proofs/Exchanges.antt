@@ -1,5 +1,5 @@
 -- What a call answers, by what was sent and read.
-use Rattle.std.proofs.Common.{◌≡◌, ℕ, ◌+◌, ◌<◌, ◌≤◌, List, [], ◌++◌, length, take, refl, ◌∙◌, ap, sym, arith, subst, Bool, true, false, Option, Some, None, Result, Ok, Err, IfOk, OnOk, IsTrue, cond, codes, nat_lt}
+use Rattle.std.proofs.Common.{◌≡◌, ℕ, ◌+◌, ◌<◌, ◌≤◌, List, [], ◌++◌, length, take, refl, ◌∙◌, ap, sym, arith, subst, Bool, true, false, Option, Some, None, Result, Ok, Err, IfOk, OnOk, OnErr, IsTrue, cond, codes, nat_lt}
 use Rattle.std.proofs.lemmas.Grind.{common_steps}
 use Rattle.std.proofs.lemmas.Bool.Decides.{nat_tests}
 use Rattle.std.proofs.lemmas.List.{length-take-le, take-take}
@@ -12,14 +12,14 @@ use Rattle.kmip_client.specs.Outcome.{Answer, Outcome, outcome_of, answer_of}
 use Rattle.kmip_client.specs.declared.error.Error.{Error}
 use Rattle.kmip_client.specs.declared.error.Error.TheVariants.{RequestWriteError, ResponseReadError}
 use Rattle.kmip_client.proofs.Messages.{message_short, message_refused, message_cut, message_whole}
-use Rattle.kmip_words.specs.Streams.{Gives, GivesPart, WroteProperPart}
+use Rattle.kmip_words.specs.Streams.{Gives, GivesPart, WrotePart, WroteProperPart}
 use Rattle.kmip_words.specs.Calls.{typed_call}
 use Rattle.kmip_words.specs.Exchange.{Settings, request_asked, or_empty, loses_link, json_line, call_outcome}
 use Rattle.kmip_words.specs.declared.call.Call.{Call}
 use Rattle.kmip_words.specs.declared.ending.Ending.{Ending}
 use Rattle.kmip_words.specs.declared.ending.Ending.TheVariants.{Lost, Refused}
 use Rattle.kmip_call.specs.Wire.{taken_at, IsOneAtMost}
-use Rattle.kmip_call.specs.Exchange.{answer_err, response_if, request_bytes, taken_by, response_line, response_ending, line_of, ending_by, Carried, answered, write_failed, read_failed, Requests, Exchanges}
+use Rattle.kmip_call.specs.Exchange.{answer_err, response_if, request_bytes, taken_by, response_line, response_ending, line_of, ending_by, CarriedPart, Carried, answered, write_failed, read_failed, Requests, Exchanges}
 use Rattle.kmip_call.specs.declared.exchange.CallEnd.{CallEnd}
 
 pub append_none : (xs : List ℕ) → xs ≡ xs ++ []
@@ -73,6 +73,10 @@ bytes_by settings call message is = ap or_empty is
 
 gives_none : (s : SourceState) → Gives s s 0
 gives_none s = record { within = omega arith; pos = omega arith; ever = refl }
+
+-- nothing is a part of what is to be taken
+pub none_taken : (s : SourceState) (most : ℕ) → GivesPart s s most
+none_taken s most = (0, omega arith, gives_none s)
 
 one_none : (limit : Option ℕ) → IsOneAtMost limit []
 one_none limit = ap (λ m. taken_for [] m) (message_short [] limit (omega arith))
@@ -160,6 +164,32 @@ read_fault settings words call w0 w1 s0 s1 by request response old new error_tex
           ∙ ap (λ (r : Option (List ℕ)). old ++ line_of settings call r (answer_err (ResponseReadError (codes "link failed")))) (sym (ap (λ b. response_if b response) false_is));
       ending_is = ends ∙ ap (λ (r : Option (List ℕ)). ending_by settings call r (answer_err (ResponseReadError (codes "link failed")))) (sym (ap (λ b. response_if b response) false_is));
     }
+
+-- a call of which nothing was sent, and for which nothing was taken
+pub part_unsent : (settings : Settings) (call : Call) (w : SinkState) (s : SourceState) → CarriedPart settings call w w s s
+part_unsent settings call w s = record { sent = λ tells. (0, omega arith, append_none w.sent); taken = λ tells. none_taken s _ }
+
+part_by : (settings : Settings) (call : Call) (request : List ℕ) (w0 w1 : SinkState) (s0 s1 : SourceState) → Some request ≡ (request_asked call settings.credential).message →
+    (IsTrue w0.tells → WrotePart w0 w1 request) → (IsTrue s0.tells → GivesPart s0 s1 (taken_at (source_left s0) settings.limit)) → CarriedPart settings call w0 w1 s0 s1
+part_by settings call request w0 w1 s0 s1 some wrote took =
+    let taken : taken_by settings call (source_left s0) ≡ taken_at (source_left s0) settings.limit = ap (λ (o : Outcome). o.taken) (outcome_by settings call (Some request) (source_left s0) some) in
+    record {
+      sent = λ tells. (let P : List ℕ → Type 0 = λ l. WrotePart w0 w1 l in subst P (bytes_by settings call (Some request) some) (wrote tells));
+      taken = λ tells. (let P : ℕ → Type 0 = λ n. GivesPart s0 s1 n in subst P (sym taken) (took tells));
+    }
+
+-- a call of which a part was sent, and for which a part was taken
+pub part_sent : (settings : Settings) (words : List (List ℕ)) (request : List ℕ) (w0 w1 : SinkState) (s0 s1 : SourceState) → Requests settings words (Some request) →
+    (IsTrue w0.tells → WrotePart w0 w1 request) → (IsTrue s0.tells → GivesPart s0 s1 (taken_at (source_left s0) settings.limit)) →
+    (call : Call) → typed_call words ≡ Some call → CarriedPart settings call w0 w1 s0 s1
+part_sent settings words request w0 w1 s0 s1 asks wrote took call is =
+    let same : asks.call ≡ call = cc in
+    part_by settings call request w0 w1 s0 s1 (asks.message ∙ ap (λ (k : Call). (request_asked k settings.credential).message) same) wrote took
+
+-- what is so of an error, whichever it is
+pub on_err : {T E : Type 0} {P : Type 0} (result : Result T E) → P → OnErr result P
+on_err (Ok value) holds = tt
+on_err (Err error) holds = holds
 
 -- The same of the code's answer, unless memory ran out.
 

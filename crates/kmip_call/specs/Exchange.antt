@@ -4,7 +4,7 @@ use Rattle.kmip_link.specs.State.{SourceState, SinkState, FaultCountRose, source
 use Rattle.kmip_client.specs.Outcome.{Answer}
 use Rattle.kmip_client.specs.declared.error.Error.{Error}
 use Rattle.kmip_client.specs.declared.error.Error.TheVariants.{RequestWriteError, ResponseReadError}
-use Rattle.kmip_words.specs.Streams.{Gives, GivesPart, WroteProperPart}
+use Rattle.kmip_words.specs.Streams.{Gives, GivesPart, WrotePart, WroteProperPart}
 use Rattle.kmip_words.specs.Calls.{typed_call}
 use Rattle.kmip_words.specs.Exchange.{Settings, request_asked, or_empty, ending_of, json_line, call_outcome}
 use Rattle.kmip_words.specs.declared.call.Call.{Call}
@@ -51,6 +51,12 @@ pub data Carried (settings : Settings) (call : Call) (w0 w1 : SinkState) (s0 s1 
       (IsTrue w0.tells → w1.sent ≡ w0.sent ++ request_bytes settings call) →
       (IsTrue s0.tells → GivesPart s0 s1 (taken_by settings call (source_left s0))) →
       Carried settings call w0 w1 s0 s1 response answer
+
+-- Of a call no more was sent than its request, and no more was taken than one message.
+pub record CarriedPart (settings : Settings) (call : Call) (w0 w1 : SinkState)
+    (s0 s1 : SourceState) : Type 0 where
+  pub sent : IsTrue w0.tells → WrotePart w0 w1 (request_bytes settings call)
+  pub taken : IsTrue s0.tells → GivesPart s0 s1 (taken_by settings call (source_left s0))
 
 -- the line of JSON that says what these bytes answer to a call, and how the call ended
 abbrev pub response_line : Settings → Call → List ℕ → List ℕ

@@ -9,7 +9,7 @@ use Rattle.kmip_words.specs.declared.ending.Ending.{Ending}
 use Rattle.kmip_words.specs.declared.ending.Ending.TheVariants.{Answered, Refused, Lost}
 use Rattle.kmip_call.specs.Record.{is_recordable, recorded_words, record_of}
 use Rattle.kmip_call.specs.Refusal.{refusal}
-use Rattle.kmip_call.specs.Exchange.{Carried, line_of, ending_by}
+use Rattle.kmip_call.specs.Exchange.{Carried, CarriedPart, line_of, ending_by}
 use Rattle.kmip_call.specs.declared.command.Order.{Order}
 use Rattle.kmip_call.specs.declared.status.Status.{Status}
 use Rattle.kmip_call.specs.declared.status.Status.TheVariants.{Ended, NoCall, NotWritten, OutOfMemory}
@@ -100,10 +100,11 @@ pub record Made (order : Order) (call : Call) (before after : Streams) (status :
       (ending_by order.settings call response answer)
       before.kept after.kept before.told after.told status
 
--- Memory ran out before the call had an answer, and nothing was written.
+-- Memory ran out before the call had an answer: it was carried in part, and nothing was written.
 pub record BrokenOff (order : Order) (call : Call) (before after : Streams)
     (status : Status) : Type 0 where
   pub status_is : status ≡ OutOfMemory
+  pub carried : CarriedPart order.settings call before.wire after.wire before.source after.source
   pub kept : after.kept ≡ before.kept
   pub told : after.told ≡ before.told
 

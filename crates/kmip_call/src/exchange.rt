@@ -1,12 +1,12 @@
 //! One call over a sink and a source, and the line of its answer.
 ghost use Rattle.std.specs.Prelude.{◌≡◌, ◌++◌, [], cond, true, false, Some, IsSome, option_map};
-ghost use Rattle.std.specs.Prelude.{IfOk, OnOk};
+ghost use Rattle.std.specs.Prelude.{IfOk, OnOk, OnErr};
 ghost use Rattle.kmip_words.specs.Exchange.{loses_link, json_line};
 ghost use Rattle.kmip_words.specs.declared.ending.Ending.TheVariants as endings;
 ghost use Rattle.kmip_words.specs.declared.call.Call.{Call as TheCall};
 ghost use Rattle.kmip_words.specs.Calls.{typed_call};
 ghost use Rattle.kmip_call.specs.Exchange.{response_if, answer_err, response_line};
-ghost use Rattle.kmip_call.specs.Exchange.{response_ending, Requests, Exchanges};
+ghost use Rattle.kmip_call.specs.Exchange.{response_ending, CarriedPart, Requests, Exchanges};
 
 use crate::wire::{TransferStop, transfer};
 use kmip_client::Error;
@@ -68,6 +68,7 @@ fn answer_failed(alloc: Global, error: Error, line: &mut Text) -> Result<CallEnd
 
 /// Makes the call of these words: sends its `request`, which is `None` where it has no wire form,
 /// reads at most one message to `response`, which is empty, and adds the answer as a line of JSON.
+/// Where memory runs out, the request may have been sent, and the message taken, in part or whole.
 pub fn exchange<W: Sink, S: Source>(
     alloc: Global,
     settings: &Settings,
@@ -80,10 +81,13 @@ pub fn exchange<W: Sink, S: Source>(
 ) -> Result<CallEnd, OutOfMemory>
     requires response { response.old.items ≡ [] }
     requires request { Requests settings.now words.now (option_map (λ r. r.items) request) }
-    ensures { IfOk result
+    ensures exchanges { IfOk result
         (λ end. Exchanges settings.now words.now (W.state wire.old) (W.state wire.new)
         (S.state source.old) (S.state source.new)
         (response_if end.by_response response.new.items) line.old line.new end.ending) }
+    ensures broken_off { OnErr result ((call : TheCall) → typed_call words.now ≡ Some call →
+        CarriedPart settings.now call (W.state wire.old) (W.state wire.new) (S.state source.old)
+        (S.state source.new)) }
 {
     let Some(request) = request else {
         return answer_by(alloc, settings, words, response, line);

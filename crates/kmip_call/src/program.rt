@@ -1,9 +1,10 @@
 //! The program.
-ghost use Rattle.std.specs.Prelude.{◌≡◌, ◌++◌, ◌⊎◌, [], option_map, true, None, IfOk};
-ghost use Rattle.std.specs.Prelude.{OnOk, IsErrOf, IsTrue, MatchOption};
+ghost use Rattle.std.specs.Prelude.{◌≡◌, ◌++◌, ◌⊎◌, [], option_map, true, Some, None, IfOk};
+ghost use Rattle.std.specs.Prelude.{OnOk, OnErr, IsErrOf, IsTrue, MatchOption};
 ghost use Rattle.kmip_link.specs.State.{FaultCountRose};
 ghost use Rattle.kmip_words.specs.Streams.{WrotePart};
-ghost use Rattle.kmip_call.specs.Exchange.{response_if, Requests};
+ghost use Rattle.kmip_words.specs.declared.call.Call.{Call as TheCall};
+ghost use Rattle.kmip_call.specs.Exchange.{response_if, CarriedPart, Requests};
 ghost use Rattle.kmip_call.specs.Record.{record_of};
 ghost use Rattle.kmip_call.specs.Program.{is_allowed, call_for, is_ended, Makes, streams, Runs};
 
@@ -62,6 +63,9 @@ fn make_call<W: Sink, S: Source>(
     ensures none { IfOk result (λ end. end ≡ None → call_for order.now ≡ None) }
     ensures wire { call_for order.now ≡ None → W.state wire.new ≡ W.state wire.old }
     ensures source { call_for order.now ≡ None → S.state source.new ≡ S.state source.old }
+    ensures broken_off { OnErr result ((call : TheCall) → call_for order.now ≡ Some call →
+        CarriedPart order.now.settings call (W.state wire.old) (W.state wire.new)
+        (S.state source.old) (S.state source.new)) }
     ensures made { IfOk result
         (λ end. MatchOption end (Unit {0})
         (λ it. Makes order.now (W.state wire.old) (W.state wire.new) (S.state source.old)
