@@ -12,7 +12,7 @@ use Rattle.kmip_store.specs.declared.call.Call.TheVariants.{Query, CreateRsaKeyP
 use Rattle.kmip_store.specs.declared.maker.Asked.{Asked}
 use Rattle.kmip_store.specs.declared.maker.Made.{Made}
 use Rattle.kmip_store.proofs.Plains.{as_many}
-use Rattle.kmip_server_core.specs.Answering.{list_of_option}
+use Rattle.std.specs.Option.{option_to_list}
 use Rattle.kmip_server_core.specs.Requests.{request_of, call_operation}
 use Rattle.kmip_server_core.specs.Served.{served, asks}
 use Rattle.kmip_server.specs.Calls.{call_told, settings_of, before_all, expected_of, finish_of}
@@ -34,7 +34,7 @@ use Rattle.kmip_joined.proofs.Told.{told_as}
 -- what the maker is asked for a request
 abbrev pub extra_of : Between → Option (List ℕ) → List Asked
 extra_of now None = []
-extra_of now (Some request) = list_of_option (asks now.objects request)
+extra_of now (Some request) = option_to_list (asks now.objects request)
 
 asked_with : (settings : Settings) (call : Call) (now after : Between) (request : List ℕ) (response : Option (List ℕ)) → (answered_with settings call now after request response).after.asked ≡ after.asked
 asked_with settings call now after request None = refl
@@ -75,7 +75,7 @@ comes : (settings : Settings) (call : Call) (now : Between) (request : Option (L
 comes settings call now None x time made is = record { told = told_same _ _ is; objects = refl; rest = refl; answers = refl }
 comes settings call now (Some request) x time made is =
     let q : Option Asked = asks now.objects request in
-    let first : first_for q now.given ≡ next_made (world_at now) q = first_is q (length now.asked) now.given [] (made ∙ ap (λ (l : List Asked). plain_answers (length now.asked) l) (sym (append_none (list_of_option q)))) in
+    let first : first_for q now.given ≡ next_made (world_at now) q = first_is q (length now.asked) now.given [] (made ∙ ap (λ (l : List Asked). plain_answers (length now.asked) l) (sym (append_none (option_to_list q)))) in
     let same : served now.objects request (first_for q now.given) settings.time ≡ served now.objects request (next_made (world_at now) q) (pos 0) =
     ap (λ (m : Option Made). served now.objects request m settings.time) first ∙ ap (λ (t : ℤ). served now.objects request (next_made (world_at now) q) t) time in
     let bytes : response_bytes (served now.objects request (first_for q now.given) settings.time).message ≡ response_bytes (served now.objects request (next_made (world_at now) q) (pos 0)).message =
@@ -87,7 +87,7 @@ comes settings call now (Some request) x time made is =
       told = f.told ∙ ap (λ (l : List ℕ). turn_call_told settings call (turn_with settings call (Some request) l)) rest;
       objects = f.objects ∙ ap (λ s. s.objects) same;
       rest = f.rest ∙ ap (λ (l : List ℕ). drop (outcome_of (Some request) (call_operation call) settings.limit l).taken l) rest;
-      answers = ap length (after_asked settings call now (Some request)) ∙ length-append now.asked (list_of_option q);
+      answers = ap length (after_asked settings call now (Some request)) ∙ length-append now.asked (option_to_list q);
     }
 
 -- ---- one call of a list

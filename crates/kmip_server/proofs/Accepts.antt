@@ -10,14 +10,15 @@ use Rattle.kmip_wire.specs.declared.error.WireError.TheVariants.{NoForm, OutOfMe
 use Rattle.kmip_store.specs.declared.object.Object.{Object}
 use Rattle.kmip_store.specs.declared.maker.Made.{Made}
 use Rattle.kmip_store.specs.declared.maker.Asked.{Asked}
-use Rattle.kmip_store.specs.Makers.{MakerState}
-use Rattle.kmip_server_core.specs.Answering.{list_of_option, Took, AnswersBy, answered, no_form, no_memory}
-use Rattle.kmip_store.specs.Answers.{suits}
+use Rattle.kmip_store.specs.Makers.{MakerState, MakerGrew}
+use Rattle.std.specs.Option.{option_to_list}
+use Rattle.kmip_server_core.specs.Answering.{AnswersBy, answered, no_form, no_memory}
+use Rattle.kmip_store.specs.Answers.{answers_question}
 use Rattle.kmip_server_core.specs.Served.{Served, served, asks}
 use Rattle.kmip_server.specs.Split.{Split, is_message, took, nothing_sent, messages_in, Takes}
 use Rattle.kmip_server.specs.Machine.{Run, first_for, rest_for, then_bytes, serve, fresh, run_of}
 use Rattle.kmip_server.specs.Serving.{IsHeldTo, AreHeld}
-use Rattle.kmip_server_core.specs.State.{ServerState, Answers}
+use Rattle.kmip_server_core.specs.State.{ServerState, AnswersRequest}
 use Rattle.kmip_server.specs.declared.link.Refusal.{Refusal}
 use Rattle.kmip_link.specs.declared.link.LinkError.TheVariants.{Fault}
 use Rattle.kmip_server.specs.Link.{ServerLinkState, WritesTo, Did, kept_in, is_memory, Accepted, IsServed, Serves, IsCut, Holds}
@@ -60,13 +61,13 @@ pub split_whole : (sent begun bytes message : List ℕ) (t : Takes begun bytes m
     messages_in (sent ++ take t.n bytes) ≡ record { whole = (messages_in sent).whole ++ message ∷ []; begun = [] }
 split_whole sent begun bytes message t is = split_on sent begun bytes message true t is ∙ t.split_is (messages_in sent).whole
 
-first_is : (q : Option Asked) (made : Option Made) (more : List Made) → suits q made ≡ true → first_for q (list_of_option made ++ more) ≡ made
+first_is : (q : Option Asked) (made : Option Made) (more : List Made) → answers_question q made ≡ true → first_for q (option_to_list made ++ more) ≡ made
 first_is None None more h = refl
 first_is None (Some a) more h = absurd (cc)
 first_is (Some q) None more h = absurd (cc)
 first_is (Some q) (Some a) more h = refl
 
-rest_is : (q : Option Asked) (made : Option Made) (more : List Made) → suits q made ≡ true → rest_for q (list_of_option made ++ more) ≡ more
+rest_is : (q : Option Asked) (made : Option Made) (more : List Made) → answers_question q made ≡ true → rest_for q (option_to_list made ++ more) ≡ more
 rest_is None None more h = refl
 rest_is None (Some a) more h = absurd (cc)
 rest_is (Some q) None more h = absurd (cc)
@@ -78,20 +79,20 @@ same_run o o' e e' a a' g g' p q r s = rw (p, q, r, s) refl
 
 -- a message more was served
 pub served_on : (t : ℤ) (objects objects' : List Object) (maker maker' : MakerState) (ever sent begun bytes message response : List ℕ) (takes : Takes begun bytes message true) (made : Option Made) →
-    begun ≡ (messages_in sent).begun → IsServed t objects maker ever sent → suits (asks objects message) made ≡ true → Took (asks objects message) made maker maker' →
+    begun ≡ (messages_in sent).begun → IsServed t objects maker ever sent → answers_question (asks objects message) made ≡ true → MakerGrew maker maker' (asks objects message) made →
     response_bytes (served objects message made t).message ≡ Some response → objects' ≡ (served objects message made t).objects →
     IsServed t objects' maker' (ever ++ response) (sent ++ take takes.n bytes)
 unfolding serve
 served_on t objects objects' maker maker' ever sent begun bytes message response takes made is held kind took' formed objects_is more =
     let q : Option Asked = asks objects message in
     let w : List (List ℕ) = (messages_in sent).whole in
-    let first : first_for q (list_of_option made ++ more) ≡ made = first_is q made more kind in
-    let givens : maker'.given ++ more ≡ maker.given ++ (list_of_option made ++ more) = ap (λ l. l ++ more) took'.given ∙ append_assoc maker.given (list_of_option made) more in
-    let before : Run = record { objects = objects; ever = Some ever; asked = maker.asked; given = list_of_option made ++ more } in
+    let first : first_for q (option_to_list made ++ more) ≡ made = first_is q made more kind in
+    let givens : maker'.given ++ more ≡ maker.given ++ (option_to_list made ++ more) = ap (λ l. l ++ more) took'.given ∙ append_assoc maker.given (option_to_list made) more in
+    let before : Run = record { objects = objects; ever = Some ever; asked = maker.asked; given = option_to_list made ++ more } in
     ap (λ (s : Split). run_of t (maker'.given ++ more) s.whole) (split_whole sent begun bytes message takes is)
     ∙ ap (λ l. run_of t l (w ++ message ∷ [])) givens
-    ∙ run_on t (maker.given ++ (list_of_option made ++ more)) w message
-    ∙ ap (λ (r : Run). serve t r message) (held (list_of_option made ++ more))
+    ∙ run_on t (maker.given ++ (option_to_list made ++ more)) w message
+    ∙ ap (λ (r : Run). serve t r message) (held (option_to_list made ++ more))
     ∙ same_run _ _ _ _ _ _ _ _
     (ap (λ m. (served objects message m t).objects) first ∙ sym objects_is)
     (ap (λ m. then_bytes (Some ever) (response_bytes (served objects message m t).message)) first ∙ ap (then_bytes (Some ever)) formed)
@@ -100,15 +101,15 @@ served_on t objects objects' maker maker' ever sent begun bytes message response
 
 -- and its response is a message that Rust can hold
 held_served : (t : ℤ) (objects : List Object) (maker maker' : MakerState) (ever sent begun bytes message : List ℕ) (takes : Takes begun bytes message true) (made : Option Made) →
-    begun ≡ (messages_in sent).begun → Serves t objects maker ever sent → suits (asks objects message) made ≡ true → Took (asks objects message) made maker maker' →
+    begun ≡ (messages_in sent).begun → Serves t objects maker ever sent → answers_question (asks objects message) made ≡ true → MakerGrew maker maker' (asks objects message) made →
     IsHeldResponse (served objects message made t).message → (more : List Made) → AreHeld t (fresh (maker'.given ++ more)) (messages_in (sent ++ take takes.n bytes)).whole
 held_served t objects maker maker' ever sent begun bytes message takes made is serves kind took' holds more =
     let q : Option Asked = asks objects message in
     let w : List (List ℕ) = (messages_in sent).whole in
-    let later : List Made = list_of_option made ++ more in
+    let later : List Made = option_to_list made ++ more in
     let before : Run = record { objects = objects; ever = Some ever; asked = maker.asked; given = later } in
     let first : first_for q later ≡ made = first_is q made more kind in
-    let givens : maker'.given ++ more ≡ maker.given ++ later = ap (λ l. l ++ more) took'.given ∙ append_assoc maker.given (list_of_option made) more in
+    let givens : maker'.given ++ more ≡ maker.given ++ later = ap (λ l. l ++ more) took'.given ∙ append_assoc maker.given (option_to_list made) more in
     let one : IsHeldTo t before message = λ response formed. subst (λ m. IsHeldResponse (served objects message m t).message) (sym first) holds in
     let one' : IsHeldTo t (run_of t (maker.given ++ later) w) message = subst (λ (r : Run). IsHeldTo t r message) (sym (serves.run later)) one in
     let all : AreHeld t (fresh (maker.given ++ later)) (w ++ message ∷ []) = held_on t (maker.given ++ later) w message (serves.held later) one' in
@@ -116,7 +117,7 @@ held_served t objects maker maker' ever sent begun bytes message takes made is s
     (subst (λ (s : Split). AreHeld t (fresh (maker.given ++ later)) s.whole) (sym (split_whole sent begun bytes message takes is)) all)
 
 pub serves_on : (t : ℤ) (objects objects' : List Object) (maker maker' : MakerState) (ever sent begun bytes message response : List ℕ) (takes : Takes begun bytes message true) (made : Option Made) →
-    begun ≡ (messages_in sent).begun → Serves t objects maker ever sent → suits (asks objects message) made ≡ true → Took (asks objects message) made maker maker' →
+    begun ≡ (messages_in sent).begun → Serves t objects maker ever sent → answers_question (asks objects message) made ≡ true → MakerGrew maker maker' (asks objects message) made →
     response_bytes (served objects message made t).message ≡ Some response → IsHeldResponse (served objects message made t).message → objects' ≡ (served objects message made t).objects →
     Serves t objects' maker' (ever ++ response) (sent ++ take takes.n bytes)
 serves_on t objects objects' maker maker' ever sent begun bytes message response takes made is serves kind took' formed holds objects_is = record {
@@ -130,12 +131,12 @@ alone (x ∷ xs) = ap (λ l. x ∷ l) (alone xs)
 
 -- a message came whose response has no wire form
 pub cut_on : (t : ℤ) (objects objects' : List Object) (maker maker' : MakerState) (ever sent begun bytes message : List ℕ) (takes : Takes begun bytes message true) (made : Option Made) →
-    begun ≡ (messages_in sent).begun → Serves t objects maker ever sent → suits (asks objects message) made ≡ true → Took (asks objects message) made maker maker' →
+    begun ≡ (messages_in sent).begun → Serves t objects maker ever sent → answers_question (asks objects message) made ≡ true → MakerGrew maker maker' (asks objects message) made →
     response_bytes (served objects message made t).message ≡ None → objects' ≡ objects → IsCut t objects' maker' ever sent message
 cut_on t objects objects' maker maker' ever sent begun bytes message takes made is serves kind took' none objects_is =
     let q : Option Asked = asks objects message in
     let w : List (List ℕ) = (messages_in sent).whole in
-    let later : List Made = list_of_option made in
+    let later : List Made = option_to_list made in
     let given : maker'.given ≡ maker.given ++ later = took'.given in
     let plus : later ++ [] ≡ later = alone later in
     let first : first_for q later ≡ made = ap (first_for q) (sym plus) ∙ first_is q made [] kind in
@@ -198,17 +199,17 @@ is_whole sent sent' begun bytes message false takes not sent_is is = absurd (let
 -- the answer that a server gave
 pub record Given' {M : Type 0} (state : M → MakerState) (before after : ServerState M) (b response : List ℕ) : Type 0 where
   pub made : Option Made
-  pub suits_it : suits (asks before.objects b) made ≡ true
-  pub took : Took (asks before.objects b) made (state before.maker) (state after.maker)
+  pub fits : answers_question (asks before.objects b) made ≡ true
+  pub took : MakerGrew (state before.maker) (state after.maker) (asks before.objects b) made
   pub formed : response_bytes (served before.objects b made before.time).message ≡ Some response
   pub holds : IsHeldResponse (served before.objects b made before.time).message
   pub objects : after.objects ≡ (served before.objects b made before.time).objects
 
-pub given_of : {M : Type 0} {state : M → MakerState} {before after : ServerState M} {b : List ℕ} {result : Result (List ℕ) WireError} (response : List ℕ) → IsTrue (state before.maker).tells → Answers state before after b result → result ≡ Ok response →
+pub given_of : {M : Type 0} {state : M → MakerState} {before after : ServerState M} {b : List ℕ} {result : Result (List ℕ) WireError} (response : List ℕ) → IsTrue (state before.maker).tells → AnswersRequest state before after b result → result ≡ Ok response →
     Given' state before after b response
 given_of response tells (answered made bytes given holds formed is objects) e =
     let same : bytes ≡ response = cc in
-    record { made = made; suits_it = given.suits_it; took = given.took tells; formed = formed ∙ ap Some same; holds = holds; objects = objects }
+    record { made = made; fits = given.fits; took = given.grew tells; formed = formed ∙ ap Some same; holds = holds; objects = objects }
 given_of response tells (no_form made given none is objects) e = absurd (cc)
 given_of response tells (no_memory is objects) e = absurd (cc)
 
@@ -220,28 +221,28 @@ held_whole state server server' ever ever' sent sent' begun bytes message respon
     let sents : sent' ≡ sent ++ take takes.n bytes = sent_is ∙ ap (λ n. sent ++ take n bytes) (count_is begun bytes message true takes) in
     record {
       begun_is = ap (λ (x : Split). x.begun) (sym s);
-      serves = rw (time, ever_is, sents) (serves_on server.time server.objects server'.objects (state server.maker) (state server'.maker) ever sent begun bytes message response takes given.made held.begun_is held.serves given.suits_it given.took given.formed given.holds given.objects);
+      serves = rw (time, ever_is, sents) (serves_on server.time server.objects server'.objects (state server.maker) (state server'.maker) ever sent begun bytes message response takes given.made held.begun_is held.serves given.fits given.took given.formed given.holds given.objects);
     }
 held_whole state server server' ever ever' sent sent' begun bytes message response false takes not sent_is ever_is time given held = absurd (let e : false ≡ true = not in cc)
 
 -- the answer that a server gave to a message whose response has no wire form
 pub record Formless {M : Type 0} (state : M → MakerState) (before after : ServerState M) (b : List ℕ) : Type 0 where
   pub made : Option Made
-  pub suits_it : suits (asks before.objects b) made ≡ true
-  pub took : Took (asks before.objects b) made (state before.maker) (state after.maker)
+  pub fits : answers_question (asks before.objects b) made ≡ true
+  pub took : MakerGrew (state before.maker) (state after.maker) (asks before.objects b) made
   pub none : response_bytes (served before.objects b made before.time).message ≡ None
   pub objects : after.objects ≡ before.objects
 
-pub formless_of : {M : Type 0} {state : M → MakerState} {before after : ServerState M} {b : List ℕ} {result : Result (List ℕ) WireError} → IsTrue (state before.maker).tells → Answers state before after b result → result ≡ Err NoForm →
+pub formless_of : {M : Type 0} {state : M → MakerState} {before after : ServerState M} {b : List ℕ} {result : Result (List ℕ) WireError} → IsTrue (state before.maker).tells → AnswersRequest state before after b result → result ≡ Err NoForm →
     Formless state before after b
 formless_of tells (answered made bytes given holds formed is objects) e = absurd (cc)
-formless_of tells (no_form made given none is objects) e = record { made = made; suits_it = given.suits_it; took = given.took tells; none = none; objects = objects }
+formless_of tells (no_form made given none is objects) e = record { made = made; fits = given.fits; took = given.grew tells; none = none; objects = objects }
 formless_of tells (no_memory is objects) e = absurd (cc)
 
 pub cut_whole : {M : Type 0} (state : M → MakerState) (server server' : ServerState M) (ever sent begun bytes message : List ℕ) (whole : Bool) → Takes begun bytes message whole → whole ≡ true →
     server'.time ≡ server.time → Formless state server server' message → Holds state server ever sent begun → IsCut server'.time server'.objects (state server'.maker) ever sent message
 cut_whole state server server' ever sent begun bytes message true takes not time none held =
-    rw time (cut_on server.time server.objects server'.objects (state server.maker) (state server'.maker) ever sent begun bytes message takes none.made held.begun_is held.serves none.suits_it none.took none.none none.objects)
+    rw time (cut_on server.time server.objects server'.objects (state server.maker) (state server'.maker) ever sent begun bytes message takes none.made held.begun_is held.serves none.fits none.took none.none none.objects)
 cut_whole state server server' ever sent begun bytes message false takes not time none held = absurd (let e : false ≡ true = not in cc)
 
 -- ---- the rules of a write
@@ -252,17 +253,17 @@ did_not_whole state server ever sent sent' begun bytes message whole n takes not
     Did.goes_on n refl (count ∙ count_is begun bytes message whole takes ∙ takes.all not) (ap (λ (s : Split). s.whole) (not_whole sent sent' begun bytes message whole takes not sent_is is)) refl refl
 
 pub did_whole : {M : Type 0} (state : M → MakerState) (server server' : ServerState M) (ever ever' sent sent' begun bytes message response : List ℕ) (whole : Bool) (n : ℕ) → Takes begun bytes message whole → whole ≡ true →
-    sent' ≡ sent ++ take (length message - length begun) bytes → begun ≡ (messages_in sent).begun → Answers state server server' message (Ok response) → ever' ≡ ever ++ response →
+    sent' ≡ sent ++ take (length message - length begun) bytes → begun ≡ (messages_in sent).begun → AnswersRequest state server server' message (Ok response) → ever' ≡ ever ++ response →
     Did state server server' ever ever' sent sent' bytes (Ok n)
 did_whole state server server' ever ever' sent sent' begun bytes message response whole n takes so sent_is is answers ever_is =
     Did.ends n message response refl (is_whole sent sent' begun bytes message whole takes so sent_is is) answers ever_is
 
 pub did_formless : {M : Type 0} (state : M → MakerState) (server server' : ServerState M) (ever ever' sent sent' begun bytes message : List ℕ) (whole : Bool) (refusal : Refusal) → Takes begun bytes message whole → whole ≡ true →
-    begun ≡ (messages_in sent).begun → kept_in refusal ≡ message → is_memory refusal ≡ false → Answers state server server' message (Err NoForm) →
+    begun ≡ (messages_in sent).begun → kept_in refusal ≡ message → is_memory refusal ≡ false → AnswersRequest state server server' message (Err NoForm) →
     Did state server server' ever ever' sent sent' bytes (Err refusal)
 did_formless state server server' ever ever' sent sent' begun bytes message whole refusal takes so is kept kind answers =
     Did.formless takes.n refusal refl (ap is_message kept ∙ (takes.ends so).1) (kept ∙ takes.is ∙ ap (λ (b : List ℕ). b ++ take takes.n bytes) is)
-    (subst (λ (m : List ℕ). Answers state server server' m (Err NoForm)) (sym kept) answers) kind
+    (subst (λ (m : List ℕ). AnswersRequest state server server' m (Err NoForm)) (sym kept) answers) kind
 
 pub writes_ok : {M : Type 0} (state : M → MakerState) (before after : ServerLinkState M) (bytes : List ℕ) (n : ℕ) → before.faults ≡ 0 → after.starved ≡ before.starved → Did state before.server after.server before.ever after.ever before.sent after.sent bytes (Ok n) →
     WritesTo state before after bytes (Ok n)
@@ -278,5 +279,5 @@ writes_formless state before after bytes refusal none fed kind kept_is (Did.ends
 writes_formless state before after bytes refusal none fed kind kept_is (Did.formless m refusal' is message kept answers kind') =
     let same : refusal' ≡ refusal = cc in
     let keeps : after.kept ≡ kept_in refusal' = kept_is ∙ ap kept_in (sym same) in
-    WritesTo.formless m none fed refl (ap is_message keeps ∙ message) (keeps ∙ kept) (subst (λ (b : List ℕ). Answers state before.server after.server b (Err NoForm)) (sym keeps) answers)
+    WritesTo.formless m none fed refl (ap is_message keeps ∙ message) (keeps ∙ kept) (subst (λ (b : List ℕ). AnswersRequest state before.server after.server b (Err NoForm)) (sym keeps) answers)
 writes_formless state before after bytes refusal none fed kind kept_is (Did.no_memory is) = absurd (let same : refusal ≡ Refusal.OutOfMemory = cc in let e : true ≡ false = sym (ap is_memory same) ∙ kind in cc)

@@ -28,7 +28,7 @@ use Rattle.kmip_store.specs.declared.object.Object.{Object}
 use Rattle.kmip_store.specs.declared.maker.Made.{Made}
 use Rattle.kmip_store.specs.declared.maker.Asked.{Asked}
 use Rattle.kmip_store.specs.Makers.{MakerState}
-use Rattle.kmip_server_core.specs.Answering.{list_of_option}
+use Rattle.std.specs.Option.{option_to_list}
 use Rattle.kmip_server_core.specs.Served.{Served, served, served_request, asks, asks_request}
 use Rattle.kmip_server_core.specs.Requests.{request_of}
 use Rattle.kmip_server.specs.Machine.{Run, first_for, rest_for, then_bytes, serve, fresh, run_of}
@@ -195,8 +195,8 @@ cut_of responses requests state settings call before after told b n valid reads 
     let asked_same : asks run.objects after.kept ≡ asks run.objects b = asks_same run.objects b after.kept reads_same in
     let givens : rest_for (asks run.objects b) run.given ≡ [] =
     ap (λ q. rest_for q run.given) (sym asked_same) ∙ sym (serve_given t run after.kept) ∙ ap (λ (r : Run). (serve t r after.kept).given) (sym runs) ∙ cut.given in
-    let askeds : run.asked ++ list_of_option (asks run.objects b) ≡ (state after.server.maker).asked =
-    ap (λ q. run.asked ++ list_of_option q) (sym asked_same) ∙ sym (serve_asked t run after.kept) ∙ ap (λ (r : Run). (serve t r after.kept).asked) (sym runs) ∙ cut.asked in
+    let askeds : run.asked ++ option_to_list (asks run.objects b) ≡ (state after.server.maker).asked =
+    ap (λ q. run.asked ++ option_to_list q) (sym asked_same) ∙ sym (serve_asked t run after.kept) ∙ ap (λ (r : Run). (serve t r after.kept).asked) (sym runs) ∙ cut.asked in
     let objects : run.objects ≡ after.server.objects = ap (λ (r : Run). r.objects) (sym runs) ∙ cut.objects_are in
     let stays : after.pos ≡ before.pos = let e : after.pos ≡ before.pos + 0 = moves.pos in omega (arith, e) in
     let rest : left before ≡ left (server_link_state state after) = ap (λ l. drop before.pos l) same ∙ ap (λ p. drop p after.ever) (sym stays) in

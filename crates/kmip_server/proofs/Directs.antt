@@ -23,7 +23,7 @@ use Rattle.kmip_store.specs.declared.call.Call.TheVariants.{Query, CreateRsaKeyP
 use Rattle.kmip_store.specs.declared.object.Object.{Object}
 use Rattle.kmip_store.specs.declared.maker.Made.{Made}
 use Rattle.kmip_store.specs.declared.maker.Asked.{Asked}
-use Rattle.kmip_server_core.specs.Answering.{list_of_option}
+use Rattle.std.specs.Option.{option_to_list}
 use Rattle.kmip_store.specs.Steps.{Answer as Reply, NotFound, Denied, Failed, Done, Supports, Created, Random, Signed, Got, question, step}
 use Rattle.kmip_server_core.specs.Served.{Served, served_call, served_request, asks_request, served, asks}
 use Rattle.kmip_server_core.specs.Requests.{request_of, call_of, is_served, call_operation}
@@ -140,7 +140,7 @@ record Own (settings : Settings) (objects : List Object) (given : List Made) (as
   pub next_is : next settings (starts objects given asked) call ≡ record {
     expected = AsTold told;
     stops = false;
-    after = starts (step objects call (first_for (question objects call) given)).objects (rest_for (question objects call) given) (asked ++ list_of_option (question objects call));
+    after = starts (step objects call (first_for (question objects call) given)).objects (rest_for (question objects call) given) (asked ++ option_to_list (question objects call));
   }
 
 served_call_objects : (objects : List Object) (call : Call) (made : Option Made) (t : ℤ) → (served_call objects call made t).objects ≡ (step objects call made).objects
@@ -176,7 +176,7 @@ own_next laws settings objects given askeds call fits held =
     let rests : drop turn.outcome.taken r ≡ [] = ap (λ n. drop n r) (taken_is r settings.limit m back fits.within) ∙ drop-length r in
     let objects_is : (after_bytes settings now b).objects ≡ (step objects call made).objects = ap (λ (s : Served). s.objects) is_served_so ∙ served_call_objects objects call made t in
     let given_is : (after_bytes settings now b).given ≡ rest_for (question objects call) given = ap (λ q. rest_for q given) asked in
-    let asked_is : (after_bytes settings now b).asked ≡ askeds ++ list_of_option (question objects call) = ap (λ q. askeds ++ list_of_option q) asked in
+    let asked_is : (after_bytes settings now b).asked ≡ askeds ++ option_to_list (question objects call) = ap (λ q. askeds ++ option_to_list q) asked in
     record {
       told = turn_call_told settings call turn;
       answer = helped_is;
@@ -213,16 +213,16 @@ joined_is_direct laws settings objects given asked [] xs fit held meet = go xs (
     go [] m = refl
     go (y ∷ ys) m = absurd m
 joined_is_direct laws settings objects given asked (call ∷ calls) xs fit held meet =
-    go (λ ys m. joined_is_direct laws settings (step objects call (first_for (question objects call) given)).objects (rest_for (question objects call) given) (asked ++ list_of_option (question objects call)) calls ys fit.1
+    go (λ ys m. joined_is_direct laws settings (step objects call (first_for (question objects call) given)).objects (rest_for (question objects call) given) (asked ++ option_to_list (question objects call)) calls ys fit.1
     (held_later settings _ call calls own.told _ own.next_is held) m)
     xs (subst (λ es. Meet settings es xs) (expected_on settings _ call calls own.told _ own.next_is) meet)
   where
     own : Own settings objects given asked call
     own = own_next laws settings objects given asked call fit.0 (held_first settings _ call calls held)
 
-    go : ((ys : List CallTold) → Meet settings (expected_calls settings (starts (step objects call (first_for (question objects call) given)).objects (rest_for (question objects call) given) (asked ++ list_of_option (question objects call))) calls) ys →
+    go : ((ys : List CallTold) → Meet settings (expected_calls settings (starts (step objects call (first_for (question objects call) given)).objects (rest_for (question objects call) given) (asked ++ option_to_list (question objects call))) calls) ys →
         answers_of ys ≡ direct (step objects call (first_for (question objects call) given)).objects (rest_for (question objects call) given) calls) →
-        (ys : List CallTold) → Meet settings (AsTold own.told ∷ expected_calls settings (starts (step objects call (first_for (question objects call) given)).objects (rest_for (question objects call) given) (asked ++ list_of_option (question objects call))) calls) ys →
+        (ys : List CallTold) → Meet settings (AsTold own.told ∷ expected_calls settings (starts (step objects call (first_for (question objects call) given)).objects (rest_for (question objects call) given) (asked ++ option_to_list (question objects call))) calls) ys →
         answers_of ys ≡ direct objects given (call ∷ calls)
     go hypothesis [] m = absurd m
     go hypothesis (y ∷ ys) m =

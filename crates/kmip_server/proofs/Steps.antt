@@ -10,12 +10,12 @@ use Rattle.kmip_request.specs.declared.payload.RequestPayload.{RequestPayload}
 use Rattle.kmip_link.specs.State.{LinkState, left}
 use Rattle.kmip_client.specs.Outcome.{Answer, Outcome, outcome_of, outcome, left_for, Moves}
 use Rattle.kmip_client.specs.Client.{loses_connection}
-use Rattle.kmip_client.specs.Session.{Turn, told_of}
+use Rattle.kmip_client.specs.Session.{Turn, call_report}
 use Rattle.kmip_store.specs.declared.call.Call.{Call}
 use Rattle.kmip_store.specs.declared.object.Object.{Object}
 use Rattle.kmip_store.specs.declared.maker.Asked.{Asked}
 use Rattle.kmip_store.specs.declared.maker.Made.{Made}
-use Rattle.kmip_server_core.specs.Answering.{list_of_option}
+use Rattle.std.specs.Option.{option_to_list}
 use Rattle.kmip_server_core.specs.Served.{Served, served, asks}
 use Rattle.kmip_server_core.specs.Requests.{request_of}
 use Rattle.kmip_server.specs.Machine.{Run, first_for, rest_for, serve, fresh, run_of}
@@ -40,7 +40,7 @@ abbrev pub after_bytes : Settings → Between → List ℕ → Between
 after_bytes settings now b = record {
   objects = (served now.objects b (first_for (asks now.objects b) now.given) settings.time).objects;
   given = rest_for (asks now.objects b) now.given;
-  asked = now.asked ++ list_of_option (asks now.objects b);
+  asked = now.asked ++ option_to_list (asks now.objects b);
   rest = now.rest;
 }
 

@@ -7,7 +7,7 @@ use Rattle.kmip_response_write.specs.Settled.{response_bytes, IsHeld as IsHeldRe
 use Rattle.kmip_types.specs.declared.auth.CredentialType.{CredentialType}
 use Rattle.kmip_client.specs.Outcome.{Answer, outcome_of}
 use Rattle.kmip_client.specs.Client.{loses_connection}
-use Rattle.kmip_client.specs.Session.{Turn, told_of, Told}
+use Rattle.kmip_client.specs.Session.{Turn, call_report}
 use Rattle.kmip_client.specs.Diagnostics.{diagnostic_of}
 use Rattle.kmip_client.specs.declared.error.Error.{Error}
 use Rattle.kmip_client.specs.declared.error.Error.TheVariants.{RequestWriteError}
@@ -16,7 +16,7 @@ use Rattle.kmip_store.specs.declared.call.Call.TheVariants.{CreateRsaKeyPair, Ac
 use Rattle.kmip_store.specs.declared.object.Object.{Object}
 use Rattle.kmip_store.specs.declared.maker.Asked.{Asked}
 use Rattle.kmip_store.specs.declared.maker.Made.{Made}
-use Rattle.kmip_server_core.specs.Answering.{list_of_option}
+use Rattle.std.specs.Option.{option_to_list}
 use Rattle.kmip_server_core.specs.Served.{Served, served, asks}
 use Rattle.kmip_server_core.specs.Requests.{request_of}
 use Rattle.kmip_server.specs.Machine.{first_for, rest_for}
@@ -67,7 +67,8 @@ pub record CallTold : Type 0 where
 
 abbrev pub turn_call_told : Settings → Call → Turn → CallTold
 turn_call_told settings call turn =
-    let told = told_of settings.buffered turn.request turn.outcome.answer (take turn.outcome.taken turn.rest) in
+    let told = call_report settings.buffered turn.request turn.outcome.answer
+    (take turn.outcome.taken turn.rest) in
     record {
       sent = turn.outcome.sent;
       answer = helper_answer call turn.outcome.answer;
@@ -125,7 +126,7 @@ sent_with settings call now (Some request) =
     (record {
       objects = s.objects;
       given = rest_for q now.given;
-      asked = now.asked ++ list_of_option q;
+      asked = now.asked ++ option_to_list q;
       rest = now.rest;
     }) request
     (response_bytes s.message)

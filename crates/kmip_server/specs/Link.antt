@@ -7,7 +7,7 @@ use Rattle.kmip_wire.specs.declared.error.WireError.TheVariants.{NoForm}
 use Rattle.kmip_store.specs.declared.object.Object.{Object}
 use Rattle.kmip_store.specs.declared.maker.Made.{Made}
 use Rattle.kmip_store.specs.Makers.{MakerState}
-use Rattle.kmip_server_core.specs.State.{ServerState, Answers}
+use Rattle.kmip_server_core.specs.State.{ServerState, AnswersRequest}
 use Rattle.kmip_server.specs.Split.{is_message, messages_in}
 use Rattle.kmip_server.specs.Machine.{Run, fresh, serve, run_of}
 use Rattle.kmip_server.specs.Serving.{AreHeld}
@@ -166,13 +166,13 @@ pub data Did {M : Type 0} (state : M → MakerState) (server server' : ServerSta
   -- it ends, and the server's response to it is added after what there was to read
   ends : (n : ℕ) (message response : List ℕ) → result ≡ Ok n →
       messages_in sent' ≡ record { whole = (messages_in sent).whole ++ message ∷ []; begun = [] } →
-      Answers state server server' message (Ok response) → ever' ≡ ever ++ response →
+      AnswersRequest state server server' message (Ok response) → ever' ≡ ever ++ response →
       Did state server server' ever ever' sent sent' bytes result
   -- it ends, and the response to it has no wire form
   formless : (n : ℕ) (refusal : Refusal) → result ≡ Err refusal →
       is_message (kept_in refusal) ≡ true →
       kept_in refusal ≡ (messages_in sent).begun ++ take n bytes →
-      Answers state server server' (kept_in refusal) (Err NoForm) → is_memory refusal ≡ false →
+      AnswersRequest state server server' (kept_in refusal) (Err NoForm) → is_memory refusal ≡ false →
       Did state server server' ever ever' sent sent' bytes result
   no_memory : result ≡ Err Refusal.OutOfMemory →
       Did state server server' ever ever' sent sent' bytes result
@@ -192,12 +192,12 @@ pub data WritesTo {M : Type 0} (state : M → MakerState) (before after : Server
   ends : (n : ℕ) (message response : List ℕ) → before.faults ≡ 0 → after.starved ≡ before.starved →
       result ≡ Ok n → messages_in
       after.sent ≡ record { whole = (messages_in before.sent).whole ++ message ∷ []; begun = [] } →
-      Answers state before.server after.server message (Ok response) →
+      AnswersRequest state before.server after.server message (Ok response) →
       after.ever ≡ before.ever ++ response →
       WritesTo state before after bytes result
   formless : (n : ℕ) → before.faults ≡ 0 → after.starved ≡ before.starved → result ≡ Err Fault →
       is_message after.kept ≡ true → after.kept ≡ (messages_in before.sent).begun ++ take n bytes →
-      Answers state before.server after.server after.kept (Err NoForm) →
+      AnswersRequest state before.server after.server after.kept (Err NoForm) →
       WritesTo state before after bytes result
   -- the link is starved from then on
   no_memory : before.faults ≡ 0 → result ≡ Err OutOfMemory → after.starved ≡ true →

@@ -4,7 +4,7 @@ use Rattle.kmip_response_write.specs.Settled.{response_bytes}
 use Rattle.kmip_store.specs.declared.object.Object.{Object}
 use Rattle.kmip_store.specs.declared.maker.Asked.{Asked}
 use Rattle.kmip_store.specs.declared.maker.Made.{Made}
-use Rattle.kmip_server_core.specs.Answering.{list_of_option}
+use Rattle.std.specs.Option.{option_to_list}
 use Rattle.kmip_server_core.specs.Served.{Served, served, asks}
 
 -- what serving messages came to
@@ -38,7 +38,7 @@ serve time run b =
     record {
       objects = s.objects;
       ever = then_bytes run.ever (response_bytes s.message);
-      asked = run.asked ++ list_of_option (asks run.objects b);
+      asked = run.asked ++ option_to_list (asks run.objects b);
       given = rest_for (asks run.objects b) run.given;
     }
 

@@ -2,7 +2,7 @@ use Rattle.std.proofs.Common.{◌≡◌, ◌++◌, ◌-◌, length, take, ap, sy
 use Rattle.std.proofs.lemmas.Grind.{common_steps}
 use Rattle.kmip_server.specs.Split.{Split, Takes}
 use Rattle.kmip_server.proofs.Accepts.{not_whole, is_whole, held_not_whole, held_whole, given_of, accepted_as, cut_whole, formless_of, did_not_whole, did_whole, did_formless}
-use Rattle.kmip_server_core.specs.State.{Answers}
+use Rattle.kmip_server_core.specs.State.{AnswersRequest}
 use Rattle.kmip_server.specs.declared.link.Refusal.{Refusal}
 use Rattle.kmip_server.proofs.Splits.{append_none}
 use Rattle.kmip_server.proofs.link.accept.Goals as goal
@@ -64,6 +64,6 @@ returns-in_ok-grow_both-in-Ok-clause-did g c is =
 pub returns-in-Err-NoForm-clause-did : goal.returns-in-Err-NoForm-clause-did
 returns-in-Err-NoForm-clause-did g c is =
     let takes : Takes c.args.begun.now.items c.args.bytes.now c.in_ok-message.message.items c.in_ok-message.whole = rw (← c.deref.ensures.value) c.in_ok-message.ensures in
-    let answers : Answers g.M.Maker.state c.args.server.now c.answer.new.self c.in_ok-message.message.items (Err c.in-Err-NoForm.field-0) = rw c.deref-2.ensures.value at c.in-Err-NoForm.ensures.answers in
+    let answers : AnswersRequest g.M.Maker.state c.args.server.now c.answer.new.self c.in_ok-message.message.items (Err c.in-Err-NoForm.field-0) = rw c.deref-2.ensures.value at c.in-Err-NoForm.ensures.answers in
     did_formless _ _ _ _ _ _ _ _ c.args.bytes.now c.in_ok-message.message.items _ (Refusal.NoForm c.in_ok-message.message) takes c.if-not-whole.false is refl refl
-    (subst (λ e. Answers g.M.Maker.state c.args.server.now c.answer.new.self c.in_ok-message.message.items (Err e)) c.in-Err-NoForm.field-0-is answers)
+    (subst (λ e. AnswersRequest g.M.Maker.state c.args.server.now c.answer.new.self c.in_ok-message.message.items (Err e)) c.in-Err-NoForm.field-0-is answers)

@@ -1,0 +1,4 @@
+pub mod TheWords
+pub mod Entries
+pub mod Named
+pub mod Written
