@@ -1,3 +1,5 @@
+pub mod OtherObjects
+pub mod Added
 pub mod Calls
 pub mod Diagnostics
 pub mod Exchanges
@@ -5,4 +7,6 @@ pub mod NamedValues
 pub mod Moves
 pub mod Numbers
 pub mod EmptyLink
+pub mod JsonLines
+pub mod Gathered
 pub mod Texts

@@ -4,6 +4,14 @@ pub mod Calls
 pub mod Raw
 pub mod Requests
 pub mod Options
+pub mod Coded
+pub mod Attributes
+pub mod Given
+pub mod Keys
+pub mod Asked
 pub mod Streams
 pub mod Exchange
+pub mod Refusal
+pub mod About
 pub mod Lookup
+pub mod JsonLines

@@ -8,15 +8,22 @@
 //! to its end or to a count.
 #![tactic(auto)]
 
+mod about;
 mod answers;
+mod asked;
+mod attributes;
 mod call;
+mod coded;
 mod ending;
+mod given;
+mod keys;
+mod laws;
 mod lines;
 mod lookup;
 mod offline;
 mod options;
-mod payloads;
 mod raw;
+mod refusal;
 mod requests;
 mod setup;
 mod show;
@@ -27,6 +34,7 @@ mod words;
 pub use answers::answer;
 pub use call::{Call, Recorded, call_alone, call_of, typed_call};
 pub use ending::Ending;
+pub use laws::lines_are_json;
 pub use lines::{show_diagnostics, show_sent};
 pub use lookup::value_at;
 pub use offline::{Settings, answer_of, request_of};

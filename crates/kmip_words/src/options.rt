@@ -1,6 +1,8 @@
 //! Words of a command line that give a value to a name.
-ghost use Rattle.std.specs.Prelude.{◌≡◌, option_map, IfOk};
-ghost use Rattle.kmip_words.specs.Options.{option_given, given_after};
+ghost use Rattle.std.specs.Prelude.{◌≡◌, map, option_map, IfOk};
+ghost use Rattle.kmip_words.specs.Options.{option_given, given_after, value_given};
+ghost use Rattle.kmip_words.specs.Options.{name_given, are_options};
+ghost use Rattle.std.specs.List.{find};
 
 use kmip_wire::{OutOfMemory, Text};
 use std::alloc::Global;
@@ -35,6 +37,49 @@ pub fn given_after<'a>(
     match before {
         Some(_) => option_given(name, words),
         None => (None, words),
+    }
+}
+
+/// The value that words give to a name: that of the first word that begins with it.
+pub fn value_given<'a>(name: &str, words: &'a [Text]) -> Option<&'a str>
+    ensures { option_map (λ value. value.now) result ≡ value_given name.now words.now }
+{
+    match words {
+        [] => None,
+        [first, rest @ ..] => match first.as_str().strip_prefix(name) {
+            Some(value) => Some(value),
+            None => value_given(name, rest),
+        },
+    }
+}
+
+/// The first of these names that a word begins with.
+fn name_given<'a>(names: &[&'a str], word: &str) -> Option<&'a str>
+    ensures { option_map (λ name. name.now) result ≡
+        name_given (map (λ name. name.now) names.now) word.now }
+{
+    match names {
+        [] => None,
+        [first, rest @ ..] => {
+            if word.starts_with(*first) {
+                Some(first)
+            } else {
+                name_given(rest, word)
+            }
+        }
+    }
+}
+
+/// Whether each word gives a value to one of these names, and no two words to the same.
+pub fn are_options(names: &[&str], words: &[Text]) -> bool
+    ensures { result ≡ are_options (map (λ name. name.now) names.now) words.now }
+{
+    match words {
+        [] => true,
+        [first, rest @ ..] => match name_given(names, first.as_str()) {
+            Some(name) => value_given(name, rest).is_none() && are_options(names, rest),
+            None => false,
+        },
     }
 }
 
