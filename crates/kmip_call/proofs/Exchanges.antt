@@ -15,11 +15,12 @@ use Rattle.kmip_client.proofs.Messages.{message_short, message_refused, message_
 use Rattle.kmip_words.specs.Streams.{Gives, GivesPart, WrotePart, WroteProperPart}
 use Rattle.kmip_words.specs.Calls.{typed_call}
 use Rattle.kmip_words.specs.Exchange.{Settings, request_asked, or_empty, loses_link, json_line, call_outcome}
+use Rattle.kmip_words.specs.About.{response_line, response_ending}
 use Rattle.kmip_words.specs.declared.call.Call.{Call}
 use Rattle.kmip_words.specs.declared.ending.Ending.{Ending}
 use Rattle.kmip_words.specs.declared.ending.Ending.TheVariants.{Lost, Refused}
 use Rattle.kmip_call.specs.Wire.{taken_at, IsOneAtMost}
-use Rattle.kmip_call.specs.Exchange.{answer_err, response_if, request_bytes, taken_by, response_line, response_ending, line_of, ending_by, CarriedPart, Carried, answered, write_failed, read_failed, Requests, Exchanges}
+use Rattle.kmip_call.specs.Exchange.{answer_err, response_if, request_bytes, taken_by, line_of, ending_by, CarriedPart, Carried, answered, write_failed, read_failed, Requests, Exchanges}
 use Rattle.kmip_call.specs.declared.exchange.CallEnd.{CallEnd}
 
 pub append_none : (xs : List ℕ) → xs ≡ xs ++ []

@@ -7,6 +7,7 @@ use Rattle.kmip_client.specs.declared.error.Error.TheVariants.{RequestWriteError
 use Rattle.kmip_words.specs.Streams.{Gives, GivesPart, WrotePart, WroteProperPart}
 use Rattle.kmip_words.specs.Calls.{typed_call}
 use Rattle.kmip_words.specs.Exchange.{Settings, request_asked, or_empty, ending_of, json_line, call_outcome}
+use Rattle.kmip_words.specs.About.{response_line, response_ending}
 use Rattle.kmip_words.specs.declared.call.Call.{Call}
 use Rattle.kmip_words.specs.declared.ending.Ending.{Ending}
 use Rattle.kmip_call.specs.Wire.{IsOneAtMost}
@@ -57,13 +58,6 @@ pub record CarriedPart (settings : Settings) (call : Call) (w0 w1 : SinkState)
     (s0 s1 : SourceState) : Type 0 where
   pub sent : IsTrue w0.tells → WrotePart w0 w1 (request_bytes settings call)
   pub taken : IsTrue s0.tells → GivesPart s0 s1 (taken_by settings call (source_left s0))
-
--- the line of JSON that says what these bytes answer to a call, and how the call ended
-abbrev pub response_line : Settings → Call → List ℕ → List ℕ
-response_line settings call response = json_line call (call_outcome settings call response).answer
-
-abbrev pub response_ending : Settings → Call → List ℕ → Ending
-response_ending settings call response = ending_of (call_outcome settings call response).answer
 
 -- the line of an answer: that of the response's bytes, or that of the error of the sink or the
 -- source

@@ -5,7 +5,7 @@ use Rattle.hex.specs.Hex.{encode_upper}
 use Rattle.kmip_words.specs.Calls.{call_of, typed_call}
 use Rattle.kmip_words.specs.Exchange.{request_asked, or_empty}
 use Rattle.kmip_words.specs.declared.call.Call.{Call}
-use Rattle.kmip_words.specs.declared.call.Call.TheVariants.{Locate, Attributes, CreateAes, Discover}
+use Rattle.kmip_words.specs.declared.call.Call.TheVariants.{Locate, Attributes, CreateAes, Discover, Request}
 use Rattle.kmip_words.specs.declared.call.Recorded.{Recorded}
 
 -- the words, each with a space after it
@@ -50,6 +50,7 @@ is_unscripted (Locate name) = true
 is_unscripted (Attributes id) = true
 is_unscripted (CreateAes key_length name) = true
 is_unscripted Discover = true
+is_unscripted (Request payload) = true
 is_unscripted call = false
 
 -- the words that are recorded for a typed call: those of its request where a script has no words

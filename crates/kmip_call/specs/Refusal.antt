@@ -12,16 +12,38 @@ abbrev pub grammar_line : List ℕ → List ℕ
 grammar_line text =
     codes "{\"error\":\"GrammarError\",\"text\":" ++ (text_in_style text Json ++ codes "}\n")
 
--- the words of a call of one text
-abbrev pub form_of_text : List ℕ → Option (List ℕ)
-form_of_text name =
-    if bytes_eq name (codes "locate") then Some (codes "locate TEXT")
-    else if bytes_eq name (codes "attributes") then Some (codes "attributes TEXT")
-    else if bytes_eq name (codes "activate") then Some (codes "activate TEXT")
-    else if bytes_eq name (codes "get") then Some (codes "get TEXT")
-    else if bytes_eq name (codes "revoke") then Some (codes "revoke TEXT")
+-- the words of a call about one object
+abbrev pub object_form : List ℕ → Option (List ℕ)
+object_form name =
+    if bytes_eq name (codes "activate") then Some (codes "activate TEXT")
+    else if bytes_eq name (codes "get") then Some (codes "get TEXT [OPTION..]")
+    else if bytes_eq name (codes "revoke") then Some (codes "revoke TEXT [OPTION..]")
     else if bytes_eq name (codes "destroy") then Some (codes "destroy TEXT")
+    else if bytes_eq name (codes "rename") then Some (codes "rename TEXT TEXT")
+    else if bytes_eq name (codes "sign") then Some (codes "sign TEXT HEX [OPTION..]")
     else None
+
+-- and of a call about attributes
+abbrev pub attribute_form : List ℕ → Option (List ℕ)
+attribute_form name =
+    if bytes_eq name (codes "locate") then Some (codes "locate TEXT, or locate [ATTRIBUTE..]")
+    else if bytes_eq name (codes "attributes") then Some (codes "attributes TEXT [NAME..]")
+    else if bytes_eq name (codes "attribute-add") then Some (codes "attribute-add TEXT ATTRIBUTE")
+    else if bytes_eq name (codes "attribute-modify")
+    then Some (codes "attribute-modify TEXT ATTRIBUTE [OPTION]")
+    else if bytes_eq name (codes "attribute-delete")
+    then Some (codes "attribute-delete TEXT NAME [OPTION]")
+    else object_form name
+
+-- and of a call that makes or registers a key
+abbrev pub key_form : List ℕ → Option (List ℕ)
+key_form name =
+    if bytes_eq name (codes "create") then Some (codes "create ALGORITHM INT TEXT [OPTION]")
+    else if bytes_eq name (codes "create-aes") then Some (codes "create-aes INT TEXT")
+    else if bytes_eq name (codes "create-rsa")
+    then Some (codes "create-rsa INT TEXT TEXT [OPTION..]")
+    else if bytes_eq name (codes "register") then Some (codes "register KIND HEX [OPTION..]")
+    else attribute_form name
 
 -- the words of the call with this name
 abbrev pub form_of : List ℕ → Option (List ℕ)
@@ -30,11 +52,7 @@ form_of name =
     else if bytes_eq name (codes "discover") then Some (codes "discover")
     else if bytes_eq name (codes "rng") then Some (codes "rng INT")
     else if bytes_eq name (codes "raw") then Some (codes "raw HEX")
-    else if bytes_eq name (codes "sign") then Some (codes "sign TEXT HEX")
-    else if bytes_eq name (codes "rename") then Some (codes "rename TEXT TEXT")
-    else if bytes_eq name (codes "create-aes") then Some (codes "create-aes INT TEXT")
-    else if bytes_eq name (codes "create-rsa") then Some (codes "create-rsa INT TEXT TEXT")
-    else form_of_text name
+    else key_form name
 
 -- whether an equals sign is in a word, as in an option
 abbrev pub has_equals : List ℕ → Bool

@@ -5,8 +5,9 @@ ghost use Rattle.kmip_words.specs.Exchange.{loses_link, json_line};
 ghost use Rattle.kmip_words.specs.declared.ending.Ending.TheVariants as endings;
 ghost use Rattle.kmip_words.specs.declared.call.Call.{Call as TheCall};
 ghost use Rattle.kmip_words.specs.Calls.{typed_call};
-ghost use Rattle.kmip_call.specs.Exchange.{response_if, answer_err, response_line};
-ghost use Rattle.kmip_call.specs.Exchange.{response_ending, CarriedPart, Requests, Exchanges};
+ghost use Rattle.kmip_words.specs.About.{response_line, response_ending};
+ghost use Rattle.kmip_call.specs.Exchange.{response_if, answer_err, CarriedPart};
+ghost use Rattle.kmip_call.specs.Exchange.{Requests, Exchanges};
 
 use crate::wire::{TransferStop, transfer};
 use kmip_client::Error;

@@ -105,9 +105,11 @@ fn is_unscripted(call: &Call) -> bool
     ensures { result ≡ is_unscripted call.now }
 {
     match call {
-        Call::Locate { .. } | Call::Attributes { .. } | Call::CreateAes { .. } | Call::Discover => {
-            true
-        }
+        Call::Locate { .. }
+        | Call::Attributes { .. }
+        | Call::CreateAes { .. }
+        | Call::Discover
+        | Call::Request { .. } => true,
         Call::Query
         | Call::CreateRsa { .. }
         | Call::Rng { .. }
@@ -122,8 +124,8 @@ fn is_unscripted(call: &Call) -> bool
 }
 
 /// The words that are recorded for a typed call: those that were typed, and for `locate`,
-/// `attributes`, `create-aes` and `discover`, which a script does not have, `raw` and the bytes of
-/// the request.
+/// `attributes`, `create-aes`, `discover` and calls with options, which a script does not have,
+/// `raw` and the bytes of the request.
 pub fn recorded_words(alloc: Global, words: &[Text]) -> Result<List<Text>, OutOfMemory>
     ensures { IfOk result (λ recorded. recorded ≡ recorded_words words.now) }
 {

@@ -3,8 +3,8 @@ ghost use Rattle.std.specs.Prelude.{◌≡◌, ◌++◌, ◌⊎◌, option_map, 
 ghost use Rattle.kmip_words.specs.Streams.{WrotePart};
 ghost use Rattle.kmip_link.specs.State.{FaultCountRose};
 ghost use Rattle.kmip_words.specs.Calls.{typed_call};
-ghost use Rattle.kmip_call.specs.Refusal.{grammar_line, form_of_text, form_of, has_equals};
-ghost use Rattle.kmip_call.specs.Refusal.{wrong_name, no_call, why_not, refusal};
+ghost use Rattle.kmip_call.specs.Refusal.{grammar_line, object_form, attribute_form, key_form};
+ghost use Rattle.kmip_call.specs.Refusal.{form_of, has_equals, wrong_name, no_call, why_not, refusal};
 
 use crate::command::Order;
 use crate::status::Status;
@@ -20,18 +20,45 @@ pub const WRONG_LIMIT: &str = "limit= takes a number from 0 to 4294967295";
 /// What is said where the file of `record=FILE` cannot be opened.
 pub const NO_FILE: &str = "the file of record= cannot be opened";
 
-/// The words of a call of one text, by its name.
-fn form_of_text(name: &str) -> Option<&'static str>
-    ensures { option_map (λ form. form.now) result ≡ form_of_text name.now }
+/// The words of a call about one object, by its name.
+fn object_form(name: &str) -> Option<&'static str>
+    ensures { option_map (λ form. form.now) result ≡ object_form name.now }
 {
     match name {
-        "locate" => Some("locate TEXT"),
-        "attributes" => Some("attributes TEXT"),
         "activate" => Some("activate TEXT"),
-        "get" => Some("get TEXT"),
-        "revoke" => Some("revoke TEXT"),
+        "get" => Some("get TEXT [OPTION..]"),
+        "revoke" => Some("revoke TEXT [OPTION..]"),
         "destroy" => Some("destroy TEXT"),
+        "rename" => Some("rename TEXT TEXT"),
+        "sign" => Some("sign TEXT HEX [OPTION..]"),
         _ => None,
+    }
+}
+
+/// The words of a call about attributes, by its name.
+fn attribute_form(name: &str) -> Option<&'static str>
+    ensures { option_map (λ form. form.now) result ≡ attribute_form name.now }
+{
+    match name {
+        "locate" => Some("locate TEXT, or locate [ATTRIBUTE..]"),
+        "attributes" => Some("attributes TEXT [NAME..]"),
+        "attribute-add" => Some("attribute-add TEXT ATTRIBUTE"),
+        "attribute-modify" => Some("attribute-modify TEXT ATTRIBUTE [OPTION]"),
+        "attribute-delete" => Some("attribute-delete TEXT NAME [OPTION]"),
+        _ => object_form(name),
+    }
+}
+
+/// The words of a call that makes or registers a key, by its name.
+fn key_form(name: &str) -> Option<&'static str>
+    ensures { option_map (λ form. form.now) result ≡ key_form name.now }
+{
+    match name {
+        "create" => Some("create ALGORITHM INT TEXT [OPTION]"),
+        "create-aes" => Some("create-aes INT TEXT"),
+        "create-rsa" => Some("create-rsa INT TEXT TEXT [OPTION..]"),
+        "register" => Some("register KIND HEX [OPTION..]"),
+        _ => attribute_form(name),
     }
 }
 
@@ -44,11 +71,7 @@ fn form_of(name: &str) -> Option<&'static str>
         "discover" => Some("discover"),
         "rng" => Some("rng INT"),
         "raw" => Some("raw HEX"),
-        "sign" => Some("sign TEXT HEX"),
-        "rename" => Some("rename TEXT TEXT"),
-        "create-aes" => Some("create-aes INT TEXT"),
-        "create-rsa" => Some("create-rsa INT TEXT TEXT"),
-        _ => form_of_text(name),
+        _ => key_form(name),
     }
 }
 

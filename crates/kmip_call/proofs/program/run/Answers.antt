@@ -23,7 +23,7 @@ returns-in-Ok-None g c =
     (streams (g.W.Sink.state c.make_call.new.wire) (g.S.Source.state c.make_call.new.source) (g.F.Sink.state c.args.kept.now) (g.K.Sink.state c.refuse_words.new.told)) c.refuse_words.result none
     (record { status_is = e.status; wire = c.make_call.ensures.wire none; source = c.make_call.ensures.source none; kept = refl; told = e.line; told_part = e.part })
 
-pub returns-in-Err : goal.returns-in-Err
-returns-in-Err g c =
+pub returns : goal.returns
+returns g c =
     broken_off c.args.order.now (g.W.Sink.state c.args.wire.now) (g.W.Sink.state c.make_call.new.wire) (g.S.Source.state c.args.source.now) (g.S.Source.state c.make_call.new.source)
     (g.F.Sink.state c.args.kept.now) (g.K.Sink.state c.args.told.now) c.make_call.ensures.wire c.make_call.ensures.source c.in-Err.ensures.broken_off
