@@ -1,6 +1,6 @@
 -- Signing with a key that is made for it: which calls are made, in which order, and what comes of
 -- them. Each finds the client as the one before it left it.
-use Rattle.std.specs.Prelude.{◌≡◌, ℕ, pos, List, ◌×◌, Option, Some, None, Result, Ok, Err, codes}
+use Rattle.std.specs.Prelude.{◌≡◌, ℕ, pos, List, Option, Some, None, Result, Ok, Err, codes}
 use Rattle.std.specs.List.{Contains}
 use Rattle.kmip_link.specs.State.{LinkState}
 use Rattle.kmip_enums.specs.declared.operation.Operation.{Operation}
