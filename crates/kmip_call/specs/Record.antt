@@ -1,8 +1,8 @@
 -- The line that records a call and its response: a line of a script (docs/PROGRAM.md).
-use Rattle.std.specs.Prelude.{ℕ, List, [], ◌∷◌, ◌++◌, ◌==◌, Bool, true, false, Option, Some, None, if◌then◌else◌, codes}
+use Rattle.std.specs.Prelude.{◌≡◌, ℕ, List, [], ◌∷◌, ◌++◌, ◌==◌, length, Bool, true, false, not, ◌&&◌, Option, Some, None, if◌then◌else◌, codes}
 use Rattle.std.specs.List.{list_any}
 use Rattle.hex.specs.Hex.{encode_upper}
-use Rattle.kmip_words.specs.Calls.{call_of, typed_call}
+use Rattle.kmip_words.specs.Calls.{call_of, call_in, typed_call}
 use Rattle.kmip_words.specs.Exchange.{request_asked, or_empty}
 use Rattle.kmip_words.specs.declared.call.Call.{Call}
 use Rattle.kmip_words.specs.declared.call.Call.TheVariants.{Locate, Attributes, CreateAes, Discover, Request}
@@ -28,16 +28,29 @@ abbrev pub is_call : Option Recorded → Bool
 is_call (Some it) = true
 is_call None = false
 
--- whether a line feed is in a text
-abbrev pub has_line_feed : List ℕ → Bool
-has_line_feed text = list_any (λ c. c == 10) text
+abbrev pub has_byte : ℕ → List ℕ → Bool
+has_byte byte text = list_any (λ c. c == byte) text
 
-abbrev pub is_one_call : List ℕ → Bool
-is_one_call line = if has_line_feed line then false else is_call (call_of line)
+-- whether a script may hold a word: it is not empty, and has no space and no line feed
+abbrev pub is_script_word : List ℕ → Bool
+is_script_word word = not (length word == 0) && (not (has_byte 32 word) && not (has_byte 10 word))
+
+abbrev pub are_script_words : List (List ℕ) → Bool
+are_script_words [] = true
+are_script_words (word ∷ words) = is_script_word word && are_script_words words
 
 -- whether the words, with a response after them, are a line of a script
 abbrev pub is_recordable : List (List ℕ) → Bool
-is_recordable words = is_one_call (record_line words [])
+is_recordable words = are_script_words words && is_call (call_of (record_line words []))
+
+-- The record of these words with this response is one line, and a script reads from it the call of
+-- the words and the response.
+pub record ReadsBack (words : List (List ℕ)) (response : List ℕ) : Type 0 where
+  pub one_line : has_byte 10 (record_line words response) ≡ false
+  pub call : Call
+  pub call_is : call_in words ≡ Some call
+  pub back : call_of (record_line words response) ≡
+      Some (record { call = call; response = response })
 
 -- `raw` and the bytes of a call's request, without a credential: the line of a script has that of
 -- whoever replays it

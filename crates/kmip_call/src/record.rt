@@ -1,11 +1,16 @@
 //! The line that records a call and its response, as `kmip_run replay` reads it.
-ghost use Rattle.std.specs.Prelude.{◌≡◌, ◌++◌, [], codes, option_map, IfOk, OnOk, IsErrOf, IsTrue};
+ghost use Rattle.std.specs.Prelude.{◌≡◌, ◌++◌, ℕ, [], List as TheList, false, codes, Some, option_map};
+ghost use Rattle.std.specs.Prelude.{IfOk, OnOk, IsErrOf, IsTrue};
+ghost use Rattle.hex.specs.Hex.{IsBytes};
 ghost use Rattle.kmip_link.specs.State.{FaultCountRose};
+ghost use Rattle.kmip_words.specs.Calls.{call_in, typed_call};
 ghost use Rattle.kmip_words.specs.Exchange.{or_empty};
 ghost use Rattle.kmip_words.specs.Streams.{WrotePart};
-ghost use Rattle.kmip_call.specs.Record.{with_spaces, response_word, record_line, has_line_feed};
-ghost use Rattle.kmip_call.specs.Record.{is_recordable, raw_words, is_unscripted};
-ghost use Rattle.kmip_call.specs.Record.{recorded_words, record_text};
+ghost use Rattle.kmip_words.specs.declared.call.Call.{Call as TheCall};
+ghost use Rattle.kmip_call.specs.Record.{with_spaces, response_word, record_line, has_byte};
+ghost use Rattle.kmip_call.specs.Record.{is_script_word, are_script_words, is_recordable};
+ghost use Rattle.kmip_call.specs.Record.{raw_words, is_unscripted};
+ghost use Rattle.kmip_call.specs.Record.{recorded_words, record_text, ReadsBack};
 
 use kmip_link::{LinkError, Sink};
 use kmip_wire::{List, OutOfMemory, Text, clone_items};
@@ -55,11 +60,28 @@ fn record_text(alloc: Global, words: &[Text], response: &[u8]) -> Result<Text, O
     Ok(line)
 }
 
-/// Whether a line feed is in a text.
-fn has_line_feed(text: &str) -> bool
-    ensures { result ≡ has_line_feed text.now }
+/// Whether a byte is in a text.
+fn has_byte(byte: u8, text: &str) -> bool
+    ensures { result ≡ has_byte byte text.now }
 {
-    text.as_bytes().contains(&b'\n')
+    text.as_bytes().contains(&byte)
+}
+
+/// Whether a script may hold a word: it is not empty, and has no space and no line feed.
+fn is_script_word(word: &str) -> bool
+    ensures { result ≡ is_script_word word.now }
+{
+    !word.is_empty() && !has_byte(b' ', word) && !has_byte(b'\n', word)
+}
+
+/// Whether a script may hold each of these words.
+fn are_script_words(words: &[Text]) -> bool
+    ensures { result ≡ are_script_words words.now }
+{
+    match words {
+        [] => true,
+        [first, rest @ ..] => is_script_word(first.as_str()) && are_script_words(rest),
+    }
 }
 
 /// Whether a script may hold these words as a call: no word is empty or has a space or a line feed,
@@ -67,10 +89,10 @@ fn has_line_feed(text: &str) -> bool
 pub fn is_recordable(alloc: Global, words: &[Text]) -> Result<bool, OutOfMemory>
     ensures { IfOk result (λ recordable. recordable ≡ is_recordable words.now) }
 {
-    let line = record_line(alloc, words, &[])?;
-    if has_line_feed(line.as_str()) {
+    if !are_script_words(words) {
         return Ok(false);
     }
+    let line = record_line(alloc, words, &[])?;
     match call_of(alloc, line.as_str().as_bytes())? {
         Some(_) => Ok(true),
         None => Ok(false),
@@ -160,3 +182,13 @@ pub fn write_record<F: Sink>(
     };
     write_out(kept, line.as_str().as_bytes())
 }
+
+/// A record of words that a script may hold, with any response, is one line, from which a script
+/// reads the call of these words and the response. And words that are recorded as they were typed
+/// have the call that was typed.
+pub fn records_read_back()
+    ensures back { (words : TheList (TheList ℕ)) (response : TheList ℕ) →
+        IsTrue (is_recordable words) → IsBytes response → ReadsBack words response }
+    ensures typed { (words : TheList (TheList ℕ)) (call : TheCall) →
+        typed_call words ≡ Some call → is_unscripted call ≡ false → call_in words ≡ Some call }
+{}

@@ -53,7 +53,7 @@ returns-in-Err-ReadFault-clause-broken_off g c =
 pub returns-in_err-text-in-Err-WriteFault-clause-broken_off : goal.returns-in_err-text-in-Err-WriteFault-clause-broken_off
 returns-in_err-text-in-Err-WriteFault-clause-broken_off g c =
     let ensures = rw (c.limit.ensures, c.deref-2.ensures.value) at c.transfer.ensures in
-    on_err c.from_residual-in_err-text-in-Err-WriteFault.result (part_sent c.args.settings.now c.args.words.now c.in-Some.request.items (g.W.Sink.state c.args.wire.now) (g.W.Sink.state c.transfer.new.wire) (g.S.Source.state c.args.source.now) (g.S.Source.state c.transfer.new.source)
+    on_err c.from_residual.result (part_sent c.args.settings.now c.args.words.now c.in-Some.request.items (g.W.Sink.state c.args.wire.now) (g.W.Sink.state c.transfer.new.wire) (g.S.Source.state c.args.source.now) (g.S.Source.state c.transfer.new.source)
     (rw c.in-Some.is at c.requires.request) ensures.sent_part ensures.taken_part)
 
 pub returns-in_err-text-in-Err-ReadFault-clause-broken_off : goal.returns-in_err-text-in-Err-ReadFault-clause-broken_off
