@@ -4,3 +4,4 @@ pub mod Dates
 pub mod Texts
 pub mod Encoding
 pub mod Parts
+pub mod Reading

@@ -5,3 +5,5 @@
 mod json;
 #[cfg(test)]
 mod messages;
+#[cfg(test)]
+mod refusals;

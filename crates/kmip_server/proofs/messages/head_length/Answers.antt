@@ -1,6 +1,5 @@
-use Rattle.std.proofs.Common.{rules}
 use Rattle.kmip_wire.specs.Head.{head_length}
-use Rattle.kmip_server.proofs.take.head_length.Goals as goal
+use Rattle.kmip_server.proofs.messages.head_length.Goals as goal
 
 pub returns : goal.returns
 unfolding head_length

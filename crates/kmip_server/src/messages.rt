@@ -1,7 +1,7 @@
 //! The message that a write is in.
 ghost use Rattle.std.specs.Prelude.{◌≡◌, ◌≤◌, IfOk, IsTrue, OnOk, OnErr, ◌++◌, length};
 ghost use Rattle.kmip_wire.specs.Head.{head_length};
-ghost use Rattle.kmip_server.specs.Split.{is_message, Takes};
+ghost use Rattle.kmip_server.specs.Split.{is_message, CutsMessage};
 
 use std::alloc::{AllocError, Global};
 
@@ -22,8 +22,8 @@ fn head_length(b: &[u8]) -> u32
 }
 
 /// The begun message with the next bytes, up to its end; and whether that was reached.
-pub fn take_bytes(alloc: Global, begun: &[u8], bytes: &[u8]) -> Result<(Vec<u8>, bool), AllocError>
-    ensures { IfOk result (λ r. Takes begun.now bytes.now r.0.items r.1) }
+pub fn cut_message(alloc: Global, begun: &[u8], bytes: &[u8]) -> Result<(Vec<u8>, bool), AllocError>
+    ensures { IfOk result (λ r. CutsMessage begun.now bytes.now r.0.items r.1) }
 {
     let mut message = begun.to_vec(alloc)?;
     for byte in bytes {
