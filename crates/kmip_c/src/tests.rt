@@ -266,7 +266,7 @@ fn a_head_says_how_many_bytes_follow(rt: HostRuntime) -> Result<(), Fail> {
 
 /// A call, a response to it, and the status and the line that they come to.
 #[derive(Clone, Copy)]
-struct Answer {
+struct AnswerRow {
     shows: &'static str,
     call: &'static str,
     response: &'static str,
@@ -278,141 +278,141 @@ struct Answer {
 const ANOTHER: &str = "{\"error\":\"InternalError\",\"text\":\"answer for another object\",";
 
 /// Answers, by the beginnings of their lines.
-const ANSWERS: &[Answer] = &[
-    Answer {
+const ANSWERS: &[AnswerRow] = &[
+    AnswerRow {
         shows: "a payload",
         call: "rng 4",
         response: RANDOM,
         status: 0,
         line: "{\"answer\":{\"random_bytes\":\"DEADBEEF\"}}\n",
     },
-    Answer {
+    AnswerRow {
         shows: "the payload of another operation",
         call: "query",
         response: RANDOM,
         status: 1,
         line: "{\"error\":\"InternalError\",\"text\":\"Response operation Some(RNGRetrieve) does not match request operation Query\",\"response\":\"7B[7A[69[6Ai6Bi]92d0Di]0F[5Ce25:7Fe0:7C[C2x]]]\"}\n",
     },
-    Answer {
+    AnswerRow {
         shows: "an empty structure, and a byte that no message has",
         call: "rng 4",
         response: "!42007B0100000000AA",
         status: 1,
         line: "{\"error\":\"InternalError\",\"text\":\"not a response message\",\"response\":\"7B[]\"}\n",
     },
-    Answer {
+    AnswerRow {
         shows: "a reason past the table, with what the server said",
         call: "sign k1 00",
         response: "RES2(5C e21,7F e1,7E e12,7D \"no such mechanism\")",
         status: 1,
         line: "{\"error\":\"InternalError\",\"text\":\"not a response message\",\"response\":\"7B[7A[69[6Ai6Bi]92d0Di]0F[5Ce21:7Fe1:7Ee12:7Dt]]\",\"reason\":18,\"message\":\"no such mechanism\"}\n",
     },
-    Answer {
+    AnswerRow {
         shows: "a reason past the table, with no text",
         call: "query",
         response: "RES2(5C e18,7F e1,7E e8000001F)",
         status: 1,
         line: "{\"error\":\"InternalError\",\"text\":\"not a response message\",\"response\":\"7B[7A[69[6Ai6Bi]92d0Di]0F[5Ce18:7Fe1:7Ee8000001F:]]\",\"reason\":2147483679}\n",
     },
-    Answer {
+    AnswerRow {
         shows: "a refusal as KMIP has it",
         call: "destroy k1",
         response: "RES0(5C e14,7F e1,7E e1,7D \"gone\")",
         status: 1,
         line: "{\"error\":\"ItemNotFound\",\"text\":\"Operation Destroy failed: gone\"}\n",
     },
-    Answer {
+    AnswerRow {
         shows: "a message that ends early",
         call: "rng 4",
         response: "!42007B010000009042007A01",
         status: 3,
         line: "{\"error\":\"ResponseReadError\",\"text\":\"end of input\"}\n",
     },
-    Answer {
+    AnswerRow {
         shows: "activate, another object",
         call: "activate k1",
         response: "OK0(12, 94\"k2\")",
         status: 3,
         line: ANOTHER,
     },
-    Answer {
+    AnswerRow {
         shows: "sign, another object",
         call: "sign k1 00",
         response: "OK2(21, 94\"k2\",C3 x0102)",
         status: 3,
         line: ANOTHER,
     },
-    Answer {
+    AnswerRow {
         shows: "get, another object",
         call: "get k1",
         response: "OK0(A, 57 e2,94\"k2\",8F{40{42 e1,45{43 x00},28 e3,2A i8}})",
         status: 3,
         line: ANOTHER,
     },
-    Answer {
+    AnswerRow {
         shows: "destroy, another object",
         call: "destroy k1",
         response: "OK0(14, 94\"k2\")",
         status: 3,
         line: ANOTHER,
     },
-    Answer {
+    AnswerRow {
         shows: "revoke, another object",
         call: "revoke k1",
         response: "OK0(13, 94\"k2\")",
         status: 3,
         line: ANOTHER,
     },
-    Answer {
+    AnswerRow {
         shows: "rename, another object",
         call: "rename k1 n",
         response: "OK0(E, 94\"k2\",08{0A\"Name\",0B{55\"n\",54 e1}})",
         status: 3,
         line: ANOTHER,
     },
-    Answer {
+    AnswerRow {
         shows: "attributes, another object",
         call: "attributes k1",
         response: "OK0(B, 94\"k2\")",
         status: 3,
         line: ANOTHER,
     },
-    Answer {
+    AnswerRow {
         shows: "the object that was asked about",
         call: "get k2",
         response: "OK0(A, 57 e2,94\"k2\",8F{40{42 e1,45{43 x00},28 e3,2A i8}})",
         status: 0,
         line: "{\"answer\":{\"object_type\":\"SymmetricKey\",\"unique_identifier\":\"k2\",",
     },
-    Answer {
+    AnswerRow {
         shows: "a call with options, as the one without",
         call: "revoke k1 reason=KeyCompromise",
         response: "OK0(13, 94\"k1\")",
         status: 0,
         line: "{\"answer\":{}}\n",
     },
-    Answer {
+    AnswerRow {
         shows: "the payload of a call with options",
         call: "sign k1 00 hash=SHA512",
         response: "OK2(21, 94\"k1\",C3 x0102)",
         status: 0,
         line: "{\"answer\":{\"unique_identifier\":\"k1\",\"signature_data\":\"0102\"}}\n",
     },
-    Answer {
+    AnswerRow {
         shows: "a call with options, another object",
         call: "sign k1 00 hash=SHA512",
         response: "OK2(21, 94\"k2\",C3 x0102)",
         status: 3,
         line: ANOTHER,
     },
-    Answer {
+    AnswerRow {
         shows: "attributes by name, another object",
         call: "attributes k1 State",
         response: "OK0(B, 94\"k2\")",
         status: 3,
         line: ANOTHER,
     },
-    Answer {
+    AnswerRow {
         shows: "no identifier asked about",
         call: "activate -",
         response: "OK0(12, 94\"k2\")",
@@ -422,7 +422,7 @@ const ANSWERS: &[Answer] = &[
 ];
 
 /// That the call and the response of a row come to its status and its line.
-fn is_answered(rt: &impl Abort, alloc: Global, row: Answer) -> Result<(), Fail> {
+fn is_answered(rt: &impl Abort, alloc: Global, row: AnswerRow) -> Result<(), Fail> {
     let response = message(alloc, row.response)?;
     let mut line = [7u8; 400];
     let mut length = 0;
@@ -469,7 +469,7 @@ fn a_line_is_written_where_it_fits(rt: HostRuntime) -> Result<(), Fail> {
 /// A call, a response to it, a path and whether it leads to hex, and what `kmip_value` returns and
 /// writes.
 #[derive(Clone, Copy)]
-struct Value {
+struct ValueRow {
     call: &'static str,
     response: &'static str,
     path: &'static [u8],
@@ -479,7 +479,7 @@ struct Value {
 }
 
 /// Bytes of an answer.
-const BYTES: Value = Value {
+const BYTES: ValueRow = ValueRow {
     call: "rng 4",
     response: RANDOM,
     path: b"random_bytes",
@@ -489,7 +489,7 @@ const BYTES: Value = Value {
 };
 
 /// A number of an answer.
-const NUMBER: Value = Value {
+const NUMBER: ValueRow = ValueRow {
     call: "discover",
     response: VERSIONS,
     path: b"supported_versions.0.minor",
@@ -499,22 +499,22 @@ const NUMBER: Value = Value {
 };
 
 /// Values that an answer has.
-const FOUND: &[Value] = &[
+const FOUND: &[ValueRow] = &[
     BYTES,
     NUMBER,
-    Value {
+    ValueRow {
         hex: false,
         returned: 8,
         written: b"DEADBEEF",
         ..BYTES
     },
-    Value {
+    ValueRow {
         path: b"supported_versions.1.minor",
         written: b"0",
         ..NUMBER
     },
     // the text of the answer, not the one that an unknown item, a header item or another field has
-    Value {
+    ValueRow {
         call: "get k1",
         response: "OK0(A, 57 e2,54FFFF\"x\",94\"k1\",8F{40{42 e1,45{43 x0AFF},28 e3,2A i16}})",
         path: b"unique_identifier",
@@ -522,7 +522,7 @@ const FOUND: &[Value] = &[
         returned: 2,
         written: b"k1",
     },
-    Value {
+    ValueRow {
         call: "get k1",
         response: "OK0(A, 57 e2,94\"k1\",8F{40{42 e1,45{43 x0AFF},28 e3,2A i16}})",
         path: b"cryptographic_object.SymmetricKey.key_block.key_value.key_material.Bytes",
@@ -530,7 +530,7 @@ const FOUND: &[Value] = &[
         written: &[0x0A, 0xFF],
         ..BYTES
     },
-    Value {
+    ValueRow {
         call: "attributes -",
         response: "OK0(B, 94\"a\\\"\\x01\",08{0A\"x-flag\",0B o1})",
         path: b"unique_identifier",
@@ -538,7 +538,7 @@ const FOUND: &[Value] = &[
         returned: 3,
         written: b"a\"\x01",
     },
-    Value {
+    ValueRow {
         call: "attributes -",
         response: "OK0(B, 94\"k1\",08{0A\"x-flag\",0B o1})",
         path: b"attributes.0.value.Boolean",
@@ -546,7 +546,7 @@ const FOUND: &[Value] = &[
         returned: 4,
         written: b"true",
     },
-    Value {
+    ValueRow {
         response: "OK2(25, C2 x)",
         returned: 0,
         written: b"",
@@ -555,83 +555,83 @@ const FOUND: &[Value] = &[
 ];
 
 /// What no value is returned for.
-const NONE: Value = Value {
+const NONE: ValueRow = ValueRow {
     returned: -3,
     written: b"",
     ..BYTES
 };
 
 /// Paths to no value, errors, and words out of the grammar.
-const NOT_FOUND: &[Value] = &[
-    Value { path: b"", ..NONE },
-    Value {
+const NOT_FOUND: &[ValueRow] = &[
+    ValueRow { path: b"", ..NONE },
+    ValueRow {
         path: b"answer.random_bytes",
         ..NONE
     },
-    Value {
+    ValueRow {
         path: b"random_bytes.0",
         ..NONE
     },
-    Value {
+    ValueRow {
         path: b"random_bytes.",
         ..NONE
     },
     // an error, and its text
-    Value {
+    ValueRow {
         call: "query",
         ..NONE
     },
-    Value {
+    ValueRow {
         call: "query",
         path: b"text",
         hex: false,
         ..NONE
     },
     // a list, an object, and what is no index in the list
-    Value {
+    ValueRow {
         path: b"supported_versions",
         returned: -3,
         written: b"",
         ..NUMBER
     },
-    Value {
+    ValueRow {
         path: b"supported_versions.0",
         returned: -3,
         written: b"",
         ..NUMBER
     },
-    Value {
+    ValueRow {
         path: b"supported_versions.2.minor",
         returned: -3,
         written: b"",
         ..NUMBER
     },
-    Value {
+    ValueRow {
         path: b"supported_versions.00.minor",
         returned: -3,
         written: b"",
         ..NUMBER
     },
     // a number is no hex
-    Value {
+    ValueRow {
         hex: true,
         returned: -3,
         written: b"",
         ..NUMBER
     },
     // an answer about another object
-    Value {
+    ValueRow {
         call: "sign k1 00",
         response: "OK2(21, 94\"k2\",C3 x0102)",
         path: b"signature_data",
         ..NONE
     },
-    Value {
+    ValueRow {
         call: "rng",
         returned: -2,
         ..NONE
     },
-    Value {
+    ValueRow {
         path: &[255],
         returned: -2,
         ..NONE
@@ -639,7 +639,7 @@ const NOT_FOUND: &[Value] = &[
 ];
 
 /// That the value of a row is returned and written, and nothing else.
-fn is_value(rt: &impl Abort, alloc: Global, row: Value) -> Result<(), Fail> {
+fn is_value(rt: &impl Abort, alloc: Global, row: ValueRow) -> Result<(), Fail> {
     let response = message(alloc, row.response)?;
     let mut into = [7u8; 12];
     let call = row.call.as_bytes();

@@ -1,5 +1,5 @@
 -- What a call of the client did, of its exchange over a link in memory.
-use Rattle.std.proofs.Common.{◌≡◌, ◌≢◌, ℕ, ◌+◌, ◌-◌, Bool, true, false, cond, List, ◌++◌, take, drop, Option, None, refl, ◌∙◌, ap, sym, subst, arith, zero-add, Result, Ok, Err, IfOk}
+use Rattle.std.proofs.Common.{◌≡◌, ◌≢◌, ℕ, ◌+◌, ◌-◌, Bool, true, false, cond, List, ◌++◌, take, drop, Option, None, refl, ◌∙◌, ap, sym, subst, arith, zero-add, Result, Ok, Err, IfOk, OnOk}
 use Rattle.std.proofs.lemmas.List.{drop-drop}
 use Rattle.kmip_shape.specs.Val.{Val, Number, Text, Bytes, Truth, Record, Case}
 use Rattle.kmip_shape.specs.Shape.{Shape}
@@ -18,7 +18,7 @@ use Rattle.kmip_client.specs.declared.error.Error.TheVariants.{OutOfMemory}
 use Rattle.kmip_client.specs.Outcome.{Answer, Outcome, outcome, outcome_of, Moves, Exchanged}
 use Rattle.kmip_client.specs.Calls.{IsCall}
 use Rattle.kmip_client.specs.Client.{ClientState, IsOfOperation}
-use Rattle.kmip_words.specs.Exchange.{Settings, Asked, asked_of, IsRequestOf, operation_asked, payload_in_style, record_in_style, value_in_style, answer_line, is_error, loses_link, ending_of, fails, settings_of, call_outcome, step_in, step_of, told_lines, Shows, Answers}
+use Rattle.kmip_words.specs.Exchange.{Settings, Asked, asked_of, IsRequestOf, operation_asked, payload_in_style, record_in_style, value_in_style, value_line, answer_line, is_error, loses_link, ending_of, fails, settings_of, call_outcome, step_in, step_of, told_lines, Shows, Answers}
 use Rattle.kmip_words.specs.declared.ending.Ending.{Ending}
 use Rattle.kmip_words.specs.declared.ending.Ending.TheVariants.{Lost, Refused}
 use Rattle.kmip_words.specs.declared.call.Call.{Call}
@@ -100,6 +100,22 @@ pub answer_shown : {E : Type 0} {before after : ClientState MemoryState} (style 
     IfOk shown (λ ending. Answers (step_in style (settings_of before) call (drop before.link.pos before.link.ever)) before after ending old new)
 answer_shown style call payload answer (Ok ending) old new makes did shows = answered style call payload answer ending old new makes did shows.some shows.shown shows.ending_is
 answer_shown style call payload answer (Err error) old new makes did shows = tt
+
+-- nothing comes to a link in memory by itself
+pub ever_kept : (o : Outcome) (before after : MemoryState) (answer : Answer) → Exchanged o (memory_state before) (memory_state after) answer → after.ever ≡ before.ever
+ever_kept o before after answer (Exchanged.completed is moves) = moves.still refl
+ever_kept o before after answer (Exchanged.write_failed is rose n below moves) = moves.still refl
+ever_kept o before after answer (Exchanged.read_failed is rose n within moves) = moves.still refl
+ever_kept o before after answer (Exchanged.sending_cut is n within moves) = moves.still refl
+ever_kept o before after answer (Exchanged.reading_cut is n within moves) = moves.still refl
+
+-- the payload of an operation was added as its record
+pub record_added : {E : Type 0} (result : Result (Unit {0}) E) (operation : Operation) (shape : Shape) (style : Style) (payload : Val) (old new : List ℕ) →
+    ((v : Val) → payload_in_style (Case (operation_line operation).number v) style ≡ shown_in_style shape v style) → IsOfOperation operation payload →
+    OnOk result (new ≡ old ++ value_line (payload_in_style payload style) style) → OnOk result (new ≡ old ++ value_line (record_in_style shape payload style) style)
+record_added {E} result operation shape style payload old new same own added =
+    let P : List ℕ → Type 0 = λ text. OnOk {E = E} result (new ≡ old ++ value_line text style) in
+    subst P (record_is operation shape style payload same own) added
 
 -- over a link that has these bytes to read, the answer and the bytes taken are the outcome's, unless memory ran out
 pub outcome_given : {before after : ClientState MemoryState} (settings : Settings) (call : Call) (payload : RequestPayload) (response : List ℕ) (answer : Answer) →

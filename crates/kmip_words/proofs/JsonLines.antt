@@ -197,9 +197,10 @@ internal_error_line_is text response =
     let error : List ℕ = codes "\"error\":\"InternalError\",\"text\":" ++ text_in_style text Json in
     let skeleton : List ℕ = text_in_style (diagnostic (Some 0x4200) response) Json in
     let shown : List ℕ = error ++ (codes ",\"response\":" ++ skeleton) in
-    let all : List ℕ = (shown ++ reason_member (reason_of response)) ++ message_member (message_of response) in
-    (123 ∷ (all ++ 125 ∷ []),
+    let all : List ℕ = (shown ++ reason_member (reason_of response)) ++ message_member (message_of response) in (
+      123 ∷ (all ++ 125 ∷ []),
       AnObject all (and_message (shown ++ reason_member (reason_of response))
-      (and_reason shown (and_member error (members_of (codes "InternalError") text refl) (codes "response") skeleton refl (string_is (diagnostic (Some 0x4200) response))) (reason_of response))
-      (message_of response)),
-      simp append_assoc)
+          (and_reason shown (and_member error (members_of (codes "InternalError") text refl) (codes "response") skeleton refl (string_is (diagnostic (Some 0x4200) response))) (reason_of response))
+          (message_of response)),
+      simp append_assoc,
+    )

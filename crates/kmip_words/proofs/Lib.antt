@@ -3,10 +3,7 @@ pub mod Added
 pub mod Calls
 pub mod Diagnostics
 pub mod Exchanges
-pub mod NamedValues
 pub mod Moves
-pub mod Numbers
 pub mod EmptyLink
 pub mod JsonLines
-pub mod Gathered
-pub mod Texts
+pub use Rattle.kmip_request_words.proofs.NamedValues

@@ -4,9 +4,9 @@ use Rattle.std.specs.Option.{option_map, option_and_then}
 use Rattle.std.specs.Str.{is_utf8}
 use Rattle.kmip_request.specs.declared.payload.RequestPayload.{RequestPayload}
 use Rattle.kmip_request_read.specs.Reading.{request_read}
-use Rattle.kmip_words.specs.Asked.{asked_in}
-use Rattle.kmip_words.specs.Words.{parts_between, words_of}
-use Rattle.kmip_words.specs.Values.{int_of, bytes_of, word_text}
+use Rattle.kmip_request_words.specs.Asked.{asked_in}
+use Rattle.kmip_request_words.specs.Words.{parts_between, words_of}
+use Rattle.kmip_request_words.specs.Values.{int_of, bytes_of, word_text}
 use Rattle.kmip_words.specs.declared.call.Call.{Call}
 use Rattle.kmip_words.specs.declared.call.Call.TheVariants.{Query, CreateRsa, Rng, Sign, Activate, Revoke, Destroy, Rename, Get, Raw, Locate, Attributes, CreateAes, Discover, Request}
 use Rattle.kmip_words.specs.declared.call.Recorded.{Recorded}

@@ -20,7 +20,7 @@ use Rattle.kmip_client.specs.Outcome.{Answer, Outcome, outcome_of}
 use Rattle.kmip_client.specs.Requests.{query_request, key_pair_request, rng_request, sign_request, activate_request, revoke_request, destroy_request, rename_request, get_request}
 use Rattle.kmip_client.specs.declared.error.Error.{Error}
 use Rattle.kmip_client.specs.declared.error.Error.TheVariants.{ConfigurationError, SerializeError, RequestWriteError, ResponseReadError, DeserializeError, ServerError, InternalError, ItemNotFound, Unknown, OutOfMemory}
-use Rattle.kmip_words.specs.Requests.{locate_request, attributes_request, create_aes_request, discover_request}
+use Rattle.kmip_request_words.specs.Requests.{locate_request, attributes_request, create_aes_request, discover_request}
 use Rattle.kmip_words.specs.declared.call.Call.{Call}
 use Rattle.kmip_words.specs.declared.call.Call.TheVariants.{Query, CreateRsa, Rng, Sign, Activate, Revoke, Destroy, Rename, Get, Raw, Locate, Attributes, CreateAes, Discover, Request}
 use Rattle.kmip_words.specs.declared.ending.Ending.{Ending}

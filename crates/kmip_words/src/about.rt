@@ -69,30 +69,39 @@ fn asked_about(call: &Call) -> &str
     }
 }
 
+/// The text of an identifier.
+fn text_of(id: &UniqueIdentifier) -> &str
+    ensures { result.now ≡ id.now.0 }
+{
+    let UniqueIdentifier(text) = id;
+    text.as_str()
+}
+
 /// The identifier that stands first in a payload, or second, after a type; empty where none does.
 fn identifier_in(payload: &ResponsePayload) -> &str
     ensures { result.now ≡ identifier_in (response_payload_val payload.now) }
 {
-    let UniqueIdentifier(id) = match payload {
-        ResponsePayload::Create(payload) => &payload.unique_identifier,
-        ResponsePayload::CreateKeyPair(payload) => &payload.private_key_unique_identifier,
-        ResponsePayload::Register(payload) => &payload.unique_identifier,
-        ResponsePayload::Get(payload) => &payload.get().unique_identifier,
-        ResponsePayload::GetAttributes(payload) => &payload.unique_identifier,
-        ResponsePayload::GetAttributeList(payload) => &payload.unique_identifier,
-        ResponsePayload::AddAttribute(payload) => &payload.unique_identifier,
-        ResponsePayload::ModifyAttribute(payload) => &payload.unique_identifier,
-        ResponsePayload::DeleteAttribute(payload) => &payload.unique_identifier,
-        ResponsePayload::Activate(payload) => &payload.unique_identifier,
-        ResponsePayload::Revoke(payload) => &payload.unique_identifier,
-        ResponsePayload::Destroy(payload) => &payload.unique_identifier,
-        ResponsePayload::Sign(payload) => &payload.unique_identifier,
+    match payload {
+        ResponsePayload::Create(payload) => text_of(&payload.unique_identifier),
+        ResponsePayload::CreateKeyPair(payload) => {
+            text_of(&payload.private_key_unique_identifier)
+        }
+        ResponsePayload::Register(payload) => text_of(&payload.unique_identifier),
+        ResponsePayload::Get(payload) => text_of(&payload.get().unique_identifier),
+        ResponsePayload::GetAttributes(payload) => text_of(&payload.unique_identifier),
+        ResponsePayload::GetAttributeList(payload) => text_of(&payload.unique_identifier),
+        ResponsePayload::AddAttribute(payload) => text_of(&payload.unique_identifier),
+        ResponsePayload::ModifyAttribute(payload) => text_of(&payload.unique_identifier),
+        ResponsePayload::DeleteAttribute(payload) => text_of(&payload.unique_identifier),
+        ResponsePayload::Activate(payload) => text_of(&payload.unique_identifier),
+        ResponsePayload::Revoke(payload) => text_of(&payload.unique_identifier),
+        ResponsePayload::Destroy(payload) => text_of(&payload.unique_identifier),
+        ResponsePayload::Sign(payload) => text_of(&payload.unique_identifier),
         ResponsePayload::Locate(_)
         | ResponsePayload::Query(_)
         | ResponsePayload::DiscoverVersions(_)
-        | ResponsePayload::RNGRetrieve(_) => return "",
-    };
-    id.as_str()
+        | ResponsePayload::RNGRetrieve(_) => "",
+    }
 }
 
 /// Whether an answer is about another object than the call asked about. It takes no memory.

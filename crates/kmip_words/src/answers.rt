@@ -90,9 +90,9 @@ fn push_answer_to(
 {
     match request {
         RequestPayload::CreateKeyPair(..) => push_identifiers(alloc, style, payload, line),
-        RequestPayload::Activate(_)
-        | RequestPayload::Revoke(..)
-        | RequestPayload::Destroy(_) => line.push_str(done_line(style)),
+        RequestPayload::Activate(_) => line.push_str(done_line(style)),
+        RequestPayload::Revoke(..) => line.push_str(done_line(style)),
+        RequestPayload::Destroy(_) => line.push_str(done_line(style)),
         RequestPayload::Create(..)
         | RequestPayload::Register(..)
         | RequestPayload::Locate(_)
@@ -127,18 +127,18 @@ fn push_answer(
             push_answer_to(alloc, style, request.get(), payload, line)
         }
         Call::CreateRsa { .. } => push_identifiers(alloc, style, payload, line),
-        Call::Activate { .. } | Call::Revoke { .. } | Call::Destroy { .. } => {
-            line.push_str(done_line(style))
-        }
-        Call::Query
-        | Call::Rng { .. }
-        | Call::Sign { .. }
-        | Call::Rename { .. }
-        | Call::Get { .. }
-        | Call::Locate { .. }
-        | Call::Attributes { .. }
-        | Call::CreateAes { .. }
-        | Call::Discover => push_record(alloc, style, payload, line),
+        Call::Activate { .. } => line.push_str(done_line(style)),
+        Call::Revoke { .. } => line.push_str(done_line(style)),
+        Call::Destroy { .. } => line.push_str(done_line(style)),
+        Call::Query => push_record(alloc, style, payload, line),
+        Call::Rng { .. } => push_record(alloc, style, payload, line),
+        Call::Sign { .. } => push_record(alloc, style, payload, line),
+        Call::Rename { .. } => push_record(alloc, style, payload, line),
+        Call::Get { .. } => push_record(alloc, style, payload, line),
+        Call::Locate { .. } => push_record(alloc, style, payload, line),
+        Call::Attributes { .. } => push_record(alloc, style, payload, line),
+        Call::CreateAes { .. } => push_record(alloc, style, payload, line),
+        Call::Discover => push_record(alloc, style, payload, line),
     }
 }
 

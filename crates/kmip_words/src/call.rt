@@ -1,19 +1,17 @@
 //! Which call words ask for: words of a line of a script, and words that are typed.
 ghost use Rattle.std.specs.Prelude.{◌≡◌, map, option_map, IfOk};
-ghost use Rattle.kmip_words.specs.Values.{int_of, bytes_of, word_text};
+ghost use Rattle.kmip_request_words.specs.Values.{int_of, bytes_of, word_text};
 ghost use Rattle.kmip_words.specs.Calls.{typed_of_one, locate_of, attributes_of, typed_of_two};
 ghost use Rattle.kmip_words.specs.Calls.{create_aes_of, typed_of_three, plain_call, typed_call};
 ghost use Rattle.kmip_words.specs.Calls.{rng_of, raw_of, locate_parts};
-ghost use Rattle.kmip_words.specs.Asked.{asked_in};
+ghost use Rattle.kmip_request_words.specs.Asked.{asked_in};
 ghost use Rattle.kmip_words.specs.Calls.{key_call, call_of_one, call_of_two, sign_of, rename_of};
 ghost use Rattle.kmip_words.specs.Calls.{call_of_three, create_rsa_of, call_of_four, with_response};
 ghost use Rattle.kmip_words.specs.Calls.{call_of_words, call_of, call_in, call_alone};
 
-use crate::asked::asked_in;
 use crate::raw::RawRequest;
-use crate::values::{bytes_of, int_of, word_text};
-use crate::words::{parts_between, words_of};
 use kmip_request::RequestPayload;
+use kmip_request_words::{asked_in, bytes_of, int_of, parts_between, word_text, words_of};
 use kmip_wire::{Blob, Boxed, OutOfMemory, Text};
 use std::alloc::Global;
 use std::str;

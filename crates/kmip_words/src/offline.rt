@@ -1,5 +1,5 @@
 //! Calls with no link: the bytes that a call sends, and the answer that the bytes sent back are.
-ghost use Rattle.std.specs.Prelude.{◌≡◌, ◌≤◌, ◌++◌, [], length, drop, IfOk, OnOk, false, option_map};
+ghost use Rattle.std.specs.Prelude.{◌≡◌, ◌≤◌, ◌+◌, ◌++◌, [], length, drop, IfOk, OnOk, false, option_map};
 ghost use Rattle.kmip_response.specs.Values.{response_payload_val};
 ghost use Rattle.kmip_client.specs.Client.{credential_for, IsOfOperation};
 ghost use Rattle.kmip_client.specs.Outcome.{answer_with_payload};
@@ -130,7 +130,7 @@ struct Reply {
 
 /// How many bytes a client's link has left to read.
 fn left_for(client: &mut Client<MemoryLink>) -> usize
-    ensures { result ≡ length (drop client.old.link.pos client.old.link.ever) }
+    ensures { result + client.old.link.pos ≡ length client.old.link.ever }
 {
     client.inner().rest().len()
 }
