@@ -44,22 +44,40 @@ GrammarError where the words are no call.
 
 CALL is one of
     query
-    create-rsa BITS PRIVATE-NAME PUBLIC-NAME
+    discover
+    create-rsa BITS PRIVATE-NAME PUBLIC-NAME [OPTION..]
     create-aes BITS NAME
-    locate NAME
-    attributes ID
+    create ALGORITHM BITS NAME [OPTION]
+    register KIND HEX OPTION..
+    locate NAME, or locate [ATTRIBUTE..]
+    attributes ID [NAME..]
+    attribute-add ID ATTRIBUTE
+    attribute-modify ID ATTRIBUTE [OPTION]
+    attribute-delete ID NAME [OPTION]
     activate ID
-    sign ID HEX
+    sign ID HEX [OPTION..]
     rename ID NAME
-    get ID
-    revoke ID
+    get ID [OPTION..]
+    revoke ID [OPTION..]
     destroy ID
     rng N
-    discover
     raw HEX
 
 In a name or an identifier `-` is the empty text, and `%` with two upper-case hex
 digits stands for a byte.
+
+An OPTION stands after the other words of its call, in any order:
+create-rsa           private-usage=USES public-usage=USES
+create               usage=USES
+register             format=FORMAT algorithm=ALGORITHM length=BITS, and then
+                     usage=USES name=NAME where they are wanted
+sign                 hash=HASH padding=PADDING algorithm=ALGORITHM prehashed
+get                  format=FORMAT wrap=ID
+revoke               reason=REASON message=TEXT since=SECONDS
+attribute-modify, attribute-delete   index=N
+An ATTRIBUTE is name= group= contact= type= state= algorithm= length= or
+activation= with its value. KIND is public, private or symmetric. USES are names
+as Sign, with `,` between two, and names of values those of KMIP.
 
 user=U, password=P   the credential of the request; without password=P the
                      password is that of the environment, KMIP_PASSWORD
