@@ -187,6 +187,24 @@ const ANSWERS: &[Row] = &[
 /// Calls that have an error for an answer.
 const ERRORS: &[Row] = &[
     Row {
+        shows: "an answer about another object",
+        words: &["activate", "k1"],
+        response: "OK0(12, 94 \"k2\")",
+        sent: "REQ0(12, 94 \"k1\")",
+        line: "{\"error\":\"InternalError\",\"text\":\"answer for another object\",\"response\":\"7B[7A[69[6Ai6Bi]92d0Di]0F[5Ce12:7Fe0:7C[94t]]]\"}\n",
+        status: 3,
+        ..ANSWERED
+    },
+    Row {
+        shows: "a failure whose reason is none of the table",
+        words: &["activate", "k1"],
+        response: "RES0(5C e12,7F e1,7E e12,7D \"no\")",
+        sent: "REQ0(12, 94 \"k1\")",
+        line: "{\"error\":\"InternalError\",\"text\":\"not a response message\",\"response\":\"7B[7A[69[6Ai6Bi]92d0Di]0F[5Ce12:7Fe1:7Ee12:7Dt]]\",\"reason\":18,\"message\":\"no\"}\n",
+        status: 1,
+        ..ANSWERED
+    },
+    Row {
         shows: "a refused call",
         words: &["destroy", "k1"],
         response: "RES0(5C e14,7F e1,7E e1,7D \"gone\")",
