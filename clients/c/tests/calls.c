@@ -5,6 +5,7 @@
 
 #include <signal.h>
 #include <sys/time.h>
+#include <unistd.h>
 
 static volatile sig_atomic_t ticks;
 
