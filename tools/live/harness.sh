@@ -11,7 +11,7 @@
 #   $host $port $certificate $key $authority     what call_is and client_run connect with: alice, at localhost. $port is
 #                            that of PyKMIP where the file needs it
 #
-# and these calls, each of which but `fake` and `gate` is one check, passed or failed:
+# and these calls, each of which but `fake`, `gate` and `lines_of_tasks` is one check, passed or failed:
 #
 #   fake NAME                from here on $port is that of this server of fakes.py (fakes.py --list)
 #   gate MODE                from here on $port is that of gate.py in this mode, in front of PyKMIP
@@ -20,6 +20,7 @@
 #   says_not WHAT REGEX      ..or has none
 #   lasts WHAT SECONDS       the last call_is took no longer than this
 #   verdict WHAT             the status of the command before is 0
+#   lines_of_tasks LANGUAGE  is no check: the lines of docs/CALL.md in this language (sh, c, python, rust)
 #   linter_says WHAT TOOL VERSION PACKAGE COMMAND..    COMMAND finds nothing; it is skipped where there is no TOOL, and what
 #                            another version than VERSION (a regex) finds is said, and fails nothing
 #
@@ -115,6 +116,11 @@ lasts() { # WHAT SECONDS
         printf 'it took %d.%03d s\n' $((elapsed / 1000000)) $((elapsed / 1000 % 1000)) >>"$said"
     ((elapsed <= $2 * slack * 1000000))
     verdict "$1"
+}
+
+# The lines of docs/CALL.md in this language, those of a task after those of the one before.
+lines_of_tasks() { # LANGUAGE
+    awk -v fence="\`\`\`$1" '$0 == fence { within = 1; next } /^```/ { within = 0 } within' "$top/docs/CALL.md"
 }
 
 fake() { # NAME
