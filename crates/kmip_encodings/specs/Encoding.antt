@@ -1,0 +1,60 @@
+-- A tree as a value of JSON, and as its text.
+use Rattle.std.specs.Prelude.{ℕ, ◌^◌, nat_lt, ℤ, Bool, List, codes, if◌then◌else◌, unsigned_abs}
+use Rattle.std.specs.Fmt.{decimal, signed_decimal}
+use Rattle.std.specs.Int.{w64, to_be_bytes, cast_unsigned}
+use Rattle.hex.specs.Hex.{encode_upper}
+use Rattle.json.specs.Json.{Json, boolean as truth, number, string, array, object, Items, no_items, item, Members, no_members, member}
+use Rattle.json.specs.Print.{print}
+use Rattle.json.specs.Tree.{json_tokens}
+use Rattle.kmip_wire.specs.declared.kind.Kind.{Kind}
+use Rattle.kmip_wire.specs.Kinds.{kind_of_scalar}
+use Rattle.kmip_wire.specs.Tree.{Tree, Trees, Scalar, scalar, structure, none, more, integer, long_integer, big_integer, enumeration, boolean, text_string, byte_string, date_time, interval}
+use Rattle.kmip_encodings.specs.Texts.{hex_text, tag_text, enumeration_text, date_text, kind_text}
+
+-- whether a number is nearer to 0 than 2^52
+abbrev pub is_short : ℤ → Bool
+is_short z = nat_lt (unsigned_abs z) (2 ^ 52)
+
+abbrev pub long_json : ℤ → Json
+long_json z =
+    if is_short z then number (signed_decimal z)
+    else string (hex_text (to_be_bytes w64 (cast_unsigned w64 z)))
+
+-- the value of an item with the tag
+abbrev pub value_json : ℕ → Scalar → Json
+value_json tag (integer z) = number (signed_decimal z)
+value_json tag (long_integer z) = long_json z
+value_json tag (big_integer b) = string (hex_text b)
+value_json tag (enumeration n) = string (enumeration_text tag n)
+value_json tag (boolean b) = truth b
+value_json tag (text_string b) = string b
+value_json tag (byte_string b) = string (encode_upper b)
+value_json tag (date_time n) = string (date_text n)
+value_json tag (interval n) = number (decimal n)
+
+abbrev pub tag_member : ℕ → Members → Members
+tag_member tag rest = member (codes "tag") (string (tag_text tag)) rest
+
+abbrev pub value_member : Json → Members
+value_member value = member (codes "value") value no_members
+
+-- an item that is no structure
+abbrev pub item_json : ℕ → Kind → Json → Json
+item_json tag kind value =
+    object (tag_member tag
+    (member (codes "type") (string (kind_text kind)) (value_member value)))
+
+-- an object of the tag, of the type unless it is Structure, and of the value; a structure's value is
+-- an array of its items
+abbrev mutual
+  pub json_of : Tree → Json
+  json_of (scalar tag s) = item_json tag (kind_of_scalar s) (value_json tag s)
+  json_of (structure tag ts) = object (tag_member tag (value_member (array (items_json ts))))
+
+  pub items_json : Trees → Items
+  items_json none = no_items
+  items_json (more t ts) = item (json_of t) (items_json ts)
+
+-- the text of a tree's JSON, with no white space
+unfoldable pub json_text : Tree → List ℕ
+json_text t = print (json_tokens (json_of t))

@@ -1,0 +1,46 @@
+-- The texts of values in JSON and XML.
+use Rattle.std.specs.Prelude.{ℕ, ◌==◌, Bool, false, List, ◌++◌, drop, codes, Option, Some, None, if◌then◌else◌}
+use Rattle.std.specs.Option.{unwrap_or}
+use Rattle.std.specs.Int.{w32, w64, to_be_bytes}
+use Rattle.hex.specs.Hex.{encode_upper}
+use Rattle.kmip_wire.specs.declared.kind.Kind.{Kind}
+use Rattle.kmip_wire.specs.declared.kind.Kind.TheVariants.{Structure, Integer, LongInteger, BigInteger, Enumeration, Boolean, TextString, ByteString, DateTime, Interval}
+use Rattle.kmip_encodings.specs.Words.{tag_word}
+use Rattle.kmip_encodings.specs.Names.{enumeration_name}
+use Rattle.kmip_encodings.specs.Dates.{civil_of, civil_text, date_number}
+
+-- `0x` and two digits a byte
+abbrev pub hex_text : List ℕ → List ℕ
+hex_text bytes = codes "0x" ++ encode_upper bytes
+
+-- its name, or `0x` and six digits where it has none
+abbrev pub tag_text : ℕ → List ℕ
+tag_text tag = unwrap_or (tag_word tag) (hex_text (drop 1 (to_be_bytes w32 tag)))
+
+-- its name, or `0x` and eight digits where no table has one
+abbrev pub enumeration_text : ℕ → ℕ → List ℕ
+enumeration_text tag number =
+    unwrap_or (enumeration_name tag number) (hex_text (to_be_bytes w32 number))
+
+abbrev pub is_number : Option ℕ → ℕ → Bool
+is_number None n = false
+is_number (Some m) n = m == n
+
+-- the date and the time of day, where the text reads as the number, as it does from the year 1 to the
+-- year 9999; or else `0x` and 16 digits
+unfoldable pub date_text : ℕ → List ℕ
+date_text n =
+    if is_number (date_number (civil_text (civil_of n))) n then civil_text (civil_of n)
+    else hex_text (to_be_bytes w64 n)
+
+abbrev pub kind_text : Kind → List ℕ
+kind_text Structure = codes "Structure"
+kind_text Integer = codes "Integer"
+kind_text LongInteger = codes "LongInteger"
+kind_text BigInteger = codes "BigInteger"
+kind_text Enumeration = codes "Enumeration"
+kind_text Boolean = codes "Boolean"
+kind_text TextString = codes "TextString"
+kind_text ByteString = codes "ByteString"
+kind_text DateTime = codes "DateTime"
+kind_text Interval = codes "Interval"

@@ -1,0 +1,30 @@
+//! Trees of items as JSON and XML (KMIP Additional Message Encodings), and JSON read as trees.
+//!
+//! ```rust
+//! use kmip_encodings::to_json;
+//! use kmip_wire::{Node, Tag, Tree};
+//!
+//! let tree = Tree { tag: Tag::of(0x42000D), node: Node::Integer(1) };
+//! let mut text = Vec::new(alloc);
+//! to_json(alloc, &tree, &mut text)?;
+//! assert_eq!(rt; text.as_slice(), b"{\"tag\":\"BatchCount\",\"type\":\"Integer\",\"value\":1}");
+//! ```
+#![tactic(auto)]
+
+mod date;
+mod error;
+mod laws;
+mod names;
+mod read_json;
+mod table;
+mod text;
+mod words;
+mod write_json;
+
+pub use error::{EncodingError, Expected, Fault};
+pub use laws::read_back;
+pub use names::{enumeration_name, enumeration_number};
+pub use read_json::from_json;
+pub use text::kind_text;
+pub use words::{tag_named, tag_word};
+pub use write_json::to_json;

@@ -1,0 +1,95 @@
+//! Items as bytes in hex and as JSON, both written by hand.
+
+/// An item in both encodings.
+pub(crate) struct Row {
+    pub(crate) hex: &'static str,
+    pub(crate) json: &'static str,
+}
+
+/// The items of KMIP 1.0, 9.1.2, each with the tag 0x420020.
+pub(crate) const EXAMPLES: [Row; 10] = [
+    Row {
+        hex: "42002002000000040000000800000000",
+        json: r#"{"tag":"CompromiseDate","type":"Integer","value":8}"#,
+    },
+    Row {
+        hex: "420020030000000801B69B4BA5749200",
+        json: r#"{"tag":"CompromiseDate","type":"LongInteger","value":"0x01B69B4BA5749200"}"#,
+    },
+    Row {
+        hex: "42002004000000100000000003FD35EB6BC2DF4618080000",
+        json: r#"{"tag":"CompromiseDate","type":"BigInteger","value":"0x0000000003FD35EB6BC2DF4618080000"}"#,
+    },
+    Row {
+        hex: "4200200500000004000000FF00000000",
+        json: r#"{"tag":"CompromiseDate","type":"Enumeration","value":"0x000000FF"}"#,
+    },
+    Row {
+        hex: "42002006000000080000000000000001",
+        json: r#"{"tag":"CompromiseDate","type":"Boolean","value":true}"#,
+    },
+    Row {
+        hex: "420020070000000B48656C6C6F20576F726C640000000000",
+        json: r#"{"tag":"CompromiseDate","type":"TextString","value":"Hello World"}"#,
+    },
+    Row {
+        hex: "42002008000000030102030000000000",
+        json: r#"{"tag":"CompromiseDate","type":"ByteString","value":"010203"}"#,
+    },
+    Row {
+        hex: "42002009000000080000000047DA67F8",
+        json: r#"{"tag":"CompromiseDate","type":"DateTime","value":"2008-03-14T11:56:40+00:00"}"#,
+    },
+    Row {
+        hex: "4200200A00000004000D2F0000000000",
+        json: r#"{"tag":"CompromiseDate","type":"Interval","value":864000}"#,
+    },
+    Row {
+        hex: "42002001000000204200040500000004000000FE000000004200050200000004000000FF00000000",
+        json: r#"{"tag":"CompromiseDate","value":[{"tag":"ApplicationSpecificInformation","type":"Enumeration","value":"0x000000FE"},{"tag":"ArchiveDate","type":"Integer","value":255}]}"#,
+    },
+];
+
+/// Whole messages.
+pub(crate) const MESSAGES: [Row; 8] = [
+    // Locate by an Object Type.
+    Row {
+        hex: "42007801000000904200770100000038420069010000002042006A0200000004000000010000000042006B0200000004000000000000000042000D0200000004000000010000000042000F010000004842005C050000000400000008000000004200790100000030420008010000002842000A070000000B4F626A6563742054797065000000000042000B05000000040000000400000000",
+        json: r#"{"tag":"RequestMessage","value":[{"tag":"RequestHeader","value":[{"tag":"ProtocolVersion","value":[{"tag":"ProtocolVersionMajor","type":"Integer","value":1},{"tag":"ProtocolVersionMinor","type":"Integer","value":0}]},{"tag":"BatchCount","type":"Integer","value":1}]},{"tag":"BatchItem","value":[{"tag":"Operation","type":"Enumeration","value":"Locate"},{"tag":"RequestPayload","value":[{"tag":"Attribute","value":[{"tag":"AttributeName","type":"TextString","value":"Object Type"},{"tag":"AttributeValue","type":"Enumeration","value":"0x00000004"}]}]}]}]}"#,
+    },
+    // A failure.
+    Row {
+        hex: "42007B01000000A842007A0100000048420069010000002042006A0200000004000000010000000042006B020000000400000002000000004200920900000008000000004F9A54E742000D0200000004000000010000000042000F010000005042005C0500000004000000140000000042007F0500000004000000010000000042007E0500000004000000010000000042007D0700000017436F756C64206E6F74206C6F63617465206F626A65637400",
+        json: r#"{"tag":"ResponseMessage","value":[{"tag":"ResponseHeader","value":[{"tag":"ProtocolVersion","value":[{"tag":"ProtocolVersionMajor","type":"Integer","value":1},{"tag":"ProtocolVersionMinor","type":"Integer","value":2}]},{"tag":"TimeStamp","type":"DateTime","value":"2012-04-27T08:12:23+00:00"},{"tag":"BatchCount","type":"Integer","value":1}]},{"tag":"BatchItem","value":[{"tag":"Operation","type":"Enumeration","value":"Destroy"},{"tag":"ResultStatus","type":"Enumeration","value":"OperationFailed"},{"tag":"ResultReason","type":"Enumeration","value":"ItemNotFound"},{"tag":"ResultMessage","type":"TextString","value":"Could not locate object"}]}]}"#,
+    },
+    // The payload of a request to create a key.
+    Row {
+        hex: "4200790100000088420057050000000400000002000000004200910100000070420008010000003042000A070000001743727970746F6772617068696320416C676F726974686D0042000B05000000040000000300000000420008010000003042000A070000001843727970746F67726170686963205573616765204D61736B42000B02000000040000000C00000000",
+        json: r#"{"tag":"RequestPayload","value":[{"tag":"ObjectType","type":"Enumeration","value":"SymmetricKey"},{"tag":"TemplateAttribute","value":[{"tag":"Attribute","value":[{"tag":"AttributeName","type":"TextString","value":"Cryptographic Algorithm"},{"tag":"AttributeValue","type":"Enumeration","value":"0x00000003"}]},{"tag":"Attribute","value":[{"tag":"AttributeName","type":"TextString","value":"Cryptographic Usage Mask"},{"tag":"AttributeValue","type":"Integer","value":12}]}]}]}"#,
+    },
+    // Cryptographic parameters with names of several tables.
+    Row {
+        hex: "42002B01000000804200110500000004000000010000000042005F0500000004000000030000000042003805000000040000000600000000420083050000000400000001000000004200AE0500000004000000050000000042002805000000040000000400000000420028050000000400000007000000004200C506000000080000000000000000",
+        json: r#"{"tag":"CryptographicParameters","value":[{"tag":"BlockCipherMode","type":"Enumeration","value":"CBC"},{"tag":"PaddingMethod","type":"Enumeration","value":"PKCS5"},{"tag":"HashingAlgorithm","type":"Enumeration","value":"SHA256"},{"tag":"KeyRoleType","type":"Enumeration","value":"BDK"},{"tag":"DigitalSignatureAlgorithm","type":"Enumeration","value":"SHA256WithRSAEncryption_PKCS1_v1_5"},{"tag":"CryptographicAlgorithm","type":"Enumeration","value":"RSA"},{"tag":"CryptographicAlgorithm","type":"Enumeration","value":"0x00000007"},{"tag":"RandomIV","type":"Boolean","value":false}]}"#,
+    },
+    // An item whose tag has no name, empty values, and a text with characters that are escaped.
+    Row {
+        hex: "54000101000000385400FF010000000042009407000000004200C20800000000420052040000000042007D07000000106122625C630AC3A9E282ACF09F949101",
+        json: r#"{"tag":"0x540001","value":[{"tag":"0x5400FF","value":[]},{"tag":"UniqueIdentifier","type":"TextString","value":""},{"tag":"Data","type":"ByteString","value":""},{"tag":"Modulus","type":"BigInteger","value":"0x"},{"tag":"ResultMessage","type":"TextString","value":"a\"b\\c\né€🔑\u0001"}]}"#,
+    },
+    // Dates.
+    Row {
+        hex: "54000201000000C04200920900000008FFFFFFFFFFFFFFFF42009209000000080000000038BB0C004200920900000008FFFFFFFF7CA2A1404200920900000008FFFFFFFF7CA34A004200920900000008FFFFFFF1886E090042009209000000080000003AFFF4417F4200920900000008000000006774857F420092090000000800000000F4D41F8042009209000000080000003AFFF441804200920900000008800000000000000042009209000000087FFFFFFFFFFFFFFF4200920900000008FFFFFFF1886E08FF",
+        json: r#"{"tag":"0x540002","value":[{"tag":"TimeStamp","type":"DateTime","value":"1969-12-31T23:59:59+00:00"},{"tag":"TimeStamp","type":"DateTime","value":"2000-02-29T00:00:00+00:00"},{"tag":"TimeStamp","type":"DateTime","value":"1900-02-28T12:00:00+00:00"},{"tag":"TimeStamp","type":"DateTime","value":"1900-03-01T00:00:00+00:00"},{"tag":"TimeStamp","type":"DateTime","value":"0001-01-01T00:00:00+00:00"},{"tag":"TimeStamp","type":"DateTime","value":"9999-12-31T23:59:59+00:00"},{"tag":"TimeStamp","type":"DateTime","value":"2024-12-31T23:59:59+00:00"},{"tag":"TimeStamp","type":"DateTime","value":"2100-03-01T00:00:00+00:00"},{"tag":"TimeStamp","type":"DateTime","value":"0x0000003AFFF44180"},{"tag":"TimeStamp","type":"DateTime","value":"0x8000000000000000"},{"tag":"TimeStamp","type":"DateTime","value":"0x7FFFFFFFFFFFFFFF"},{"tag":"TimeStamp","type":"DateTime","value":"0xFFFFFFF1886E08FF"}]}"#,
+    },
+    // Long Integers.
+    Row {
+        hex: "540003010000007042009A0300000008000FFFFFFFFFFFFF42009A0300000008001000000000000042009A0300000008FFF000000000000142009A0300000008FFF000000000000042009A0300000008002000000000000142009A0300000008800000000000000042009A03000000080000000000000000",
+        json: r#"{"tag":"0x540003","value":[{"tag":"ValidityDate","type":"LongInteger","value":4503599627370495},{"tag":"ValidityDate","type":"LongInteger","value":"0x0010000000000000"},{"tag":"ValidityDate","type":"LongInteger","value":-4503599627370495},{"tag":"ValidityDate","type":"LongInteger","value":"0xFFF0000000000000"},{"tag":"ValidityDate","type":"LongInteger","value":"0x0020000000000001"},{"tag":"ValidityDate","type":"LongInteger","value":"0x8000000000000000"},{"tag":"ValidityDate","type":"LongInteger","value":0}]}"#,
+    },
+    // The ends of the ranges of numbers.
+    Row {
+        hex: "540004010000004042006A0200000004800000000000000042006A02000000047FFFFFFF0000000042006A0A00000004FFFFFFFF0000000042006A0A000000040000000000000000",
+        json: r#"{"tag":"0x540004","value":[{"tag":"ProtocolVersionMajor","type":"Integer","value":-2147483648},{"tag":"ProtocolVersionMajor","type":"Integer","value":2147483647},{"tag":"ProtocolVersionMajor","type":"Interval","value":4294967295},{"tag":"ProtocolVersionMajor","type":"Interval","value":0}]}"#,
+    },
+];
