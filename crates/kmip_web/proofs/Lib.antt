@@ -1,0 +1,3 @@
+mod Parsed
+mod Showing
+mod Listed

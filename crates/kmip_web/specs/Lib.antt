@@ -1,0 +1,5 @@
+pub mod Shown
+pub mod Sizes
+pub mod Steps
+pub mod Listing
+pub mod Fault
