@@ -153,7 +153,7 @@ function section(title) {
   return made;
 }
 function drawError(error) {
-  const made = section('Error').lastChild.parentNode;
+  const made = section('Error');
   made.append(element('p', 'bad error', error instanceof RangeError ? REFUSED : String(error.message || error)));
   made.setAttribute('role', 'alert');
 }
@@ -203,12 +203,12 @@ function drawExchanges() {
 function drawRests(found) {
   for (const side of SIDES) {
     const from = found[side].at(-1), rest = raw[side].subarray(from);
-    if (rest.length) section('After the messages ' + side).append(drawMessage('No whole message', rest, from));
+    if (rest.length) section(from ? 'After the messages ' + side : 'Bytes ' + side).append(drawMessage('No whole message', rest, from));
   }
 }
 // The messages of one stream.
 function drawMessages(side) {
-  const bytes = raw[side], found = cuts(bytes), made = section('Messages ' + side);
+  const bytes = raw[side], found = cuts(bytes), made = found.length > 1 ? section('Messages ' + side) : null;
   const fill = next => {
     for (let i = next; i + 1 < found.length; i++) {
       if (i - next === MOST) { made.append(button('more', it => { it.remove(); fill(i); })); return; }

@@ -38,6 +38,7 @@ mutual
   parsed_sizes none level b h = (sym (ap length h), omega (arith, ap length h))
   parsed_sizes (more t ts) level b (n, le, p, q) =
       let first = parsed_size t level (take n b) p in
-      let later = parsed_sizes ts level (drop n b) q in
-      (omega (arith, first.0, later.0, le, length-take n b, length-drop n b),
-      omega (arith, first.1, later.1, le, length-take n b, length-drop n b))
+      let later = parsed_sizes ts level (drop n b) q in (
+        omega (arith, first.0, later.0, le, length-take n b, length-drop n b),
+        omega (arith, first.1, later.1, le, length-take n b, length-drop n b),
+      )

@@ -3,3 +3,4 @@ pub mod Sizes
 pub mod Steps
 pub mod Listing
 pub mod Fault
+pub mod Input

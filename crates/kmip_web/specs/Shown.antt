@@ -8,7 +8,10 @@ abbrev pub room_with : List ℕ → List ℕ → List ℕ
 room_with bytes room =
     if nat_le (length bytes) (length room) then bytes ++ drop (length bytes) room else room
 
--- the codes -3 and -5
+-- the codes -2, -3 and -5
+abbrev pub not_a_text : ℤ
+not_a_text = negsuc 1
+
 abbrev pub not_a_message : ℤ
 not_a_message = negsuc 2
 
@@ -19,10 +22,10 @@ memory = negsuc 4
 abbrev pub IsShown : List ℕ → List ℕ → ℤ → List ℕ → Type 0
 IsShown bytes before result after = (result ≡ pos (length bytes)) × (after ≡ room_with bytes before)
 
--- the same for bytes that may be missing
-abbrev pub IsReported : Option (List ℕ) → List ℕ → ℤ → List ℕ → Type 0
-IsReported (Some bytes) before result after = IsShown bytes before result after
-IsReported None before result after = (result ≡ not_a_message) × (after ≡ before)
+-- the same for bytes that may be missing: then this code is returned, and nothing is written
+abbrev pub IsReported : Option (List ℕ) → ℤ → List ℕ → ℤ → List ℕ → Type 0
+IsReported (Some bytes) code before result after = IsShown bytes before result after
+IsReported None code before result after = (result ≡ code) × (after ≡ before)
 
 -- how many bytes a message has by its head, the head counted
 abbrev pub size_code : Result ℕ HeadError → ℤ

@@ -80,12 +80,7 @@ fn value_size(item: ItemRef<'_>) -> usize
 
 /// Lists an item that begins at `at`, and returns where it ends.
 #[cycle(items)]
-fn list_item(
-    alloc: Global,
-    text: &mut Text,
-    item: ItemRef<'_>,
-    at: u64,
-) -> Result<u64, OutOfMemory>
+fn list_item(alloc: Global, text: &mut Text, item: ItemRef<'_>, at: u64) -> Result<u64, OutOfMemory>
     requires { at + size_of (item_tree item) ≤ 2 ^ 63 }
     ensures listed { IfOk result (λ _. text.new ≡ text.old ++ listed at (item_tree item.entry)) }
     ensures end { IfOk result (λ end. end ≡ at + size_of (item_tree item.entry)) }

@@ -31,12 +31,7 @@ fn push_signed(alloc: Global, text: &mut Text, number: i64) -> Result<(), OutOfM
 }
 
 /// Adds an enumeration's number, and its name where one is known.
-fn push_number(
-    alloc: Global,
-    text: &mut Text,
-    tag: Tag,
-    number: u32,
-) -> Result<(), OutOfMemory>
+fn push_number(alloc: Global, text: &mut Text, tag: Tag, number: u32) -> Result<(), OutOfMemory>
     ensures { IfOk result (λ _. text.new ≡ text.old ++ value_text tag (enumeration number)) }
 {
     let made = match enumeration_name(tag, number) {
