@@ -159,47 +159,47 @@ async function screens(page, sent, received) {
   await page.shot(at('page-small.png'));
   await page.view(1180, 760, false);
 }
-// The module with memory that may not grow past 4 MiB.
-function capped(module) {
+// The module with other limits of its memory: one that may not grow past 4 MiB, or of a kind that no browser knows.
+function limited(module, isKnown) {
   const number = at => { let value = 0, shift = 0, it; do { it = module[at++]; value += (it & 127) * 2 ** shift; shift += 7; } while (it & 128); return [value, at]; };
   for (let at = 8; at < module.length;) {
     const [size, from] = number(at + 1);
     if (module[at] === 5) {
-      const [least] = number(from + 2), made = [];
-      for (let it = least; made.push(it > 127 ? it & 127 | 128 : it), it > 127;) it >>= 7;
-      const limits = [1, module[from + 1] | 1, ...made, 64];
+      const least = [];
+      for (let it = number(from + 2)[0]; least.push(it > 127 ? it & 127 | 128 : it), it > 127;) it >>= 7;
+      const limits = [1, isKnown ? module[from + 1] | 1 : 0x40, ...least, 64];
       return Buffer.concat([module.subarray(0, at), Buffer.from([5, limits.length, ...limits]), module.subarray(from + size)]);
     }
     at = from + size;
   }
   throw new Error('the module has no memory');
 }
+function pageOf(module, name) {
+  const made = path.join(room, name + '.html');
+  execFileSync('python3', [path.join(__dirname, '../../clients/web/page.py'), file(name + '.wasm', module), made]);
+  return made;
+}
 async function refusals(sent, received) {
-  const small = path.join(room, 'capped.html');
-  fs.writeFileSync(path.join(room, 'capped.wasm'), capped(fs.readFileSync(path.join(folder, 'kmip.wasm'))));
-  execFileSync('python3', [path.join(__dirname, '../../clients/web/page.py'), path.join(room, 'capped.wasm'), small]);
-  const page = await launch(program);
-  await page.open(small);
+  const module = fs.readFileSync(path.join(folder, 'kmip.wasm')), page = await launch(program);
+  const drawn = () => page.evaluate(`(raw.sent = ${b64(sent)}, raw.received = ${b64(received)}, show(), document.querySelectorAll('tr.exchange').length)`);
+  await page.open(pageOf(limited(module, true), 'capped'));
   await until(page, READY);
   await page.drop('sent', [file('huge.bin', Buffer.concat(Array(400).fill(sent)))]);
   verdict('memory that is refused is said', await until(page, `${OUT}.includes('refused the memory')`, 30), await page.evaluate(OUT));
   await clear(page);
-  await page.evaluate(`(raw.sent = ${b64(sent)}, raw.received = ${b64(received)}, show())`);
-  verdict('and the page goes on', (await page.evaluate("document.querySelectorAll('tr.exchange').length")) === 40, await page.evaluate(OUT));
-  await page.close();
-  if (browser !== 'firefox') return;
-  const old = await launch(program, { settings: { 'javascript.options.wasm_memory64': false } });
-  await old.open(path.join(folder, 'kmip.html'));
-  await until(old, READY);
-  const said = await old.evaluate("document.getElementById('state').textContent");
-  verdict('a browser without 64-bit memory is told', said.includes('does not run the module') && said.includes('kmip32.html'), said);
+  verdict('and the page goes on', await drawn() === 40, await page.evaluate(OUT));
+  await page.open(pageOf(limited(module, false), 'unknown'));
+  await until(page, READY);
+  const said = await page.evaluate("document.getElementById('state').textContent");
+  verdict('a browser that does not know the kind of memory says so', said.includes('does not run the module') && said.includes('kmip32.html'), said);
   if (fs.existsSync(path.join(folder, 'kmip32.html'))) {
-    await old.open(path.join(folder, 'kmip32.html'));
-    await until(old, READY);
-    await old.evaluate(`(raw.sent = ${b64(sent)}, raw.received = ${b64(received)}, show())`);
-    verdict('and runs kmip32.html', (await old.evaluate("document.querySelectorAll('tr.exchange').length")) === 40, await old.evaluate(OUT));
-  }
-  await old.close();
+    await page.open(path.join(folder, 'kmip32.html'));
+    await until(page, READY);
+    verdict('kmip32.html runs too', await drawn() === 40, await page.evaluate(OUT));
+    const there = await page.evaluate("told('web_report', [raw.sent, raw.received])");
+    verdict('and reports the same', there === native('web_report', file('sent', sent), file('received', received)), there.slice(0, 200));
+  } else console.log('skipped ' + browser + ': there is no kmip32.html (Debian: apt-get install binaryen)');
+  await page.close();
 }
 (async () => {
   const { sent, received } = messages.capture(40, 32);
@@ -218,7 +218,8 @@ async function refusals(sent, received) {
   await given(page, sent.subarray(0, 600), received.subarray(0, 900));
   await byHand(page, sent, received);
   await large(page);
-  verdict('no request was made', page.requests.length === 0, page.requests.join(' '));
+  const requests = page.requests.filter(it => !it.startsWith('data:')); // Firefox draws its own fields with such fonts
+  verdict('no request was made', requests.length === 0, requests.join(' '));
   verdict('nothing failed in the script', page.said.length === 0, page.said.join(' | '));
   if (shots) await screens(page, sent, received);
   await noRequest(page);

@@ -35,7 +35,8 @@ async function launch(program, options = {}) {
   };
   await send('session.new', { capabilities: {} });
   await send('session.subscribe', { events: ['network.beforeRequestSent', 'log.entryAdded'] });
-  const context = (await send('browsingContext.getTree')).contexts[0].context;
+  const { context } = await send('browsingContext.create', { type: 'window' });
+  await send('browsingContext.activate', { context });
   const evaluate = async expression => {
     const made = await send('script.evaluate', { expression: `(async () => JSON.stringify(await (${expression})))()`, target: { context }, awaitPromise: true });
     if (made.type === 'exception') throw new Error(made.exceptionDetails.text);
@@ -48,7 +49,7 @@ async function launch(program, options = {}) {
   return {
     name: 'Firefox', requests, said, evaluate,
     view: (width, height) => send('browsingContext.setViewport', { context, viewport: { width, height } }),
-    open: async page => { await send('browsingContext.navigate', { context, url: 'file://' + path.resolve(page), wait: 'complete' }); await send('browsingContext.activate', { context }); requests.length = 0; said.length = 0; },
+    open: async page => { await send('browsingContext.navigate', { context, url: 'file://' + path.resolve(page), wait: 'complete' }); requests.length = 0; said.length = 0; },
     // WebDriver has no drop from the window system: the page gets the event that one brings, with the files in it.
     drop: async (id, files) => {
       await evaluate(`(() => { const it = document.createElement('input'); it.type = 'file'; it.multiple = true; it.id = 'from'; document.body.append(it); })()`);
