@@ -9,6 +9,8 @@
 mod answer;
 mod call;
 mod request;
+#[cfg(test)]
+mod tests;
 
 pub use answer::{OperationAnswer, operation_answer, push_answer};
 pub use call::{OperationCall, operation_call};
