@@ -16,8 +16,8 @@ operation_outcome settings request rest =
     settings.limit rest
 
 -- the line of JSON that says what these bytes answer: of the payload, or of the error
-abbrev pub operation_line_of : Settings → TreeRequest → List ℕ → List ℕ
-operation_line_of settings request response =
+abbrev pub operation_json_line : Settings → TreeRequest → List ℕ → List ℕ
+operation_json_line settings request response =
     answer_line json_text Json (operation_outcome settings request response).answer
 
 -- how the call ended that these bytes answer

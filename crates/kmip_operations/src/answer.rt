@@ -4,7 +4,7 @@ ghost use Rattle.kmip_shape.specs.declared.style.Style.TheVariants.{Json};
 ghost use Rattle.kmip_encodings.specs.Encoding.{json_text};
 ghost use Rattle.kmip_words.specs.Exchange.{Shows};
 ghost use Rattle.kmip_operations.specs.Calls.{request_of};
-ghost use Rattle.kmip_operations.specs.Answers.{operation_line_of, operation_ending};
+ghost use Rattle.kmip_operations.specs.Answers.{operation_json_line, operation_ending};
 
 use crate::call::OperationCall;
 use kmip_client::Error;
@@ -79,7 +79,7 @@ pub fn operation_answer(
     call: &OperationCall,
     response: &[u8],
 ) -> Result<OperationAnswer, OutOfMemory>
-    ensures line { IfOk result (λ answer. answer.line.items ≡ operation_line_of
+    ensures line { IfOk result (λ answer. answer.line.items ≡ operation_json_line
         (record { credential = None; limit = limit; buffered = false }) (request_of call.now) response.now) }
     ensures ending { IfOk result (λ answer. answer.ending ≡ operation_ending
         (record { credential = None; limit = limit; buffered = false }) (request_of call.now) response.now) }
