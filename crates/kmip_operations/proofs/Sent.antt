@@ -1,5 +1,5 @@
 -- What is sent over a link in memory that has nothing to read.
-use Rattle.std.proofs.Common.{◌≡◌, ◌≢◌, ℕ, List, [], ◌++◌, drop, Option, Some, None, Result, Ok, Err, refl, ◌∙◌, ap, sym, arith}
+use Rattle.std.proofs.Common.{◌≡◌, ◌≢◌, ℕ, List, [], ◌++◌, Option, Some, None, Result, Err, refl, ◌∙◌, ap, sym, arith}
 use Rattle.kmip_link.specs.Plan.{MemoryState, memory_state}
 use Rattle.kmip_client.specs.declared.error.Error.{Error}
 use Rattle.kmip_client.specs.declared.error.Error.TheVariants.{SerializeError, OutOfMemory}

@@ -1,5 +1,5 @@
 -- What a response answers to a call of an operation, as a line of JSON.
-use Rattle.std.specs.Prelude.{ℕ, List, Option}
+use Rattle.std.specs.Prelude.{ℕ, List}
 use Rattle.kmip_wire.specs.Tree.{Tree}
 use Rattle.kmip_shape.specs.declared.style.Style.TheVariants.{Json}
 use Rattle.kmip_encodings.specs.Encoding.{json_text}
