@@ -1,5 +1,5 @@
 -- Finding a word in a list of words.
-use Rattle.std.proofs.Common.{◌≡◌, ℕ, ◌+◌, ◌<◌, ◌≤◌, Bool, true, false, List, [], ◌∷◌, length, map, drop, get_or, Option, Some, None, refl, sym, ap, ◌∙◌, bytes_eq, add-one, drop-cons, Bor, arith}
+use Rattle.std.proofs.Common.{◌≡◌, ℕ, ◌+◌, ◌<◌, ◌≤◌, true, false, List, ◌∷◌, length, map, drop, get_or, Option, Some, None, refl, sym, ◌∙◌, bytes_eq, add-one, drop-cons, Bor, arith}
 use Rattle.std.proofs.lemmas.List.{at_drop_all}
 use Rattle.kmip_encodings.specs.Words.{named_from}
 

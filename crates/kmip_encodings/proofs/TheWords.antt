@@ -1,5 +1,5 @@
 -- The constant is the list of the words.
-use Rattle.std.specs.Prelude.{◌≡◌, refl, map, length}
+use Rattle.std.specs.Prelude.{◌≡◌, refl, map}
 use Rattle.kmip_tags.specs.Table.{names}
 use Rattle.kmip_encodings.specs.Words.{words}
 use Rattle.kmip_encodings.specs.declared.table.TheConstants.{WORDS}

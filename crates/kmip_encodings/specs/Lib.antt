@@ -4,3 +4,5 @@ pub mod Dates
 pub mod Texts
 pub mod Encoding
 pub mod Parts
+pub mod Reading
+pub mod Xml

@@ -12,13 +12,21 @@
 #![tactic(auto)]
 
 mod date;
+mod error;
+mod laws;
 mod names;
+mod read_json;
 mod table;
 mod text;
 mod words;
 mod write_json;
+mod write_xml;
 
+pub use error::{EncodingError, Expected, Fault};
+pub use laws::read_back;
 pub use names::{enumeration_name, enumeration_number};
+pub use read_json::from_json;
 pub use text::kind_text;
 pub use words::{tag_named, tag_word};
 pub use write_json::to_json;
+pub use write_xml::to_xml;

@@ -5,3 +5,7 @@
 mod json;
 #[cfg(test)]
 mod messages;
+#[cfg(test)]
+mod refusals;
+#[cfg(test)]
+mod xml;

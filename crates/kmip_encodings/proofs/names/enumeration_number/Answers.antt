@@ -1,4 +1,4 @@
-use Rattle.std.proofs.Common.{◌≡◌, ℕ, Some, sym, ap, ◌∙◌}
+use Rattle.std.proofs.Common.{◌≡◌, Some, sym, ap, ◌∙◌}
 use borrow.Author.Count.{below_more}
 use Rattle.kmip_encodings.specs.Names.{entries_of, enumeration_name, is_name}
 use Rattle.kmip_encodings.proofs.Entries.{name_is, name_is_not, number_of_name, none_named, are_sound}

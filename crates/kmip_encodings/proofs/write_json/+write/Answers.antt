@@ -1,5 +1,5 @@
-use Rattle.std.proofs.Common.{sym, arith, ◌∙◌}
-use Rattle.kmip_encodings.proofs.Written.{structure_written, items_more, items_done, item_smaller}
+use Rattle.std.proofs.Common.{arith, ◌∙◌}
+use Rattle.kmip_encodings.proofs.Written.{items_more, item_smaller}
 use Rattle.kmip_encodings.proofs.write_json.+write.Goals as goal
 
 pub put_structure-put_tree-requires : goal.put_structure-put_tree-requires

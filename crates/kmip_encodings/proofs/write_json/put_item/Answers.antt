@@ -1,4 +1,4 @@
-use Rattle.std.proofs.Common.{ap, ◌∙◌, List, ◌∷◌, [], ◌++◌}
+use Rattle.std.proofs.Common.{ap, ◌∙◌, ◌∷◌, [], ◌++◌}
 use Rattle.json.specs.Token as token
 use Rattle.kmip_encodings.proofs.Written.{item_written}
 use Rattle.kmip_encodings.proofs.write_json.put_item.Goals as goal

@@ -1,0 +1,5 @@
+use Rattle.kmip_encodings.proofs.Law.{text_back, unique, tree_back}
+use Rattle.kmip_encodings.proofs.laws.read_back.Goals as goal
+
+pub returns : goal.returns
+returns c = record { text = text_back; names = unique; tree = tree_back }
