@@ -1,6 +1,6 @@
 -- The call of a line.
 use Rattle.std.proofs.Common.{◌≡◌, ◌≢◌, ℕ, List, [], ◌∷◌, length, map, None, refl, Bor}
-use Rattle.std.specs.Str.{is_utf8, IsUtf8}
+use Rattle.std.specs.Str.{IsUtf8}
 use Rattle.std.proofs.lemmas.Str.{is_utf8-from_IsUtf8}
 use Rattle.kmip_request_words.specs.Words.{words_of}
 pub use Rattle.kmip_request_words.proofs.Utf8.{not_utf8}

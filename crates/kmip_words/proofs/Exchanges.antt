@@ -1,14 +1,11 @@
 -- What a call of the client did, of its exchange over a link in memory.
-use Rattle.std.proofs.Common.{◌≡◌, ◌≢◌, ℕ, ◌+◌, ◌-◌, Bool, true, false, cond, List, ◌++◌, take, drop, Option, None, refl, ◌∙◌, ap, sym, subst, arith, zero-add, Result, Ok, Err, IfOk, OnOk}
-use Rattle.std.proofs.lemmas.List.{drop-drop}
+use Rattle.std.proofs.Common.{◌≡◌, ◌≢◌, ℕ, ◌+◌, ◌-◌, zero, suc, length, Bool, true, false, cond, List, [], ◌∷◌, ◌++◌, take, drop, None, refl, ◌∙◌, ap, sym, subst, arith, zero-add, Result, Ok, Err, IfOk}
+use Rattle.std.proofs.lemmas.List.{drop-drop, length-drop}
 use Rattle.kmip_shape.specs.Val.{Val, Number, Text, Bytes, Truth, Record, Case}
-use Rattle.kmip_shape.specs.Shape.{Shape}
-use Rattle.kmip_shape.specs.Shown.{shown_in_style}
 use Rattle.kmip_shape.specs.declared.style.Style.{Style}
 use Rattle.kmip_link.specs.Plan.{MemoryState, memory_state}
 use Rattle.kmip_enums.specs.Operations.{operation_line}
 use Rattle.kmip_enums.specs.declared.operation.Operation.{Operation}
-use Rattle.kmip_types.specs.declared.auth.CredentialType.{CredentialType}
 use Rattle.kmip_request.specs.Message.{request_bytes, operation_of}
 use Rattle.kmip_request.specs.declared.payload.RequestPayload.{RequestPayload}
 use Rattle.kmip_response.specs.Values.{response_payload_val}
@@ -18,7 +15,8 @@ use Rattle.kmip_client.specs.declared.error.Error.TheVariants.{OutOfMemory}
 use Rattle.kmip_client.specs.Outcome.{Answer, Outcome, outcome, outcome_of, Moves, Exchanged}
 use Rattle.kmip_client.specs.Calls.{IsCall}
 use Rattle.kmip_client.specs.Client.{ClientState, IsOfOperation}
-use Rattle.kmip_words.specs.Exchange.{Settings, Asked, asked_of, IsRequestOf, operation_asked, payload_in_style, record_in_style, value_in_style, value_line, answer_line, is_error, loses_link, ending_of, fails, settings_of, call_outcome, step_in, step_of, told_lines, Shows, Answers}
+use Rattle.kmip_words.specs.Exchange.{Settings, Asked, asked_of, IsRequestOf, operation_asked, value_in_style, answer_line, is_error, loses_link, ending_of, fails, settings_of, call_outcome, step_in, step_of, told_lines, Shows, Answers}
+use Rattle.kmip_words.specs.About.{IsReply}
 use Rattle.kmip_words.specs.declared.ending.Ending.{Ending}
 use Rattle.kmip_words.specs.declared.ending.Ending.TheVariants.{Lost, Refused}
 use Rattle.kmip_words.specs.declared.call.Call.{Call}
@@ -89,10 +87,6 @@ of_case operation (Bytes b) P f own = absurd own
 of_case operation (Truth t) P f own = absurd own
 of_case operation (Record fields) P f own = absurd own
 
--- a payload that is shown as its record, by the table of its operation
-pub record_is : (operation : Operation) (shape : Shape) (style : Style) (payload : Val) → ((v : Val) → payload_in_style (Case (operation_line operation).number v) style ≡ shown_in_style shape v style) → IsOfOperation operation payload → payload_in_style payload style ≡ record_in_style shape payload style
-record_is operation shape style payload same = of_case operation payload (λ v. payload_in_style v style ≡ record_in_style shape v style) (λ n v is. rw is (same v))
-
 -- the answer of a call was shown, unless memory ran out
 pub answer_shown : {E : Type 0} {before after : ClientState MemoryState} (style : Style) (call : Call) (payload : RequestPayload) (answer : Answer) (shown : Result Ending E) (old new : List ℕ) →
     IsRequestOf payload call → IsCall memory_state payload before after answer →
@@ -101,6 +95,22 @@ pub answer_shown : {E : Type 0} {before after : ClientState MemoryState} (style 
 answer_shown style call payload answer (Ok ending) old new makes did shows = answered style call payload answer ending old new makes did shows.some shows.shown shows.ending_is
 answer_shown style call payload answer (Err error) old new makes did shows = tt
 
+-- what was taken of some bytes, by how many are left
+pub taken_is : (n : ℕ) (bytes : List ℕ) → take (length bytes - length (drop n bytes)) bytes ≡ take n bytes
+taken_is zero bytes =
+    let none : length bytes - length bytes ≡ 0 = omega arith in
+    rw none refl
+taken_is (suc n) [] = refl
+taken_is (suc n) (byte ∷ bytes) =
+    let one : suc (length bytes) - length (drop n bytes) ≡ suc (length bytes - length (drop n bytes)) = omega (arith, length-drop n bytes) in
+    rw one (ap (λ (l : List ℕ). byte ∷ l) (taken_is n bytes))
+
+-- the request that was made is that of a call
+pub request_made : {E : Type 0} (result : Result RequestPayload E) (wanted : RequestPayload) (call : Call) → IsRequestOf wanted call → IfOk result (λ made. made ≡ wanted) →
+    IfOk result (λ made. IsRequestOf made call)
+request_made (Ok made) wanted call same is = λ credential. ap (λ p. asked_of p credential) is ∙ same credential
+request_made (Err error) wanted call same is = tt
+
 -- nothing comes to a link in memory by itself
 pub ever_kept : (o : Outcome) (before after : MemoryState) (answer : Answer) → Exchanged o (memory_state before) (memory_state after) answer → after.ever ≡ before.ever
 ever_kept o before after answer (Exchanged.completed is moves) = moves.still refl
@@ -108,14 +118,6 @@ ever_kept o before after answer (Exchanged.write_failed is rose n below moves) =
 ever_kept o before after answer (Exchanged.read_failed is rose n within moves) = moves.still refl
 ever_kept o before after answer (Exchanged.sending_cut is n within moves) = moves.still refl
 ever_kept o before after answer (Exchanged.reading_cut is n within moves) = moves.still refl
-
--- the payload of an operation was added as its record
-pub record_added : {E : Type 0} (result : Result (Unit {0}) E) (operation : Operation) (shape : Shape) (style : Style) (payload : Val) (old new : List ℕ) →
-    ((v : Val) → payload_in_style (Case (operation_line operation).number v) style ≡ shown_in_style shape v style) → IsOfOperation operation payload →
-    OnOk result (new ≡ old ++ value_line (payload_in_style payload style) style) → OnOk result (new ≡ old ++ value_line (record_in_style shape payload style) style)
-record_added {E} result operation shape style payload old new same own added =
-    let P : List ℕ → Type 0 = λ text. OnOk {E = E} result (new ≡ old ++ value_line text style) in
-    subst P (record_is operation shape style payload same own) added
 
 -- over a link that has these bytes to read, the answer and the bytes taken are the outcome's, unless memory ran out
 pub outcome_given : {before after : ClientState MemoryState} (settings : Settings) (call : Call) (payload : RequestPayload) (response : List ℕ) (answer : Answer) →
@@ -141,3 +143,13 @@ pub of_call : {E : Type 0} (payload : RequestPayload) (call : Call) (result : Re
 of_call {E} payload call result makes own =
     let P : Operation → Type 0 = λ operation. IfOk {E = E} result (λ answer. IsOfOperation operation (response_payload_val answer)) in
     subst P (ap (λ (it : Asked). it.operation) (makes None)) own
+
+-- so the answer, and the bytes that were taken, are those of the outcome
+pub reply_given : {before after : ClientState MemoryState} (settings : Settings) (call : Call) (payload : RequestPayload) (response : List ℕ) (answer : Answer) (left : ℕ) →
+    settings_of before ≡ settings → before.link.ever ≡ response → before.link.pos ≡ 0 → IsRequestOf payload call → IsCall memory_state payload before after answer →
+    left ≡ length (drop after.link.pos after.link.ever) → IsReply answer (take (length response - left) response) (call_outcome settings call response) response
+reply_given {before = before} {after = after} settings call payload response answer left same ever pos makes did left_is = λ some.
+    let all : after.link.ever ≡ response = ever_kept (outcome payload before.credential before.limit (drop before.link.pos after.link.ever)) before.link after.link answer (did.exchange refl) ∙ ever in
+    let given = outcome_given settings call payload response answer same ever pos makes did some in
+    let there : left ≡ length (drop after.link.pos response) = rw all at left_is in
+    (given.0, ap (λ (n : ℕ). take (length response - n) response) there ∙ taken_is after.link.pos response ∙ ap (λ (n : ℕ). take n response) given.1)

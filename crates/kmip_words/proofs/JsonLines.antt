@@ -1,9 +1,9 @@
 -- The lines of answers are JSON.
-use Rattle.std.proofs.Common.{◌≡◌, ℕ, ◌<◌, ◌≤◌, ℤ, pos, negsuc, Bool, true, false, ◌&&◌, not, nat_eq, nat_lt, List, [], ◌∷◌, ◌++◌, codes, Option, Some, None, Ok, Err, refl, sym, ap, ◌∙◌, subst, append_assoc, append-nil, arith}
+use Rattle.std.proofs.Common.{◌≡◌, ℕ, ◌<◌, pos, Bool, true, false, ◌&&◌, not, nat_eq, nat_lt, List, [], ◌∷◌, ◌++◌, codes, Option, Some, None, Ok, Err, refl, sym, ap, subst, append_assoc, append-nil, arith}
 use Rattle.std.proofs.lemmas.Bool.Decides.{nat_tests}
 use Rattle.std.specs.Fmt.{decimal}
 use Rattle.kmip_shape.specs.declared.style.Style.TheVariants.{Json}
-use Rattle.kmip_shape.specs.Val.{Val, Vals, Field, Fields, Number, Text, Bytes, Truth, Record, Case, Absent, One, Many, NoField, AndField}
+use Rattle.kmip_shape.specs.Val.{Val, Field, Number, Text, Bytes, Truth, Record, Case, Absent, One, Many, NoField, AndField}
 use Rattle.kmip_wire.specs.declared.kind.Kind.TheVariants.{TextString}
 use Rattle.kmip_shape.specs.Shape.{Shape, RowList, Cases, Scalar, Rows, OneOf, NoCase, NoRow, Required}
 use Rattle.kmip_shape.specs.Fits.{Fits, fits_in, field_fits, mark_fits}
@@ -19,10 +19,9 @@ use Rattle.kmip_request.specs.declared.payload.RequestPayload.{RequestPayload}
 use Rattle.kmip_request.specs.declared.payload.RequestPayload.TheVariants as payloads
 use Rattle.kmip_response.specs.Tables.{response_payload, response_payloads, create_key_pair_payload, query_payload, rng_retrieve_payload, sign_payload, attribute_edit_payload, get_payload, locate_payload, get_attributes_payload, create_payload, register_payload, get_attribute_list_payload, discover_versions_payload}
 use Rattle.kmip_client.specs.Client.{IsOfOperation}
-use Rattle.kmip_client.specs.Errors.{error_text}
 use Rattle.kmip_client.specs.declared.error.Error.{Error}
 use Rattle.kmip_client.specs.declared.error.Error.TheVariants.{ConfigurationError, SerializeError, RequestWriteError, ResponseReadError, DeserializeError, ServerError, InternalError, ItemNotFound, Unknown, OutOfMemory}
-use Rattle.kmip_words.specs.Exchange.{operation_asked, payload_in_style, record_in_style, request_in_style, texts_in_style, value_in_style, value_line, error_name, error_line, json_line}
+use Rattle.kmip_words.specs.Exchange.{operation_asked, payload_in_style, record_in_style, request_in_style, texts_in_style, value_in_style, value_line, error_line, json_line}
 use Rattle.kmip_words.specs.JsonLines.{IsJsonLine}
 use Rattle.kmip_words.specs.Refusal.{reason_of, message_of, reason_member, message_member, internal_error_line}
 use Rattle.kmip_words.specs.declared.call.Call.{Call}

@@ -1,7 +1,7 @@
 -- Several calls of a source or a sink, one after the other.
 use Rattle.std.proofs.Common.{◌≡◌, ℕ, ◌+◌, ◌-◌, ◌≤◌, List, [], ◌++◌, length, take, drop, ◌∙◌, ap, sym, arith, append_assoc}
 use Rattle.std.proofs.lemmas.List.{drop-drop, length-drop, length-take, take-take}
-use Rattle.std.proofs.Math.Seq.{take-add, take-length}
+use Rattle.std.proofs.Math.Seq.{take-add}
 use Rattle.kmip_link.specs.State.{SourceState, SinkState, SourceKeeps, SinkKeeps, source_left}
 use Rattle.kmip_request_words.proofs.Rests.{rest_is}
 use Rattle.kmip_words.specs.Streams.{Gives, GivesPart}

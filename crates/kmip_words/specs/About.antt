@@ -1,5 +1,5 @@
 -- Whether an answer is about the object that its call asked about.
-use Rattle.std.specs.Prelude.{◌≡◌, ◌≢◌, ℕ, List, [], ◌++◌, ◌==◌, length, take, Bool, false, not, ◌&&◌, Option, Some, Ok, Err, codes, bytes_eq, if◌then◌else◌}
+use Rattle.std.specs.Prelude.{◌≡◌, ◌≢◌, ℕ, List, [], ◌++◌, ◌==◌, length, take, Bool, false, not, ◌&&◌, Option, Some, None, Ok, Err, codes, bytes_eq, if◌then◌else◌}
 use Rattle.kmip_shape.specs.Val.{Val, Text, Case}
 use Rattle.kmip_types.specs.TheUniqueIdentifier.{UniqueIdentifier}
 use Rattle.kmip_request.specs.declared.payload.RequestPayload.{RequestPayload}
@@ -77,10 +77,12 @@ answer_about call answer =
 abbrev pub ending_about : Call → Answer → Ending
 ending_about call answer = if is_about_another call answer then Lost else ending_of answer
 
--- the answer, and how many bytes were taken, are those of the outcome, unless memory ran out
-abbrev pub IsReply : Answer → ℕ → Outcome → Type 0
-IsReply answer taken outcome =
-    answer ≢ Err OutOfMemory → (answer ≡ outcome.answer) × (taken ≡ outcome.taken)
+-- the answer, and the bytes that were taken of a response, are those of the outcome, unless memory
+-- ran out
+abbrev pub IsReply : Answer → List ℕ → Outcome → List ℕ → Type 0
+IsReply answer first outcome response =
+    answer ≢ Err OutOfMemory →
+    (answer ≡ outcome.answer) × (first ≡ take outcome.taken response)
 
 -- the line of JSON of an answer; that of an `InternalError` shows the response too
 abbrev pub line_with : Call → Answer → List ℕ → List ℕ

@@ -12,7 +12,7 @@ use Rattle.kmip_enums.specs.declared.operation.Operation.{Operation}
 use Rattle.kmip_types.specs.declared.auth.CredentialType.{CredentialType}
 use Rattle.kmip_request.specs.Message.{request_bytes, operation_of}
 use Rattle.kmip_request.specs.declared.payload.RequestPayload.{RequestPayload}
-use Rattle.kmip_request_read.specs.Reading.{Request, message_bytes}
+use Rattle.kmip_request_read.specs.Reading.{Request as RequestRead, message_bytes}
 use Rattle.kmip_response.specs.Tables.{response_payload, response_payloads, query_payload, rng_retrieve_payload, sign_payload, attribute_edit_payload, get_payload, locate_payload, get_attributes_payload, create_payload, discover_versions_payload}
 use Rattle.kmip_client.specs.Client.{ClientState}
 use Rattle.kmip_client.specs.Errors.{error_shown, error_text}
@@ -48,7 +48,7 @@ asked_of payload credential =
     record { message = request_bytes payload credential; operation = operation_of payload }
 
 -- what `raw` asks for; the credential is the client's, not that in the bytes
-abbrev pub raw_asked : Request → Option CredentialType → Asked
+abbrev pub raw_asked : RequestRead → Option CredentialType → Asked
 raw_asked request credential =
     record { message = message_bytes request credential; operation = request.operation }
 

@@ -144,7 +144,32 @@ fn push_answer(
 
 /// Adds the payload or the error that a call is answered with as a line, and returns how the call
 /// ended. Its only error is `OutOfMemory`.
-pub fn show_answer(
+pub fn show_result(
+    alloc: Global,
+    style: Style,
+    call: &Call,
+    answer: &Result<ResponsePayload, Error>,
+    line: &mut Text,
+) -> Result<Ending, OutOfMemory>
+    requires { IfOk answer.now
+        (λ payload. IsOfOperation (operation_asked call.now) (response_payload_val payload)) }
+    ensures shown { IfOk result (λ ending. Shows (λ payload. value_in_style call.now payload style)
+        style (answer_with_payload answer.now) ending line.old line.new) }
+    ensures json { IsJsonLine (json_line call.now (answer_with_payload answer.now)) }
+{
+    lines_are_json();
+    match answer {
+        Ok(payload) => {
+            payload.known();
+            push_answer(alloc, style, call, payload, line)?;
+            Ok(Ending::Answered)
+        }
+        Err(error) => show_error(alloc, style, error, line),
+    }
+}
+
+/// The same, and lets the answer go.
+fn show_answer(
     alloc: Global,
     style: Style,
     call: &Call,
@@ -155,17 +180,8 @@ pub fn show_answer(
         (λ payload. IsOfOperation (operation_asked call.now) (response_payload_val payload)) }
     ensures shown { IfOk result (λ ending. Shows (λ payload. value_in_style call.now payload style)
         style (answer_with_payload answer) ending line.old line.new) }
-    ensures json { IsJsonLine (json_line call.now (answer_with_payload answer)) }
 {
-    lines_are_json();
-    match answer {
-        Ok(payload) => {
-            payload.known();
-            push_answer(alloc, style, call, &payload, line)?;
-            Ok(Ending::Answered)
-        }
-        Err(error) => show_error(alloc, style, &error, line),
-    }
+    show_result(alloc, style, call, &answer, line)
 }
 
 /// Makes a call on the client, adds the line of its answer in this style, and returns how it ended.

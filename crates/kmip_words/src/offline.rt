@@ -1,5 +1,5 @@
 //! Calls with no link: the bytes that a call sends, and the answer that the bytes sent back are.
-ghost use Rattle.std.specs.Prelude.{◌≡◌, ◌≤◌, ◌+◌, ◌++◌, [], length, drop, IfOk, OnOk, false, option_map};
+ghost use Rattle.std.specs.Prelude.{◌≡◌, ◌≤◌, ◌++◌, [], length, take, drop, IfOk, OnOk, false, option_map};
 ghost use Rattle.kmip_response.specs.Values.{response_payload_val};
 ghost use Rattle.kmip_client.specs.Client.{credential_for, IsOfOperation};
 ghost use Rattle.kmip_client.specs.Outcome.{answer_with_payload};
@@ -9,7 +9,7 @@ ghost use Rattle.kmip_words.specs.About.{IsReply, Tells, response_line, response
 ghost use Rattle.kmip_words.specs.JsonLines.{IsJsonLine};
 
 use crate::about::is_about_another;
-use crate::answers::{answer, show_answer};
+use crate::answers::{answer, show_result};
 use crate::call::Call;
 use crate::ending::Ending;
 use crate::laws::lines_are_json;
@@ -130,7 +130,7 @@ struct Reply {
 
 /// How many bytes a client's link has left to read.
 fn left_for(client: &mut Client<MemoryLink>) -> usize
-    ensures { result + client.old.link.pos ≡ length client.old.link.ever }
+    ensures { result ≡ length (drop client.old.link.pos client.old.link.ever) }
 {
     client.inner().rest().len()
 }
@@ -142,8 +142,9 @@ fn reply_of(
     call: &Call,
     response: &[u8],
 ) -> Result<Reply, OutOfMemory>
-    ensures outcome { IfOk result (λ reply. IsReply (answer_with_payload reply.answer) reply.taken
-        (call_outcome settings.now call.now response.now)) }
+    ensures outcome { IfOk result (λ reply. IsReply (answer_with_payload reply.answer)
+        (take reply.taken response.now) (call_outcome settings.now call.now response.now)
+        response.now) }
     ensures within { IfOk result (λ reply. reply.taken ≤ length response.now) }
     ensures variant { IfOk result (λ reply. IfOk reply.answer
         (λ payload. IsOfOperation (operation_asked call.now) (response_payload_val payload))) }
@@ -157,6 +158,36 @@ fn reply_of(
 
 /// Adds the line of what a call is answered with, and returns how the call ended. `first` is the
 /// first message of the response. Its only error is `OutOfMemory`.
+fn tell_result(
+    alloc: Global,
+    call: &Call,
+    answer: &Result<ResponsePayload, Error>,
+    first: &[u8],
+    line: &mut Text,
+) -> Result<Ending, OutOfMemory>
+    requires { IfOk answer.now
+        (λ payload. IsOfOperation (operation_asked call.now) (response_payload_val payload)) }
+    ensures { IfOk result (λ ending. Tells call.now (answer_with_payload answer.now) first.now ending
+        line.old line.new) }
+{
+    lines_are_json();
+    if is_about_another(call, answer) {
+        push_internal_error(alloc, "answer for another object", first, line)?;
+        return Ok(Ending::Lost);
+    }
+    match answer {
+        Ok(_) => show_result(alloc, Style::Json, call, answer, line),
+        Err(error) => match error {
+            Error::InternalError(text) => {
+                push_internal_error(alloc, text.as_str(), first, line)?;
+                Ok(Ending::Refused)
+            }
+            _ => show_result(alloc, Style::Json, call, answer, line),
+        },
+    }
+}
+
+/// The same, and lets the answer go.
 fn tell(
     alloc: Global,
     call: &Call,
@@ -169,16 +200,7 @@ fn tell(
     ensures { IfOk result
         (λ ending. Tells call.now (answer_with_payload answer) first.now ending line.old line.new) }
 {
-    lines_are_json();
-    if is_about_another(call, &answer) {
-        push_internal_error(alloc, "answer for another object", first, line)?;
-        return Ok(Ending::Lost);
-    }
-    if let Err(Error::InternalError(text)) = &answer {
-        push_internal_error(alloc, text.as_str(), first, line)?;
-        return Ok(Ending::Refused);
-    }
-    show_answer(alloc, Style::Json, call, answer, line)
+    tell_result(alloc, call, &answer, first, line)
 }
 
 /// Adds the answer that these bytes are to a call as a line of JSON, and returns how the call
