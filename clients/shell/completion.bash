@@ -45,7 +45,7 @@ _kmip_call() {
 # kmip CALL WORD..
 _kmip() {
     COMPREPLY=()
-    if ((COMP_CWORD == 1)); then _kmip_offer "${COMP_WORDS[1]}" "${_kmip_calls[@]}"; fi
+    if ((COMP_CWORD == 1)); then _kmip_offer "${COMP_WORDS[1]}" "${_kmip_calls[@]}" pem; fi
 }
 
 # kmip_field FIELD CALL WORD..
