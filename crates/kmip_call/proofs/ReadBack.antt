@@ -1,5 +1,5 @@
 -- A record reads back as the call of its words and its response.
-use Rattle.std.proofs.Common.{◌≡◌, ℕ, ◌*◌, ◌/◌, ◌%◌, ◌<◌, ◌==◌, ℤ, List, [], ◌∷◌, ◌++◌, length, slice_index, refl, ◌∙◌, ap, sym, subst, arith, append_assoc, Bool, true, false, not, ◌&&◌, ◌||◌, cond, nat_eq, Option, Some, None, Result, Ok, IsTrue, codes, bytes_eq}
+use Rattle.std.proofs.Common.{◌≡◌, ℕ, ◌/◌, ◌==◌, ℤ, List, [], ◌∷◌, ◌++◌, length, slice_index, refl, ◌∙◌, ap, sym, subst, arith, append_assoc, Bool, true, false, not, ◌&&◌, ◌||◌, cond, nat_eq, Option, Some, None, IsTrue, codes, bytes_eq}
 use Rattle.std.proofs.lemmas.Bool.{and_parts, eqb-true}
 use Rattle.std.proofs.lemmas.Bool.Decides.{nat_tests}
 use Rattle.std.proofs.lemmas.List.Elements.{All-cons, All-nil}
@@ -10,16 +10,15 @@ use Rattle.std.proofs.lemmas.Str.Ascii.{IsAscii-nil, IsAscii-cons}
 use Rattle.std.proofs.Math.Seq.{take-append_seam}
 use Rattle.std.specs.List.{All, AllPass, list_any, slice_split}
 use Rattle.std.specs.Str.{IsAscii, IsUtf8, is_utf8}
-use Rattle.hex.specs.Hex.{IsBytes, encode_with, encode_upper, upper_digits, is_hex_digit, decode_of}
+use Rattle.hex.specs.Hex.{IsBytes, encode_with, encode_upper, upper_digits, is_hex_digit}
 use Rattle.hex.proofs.HexLemmas.{IsAscii-encode_with, decode_of-encode_upper, decode_of-ok}
 use Rattle.kmip_request.specs.declared.payload.RequestPayload.{RequestPayload}
 use Rattle.kmip_words.specs.Words.{parts_between, has_empty_part, words_of}
 use Rattle.kmip_words.specs.Values.{int_of, bytes_of, word_text}
 use Rattle.kmip_words.specs.Asked.{asked_in}
-use Rattle.kmip_words.specs.Calls.{with_response, call_of_one, call_of_two, call_of_three, call_of_four, call_of_words, call_from, call_of, call_in, locate_of, locate_parts, attributes_of, create_aes_of, plain_call, or_request, typed_call}
+use Rattle.kmip_words.specs.Calls.{with_response, call_of_one, call_of_two, call_of_three, call_of_words, call_from, call_of, call_in, locate_of, locate_parts, attributes_of, create_aes_of, plain_call, or_request, typed_call}
 use Rattle.kmip_words.specs.declared.call.Call.{Call}
-use Rattle.kmip_words.specs.declared.call.Call.TheVariants.{Locate, Attributes, CreateAes, Discover, Request}
-use Rattle.kmip_words.specs.declared.call.Recorded.{Recorded}
+use Rattle.kmip_words.specs.declared.call.Call.TheVariants.{Discover}
 use Rattle.kmip_call.specs.Record.{with_spaces, response_word, record_line, is_call, has_byte, is_script_word, are_script_words, is_recordable, is_unscripted, ReadsBack}
 
 -- ---- tests
