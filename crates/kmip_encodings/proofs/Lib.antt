@@ -6,3 +6,4 @@ pub mod Back
 pub mod Law
 pub mod Numbers
 pub mod Items
+pub mod Elements

@@ -5,3 +5,4 @@ pub mod Texts
 pub mod Encoding
 pub mod Parts
 pub mod Reading
+pub mod Xml

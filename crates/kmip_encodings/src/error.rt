@@ -32,7 +32,7 @@ pub struct Fault {
 /// Why a text is not read as a tree.
 #[derive(Debug, Drop)]
 pub enum EncodingError {
-    /// It is no text of JSON from this byte on, or nests more than 128 deep there.
+    /// It is no text of JSON, or nests more than 128 deep: reading stopped at this byte.
     NotJson(usize),
     /// An object has a name twice.
     RepeatedName,

@@ -20,6 +20,7 @@ mod table;
 mod text;
 mod words;
 mod write_json;
+mod write_xml;
 
 pub use error::{EncodingError, Expected, Fault};
 pub use laws::read_back;
@@ -28,3 +29,4 @@ pub use read_json::from_json;
 pub use text::kind_text;
 pub use words::{tag_named, tag_word};
 pub use write_json::to_json;
+pub use write_xml::to_xml;

@@ -540,7 +540,7 @@ fn broken_at(alloc: Global, text: &str) -> Result<usize, OutOfMemory> {
 /// enumeration's number as a number, and a Date-Time as `0x` and 16 digits. Digits may be of either
 /// case.
 ///
-/// `NotJson` has the byte at which the text stops being JSON, and `Misfit` the place of the item
+/// `NotJson` has the byte at which reading stopped, and `Misfit` the place of the item
 /// that is none with what was expected there. At most 64 levels are read.
 pub fn from_json(alloc: Global, text: &str) -> Result<Tree, EncodingError>
     ensures { ReadsText result text.now }

@@ -1,5 +1,6 @@
 //! The texts of values.
-ghost use Rattle.std.specs.Prelude.{◌≡◌, ◌++◌, [], ◌∷◌, ◌<◌, ◌+◌, IfOk};
+ghost use Rattle.std.specs.Int.{w32, to_be_bytes};
+ghost use Rattle.std.specs.Prelude.{drop, ◌≡◌, ◌++◌, [], ◌∷◌, ◌<◌, ◌+◌, IfOk};
 ghost use Rattle.hex.specs.Hex.{encode_upper};
 ghost use Rattle.kmip_encodings.specs.Dates.{two, civil_text};
 ghost use Rattle.kmip_encodings.specs.Texts.{hex_text, tag_text, enumeration_text, date_text};
@@ -28,13 +29,20 @@ pub(crate) fn bytes_text(alloc: Global, bytes: &[u8]) -> Result<Text, OutOfMemor
     Text::of(alloc, digits.as_str())
 }
 
+/// `0x` and the six digits of the tag.
+pub(crate) fn tag_digits(alloc: Global, tag: Tag) -> Result<Text, OutOfMemory>
+    ensures { IfOk result (λ text. text ≡ hex_text (drop 1 (to_be_bytes w32 tag))) }
+{
+    hex_text(alloc, &tag.number().to_be_bytes()[1..])
+}
+
 /// The name of the tag as one word, or `0x` and six digits where it has none.
 pub(crate) fn tag_text(alloc: Global, tag: Tag) -> Result<Text, OutOfMemory>
     ensures { IfOk result (λ text. text ≡ tag_text tag) }
 {
     match tag_word(tag) {
         Some(word) => Text::of(alloc, word),
-        None => hex_text(alloc, &tag.number().to_be_bytes()[1..]),
+        None => tag_digits(alloc, tag),
     }
 }
 

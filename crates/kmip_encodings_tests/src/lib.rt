@@ -7,3 +7,5 @@ mod json;
 mod messages;
 #[cfg(test)]
 mod refusals;
+#[cfg(test)]
+mod xml;

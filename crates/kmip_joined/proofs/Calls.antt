@@ -15,10 +15,10 @@ use Rattle.kmip_store.proofs.Plains.{as_many}
 use Rattle.std.specs.Option.{option_to_list}
 use Rattle.kmip_server_core.specs.Requests.{request_of, call_operation}
 use Rattle.kmip_server_core.specs.Served.{served, asks}
-use Rattle.kmip_server.specs.Calls.{report_of, call_settings, before_all, expected_of, finish_of}
+use Rattle.kmip_server.specs.Calls.{report_of, call_settings, before_all}
 use Rattle.kmip_server.specs.OneCall.{standing}
 use Rattle.kmip_server.specs.Joined.{CallSettings, Between, Expected, Reported, Unsent, JoinedReport, Next, turn_with, joined_report, answered_with, sent_with, next, expected_calls, finish, has_unsent, ReportsMatch}
-use Rattle.kmip_server.specs.Link.{ServerLinkState, IsOpen, LinkFacts}
+use Rattle.kmip_server.specs.Link.{ServerLinkState, IsOpen}
 use Rattle.kmip_server.specs.Machine.{first_for}
 use Rattle.kmip_server.specs.declared.answers.CallAnswer.{CallAnswer}
 use Rattle.kmip_words.specs.Exchange.{Settings as LineSettings, Asked as LineAsked, Step, step_of, request_asked, asked_of, value_in_style, or_empty}

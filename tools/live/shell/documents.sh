@@ -27,7 +27,7 @@ completes() { # LINE WORD..
     return $status
 }
 touch 'a record' another
-completes 'kmip_call cr' create-rsa create-aes && completes 'kmip_call user=a p' password= &&
+completes 'kmip_call cr' create create-rsa create-aes && completes 'kmip_call user=a p' password= &&
     completes 'kmip_call limit=1 s' sign && completes 'kmip_call record=a' 'a record' another &&
     completes 'kmip_call user=a get x' && completes 'kmip_call --v' --version
 verdict 'completion of kmip_call'

@@ -1,0 +1,50 @@
+//! Items as bytes in hex and as XML, both written by hand.
+use kmip_encodings::to_xml;
+use kmip_wire::read_tree;
+use std::test::Fail;
+
+const ROWS: [(&str, &str); 8] = [
+    (
+        "42002002000000040000000800000000",
+        r#"<CompromiseDate type="Integer" value="8"/>"#,
+    ),
+    (
+        "420020030000000801B69B4BA5749200",
+        r#"<CompromiseDate type="LongInteger" value="123456789000000000"/>"#,
+    ),
+    (
+        "42002004000000100000000003FD35EB6BC2DF4618080000",
+        r#"<CompromiseDate type="BigInteger" value="0000000003FD35EB6BC2DF4618080000"/>"#,
+    ),
+    (
+        "42002006000000080000000000000001",
+        r#"<CompromiseDate type="Boolean" value="true"/>"#,
+    ),
+    (
+        "42002008000000030102030000000000",
+        r#"<CompromiseDate type="ByteString" value="010203"/>"#,
+    ),
+    (
+        "4200200A00000004000D2F0000000000",
+        r#"<CompromiseDate type="Interval" value="864000"/>"#,
+    ),
+    (
+        "42007B01000000A842007A0100000048420069010000002042006A0200000004000000010000000042006B020000000400000002000000004200920900000008000000004F9A54E742000D0200000004000000010000000042000F010000005042005C0500000004000000140000000042007F0500000004000000010000000042007E0500000004000000010000000042007D0700000017436F756C64206E6F74206C6F63617465206F626A65637400",
+        r#"<ResponseMessage><ResponseHeader><ProtocolVersion><ProtocolVersionMajor type="Integer" value="1"/><ProtocolVersionMinor type="Integer" value="2"/></ProtocolVersion><TimeStamp type="DateTime" value="2012-04-27T08:12:23+00:00"/><BatchCount type="Integer" value="1"/></ResponseHeader><BatchItem><Operation type="Enumeration" value="Destroy"/><ResultStatus type="Enumeration" value="OperationFailed"/><ResultReason type="Enumeration" value="ItemNotFound"/><ResultMessage type="TextString" value="Could not locate object"/></BatchItem></ResponseMessage>"#,
+    ),
+    (
+        "5400010100000028540002010000000042007D07000000133C612026202262223E0909C3A90D0AE282AC010000000000",
+        "<TTLV tag=\"0x540001\"><TTLV tag=\"0x540002\"></TTLV><ResultMessage type=\"TextString\" value=\"&lt;a &amp; &quot;b&quot;&gt;&#9;&#9;\u{e9}&#13;&#10;\u{20ac}\u{fffd}\"/></TTLV>",
+    ),
+];
+
+#[test]
+fn items_are_written_as_xml(rt: HostRuntime) -> Result<(), Fail> {
+    let alloc = rt.alloc();
+    for (digits, xml) in ROWS {
+        let bytes = hex::decode(alloc, digits)?;
+        let (tree, _) = read_tree(alloc, &bytes)?;
+        assert_eq!(rt; to_xml(alloc, &tree)?.as_str(), xml);
+    }
+    Ok(())
+}
