@@ -10,19 +10,23 @@
 ghost use Rattle.std.specs.Prelude.{◌≡◌, ◌≢◌, pos};
 ghost use Rattle.kmip_c.specs.Calls.{call_of, call_with_path, settings_of};
 ghost use Rattle.kmip_c.specs.Calls.{IsRequested, IsAnswered, IsValueReported};
+ghost use Rattle.kmip_c.specs.Operations.{IsOperationRequested, IsOperationAnswered};
 ghost use Rattle.kmip_c.specs.Codes.{limit_of, contents_code, memory};
 
 mod answer;
 mod call;
 mod copy;
+mod operation;
 #[cfg(test)]
 mod tests;
 
 use answer::{answer_line, status_of};
-use call::{call_of, settings_of};
+use call::{Credential, call_of, credential_of, settings_of};
 use copy::copy_out;
+use kmip_operations::{operation_answer, operation_request};
 use kmip_wire::{Config, HeadError, OutOfMemory, head};
 use kmip_words::{request_of, value_at};
+use operation::operation_of;
 use std::alloc::Global;
 use std::str;
 
@@ -191,5 +195,86 @@ pub extern "C" fn kmip_value(
         Ok(Some(value)) => copy_out(&value, into),
         Ok(None) => NO_VALUE,
         Err(OutOfMemory) => NO_MEMORY,
+    }
+}
+
+/// Writes the request of a call of any operation to `into`, and returns how many bytes it has.
+/// Where they do not fit, nothing is written.
+///
+/// `name` is the operation's name in KMIP's table, as `Encrypt`; `version` is `1.0`, `1.1` or
+/// `1.2`; `payload` is the JSON of a structure with the tag `RequestPayload` (KMIP Additional
+/// Message Encodings). With `has_credential` the request carries this user name and password. After
+/// each code nothing is written:
+///
+/// - -2: they ask for no call, or the user name or the password is not UTF-8.
+/// - -5: memory ran out.
+/// - -6: the request has no wire form.
+#[unsafe(no_mangle)]
+pub extern "C" fn kmip_operation_request(
+    alloc: Global,
+    name: &[u8],
+    version: &[u8],
+    payload: &[u8],
+    has_credential: bool,
+    user: &[u8],
+    password: &[u8],
+    into: &mut [u8],
+) -> i64
+    ensures request { result ≢ memory →
+        IsOperationRequested (settings_of has_credential user.now password.now)
+        name.now version.now payload.now into.old result into.new }
+    ensures memory { result ≡ memory → into.new ≡ into.old }
+{
+    let Credential { user, password } = match credential_of(alloc, has_credential, user, password) {
+        Ok(Some(credential)) => credential,
+        Ok(None) => return NOT_OF_THE_GRAMMAR,
+        Err(OutOfMemory) => return NO_MEMORY,
+    };
+    let call = match operation_of(alloc, name, version, payload) {
+        Ok(Some(call)) => call,
+        Ok(None) => return NOT_OF_THE_GRAMMAR,
+        Err(OutOfMemory) => return NO_MEMORY,
+    };
+    match operation_request(alloc, user, password, &call) {
+        Ok(Some(request)) => copy_out(&request, into),
+        Ok(None) => NO_FORM,
+        Err(OutOfMemory) => NO_MEMORY,
+    }
+}
+
+/// Writes the answer that a response is to a call of any operation to `into`, as a line of JSON,
+/// and sets `length` to how many bytes the line has. Where they do not fit, nothing is written.
+/// What stands after the first message of `response` is not looked at.
+///
+/// The call is given as to `kmip_operation_request`. The line has the response's payload as
+/// `{"answer":TREE}`, in the JSON of that encoding, or the error. The statuses are those of
+/// `kmip_answer`: after 2 and 5 there is no line, and `length` is 0.
+#[unsafe(no_mangle)]
+pub extern "C" fn kmip_operation_answer(
+    alloc: Global,
+    name: &[u8],
+    version: &[u8],
+    payload: &[u8],
+    response: &[u8],
+    into: &mut [u8],
+    length: &mut i64,
+) -> i32
+    ensures answer { result ≢ pos 5 →
+        IsOperationAnswered name.now version.now payload.now response.now result into.old length.new
+        into.new }
+    ensures memory { result ≡ pos 5 → (length.new ≡ pos 0) × (into.new ≡ into.old) }
+{
+    *length = 0;
+    let call = match operation_of(alloc, name, version, payload) {
+        Ok(Some(call)) => call,
+        Ok(None) => return 2,
+        Err(OutOfMemory) => return 5,
+    };
+    match operation_answer(alloc, None, &call, response) {
+        Ok(answer) => {
+            *length = copy_out(&answer.line, into);
+            status_of(answer.ending)
+        }
+        Err(OutOfMemory) => 5,
     }
 }

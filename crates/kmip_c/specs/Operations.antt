@@ -1,0 +1,46 @@
+-- Calls of any operation as C makes them: a name, a version and a payload of bytes.
+use Rattle.std.specs.Prelude.{◌≡◌, ℕ, ℤ, pos, List, Option, Some, None}
+use Rattle.std.specs.Str.{IsUtf8}
+use Rattle.kmip_client.specs.Operation.{TreeRequest, operation_bytes}
+use Rattle.kmip_words.specs.Exchange.{Settings}
+use Rattle.kmip_operations.specs.Calls.{Asks}
+use Rattle.kmip_operations.specs.Answers.{operation_json_line, operation_ending}
+use Rattle.kmip_c.specs.Calls.{plain, status_of}
+use Rattle.kmip_c.specs.Codes.{IsReported, grammar, no_form}
+
+-- the three are texts, and ask for this call
+pub record AsksInBytes (name version payload : List ℕ) (request : TreeRequest) : Type 0 where
+  pub name_utf8 : IsUtf8 name
+  pub version_utf8 : IsUtf8 version
+  pub payload_utf8 : IsUtf8 payload
+  pub asks : Asks name version payload request
+
+-- they ask for no call
+abbrev pub AsksForNone : List ℕ → List ℕ → List ℕ → Type 0
+AsksForNone name version payload =
+    (request : TreeRequest) → AsksInBytes name version payload request → ⊥
+
+-- what C gets for a request, memory aside: its bytes, or that it has no wire form, or that what was
+-- given is not of the grammar
+pub data IsOperationRequested (settings : Option Settings) (name version payload before : List ℕ)
+    (result : ℤ) (after : List ℕ) : Type 0 where
+  asked : (s : Settings) → settings ≡ Some s →
+      (request : TreeRequest) → AsksInBytes name version payload request →
+      IsReported (operation_bytes request s.credential) no_form before result after →
+      IsOperationRequested settings name version payload before result after
+  no_credential : settings ≡ None → (result ≡ grammar) × (after ≡ before) →
+      IsOperationRequested settings name version payload before result after
+  no_call : AsksForNone name version payload → (result ≡ grammar) × (after ≡ before) →
+      IsOperationRequested settings name version payload before result after
+
+-- what C gets for a response, memory aside: how the call ended, and the line of its answer; or that
+-- what was given is not of the grammar
+pub data IsOperationAnswered (name version payload response : List ℕ) (status : ℤ)
+    (before : List ℕ) (length : ℤ) (after : List ℕ) : Type 0 where
+  answered : (request : TreeRequest) → AsksInBytes name version payload request →
+      status ≡ status_of (operation_ending plain request response) →
+      IsReported (Some (operation_json_line plain request response)) (pos 0) before length after →
+      IsOperationAnswered name version payload response status before length after
+  no_call : AsksForNone name version payload → status ≡ pos 2 →
+      IsReported None (pos 0) before length after →
+      IsOperationAnswered name version payload response status before length after

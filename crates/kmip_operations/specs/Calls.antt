@@ -1,0 +1,51 @@
+-- A call of any operation, by the operation's name, a version of KMIP and a payload in JSON.
+use Rattle.std.specs.Prelude.{◌≡◌, ℕ, ◌==◌, Bool, true, false, List, codes, Option, Some, None, Ok, if◌then◌else◌, bytes_eq}
+use Rattle.std.specs.Option.{option_and_then, IsSomeAnd}
+use Rattle.json.specs.Json.{document}
+use Rattle.json.specs.Strict.{HasUniqueKeys}
+use Rattle.kmip_tags.specs.Tags.{OPERATION, REQUEST_PAYLOAD}
+use Rattle.kmip_wire.specs.Tree.{Tree, scalar, structure}
+use Rattle.kmip_shape.specs.Enumerations.{variant_at}
+use Rattle.kmip_enums.specs.Operations.{operation_line, operation_variants}
+use Rattle.kmip_enums.specs.declared.operation.Operation.{Operation}
+use Rattle.kmip_encodings.specs.Names.{enumeration_number}
+use Rattle.kmip_encodings.specs.Reading.{tree_of}
+use Rattle.kmip_client.specs.Operation.{TreeRequest}
+use Rattle.kmip_client.specs.declared.operation.Version.{Version}
+use Rattle.kmip_client.specs.declared.operation.Version.TheVariants.{V1_0, V1_1, V1_2}
+use Rattle.kmip_operations.specs.declared.call.OperationCall.{OperationCall}
+
+-- a call, as kmip_client's contracts see it
+abbrev pub request_of : OperationCall → TreeRequest
+request_of call =
+    record { operation = call.operation; version = call.version; payload = call.payload }
+
+-- the operation with this name in KMIP's table
+abbrev pub operation_named : List ℕ → Option Operation
+operation_named name =
+    option_and_then (variant_at operation_line operation_variants) (enumeration_number OPERATION name)
+
+-- the version that a text writes
+abbrev pub version_written : List ℕ → Option Version
+version_written text =
+    if bytes_eq text (codes "1.0") then Some V1_0
+    else if bytes_eq text (codes "1.1") then Some V1_1
+    else if bytes_eq text (codes "1.2") then Some V1_2
+    else None
+
+-- whether an item is the payload of a request: a structure with that tag (KMIP 1.0, 9.1.3.1)
+abbrev pub is_payload : Tree → Bool
+is_payload (structure tag items) = tag == REQUEST_PAYLOAD
+is_payload (scalar tag value) = false
+
+-- the text is the JSON of this payload, in which no object has a name twice
+abbrev pub IsPayloadText : List ℕ → Tree → Type 0
+IsPayloadText text payload =
+    IsSomeAnd (document text) (λ j. HasUniqueKeys j × (tree_of j ≡ Ok payload))
+    × (is_payload payload ≡ true)
+
+-- the call that a name, a version and a payload in JSON ask for
+pub record Asks (name version payload : List ℕ) (request : TreeRequest) : Type 0 where
+  pub operation_is : operation_named name ≡ Some request.operation
+  pub version_is : version_written version ≡ Some request.version
+  pub payload_is : IsPayloadText payload request.payload

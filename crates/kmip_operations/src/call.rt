@@ -1,0 +1,101 @@
+//! A call of any operation, by the operation's name, a version of KMIP and a payload in JSON.
+ghost use Rattle.std.specs.Prelude.{◌≡◌, IfOk, MatchOption, Result};
+ghost use Rattle.kmip_wire.specs.Tree.{Tree as TheTree};
+ghost use Rattle.kmip_client.specs.Operation.{TreeRequest};
+ghost use Rattle.kmip_operations.specs.Calls.{operation_named, version_written, is_payload};
+ghost use Rattle.kmip_operations.specs.Calls.{IsPayloadText, Asks, request_of};
+
+use kmip_client::Version;
+use kmip_encodings::{EncodingError, enumeration_number, from_json};
+use kmip_enums::{Enumeration, Operation};
+use kmip_tags::tags::{OPERATION, REQUEST_PAYLOAD};
+use kmip_wire::{Node, OutOfMemory, Tag, Tree};
+use std::alloc::Global;
+
+/// A call of an operation.
+#[derive(Drop)]
+pub struct OperationCall {
+    /// The operation.
+    pub operation: Operation,
+    /// The version of KMIP that the request names.
+    pub version: Version,
+    /// The payload of the request.
+    pub payload: Tree,
+}
+
+/// The operation with this name in KMIP's table.
+fn operation_named(name: &str) -> Option<Operation>
+    ensures { result ≡ operation_named name.now }
+{
+    Operation::from_number(enumeration_number(Tag::of(OPERATION), name)?)
+}
+
+/// The version that a text writes.
+fn version_written(text: &str) -> Option<Version>
+    ensures { result ≡ version_written text.now }
+{
+    match text {
+        "1.0" => Some(Version::V1_0),
+        "1.1" => Some(Version::V1_1),
+        "1.2" => Some(Version::V1_2),
+        _ => None,
+    }
+}
+
+/// Whether an item is the payload of a request: a structure with that tag.
+fn is_payload(tree: &Tree) -> bool
+    ensures { result ≡ is_payload tree.now }
+{
+    match &tree.node {
+        Node::Structure(_) => tree.tag.number() == REQUEST_PAYLOAD,
+        _ => false,
+    }
+}
+
+/// The payload whose JSON a text is.
+fn payload_of(alloc: Global, text: &str) -> Result<Option<Tree>, OutOfMemory>
+    ensures { IfOk result (λ payload. MatchOption payload
+        ((tree : TheTree) → IsPayloadText text.now tree → ⊥) (IsPayloadText text.now)) }
+{
+    match from_json(alloc, text) {
+        Ok(tree) => {
+            if is_payload(&tree) {
+                Ok(Some(tree))
+            } else {
+                Ok(None)
+            }
+        }
+        Err(EncodingError::OutOfMemory) => Err(OutOfMemory),
+        Err(_) => Ok(None),
+    }
+}
+
+/// The call of an operation. `name` is the operation's name in KMIP's table, as `Encrypt` or
+/// `MACVerify`; `version` is `1.0`, `1.1` or `1.2`; `payload` is the JSON of a structure with the
+/// tag `RequestPayload`, as kmip_encodings reads it: any of the names, types and values that it
+/// has, in at most 64 levels. `None` exactly where one of the three is not so.
+pub fn operation_call(
+    alloc: Global,
+    name: &str,
+    version: &str,
+    payload: &str,
+) -> Result<Option<OperationCall>, OutOfMemory>
+    ensures { IfOk result (λ call. MatchOption call
+        ((request : TreeRequest) → Asks name.now version.now payload.now request → ⊥)
+        (λ call. Asks name.now version.now payload.now (request_of call))) }
+{
+    let Some(operation) = operation_named(name) else {
+        return Ok(None);
+    };
+    let Some(version) = version_written(version) else {
+        return Ok(None);
+    };
+    let Some(payload) = payload_of(alloc, payload)? else {
+        return Ok(None);
+    };
+    Ok(Some(OperationCall {
+        operation,
+        version,
+        payload,
+    }))
+}

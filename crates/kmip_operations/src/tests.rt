@@ -1,0 +1,357 @@
+//! The calls as a caller makes them. Messages stand in the notation of kmip_test_messages, and JSON
+//! is written by hand.
+use crate::{OperationAnswer, OperationCall, operation_answer, operation_call, operation_request};
+use kmip_test_messages::message;
+use kmip_wire::{OutOfMemory, Text};
+use kmip_words::Ending;
+use std::alloc::Global;
+use std::process::Abort;
+use std::test::Fail;
+
+/// `operation_call` without its clause, so that the proof of a test looks into no definition; so are
+/// the two functions below.
+fn call_of(
+    alloc: Global,
+    name: &str,
+    version: &str,
+    payload: &str,
+) -> Result<Option<OperationCall>, OutOfMemory> {
+    operation_call(alloc, name, version, payload)
+}
+
+fn request(
+    alloc: Global,
+    user: Option<Text>,
+    password: Option<Text>,
+    call: &OperationCall,
+) -> Result<Option<Vec<u8>>, OutOfMemory> {
+    operation_request(alloc, user, password, call)
+}
+
+fn answer_to(
+    alloc: Global,
+    limit: Option<u32>,
+    call: &OperationCall,
+    response: &[u8],
+) -> Result<OperationAnswer, OutOfMemory> {
+    operation_answer(alloc, limit, call, response)
+}
+
+/// A call, and its request.
+#[derive(Clone, Copy)]
+struct RequestRow {
+    name: &'static str,
+    version: &'static str,
+    payload: &'static str,
+    request: &'static str,
+}
+
+/// Requests, by the tables of KMIP 1.2, 4.29, 4.30, 4.33 and 4.32, and of KMIP 1.0, 4.4 and 4.26.
+const REQUESTS: &[RequestRow] = &[
+    RequestRow {
+        name: "Encrypt",
+        version: "1.2",
+        payload: r#"{"tag":"RequestPayload","value":[{"tag":"UniqueIdentifier","type":"TextString","value":"k1"},{"tag":"CryptographicParameters","value":[{"tag":"BlockCipherMode","type":"Enumeration","value":"CBC"},{"tag":"PaddingMethod","type":"Enumeration","value":"PKCS5"}]},{"tag":"Data","type":"ByteString","value":"00FF"},{"tag":"IVCounterNonce","type":"ByteString","value":"000102030405060708090A0B0C0D0E0F"}]}"#,
+        request: r#"REQ2(1F, 94 "k1",2B{11 e1,5F e3},C2 x00FF,3D x000102030405060708090A0B0C0D0E0F)"#,
+    },
+    RequestRow {
+        name: "Decrypt",
+        version: "1.2",
+        payload: r#"{ "value": [ {"type": "TextString", "tag": "UniqueIdentifier", "value": "k\u0031"}, {"tag": "Data", "type": "ByteString", "value": "deadbeef"} ], "tag": "RequestPayload" }"#,
+        request: r#"REQ2(20, 94 "k1",C2 xDEADBEEF)"#,
+    },
+    RequestRow {
+        name: "MAC",
+        version: "1.2",
+        payload: r#"{"tag":"RequestPayload","type":"Structure","value":[{"tag":"UniqueIdentifier","type":"TextString","value":"k1"},{"tag":"CryptographicParameters","value":[{"tag":"CryptographicAlgorithm","type":"Enumeration","value":"0x00000009"}]},{"tag":"Data","type":"ByteString","value":"616263"}]}"#,
+        request: r#"REQ2(23, 94 "k1",2B{28 e9},C2 x616263)"#,
+    },
+    RequestRow {
+        name: "SignatureVerify",
+        version: "1.2",
+        payload: r#"{"tag":"RequestPayload","value":[{"tag":"UniqueIdentifier","type":"TextString","value":"k1"},{"tag":"CryptographicParameters","value":[{"tag":"PaddingMethod","type":"Enumeration","value":"PSS"},{"tag":"HashingAlgorithm","type":"Enumeration","value":"SHA256"},{"tag":"CryptographicAlgorithm","type":"Enumeration","value":"RSA"}]},{"tag":"Data","type":"ByteString","value":""},{"tag":"SignatureData","type":"ByteString","value":"0102"}]}"#,
+        request: r#"REQ2(22, 94 "k1",2B{5F eA,38 e6,28 e4},C2 x,C3 x0102)"#,
+    },
+    RequestRow {
+        name: "Rekey",
+        version: "1.0",
+        payload: r#"{"tag":"RequestPayload","value":[{"tag":"UniqueIdentifier","type":"TextString","value":""},{"tag":"Offset","type":"Interval","value":60}]}"#,
+        request: r#"REQ0(4, 94 "",58 n60)"#,
+    },
+    RequestRow {
+        name: "Poll",
+        version: "1.1",
+        payload: r#"{"tag":"RequestPayload","value":[]}"#,
+        request: "REQ1(1A, )",
+    },
+    RequestRow {
+        name: "JoinSplitKey",
+        version: "1.2",
+        payload: r#"{"tag":"0x420079","value":[{"tag":"0x540001","type":"Enumeration","value":"0x80000001"}]}"#,
+        request: "REQ2(29, 540001 e80000001)",
+    },
+];
+
+#[test]
+fn a_request_has_the_callers_payload(rt: HostRuntime) -> Result<(), Fail> {
+    let alloc: Global = rt.alloc();
+    for row in REQUESTS {
+        let Some(call) = call_of(alloc, row.name, row.version, row.payload)? else {
+            panic!(rt; "{}", row.name);
+        };
+        let Some(bytes) = request(alloc, None, None, &call)? else {
+            panic!(rt; "{}", row.name);
+        };
+        assert!(rt; bytes == message(alloc, row.request)?, "{}", row.name);
+    }
+    Ok(())
+}
+
+/// The payload of a request of Encrypt.
+const PAYLOAD: &str =
+    r#"{"tag":"RequestPayload","value":[{"tag":"Data","type":"ByteString","value":"00FF"}]}"#;
+
+#[test]
+fn a_credential_is_sent_where_both_texts_are_given(rt: HostRuntime) -> Result<(), Fail> {
+    let alloc: Global = rt.alloc();
+    let Some(call) = call_of(alloc, "Encrypt", "1.2", PAYLOAD)? else {
+        panic!(rt; "no call");
+    };
+    let user = Text::of(alloc, "alice")?;
+    let password = Text::of(alloc, "secret")?;
+    let expected =
+        r#"78{77{69{6A i1,6B i2},0C{23{24 e1,25{99 "alice",A1 "secret"}}},0D i1},0F{5C e1F,79{C2 x00FF}}}"#;
+    match request(alloc, Some(user), Some(password), &call)? {
+        Some(bytes) => assert!(rt; bytes == message(alloc, expected)?),
+        None => panic!(rt; "no request"),
+    }
+    let user = Text::of(alloc, "alice")?;
+    match request(alloc, Some(user), None, &call)? {
+        Some(bytes) => assert!(rt; bytes == message(alloc, "REQ2(1F, C2 x00FF)")?),
+        None => panic!(rt; "no request"),
+    }
+    Ok(())
+}
+
+/// What is no call.
+#[derive(Clone, Copy)]
+struct Refused {
+    name: &'static str,
+    version: &'static str,
+    payload: &'static str,
+}
+
+/// Another name, another version, and another payload: what is no JSON, no item, no structure, or
+/// has another tag.
+const REFUSED: &[Refused] = &[
+    Refused {
+        name: "encrypt",
+        version: "1.2",
+        payload: PAYLOAD,
+    },
+    Refused {
+        name: "0x0000001F",
+        version: "1.2",
+        payload: PAYLOAD,
+    },
+    Refused {
+        name: "",
+        version: "1.2",
+        payload: PAYLOAD,
+    },
+    Refused {
+        name: "Encrypt",
+        version: "1.3",
+        payload: PAYLOAD,
+    },
+    Refused {
+        name: "Encrypt",
+        version: "1",
+        payload: PAYLOAD,
+    },
+    Refused {
+        name: "Encrypt",
+        version: "1.2",
+        payload: "",
+    },
+    Refused {
+        name: "Encrypt",
+        version: "1.2",
+        payload: "{'tag':'RequestPayload','value':[]}",
+    },
+    Refused {
+        name: "Encrypt",
+        version: "1.2",
+        payload: "[]",
+    },
+    Refused {
+        name: "Encrypt",
+        version: "1.2",
+        payload: r#"{"tag":"RequestPayload"}"#,
+    },
+    Refused {
+        name: "Encrypt",
+        version: "1.2",
+        payload: r#"{"tag":"RequestPayload","value":[],"value":[]}"#,
+    },
+    Refused {
+        name: "Encrypt",
+        version: "1.2",
+        payload: r#"{"tag":"RequestPayload","value":[{"tag":"Data"}]}"#,
+    },
+    Refused {
+        name: "Encrypt",
+        version: "1.2",
+        payload: r#"{"tag":"RequestPayload","type":"Integer","value":1}"#,
+    },
+    Refused {
+        name: "Encrypt",
+        version: "1.2",
+        payload: r#"{"tag":"ResponsePayload","value":[]}"#,
+    },
+];
+
+#[test]
+fn other_words_are_refused(rt: HostRuntime) -> Result<(), Fail> {
+    for row in REFUSED {
+        let call = call_of(rt.alloc(), row.name, row.version, row.payload)?;
+        assert!(rt;
+            call.is_none(),
+            "{} {} {}",
+            row.name,
+            row.version,
+            row.payload
+        );
+    }
+    Ok(())
+}
+
+/// A payload that has no wire form: the bytes of a Big Integer are a multiple of eight (KMIP 1.0,
+/// 9.1.1.4).
+const NO_FORM: &str =
+    r#"{"tag":"RequestPayload","value":[{"tag":"Modulus","type":"BigInteger","value":"0x01"}]}"#;
+
+#[test]
+fn what_has_no_wire_form_has_no_request(rt: HostRuntime) -> Result<(), Fail> {
+    let alloc: Global = rt.alloc();
+    let Some(call) = call_of(alloc, "Encrypt", "1.2", NO_FORM)? else {
+        panic!(rt; "no call");
+    };
+    assert!(rt; request(alloc, None, None, &call)?.is_none());
+    let answer = answer_to(alloc, None, &call, &[])?;
+    assert_eq!(rt; answer.ending, Ending::Refused);
+    let line = b"{\"error\":\"SerializeError\",\"text\":\"request has no wire form\"}\n";
+    assert!(rt; answer.line.as_slice() == line.as_slice());
+    Ok(())
+}
+
+/// A response to Encrypt, how the call ended, and its line.
+#[derive(Clone, Copy)]
+struct AnswerRow {
+    response: &'static str,
+    ending: Ending,
+    line: &'static str,
+}
+
+const ANSWERS: &[AnswerRow] = &[
+    AnswerRow {
+        response: r#"OK2(1F, 94 "k\"1",C2 xDEADBEEF)"#,
+        ending: Ending::Answered,
+        line: "{\"answer\":{\"tag\":\"ResponsePayload\",\"value\":[{\"tag\":\"UniqueIdentifier\",\"type\":\"TextString\",\"value\":\"k\\\"1\"},{\"tag\":\"Data\",\"type\":\"ByteString\",\"value\":\"DEADBEEF\"}]}}\n",
+    },
+    AnswerRow {
+        response: "RES2(5C e1F,7F e0)",
+        ending: Ending::Answered,
+        line: "{\"answer\":{\"tag\":\"ResponsePayload\",\"value\":[]}}\n",
+    },
+    // an unknown item, an enumeration past its table, and bytes after the message
+    AnswerRow {
+        response: "OK2(1F, 540001 e80000001,28 e9),!FF",
+        ending: Ending::Answered,
+        line: "{\"answer\":{\"tag\":\"ResponsePayload\",\"value\":[{\"tag\":\"0x540001\",\"type\":\"Enumeration\",\"value\":\"0x80000001\"},{\"tag\":\"CryptographicAlgorithm\",\"type\":\"Enumeration\",\"value\":\"0x00000009\"}]}}\n",
+    },
+    AnswerRow {
+        response: r#"RES2(5C e1F,7F e1,7E eA,7D "bad \"iv\"")"#,
+        ending: Ending::Refused,
+        line: "{\"error\":\"ServerError\",\"text\":\"Operation Encrypt failed: bad \\\"iv\\\"\"}\n",
+    },
+    AnswerRow {
+        response: r#"RES2(5C e1F,7F e1,7E e1,7D "gone")"#,
+        ending: Ending::Refused,
+        line: "{\"error\":\"ItemNotFound\",\"text\":\"Operation Encrypt failed: gone\"}\n",
+    },
+    AnswerRow {
+        response: r#"RES2(7F e1,7E e12,7D "no such mechanism")"#,
+        ending: Ending::Refused,
+        line: "{\"error\":\"ServerError\",\"text\":\"Operation Encrypt failed for reason 18: no such mechanism\"}\n",
+    },
+    AnswerRow {
+        response: "OK2(20, C2 x00)",
+        ending: Ending::Refused,
+        line: "{\"error\":\"InternalError\",\"text\":\"Response does not match request operation Encrypt\"}\n",
+    },
+    AnswerRow {
+        response: "RES2(5C e1F,7F e2)",
+        ending: Ending::Refused,
+        line: "{\"error\":\"InternalError\",\"text\":\"Result status 2 is not supported\"}\n",
+    },
+    AnswerRow {
+        response: "7B{7A{69{6A i1,6B i2},92 d1,0D i2},0F{5C e1F,7F e0},0F{5C e1F,7F e0}}",
+        ending: Ending::Refused,
+        line: "{\"error\":\"InternalError\",\"text\":\"Expected one batch item in response but received 2\"}\n",
+    },
+    AnswerRow {
+        response: "REQ2(1F, C2 x00)",
+        ending: Ending::Refused,
+        line: "{\"error\":\"InternalError\",\"text\":\"not a response message\"}\n",
+    },
+    AnswerRow {
+        response: "!42007B0100000008FFFFFFFFFFFFFFFF",
+        ending: Ending::Lost,
+        line: "{\"error\":\"DeserializeError\",\"text\":\"malformed TTLV\"}\n",
+    },
+    AnswerRow {
+        response: "!42007B0100000090",
+        ending: Ending::Lost,
+        line: "{\"error\":\"ResponseReadError\",\"text\":\"end of input\"}\n",
+    },
+    AnswerRow {
+        response: "7B i1",
+        ending: Ending::Lost,
+        line: "{\"error\":\"DeserializeError\",\"text\":\"not a structure\"}\n",
+    },
+];
+
+#[test]
+fn responses_are_answered(rt: HostRuntime) -> Result<(), Fail> {
+    let alloc: Global = rt.alloc();
+    let Some(call) = call_of(alloc, "Encrypt", "1.2", PAYLOAD)? else {
+        panic!(rt; "no call");
+    };
+    for row in ANSWERS {
+        let answer = answer_to(alloc, None, &call, &message(alloc, row.response)?)?;
+        assert!(rt;
+            answer.line.as_slice() == row.line.as_bytes(),
+            "{}",
+            row.response
+        );
+        assert_eq!(rt; answer.ending, row.ending, "{}", row.response);
+    }
+    Ok(())
+}
+
+#[test]
+fn a_long_response_is_refused(rt: HostRuntime) -> Result<(), Fail> {
+    let alloc: Global = rt.alloc();
+    let Some(call) = call_of(alloc, "Encrypt", "1.2", PAYLOAD)? else {
+        panic!(rt; "no call");
+    };
+    let response = message(alloc, "7B{}")?;
+    let answer = answer_to(alloc, Some(7), &call, &response)?;
+    assert_eq!(rt; answer.ending, Ending::Lost);
+    let line = b"{\"error\":\"DeserializeError\",\"text\":\"response size 8 exceeds limit 7\"}\n";
+    assert!(rt; answer.line.as_slice() == line.as_slice());
+    let answer = answer_to(alloc, Some(8), &call, &response)?;
+    assert_eq!(rt; answer.ending, Ending::Refused);
+    Ok(())
+}
