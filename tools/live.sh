@@ -91,10 +91,10 @@ live() {
     server_port=$(free_port)
     "$here/start_server.sh" "$run" "$server_port" || give_up 'no server'
     started+=("$(cat "$run/server.pid")")
-    start_fakes
+    start_fakes || give_up 'the fake servers do not listen'
     build_clients
-    run_cases fakes 8
-    run_cases server 1
+    run_cases fakes 8 "${clients[@]}"
+    run_cases server 1 "${clients[@]}"
     if ((measure > 0)); then time_calls; fi
 }
 

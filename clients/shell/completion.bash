@@ -2,7 +2,8 @@
 # Completion in bash for kmip_call and for the functions of kmip.sh: source this file, or copy it as
 # ~/.local/share/bash-completion/completions/kmip_call.
 
-_kmip_calls=(query discover create-rsa create-aes locate attributes get activate sign rename revoke destroy rng raw)
+_kmip_calls=(query discover create-rsa create-aes create register locate attributes attribute-add attribute-modify
+    attribute-delete get activate sign rename revoke destroy rng raw)
 _kmip_fields=(attributes cryptographic_object object_type object_types operations private_key public_key random_bytes
     signature_data supported_versions unique_identifier unique_identifiers vendor_identification)
 
@@ -44,7 +45,7 @@ _kmip_call() {
 # kmip CALL WORD..
 _kmip() {
     COMPREPLY=()
-    if ((COMP_CWORD == 1)); then _kmip_offer "${COMP_WORDS[1]}" "${_kmip_calls[@]}"; fi
+    if ((COMP_CWORD == 1)); then _kmip_offer "${COMP_WORDS[1]}" "${_kmip_calls[@]}" pem; fi
 }
 
 # kmip_field FIELD CALL WORD..

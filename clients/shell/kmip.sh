@@ -5,6 +5,7 @@
 #                                                            authority and names this host
 #   kmip create-rsa 2048 issuing issuing-public              {"answer":{"private_key":"2","public_key":"1"}}
 #   kmip_field private_key create-rsa 2048 priv pub          2
+#   kmip pem 1                                               -----BEGIN RSA PUBLIC KEY-----..
 #   kmip_close
 #
 # `kmip` writes one line of JSON and has the status of kmip_call: 0 answered, 1 refused, 2 no such call, 3 the connection
@@ -26,7 +27,7 @@
 #   KMIP_RECORD      a file that each call and its response are added to
 #   KMIP_CALL        the program, if it is not kmip_call on the path: its path, or words
 #
-# It needs bash 5.0, openssl 3.0, flock (util-linux), timeout and mkfifo (coreutils), jq for kmip_field, and /proc.
+# It needs bash 5.0, openssl 3.0, flock (util-linux), timeout and mkfifo (coreutils), jq for kmip_field and `kmip pem`, and /proc.
 
 if ((BASH_VERSINFO[0] < 5)); then
     echo 'kmip.sh: bash 5.0 or later is needed' >&2
@@ -269,9 +270,13 @@ kmip_deadline() {
     KMIP_DEADLINE=$((10#${BASH_REMATCH[1]} * 1000000 + 10#${fraction:0:6}))
 }
 
-# Makes a call, and writes its answer.
+# Makes a call, and writes its answer. `pem` is a call of this file's own.
 kmip() { # CALL WORD..
     local words=() word status=0 KMIP_WORD KMIP_WORDS KMIP_DEADLINE
+    if [[ ${1-} == pem ]]; then
+        kmip_pem "${@:2}"
+        return
+    fi
     if [[ -z ${KMIP_PID-} ]]; then
         kmip_fails RequestWriteError 'no connection is open; kmip_open opens one'
         return 3
@@ -320,6 +325,40 @@ kmip_field() { # FIELD CALL WORD..
         status=1
     fi
     return $status
+}
+
+# What an object of this type and format is called in PEM: the labels of RFC 7468, and OpenSSL's own for PKCS#1 and SEC 1.
+kmip_pem_label() { # TYPE FORMAT
+    case $1.$2 in
+    PublicKey.PKCS1) echo 'RSA PUBLIC KEY' ;;
+    PublicKey.X509) echo 'PUBLIC KEY' ;;
+    PrivateKey.PKCS1) echo 'RSA PRIVATE KEY' ;;
+    PrivateKey.PKCS8) echo 'PRIVATE KEY' ;;
+    PrivateKey.ECPrivateKey) echo 'EC PRIVATE KEY' ;;
+    Certificate.X509) echo CERTIFICATE ;;
+    *) return 1 ;;
+    esac
+}
+
+# Gets an object, and writes it as PEM. An error goes to standard error. A key is in no word of a process.
+kmip_pem() { # IDENTIFIER
+    local answer type format bytes label status=0
+    answer=$(kmip get "$@") || status=$?
+    if ((status != 0)); then
+        printf '%s\n' "$answer" >&2
+        return $status
+    fi
+    IFS=$'\t' read -r type format bytes < <(printf '%s\n' "$answer" | jq -r '.answer | .object_type as $type |
+        .cryptographic_object[$type] | [$type] + if $type == "Certificate" then [.certificate_type, .certificate_value]
+        else [.key_block.key_format_type, (.key_block.key_value.key_material.Bytes? // "")] end | @tsv') || :
+    if [[ -z $bytes ]] || ! label=$(kmip_pem_label "$type" "$format"); then
+        kmip_fails MissingValue 'the answer has no PEM form' >&2
+        return 1
+    fi
+    printf -- '-----BEGIN %s-----\n' "$label"
+    # Each two hex digits become the escape of a byte.
+    printf %b "$(printf %s "$bytes" | sed 's/../\\x&/g')" | base64 -w 64
+    printf -- '-----END %s-----\n' "$label"
 }
 
 # Ends the connection.

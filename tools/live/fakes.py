@@ -147,9 +147,10 @@ def good(wire, request):
 
 @fake
 def slow(wire, request):
-    """is good, but takes 3 seconds where the identifier begins with `slow`"""
-    if (value_of(request, '420094', 7) or b'').startswith(b'slow'):
-        time.sleep(3)
+    """is good, but takes 3 seconds where the identifier begins with `slow`, and 10 where it does with `slower`"""
+    asked = value_of(request, '420094', 7) or b''
+    if asked.startswith(b'slow'):
+        time.sleep(10 if asked.startswith(b'slower') else 3)
     wire.sendall(answer_of(request))
 
 

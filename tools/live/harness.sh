@@ -11,7 +11,7 @@
 #   $host $port $certificate $key $authority     what call_is and client_run connect with: alice, at localhost. $port is
 #                            that of PyKMIP where the file needs it
 #
-# and these calls, each of which but `fake` and `gate` is one check, passed or failed:
+# and these calls, each of which but `fake`, `gate` and `lines_of_tasks` is one check, passed or failed:
 #
 #   fake NAME                from here on $port is that of this server of fakes.py (fakes.py --list)
 #   gate MODE                from here on $port is that of gate.py in this mode, in front of PyKMIP
@@ -20,9 +20,16 @@
 #   says_not WHAT REGEX      ..or has none
 #   lasts WHAT SECONDS       the last call_is took no longer than this
 #   verdict WHAT             the status of the command before is 0
+#   lines_of_tasks LANGUAGE  is no check: the lines of docs/CALL.md in this language (sh, c, python, rust)
+#   linter_says WHAT TOOL VERSION PACKAGE COMMAND..    COMMAND finds nothing; it is skipped where there is no TOOL, and what
+#                            another version than VERSION (a regex) finds is said, and fails nothing
+#
+# Seconds count $slack times, so that a busy machine fails nothing.
 #
 # Settings go before a call, as in `KMIP_LIMIT=100 call_is 'a response over the limit' 3 query` or
 # `certificate=$certs/plain.pem key=$certs/plain.key call_is ..`.
+#
+# open.txt has the checks that are known to fail, since what they try is not made yet.
 #
 # CLIENT/client.sh says how a client is built and run: it has the functions
 #
@@ -33,6 +40,7 @@
 here=$top/tools/live
 clients=(shell c python rust)
 topics=()
+slack=1
 python=${PYTHON:-/usr/bin/python3}
 [[ -x $python ]] || python=python3
 
@@ -61,7 +69,7 @@ verdict() { # WHAT
 client_run() { # PROGRAM WORD..: a program of this client, with the server and the certificates that are set
     local program=()
     client_program "$1" || return
-    timeout -k 2 "${patience:-20}" "${program[@]}" "$host" "$port" "$certificate" "$key" "$authority" "${@:2}"
+    timeout -k 2 $((${patience:-20} * slack)) "${program[@]}" "$host" "$port" "$certificate" "$key" "$authority" "${@:2}"
 }
 
 call_is() { # WHAT STATUS CALL WORD..
@@ -75,6 +83,24 @@ call_is() { # WHAT STATUS CALL WORD..
     verdict "$what"
 }
 
+linter_says() { # WHAT TOOL VERSION PACKAGE COMMAND..
+    local tried='' status
+    if ! "$2" --version >"$said" 2>&1; then
+        printf 'skipped %s: there is no %s (Debian: apt-get install %s)\n' "$client" "$2" "$4"
+        return
+    fi
+    if grep -qE -- "$3" "$said"; then tried=1; fi
+    "${@:5}" >"$said" 2>&1
+    status=$?
+    if ((status == 0)) || [[ -n $tried ]]; then
+        ((status == 0))
+        verdict "$1"
+    else
+        printf 'note    %s: not so by a %s that is not %s\n' "$client" "$2" "$3"
+        tail -5 "$said" | cut -c1-300 | sed 's/^/        /'
+    fi
+}
+
 says() { # WHAT REGEX
     grep -qE -- "$2" "$said"
     verdict "$1"
@@ -86,9 +112,15 @@ says_not() { # WHAT REGEX
 }
 
 lasts() { # WHAT SECONDS
-    ((elapsed <= $2 * 1000000)) || printf 'it took %d.%03d s\n' $((elapsed / 1000000)) $((elapsed / 1000 % 1000)) >>"$said"
-    ((elapsed <= $2 * 1000000))
+    ((elapsed <= $2 * slack * 1000000)) ||
+        printf 'it took %d.%03d s\n' $((elapsed / 1000000)) $((elapsed / 1000 % 1000)) >>"$said"
+    ((elapsed <= $2 * slack * 1000000))
     verdict "$1"
+}
+
+# The lines of docs/CALL.md in this language, those of a task after those of the one before.
+lines_of_tasks() { # LANGUAGE
+    awk -v fence="\`\`\`$1" '$0 == fence { within = 1; next } /^```/ { within = 0 } within' "$top/docs/CALL.md"
 }
 
 fake() { # NAME
@@ -102,7 +134,7 @@ free_port() {
 
 wait_for() { # REGEX FILE: a line of this file, for at most 20 seconds
     local try
-    for ((try = 0; try < 200; try++)); do
+    for ((try = 0; try < 200 * slack; try++)); do
         if grep -q -- "$1" "$2" 2>/dev/null; then return 0; fi
         sleep 0.1
     done
@@ -122,7 +154,9 @@ gate() { # MODE
 start_fakes() {
     "$python" "$here/fakes.py" "$certs" >"$run/fakes" 2>"$run/fakes.err" &
     started+=($!)
-    wait_for ready "$run/fakes" || { cat "$run/fakes.err" >&2 && give_up 'the fakes do not listen'; }
+    wait_for ready "$run/fakes" && return
+    cat "$run/fakes.err" >&2
+    return 1
 }
 
 # One case file for one client, in a shell of its own; what it wrote is in $run/NUMBER.out.
@@ -140,8 +174,24 @@ run_case() { # NUMBER CLIENT FILE
         printf -- '--      %s: %s\n' "$client" "$3"
         . "$here/$3"
         printf 'ended   %s\n' "$3"
-    ) >"$run/$1.out" 2>&1
-    grep -q '^ended ' "$run/$1.out" || printf 'FAILED  %s: %s broke off\n' "$2" "$3" >>"$run/$1.out"
+    ) >"$run/$1.raw" 2>&1
+    grep -q '^ended ' "$run/$1.raw" || printf 'FAILED  %s: %s broke off\n' "$2" "$3" >>"$run/$1.raw"
+    without_open <"$run/$1.raw" >"$run/$1.out"
+}
+
+# What is printed, with `open` in the place of FAILED where open.txt has the check.
+without_open() {
+    awk -v list="$here/open.txt" '
+        BEGIN { while ((getline line < list) > 0) if (line !~ /^(#|$)/) open[line] = 1 }
+        function is_open(  what, all) {
+            what = all = substr($0, 9)
+            sub(/^[a-z]*: /, "*: ", all)
+            return what in open || all in open
+        }
+        /^ended / { next }
+        /^FAILED / && is_open() { sub(/^FAILED /, "open   ") }
+        /^ok / && is_open() { $0 = $0 " (open.txt has it as open)" }
+        { print }'
 }
 
 # The case files of a client that want the server, or those that don't, one a line.
@@ -157,29 +207,83 @@ cases_of() { # CLIENT server|fakes
     done
 }
 
-# Runs the case files of all clients, so many at once, and prints what each wrote, in order. Where `until` is set, none is
-# begun after so many seconds of the script.
-run_cases() { # server|fakes AT-ONCE
-    local who file number=0 printed=0 at_once=$2 running=() list=()
-    for who in "${clients[@]}"; do
+# Where `until` is set, no case is begun after so many seconds of the script, none is run again 40 seconds later, and none
+# is waited for 80 seconds later.
+is_before() { # SECONDS
+    ((SECONDS < ${until:-SECONDS + 1} + $1))
+}
+
+# How many of the case files that were begun are not at their end.
+running() {
+    local process count=0
+    for process in ${processes[@]+"${processes[@]}"}; do
+        if kill -0 "$process" 2>/dev/null; then count=$((count + 1)); fi
+    done
+    echo "$count"
+}
+
+# Runs the case files of these clients, so many at once, and prints what each wrote, in order. Where `again` is set, those
+# that failed are then run once more, one at a time, and the second run counts.
+run_cases() { # server|fakes AT-ONCE CLIENT..
+    local who file list=() processes=() failed=() shown=0
+    for who in "${@:3}"; do
         while read -r file; do list+=("$who $file"); done < <(cases_of "$who" "$1")
     done
-    while ((printed < ${#list[@]})); do
-        if ((number == ${#list[@]} || number - printed == at_once)); then
-            wait "${running[printed]}"
-            grep -v '^ended ' "$run/$1.$printed.out"
-            printed=$((printed + 1))
-            continue
-        fi
-        read -r who file <<<"${list[number]}"
-        if ((SECONDS < ${until:-SECONDS + 1})); then
-            run_case "$1.$number" "$who" "$file" &
-        else
-            printf 'skipped %s: %s: no time is left\n' "$who" "$file" >"$run/$1.$number.out" &
-        fi
-        running[number]=$!
-        number=$((number + 1))
+    for file in ${list[@]+"${list[@]}"}; do
+        while is_before 0 && (($(running) >= $2)); do
+            show_ended
+            sleep 0.1
+        done
+        is_before 0 || break
+        run_case "${file//[ \/]/.}" "${file% *}" "${file#* }" &
+        processes+=("$!")
     done
+    while ((shown < ${#processes[@]})) && is_before 80; do
+        show_ended
+        sleep 0.1
+    done
+    give_up_rest
+    for file in ${failed[@]+"${failed[@]}"}; do run_again "$file"; done
+}
+
+# Of the list of run_cases: those that have ended, up to the first that has not.
+show_ended() {
+    while ((shown < ${#processes[@]})) && ! kill -0 "${processes[shown]}" 2>/dev/null; do
+        show_case "${list[shown]}"
+        shown=$((shown + 1))
+    done
+}
+
+# Of the list of run_cases: all that were not shown, when there is no time to wait.
+give_up_rest() {
+    for (( ; shown < ${#list[@]}; shown++)); do
+        if [[ -z ${processes[shown]-} ]]; then
+            printf 'skipped %s: no time is left\n' "${list[shown]/ /: }"
+        elif kill "${processes[shown]}" 2>/dev/null; then
+            printf 'skipped %s: given up for want of time\n' "${list[shown]/ /: }"
+        else
+            show_case "${list[shown]}"
+        fi
+    done
+}
+
+show_case() { # "CLIENT FILE"
+    local out=$run/${1//[ \/]/.}.out
+    if [[ -n ${again-} ]] && grep -q '^FAILED ' "$out"; then failed+=("$1"); else cat "$out"; fi
+}
+
+run_again() { # "CLIENT FILE"
+    local name=${1//[ \/]/.}
+    if ! is_before 40; then
+        cat "$run/$name.out"
+        return
+    fi
+    run_case "$name.again" "${1% *}" "${1#* }"
+    cat "$run/$name.again.out"
+    if ! grep -q '^FAILED ' "$run/$name.again.out"; then
+        printf 'note    %s: at first, with others beside it:\n' "${1/ /: }"
+        sed -n '/^FAILED /,/^[^ ]/p' "$run/$name.out" | grep -v '^ok ' | sed 's/^/        /'
+    fi
 }
 
 # The clients that can be built here are built, and `clients` are those; the others are said.

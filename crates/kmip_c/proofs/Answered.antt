@@ -1,13 +1,13 @@
 -- What C is told of a response.
 use Rattle.std.proofs.Common.{◌≡◌, ℕ, ℤ, pos, List, length, Option, Some, None, refl, ap, ◌∙◌}
-use Rattle.kmip_words.specs.Exchange.{ending_of, json_line}
+use Rattle.kmip_words.specs.About.{response_line, response_ending}
 use Rattle.kmip_words.specs.declared.call.Call.{Call}
 use Rattle.kmip_words.specs.declared.ending.Ending.{Ending}
-use Rattle.kmip_c.specs.Calls.{IsAnswered, answer_to, status_of}
+use Rattle.kmip_c.specs.Calls.{IsAnswered, plain, status_of}
 use Rattle.kmip_c.specs.Codes.{room_with}
 
 pub answered : (o : Option Call) (response before after line : List ℕ) (ending : Ending) (status told : ℤ) → (o ≡ None → ⊥)
-    → ((c : Call) → o ≡ Some c → (ending ≡ ending_of (answer_to c response)) × (line ≡ json_line c (answer_to c response)))
+    → ((c : Call) → o ≡ Some c → (ending ≡ response_ending plain c response) × (line ≡ response_line plain c response))
     → status ≡ status_of ending → told ≡ pos (length line) → after ≡ room_with line before → IsAnswered o response status before told after
 answered None response before after line ending status told some says s n w = absurd (some refl)
 answered (Some c) response before after line ending status told some says s n w =

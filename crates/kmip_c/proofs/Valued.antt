@@ -2,10 +2,10 @@
 use Rattle.std.proofs.Common.{◌≡◌, ℕ, ℤ, List, Bool, Option, Some, None, refl, ap, subst, ◌∙◌}
 use Rattle.std.specs.Str.{IsUtf8}
 use Rattle.std.proofs.lemmas.Str.{is_utf8-from_IsUtf8}
-use Rattle.kmip_words.specs.Exchange.{json_line}
+use Rattle.kmip_words.specs.About.{response_line}
 use Rattle.kmip_words.specs.Lookup.{value_at}
 use Rattle.kmip_words.specs.declared.call.Call.{Call}
-use Rattle.kmip_c.specs.Calls.{IsValueReported, answer_to, call_of, call_with_path}
+use Rattle.kmip_c.specs.Calls.{IsValueReported, plain, call_of, call_with_path}
 use Rattle.kmip_c.specs.Codes.{IsReported, grammar, no_value}
 use Rattle.kmip_c.proofs.Calls.{not_utf8}
 
@@ -24,7 +24,7 @@ not_asked None response path before hex is = (refl, refl)
 not_asked (Some c) response path before hex is = absurd (cc)
 
 pub value_reported : (o : Option Call) (line : List ℕ) (v : Option (List ℕ)) (response path before after : List ℕ) (hex : Bool) (result : ℤ) →
-    (o ≡ None → ⊥) → ((c : Call) → o ≡ Some c → line ≡ json_line c (answer_to c response)) → v ≡ value_at path hex line →
+    (o ≡ None → ⊥) → ((c : Call) → o ≡ Some c → line ≡ response_line plain c response) → v ≡ value_at path hex line →
     IsReported v no_value before result after → IsValueReported o response path hex before result after
 value_reported None line v response path before after hex result some says is r = absurd (some refl)
 value_reported (Some c) line v response path before after hex result some says is r =

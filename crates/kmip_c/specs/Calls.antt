@@ -2,10 +2,10 @@
 use Rattle.std.specs.Prelude.{◌≡◌, ℕ, ℤ, pos, Bool, true, false, ◌&&◌, List, Option, Some, None, if◌then◌else◌}
 use Rattle.std.specs.Str.{is_utf8}
 use Rattle.kmip_client.specs.Client.{credential_for}
-use Rattle.kmip_client.specs.Outcome.{Answer}
 use Rattle.kmip_words.specs.Words.{words_of}
 use Rattle.kmip_words.specs.Calls.{typed_call}
-use Rattle.kmip_words.specs.Exchange.{Settings, request_asked, call_outcome, ending_of, json_line}
+use Rattle.kmip_words.specs.Exchange.{Settings, request_asked}
+use Rattle.kmip_words.specs.About.{response_line, response_ending}
 use Rattle.kmip_words.specs.Lookup.{value_at}
 use Rattle.kmip_words.specs.declared.call.Call.{Call}
 use Rattle.kmip_words.specs.declared.ending.Ending.{Ending}
@@ -51,16 +51,12 @@ status_of Answered = pos 0
 status_of Refused = pos 1
 status_of Lost = pos 3
 
--- the answer of a client that sent the call and has these bytes to read
-abbrev pub answer_to : Call → List ℕ → Answer
-answer_to call response = (call_outcome plain call response).answer
-
 -- what C gets for a response, memory aside: how the call ended, and the line of its answer; or that
 -- the call is not of the grammar
 abbrev pub IsAnswered : Option Call → List ℕ → ℤ → List ℕ → ℤ → List ℕ → Type 0
 IsAnswered (Some call) response status before length after =
-    (status ≡ status_of (ending_of (answer_to call response)))
-    × IsReported (Some (json_line call (answer_to call response))) (pos 0) before length after
+    (status ≡ status_of (response_ending plain call response))
+    × IsReported (Some (response_line plain call response)) (pos 0) before length after
 IsAnswered None response status before length after =
     (status ≡ pos 2) × IsReported None (pos 0) before length after
 
@@ -73,7 +69,6 @@ call_with_path line path = if is_utf8 path then call_of line else None
 -- no text
 abbrev pub IsValueReported : Option Call → List ℕ → List ℕ → Bool → List ℕ → ℤ → List ℕ → Type 0
 IsValueReported (Some call) response path hex before result after =
-    IsReported (value_at path hex (json_line call (answer_to call response))) no_value before result
-    after
+    IsReported (value_at path hex (response_line plain call response)) no_value before result after
 IsValueReported None response path hex before result after =
     IsReported None grammar before result after

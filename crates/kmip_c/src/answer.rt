@@ -1,8 +1,8 @@
 //! The answer that a response is to a call, given by C as bytes.
 ghost use Rattle.std.specs.Prelude.{◌≡◌, IfOk, MatchOption, None, Some};
 ghost use Rattle.kmip_words.specs.declared.call.Call.{Call as TheCall};
-ghost use Rattle.kmip_words.specs.Exchange.{ending_of, json_line};
-ghost use Rattle.kmip_c.specs.Calls.{call_of, answer_to, status_of};
+ghost use Rattle.kmip_words.specs.About.{response_line, response_ending};
+ghost use Rattle.kmip_c.specs.Calls.{call_of, plain, status_of};
 
 use crate::call::call_of;
 use kmip_wire::{OutOfMemory, Text};
@@ -38,8 +38,8 @@ pub fn answer_line(
     ensures grammar { IfOk result (λ answer. call_of call.now ≡ None → answer ≡ None) }
     ensures answer { (c : TheCall) → call_of call.now ≡ Some c →
         IfOk result (λ answer. MatchOption answer ⊥
-        (λ a. (a.ending ≡ ending_of (answer_to c response.now)) ×
-        (a.line ≡ json_line c (answer_to c response.now)))) }
+        (λ a. (a.ending ≡ response_ending plain c response.now) ×
+        (a.line ≡ response_line plain c response.now))) }
 {
     let Some(call) = call_of(alloc, call)? else {
         return Ok(None);

@@ -1,4 +1,4 @@
--- One message, by what its head tells.
+-- One message, by the length in its head.
 use Rattle.std.proofs.Common.{◌≡◌, OnOk, ℕ, ◌+◌, ◌-◌, ◌<◌, ◌≤◌, min, List, [], ◌++◌, length, take, drop, refl, ◌∙◌, ap, sym, arith, subst, Option, Some, None, Result, Ok, Err, cond, nat_lt, Bool, true, false}
 use Rattle.std.specs.Result.{result_ok}
 use Rattle.std.proofs.lemmas.Bool.Decides.{nat_tests}
@@ -81,7 +81,7 @@ some_told rest front limit n is some =
 pub one_head : (front : List ℕ) (limit : Option ℕ) → length front ≤ 8 → contents_of front limit ≡ None → IsOneAtMost limit front
 one_head front limit few none = none_told front front limit (sym (short_front 8 front few)) none
 
--- a head and no more than it tells, over any source
+-- a head and no more contents than it says, over any source
 pub one_message : (front whole : List ℕ) (limit : Option ℕ) (n : ℕ) → length front ≤ 8 → contents_of front limit ≡ Some n →
     take (length front) whole ≡ front → length whole ≤ length front + n → IsOneAtMost limit whole
 one_message front whole limit n few some begins small =

@@ -5,7 +5,7 @@ use Rattle.kmip_client.specs.Client.{credential_for}
 use Rattle.kmip_types.specs.declared.auth.CredentialType.{CredentialType}
 use Rattle.kmip_words.specs.Values.{number_of}
 use Rattle.kmip_words.specs.Options.{option_given, given_after}
-use Rattle.kmip_call.specs.Commands.{first_of, order_with, order_limited, order_of, one_word, command_of}
+use Rattle.kmip_call.specs.Commands.{first_of, limit_of, default_limit, order_with, order_limited, order_of, one_word, command_of}
 use Rattle.kmip_call.specs.declared.command.Command.TheVariants.{Make}
 
 pub order_of_is : (environment : Option (List ℕ)) (words : List (List ℕ)) (user password limit file first : Option (List ℕ)) (after_user after_password after_limit rest : List (List ℕ)) →
@@ -18,7 +18,7 @@ unfolding order_of
 order_of_is environment words user password limit file first after_user after_password after_limit rest u ur p pr l lr f fr first_is = rw (first_is, fr, f, lr, l, pr, p, ur, u) refl
 
 pub with_limit : (credential : Option CredentialType) (limit file : Option (List ℕ)) (words : List (List ℕ)) (word : List ℕ) (n : ℕ) → limit ≡ Some word → Some n ≡ number_of word →
-    order_limited credential limit file words ≡ Some (order_with credential (Some n) file words)
+    order_limited credential limit file words ≡ Some (order_with credential (limit_of n) file words)
 with_limit credential limit file words word n is number = rw (is, sym number) refl
 
 pub with_bad_limit : (credential : Option CredentialType) (limit file : Option (List ℕ)) (words : List (List ℕ)) (word : List ℕ) → limit ≡ Some word → None ≡ number_of word →
@@ -26,5 +26,5 @@ pub with_bad_limit : (credential : Option CredentialType) (limit file : Option (
 with_bad_limit credential limit file words word is number = rw (is, sym number) refl
 
 pub with_no_limit : (credential : Option CredentialType) (limit file : Option (List ℕ)) (words : List (List ℕ)) → limit ≡ None →
-    order_limited credential limit file words ≡ Some (order_with credential None file words)
+    order_limited credential limit file words ≡ Some (order_with credential default_limit file words)
 with_no_limit credential limit file words is = rw is refl

@@ -1,5 +1,5 @@
 -- What the words of the command line ask for.
-use Rattle.std.specs.Prelude.{ℕ, List, [], ◌∷◌, Bool, false, Option, Some, None, if◌then◌else◌, codes, bytes_eq}
+use Rattle.std.specs.Prelude.{ℕ, ◌==◌, List, [], ◌∷◌, Bool, false, Option, Some, None, if◌then◌else◌, codes, bytes_eq}
 use Rattle.std.specs.Option.{option_map}
 use Rattle.kmip_client.specs.Client.{credential_for}
 use Rattle.kmip_types.specs.declared.auth.CredentialType.{CredentialType}
@@ -21,15 +21,23 @@ order_with credential limit file words =
       words = words;
     }
 
+-- the most bytes of a response, its head counted: `limit=0` sets no limit
+abbrev pub limit_of : ℕ → Option ℕ
+limit_of limit = if limit == 0 then None else Some limit
+
+-- and without `limit=N` it is 1 MiB
+abbrev pub default_limit : Option ℕ
+default_limit = Some 1048576
+
 abbrev pub order_numbered : Option CredentialType → Option ℕ → Option (List ℕ) → List (List ℕ) →
     Option Order
 order_numbered credential (Some limit) file words =
-    Some (order_with credential (Some limit) file words)
+    Some (order_with credential (limit_of limit) file words)
 order_numbered credential None file words = None
 
 abbrev pub order_limited : Option CredentialType → Option (List ℕ) → Option (List ℕ) →
     List (List ℕ) → Option Order
-order_limited credential None file words = Some (order_with credential None file words)
+order_limited credential None file words = Some (order_with credential default_limit file words)
 order_limited credential (Some limit) file words =
     order_numbered credential (number_of limit) file words
 

@@ -4,9 +4,10 @@ use Rattle.kmip_link.specs.State.{SourceState, SinkState, FaultCountRose, source
 use Rattle.kmip_client.specs.Outcome.{Answer}
 use Rattle.kmip_client.specs.declared.error.Error.{Error}
 use Rattle.kmip_client.specs.declared.error.Error.TheVariants.{RequestWriteError, ResponseReadError}
-use Rattle.kmip_words.specs.Streams.{Gives, GivesPart, WroteProperPart}
+use Rattle.kmip_words.specs.Streams.{Gives, GivesPart, WrotePart, WroteProperPart}
 use Rattle.kmip_words.specs.Calls.{typed_call}
 use Rattle.kmip_words.specs.Exchange.{Settings, request_asked, or_empty, ending_of, json_line, call_outcome}
+use Rattle.kmip_words.specs.About.{response_line, response_ending}
 use Rattle.kmip_words.specs.declared.call.Call.{Call}
 use Rattle.kmip_words.specs.declared.ending.Ending.{Ending}
 use Rattle.kmip_call.specs.Wire.{IsOneAtMost}
@@ -27,8 +28,8 @@ request_bytes settings call = or_empty (request_asked call settings.credential).
 abbrev pub taken_by : Settings → Call → List ℕ → ℕ
 taken_by settings call rest = (call_outcome settings call rest).taken
 
--- A call went from these states of its sink and its source to those, and has this answer. What is
--- said of bytes holds where the sink, or the source, tells its bytes.
+-- A call took its sink and its source from the states `0` to the states `1`, and has this answer.
+-- What is said of bytes holds where contracts know those of the sink, or of the source.
 pub data Carried (settings : Settings) (call : Call) (w0 w1 : SinkState) (s0 s1 : SourceState)
     (response : Option (List ℕ)) (answer : Answer) : Type 0 where
   -- the request was sent, and at most one message was read: the answer is what its bytes say, which
@@ -52,6 +53,23 @@ pub data Carried (settings : Settings) (call : Call) (w0 w1 : SinkState) (s0 s1 
       (IsTrue s0.tells → GivesPart s0 s1 (taken_by settings call (source_left s0))) →
       Carried settings call w0 w1 s0 s1 response answer
 
+-- Of a call no more was sent than its request, and no more was taken than one message.
+pub record CarriedPart (settings : Settings) (call : Call) (w0 w1 : SinkState)
+    (s0 s1 : SourceState) : Type 0 where
+  pub sent : IsTrue w0.tells → WrotePart w0 w1 (request_bytes settings call)
+  pub taken : IsTrue s0.tells → GivesPart s0 s1 (taken_by settings call (source_left s0))
+
+-- the line of an answer: that of the response's bytes, or that of the error of the sink or the
+-- source
+abbrev pub line_of : Settings → Call → Option (List ℕ) → Answer → List ℕ
+line_of settings call (Some response) answer = response_line settings call response
+line_of settings call None answer = json_line call answer
+
+-- and how the call ended
+abbrev pub ending_by : Settings → Call → Option (List ℕ) → Answer → Ending
+ending_by settings call (Some response) answer = response_ending settings call response
+ending_by settings call None answer = ending_of answer
+
 -- The request is that of the call of these words: its one canonical message, none where it has no
 -- wire form.
 pub record Requests (settings : Settings) (words : List (List ℕ))
@@ -68,5 +86,5 @@ pub record Exchanges (settings : Settings) (words : List (List ℕ)) (w0 w1 : Si
   pub is : typed_call words ≡ Some call
   pub answer : Answer
   pub carried : Carried settings call w0 w1 s0 s1 response answer
-  pub line : new ≡ old ++ json_line call answer
-  pub ending_is : ending ≡ ending_of answer
+  pub line : new ≡ old ++ line_of settings call response answer
+  pub ending_is : ending ≡ ending_by settings call response answer

@@ -1,31 +1,42 @@
--- What the program does with a call.
-use Rattle.std.specs.Prelude.{◌≡◌, ◌≢◌, ◌⊎◌, ℕ, List, ◌++◌, Bool, true, Option, Some, None, IsTrue, if◌then◌else◌}
+-- What the program does with the words of a call, and how it ends.
+use Rattle.std.specs.Prelude.{◌≡◌, ◌⊎◌, ℕ, List, ◌++◌, Bool, true, false, Option, Some, None, IsTrue, if◌then◌else◌}
 use Rattle.kmip_link.specs.State.{SourceState, SinkState, FaultCountRose}
 use Rattle.kmip_client.specs.Outcome.{Answer}
 use Rattle.kmip_words.specs.Calls.{typed_call}
 use Rattle.kmip_words.specs.Streams.{WrotePart}
-use Rattle.kmip_words.specs.Exchange.{ending_of, json_line}
 use Rattle.kmip_words.specs.declared.call.Call.{Call}
 use Rattle.kmip_words.specs.declared.ending.Ending.{Ending}
 use Rattle.kmip_words.specs.declared.ending.Ending.TheVariants.{Answered, Refused, Lost}
-use Rattle.kmip_call.specs.Record.{is_recordable, record_of}
-use Rattle.kmip_call.specs.Exchange.{Carried}
+use Rattle.kmip_call.specs.Record.{is_recordable, recorded_words, record_of}
+use Rattle.kmip_call.specs.Refusal.{refusal}
+use Rattle.kmip_call.specs.Exchange.{Carried, CarriedPart, line_of, ending_by}
 use Rattle.kmip_call.specs.declared.command.Order.{Order}
+use Rattle.kmip_call.specs.declared.status.Status.{Status}
+use Rattle.kmip_call.specs.declared.status.Status.TheVariants.{Ended, NoCall, NotWritten, OutOfMemory}
 
 -- whether a call of these words may be made: where it is to be recorded, only if a script may hold
 -- it
 abbrev pub is_allowed : Option (List ℕ) → List (List ℕ) → Bool
-is_allowed (Some file) words = is_recordable words
+is_allowed (Some file) words = is_recordable (recorded_words words)
 is_allowed None words = true
 
 -- the call that is to be made
 abbrev pub call_for : Order → Option Call
 call_for order = if is_allowed order.file order.words then typed_call order.words else None
 
-abbrev pub status_of : Ending → ℕ
-status_of Answered = 0
-status_of Refused = 1
-status_of Lost = 3
+-- the exit status
+abbrev pub code_of : Status → ℕ
+code_of (Ended Answered) = 0
+code_of (Ended Refused) = 1
+code_of NoCall = 2
+code_of (Ended Lost) = 3
+code_of NotWritten = 4
+code_of OutOfMemory = 5
+
+-- whether the record and the answer were written
+abbrev pub is_ended : Status → Bool
+is_ended (Ended ending) = true
+is_ended status = false
 
 -- The call was carried, and this is the line of its answer.
 pub record Makes (order : Order) (w0 w1 : SinkState) (s0 s1 : SourceState)
@@ -34,21 +45,72 @@ pub record Makes (order : Order) (w0 w1 : SinkState) (s0 s1 : SourceState)
   pub is : call_for order ≡ Some call
   pub answer : Answer
   pub carried : Carried order.settings call w0 w1 s0 s1 response answer
-  pub line_is : line ≡ json_line call answer
-  pub ending_is : ending ≡ ending_of answer
+  pub line_is : line ≡ line_of order.settings call response answer
+  pub ending_is : ending ≡ ending_by order.settings call response answer
 
--- The program made the call over its sink and source, and wrote the record and the line of the
--- answer; after 4, one of these two could not be written.
-pub record Ran (order : Order) (w0 w1 : SinkState) (s0 s1 : SourceState) (f0 f1 k0 k1 : SinkState)
-    (status : ℕ) : Type 0 where
-  pub call : Call
-  pub is : call_for order ≡ Some call
+-- what the program reads from and writes to: the wire and the source of a call, and the sinks of
+-- its record and of its answer
+pub record Streams : Type 0 where
+  pub wire : SinkState
+  pub source : SourceState
+  pub kept : SinkState
+  pub told : SinkState
+
+abbrev pub streams : SinkState → SourceState → SinkState → SinkState → Streams
+streams wire source kept told =
+    record { wire = wire; source = source; kept = kept; told = told }
+
+-- No call is made, and the answer says why.
+pub record Refuses (order : Order) (before after : Streams) (status : Status) : Type 0 where
+  pub status_is : (status ≡ NoCall) ⊎ (status ≡ OutOfMemory)
+  -- nothing is sent, read or recorded
+  pub wire : after.wire ≡ before.wire
+  pub source : after.source ≡ before.source
+  pub kept : after.kept ≡ before.kept
+  -- the refusal is written, unless its sink failed or memory ran out
+  pub told : status ≡ NoCall → IsTrue before.told.tells →
+      (FaultCountRose before.told.faults after.told.faults → ⊥) →
+      after.told.sent ≡ before.told.sent ++ refusal order
+  -- and at most that
+  pub told_part : IsTrue before.told.tells → WrotePart before.told after.told (refusal order)
+
+-- The record of a call with this response, and this line of its answer, were written.
+pub record Reports (order : Order) (response : Option (List ℕ)) (line : List ℕ) (ending : Ending)
+    (f0 f1 k0 k1 : SinkState) (status : Status) : Type 0 where
+  pub status_is : (status ≡ Ended ending) ⊎ ((status ≡ NotWritten) ⊎ (status ≡ OutOfMemory))
+  -- record: whole, or a first part of it
+  pub recorded : IsTrue (is_ended status) → IsTrue f0.tells →
+      f1.sent ≡ f0.sent ++ record_of order.file order.words response
+  pub recorded_part : IsTrue f0.tells → WrotePart f0 f1 (record_of order.file order.words response)
+  -- answer: whole, or a first part of it
+  pub told : IsTrue (is_ended status) → IsTrue k0.tells → k1.sent ≡ k0.sent ++ line
+  pub told_part : IsTrue k0.tells → WrotePart k0 k1 line
+  -- an answer is not lost with its record
+  pub still_told : status ≡ NotWritten → IsTrue k0.tells →
+      (FaultCountRose k0.faults k1.faults → ⊥) → k1.sent ≡ k0.sent ++ line
+  -- one of the two sinks failed
+  pub cause : status ≡ NotWritten → FaultCountRose f0.faults f1.faults ⊎ FaultCountRose k0.faults k1.faults
+
+-- The call was made, and reported.
+pub record Made (order : Order) (call : Call) (before after : Streams) (status : Status) : Type 0 where
   pub answer : Answer
   pub response : Option (List ℕ)
-  pub carried : Carried order.settings call w0 w1 s0 s1 response answer
-  pub recorded : status ≢ 4 → IsTrue f0.tells →
-      f1.sent ≡ f0.sent ++ record_of order.file order.words response
-  pub told : status ≢ 4 → IsTrue k0.tells → k1.sent ≡ k0.sent ++ json_line call answer
-  pub part : IsTrue k0.tells → WrotePart k0 k1 (json_line call answer)
-  pub status_is : status ≢ 4 → status ≡ status_of (ending_of answer)
-  pub cause : status ≡ 4 → FaultCountRose f0.faults f1.faults ⊎ FaultCountRose k0.faults k1.faults
+  pub carried : Carried order.settings call before.wire after.wire before.source after.source response answer
+  pub reports : Reports order response (line_of order.settings call response answer)
+      (ending_by order.settings call response answer)
+      before.kept after.kept before.told after.told status
+
+-- Memory ran out before the call had an answer: it was carried in part, and nothing was written.
+pub record BrokenOff (order : Order) (call : Call) (before after : Streams)
+    (status : Status) : Type 0 where
+  pub status_is : status ≡ OutOfMemory
+  pub carried : CarriedPart order.settings call before.wire after.wire before.source after.source
+  pub kept : after.kept ≡ before.kept
+  pub told : after.told ≡ before.told
+
+-- What the program did with an order: it refused it, where that asks for no call, or else made the
+-- call or broke it off.
+pub record Runs (order : Order) (before after : Streams) (status : Status) : Type 0 where
+  pub refuses : call_for order ≡ None → Refuses order before after status
+  pub makes : (call : Call) → call_for order ≡ Some call →
+      Made order call before after status ⊎ BrokenOff order call before after status

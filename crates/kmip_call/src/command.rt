@@ -1,17 +1,22 @@
 //! What the words of the command line ask for.
 ghost use Rattle.std.specs.Prelude.{◌≡◌, ◌∷◌, [], option_map, IfOk, Some, None, false};
 ghost use Rattle.kmip_client.specs.Client.{credential_for};
-ghost use Rattle.kmip_call.specs.Commands.{first_of, order_with, order_of, one_word, command_of};
+ghost use Rattle.kmip_call.specs.Commands.{first_of, limit_of, order_with, order_of};
+ghost use Rattle.kmip_call.specs.Commands.{one_word, command_of};
 ghost use Rattle.kmip_call.specs.declared.command.Command.TheVariants.{Make};
 
 use kmip_wire::{List, OutOfMemory, Text, clone_items};
 use kmip_words::{Settings, copy_text, given_after, number_of, option_given};
 use std::alloc::Global;
 
+/// The most bytes that a response may have where `limit=N` is not given: 1 MiB.
+const DEFAULT_LIMIT: u32 = 1_048_576;
+
 /// A call that is to be made.
 #[derive(Drop)]
 pub struct Order {
-    /// `user=U`, `password=P` and `limit=N`: the credential, and the most bytes of a response.
+    /// `user=U`, `password=P` and `limit=N`: the credential, and the most bytes of a response, its
+    /// head counted: 1,048,576 where `limit=N` is not given, and no limit where N is 0.
     pub settings: Settings,
     /// `record=FILE`: where the call and its response are recorded.
     pub file: Option<Text>,
@@ -40,6 +45,13 @@ fn first_of<'a>(first: Option<&'a str>, second: Option<&'a str>) -> Option<&'a s
         Some(text) => Some(text),
         None => second,
     }
+}
+
+/// The limit of `limit=N`, where 0 is no limit.
+fn limit_of(limit: u32) -> Option<u32>
+    ensures { result ≡ limit_of limit }
+{
+    if limit == 0 { None } else { Some(limit) }
 }
 
 /// A call with these settings.
@@ -84,10 +96,10 @@ fn order_of(
     let password = first_of(password, environment);
     match limit {
         Some(limit) => match number_of(limit) {
-            Some(limit) => order_with(alloc, user, password, Some(limit), file, words),
+            Some(limit) => order_with(alloc, user, password, limit_of(limit), file, words),
             None => Ok(None),
         },
-        None => order_with(alloc, user, password, None, file, words),
+        None => order_with(alloc, user, password, Some(DEFAULT_LIMIT), file, words),
     }
 }
 

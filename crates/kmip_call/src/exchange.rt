@@ -1,11 +1,13 @@
 //! One call over a sink and a source, and the line of its answer.
 ghost use Rattle.std.specs.Prelude.{◌≡◌, ◌++◌, [], cond, true, false, Some, IsSome, option_map};
-ghost use Rattle.std.specs.Prelude.{IfOk, OnOk};
-ghost use Rattle.kmip_words.specs.Exchange.{ending_of, loses_link, json_line, call_outcome};
+ghost use Rattle.std.specs.Prelude.{IfOk, OnOk, OnErr};
+ghost use Rattle.kmip_words.specs.Exchange.{loses_link, json_line};
 ghost use Rattle.kmip_words.specs.declared.ending.Ending.TheVariants as endings;
 ghost use Rattle.kmip_words.specs.declared.call.Call.{Call as TheCall};
 ghost use Rattle.kmip_words.specs.Calls.{typed_call};
-ghost use Rattle.kmip_call.specs.Exchange.{response_if, answer_err, Requests, Exchanges};
+ghost use Rattle.kmip_words.specs.About.{response_line, response_ending};
+ghost use Rattle.kmip_call.specs.Exchange.{response_if, answer_err, CarriedPart};
+ghost use Rattle.kmip_call.specs.Exchange.{Requests, Exchanges};
 
 use crate::wire::{TransferStop, transfer};
 use kmip_client::Error;
@@ -25,7 +27,7 @@ pub struct CallEnd {
     pub by_response: bool,
 }
 
-/// Adds the answer that these bytes are to the call of these words, as a line of JSON.
+/// Adds the answer that these bytes give to the call of these words, as a line of JSON.
 fn answer_by(
     alloc: Global,
     settings: &Settings,
@@ -35,11 +37,9 @@ fn answer_by(
 ) -> Result<CallEnd, OutOfMemory>
     requires { IsSome (typed_call words.now) }
     ensures line { (call : TheCall) → typed_call words.now ≡ Some call →
-        OnOk result (line.new ≡ line.old
-        ++ json_line call (call_outcome settings.now call response.now).answer) }
+        OnOk result (line.new ≡ line.old ++ response_line settings.now call response.now) }
     ensures ending { (call : TheCall) → typed_call words.now ≡ Some call →
-        IfOk result
-        (λ end. end.ending ≡ ending_of (call_outcome settings.now call response.now).answer) }
+        IfOk result (λ end. end.ending ≡ response_ending settings.now call response.now) }
     ensures by { IfOk result (λ end. end.by_response ≡ true) }
 {
     let Some(call) = typed_call(alloc, words)? else {
@@ -69,6 +69,7 @@ fn answer_failed(alloc: Global, error: Error, line: &mut Text) -> Result<CallEnd
 
 /// Makes the call of these words: sends its `request`, which is `None` where it has no wire form,
 /// reads at most one message to `response`, which is empty, and adds the answer as a line of JSON.
+/// Where memory runs out, the request may have been sent, and the message taken, in part or whole.
 pub fn exchange<W: Sink, S: Source>(
     alloc: Global,
     settings: &Settings,
@@ -81,10 +82,13 @@ pub fn exchange<W: Sink, S: Source>(
 ) -> Result<CallEnd, OutOfMemory>
     requires response { response.old.items ≡ [] }
     requires request { Requests settings.now words.now (option_map (λ r. r.items) request) }
-    ensures { IfOk result
+    ensures exchanges { IfOk result
         (λ end. Exchanges settings.now words.now (W.state wire.old) (W.state wire.new)
         (S.state source.old) (S.state source.new)
         (response_if end.by_response response.new.items) line.old line.new end.ending) }
+    ensures broken_off { OnErr result ((call : TheCall) → typed_call words.now ≡ Some call →
+        CarriedPart settings.now call (W.state wire.old) (W.state wire.new) (S.state source.old)
+        (S.state source.new)) }
 {
     let Some(request) = request else {
         return answer_by(alloc, settings, words, response, line);

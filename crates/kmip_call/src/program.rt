@@ -1,37 +1,32 @@
 //! The program.
-ghost use Rattle.std.specs.Prelude.{◌≡◌, ◌≢◌, ◌≤◌, ◌++◌, ◌⊎◌, [], option_map, true, None, IfOk};
-ghost use Rattle.std.specs.Prelude.{OnOk, IsErrOf, IsTrue, MatchOption};
+ghost use Rattle.std.specs.Prelude.{◌≡◌, ◌++◌, ◌⊎◌, [], option_map, true, Some, None, IfOk};
+ghost use Rattle.std.specs.Prelude.{OnOk, OnErr, IsErrOf, IsTrue, MatchOption};
 ghost use Rattle.kmip_link.specs.State.{FaultCountRose};
 ghost use Rattle.kmip_words.specs.Streams.{WrotePart};
-ghost use Rattle.kmip_call.specs.Exchange.{response_if, Requests};
+ghost use Rattle.kmip_words.specs.declared.call.Call.{Call as TheCall};
+ghost use Rattle.kmip_call.specs.Exchange.{response_if, CarriedPart, Requests};
 ghost use Rattle.kmip_call.specs.Record.{record_of};
-ghost use Rattle.kmip_call.specs.Program.{is_allowed, call_for, status_of, Makes, Ran};
+ghost use Rattle.kmip_call.specs.Program.{is_allowed, call_for, is_ended, Makes, streams, Runs};
 
 use crate::command::Order;
 use crate::exchange::{CallEnd, exchange};
-use crate::record::{is_recordable, write_record};
+use crate::record::{is_recordable, recorded_words, write_record};
+use crate::refusal::refuse_words;
+use crate::status::Status;
 use kmip_link::{LinkError, Sink, Source};
 use kmip_wire::{OutOfMemory, Text};
-use kmip_words::{Ending, request_of, typed_call, write_out};
+use kmip_words::{request_of, typed_call, write_out};
 use std::alloc::Global;
-
-/// The status of a call that ended like this.
-fn status_of(ending: Ending) -> u8
-    ensures { result ≡ status_of ending }
-{
-    match ending {
-        Ending::Answered => 0,
-        Ending::Refused => 1,
-        Ending::Lost => 3,
-    }
-}
 
 /// Whether the call may be made: where it is to be recorded, only if a script may hold it.
 fn is_allowed(alloc: Global, order: &Order) -> Result<bool, OutOfMemory>
     ensures { IfOk result (λ allowed. allowed ≡ is_allowed order.now.file order.now.words) }
 {
     match &order.file {
-        Some(_) => is_recordable(alloc, order.words.as_slice()),
+        Some(_) => {
+            let words = recorded_words(alloc, order.words.as_slice())?;
+            is_recordable(alloc, words.as_slice())
+        }
         None => Ok(true),
     }
 }
@@ -68,6 +63,9 @@ fn make_call<W: Sink, S: Source>(
     ensures none { IfOk result (λ end. end ≡ None → call_for order.now ≡ None) }
     ensures wire { call_for order.now ≡ None → W.state wire.new ≡ W.state wire.old }
     ensures source { call_for order.now ≡ None → S.state source.new ≡ S.state source.old }
+    ensures broken_off { OnErr result ((call : TheCall) → call_for order.now ≡ Some call →
+        CarriedPart order.now.settings call (W.state wire.old) (W.state wire.new)
+        (S.state source.old) (S.state source.new)) }
     ensures made { IfOk result
         (λ end. MatchOption end (Unit {0})
         (λ it. Makes order.now (W.state wire.old) (W.state wire.new) (S.state source.old)
@@ -102,6 +100,9 @@ fn keep<F: Sink>(
     ensures ok { OnOk result (IsTrue (F.state kept.old).tells →
         (F.state kept.new).sent ≡ (F.state kept.old).sent
         ++ record_of order.now.file order.now.words (response_if by_response response.now)) }
+    ensures part { IsTrue (F.state kept.old).tells →
+        WrotePart (F.state kept.old) (F.state kept.new)
+        (record_of order.now.file order.now.words (response_if by_response response.now)) }
     ensures cause { IsErrOf result LinkError.Fault →
         FaultCountRose (F.state kept.old).faults (F.state kept.new).faults }
 {
@@ -111,7 +112,8 @@ fn keep<F: Sink>(
     }
 }
 
-/// Records a call, writes the line of its answer, and returns the status.
+/// Records a call, and writes the line of its answer, also where the record could not be written.
+/// Returns the status.
 fn report<F: Sink, K: Sink>(
     alloc: Global,
     order: &Order,
@@ -120,41 +122,49 @@ fn report<F: Sink, K: Sink>(
     line: &str,
     kept: &mut F,
     told: &mut K,
-) -> u8
-    ensures status { (result ≡ status_of end.ending) ⊎ ((result ≡ 4) ⊎ (result ≡ 5)) }
-    ensures recorded { result ≢ 4 → result ≢ 5 → IsTrue (F.state kept.old).tells →
+) -> Status
+    ensures status { (result ≡ Status.Ended end.ending)
+        ⊎ ((result ≡ Status.NotWritten) ⊎ (result ≡ Status.OutOfMemory)) }
+    ensures recorded { IsTrue (is_ended result) → IsTrue (F.state kept.old).tells →
         (F.state kept.new).sent ≡ (F.state kept.old).sent
         ++ record_of order.now.file order.now.words (response_if end.by_response response.now) }
-    ensures told { result ≢ 4 → result ≢ 5 → IsTrue (K.state told.old).tells →
+    ensures recorded_part { IsTrue (F.state kept.old).tells →
+        WrotePart (F.state kept.old) (F.state kept.new)
+        (record_of order.now.file order.now.words (response_if end.by_response response.now)) }
+    ensures told { IsTrue (is_ended result) → IsTrue (K.state told.old).tells →
         (K.state told.new).sent ≡ (K.state told.old).sent ++ line.now }
-    ensures part { IsTrue (K.state told.old).tells →
+    ensures told_part { IsTrue (K.state told.old).tells →
         WrotePart (K.state told.old) (K.state told.new) line.now }
-    ensures cause { result ≡ 4 → FaultCountRose (F.state kept.old).faults (F.state kept.new).faults
+    ensures still_told { result ≡ Status.NotWritten → IsTrue (K.state told.old).tells →
+        (FaultCountRose (K.state told.old).faults (K.state told.new).faults → ⊥) →
+        (K.state told.new).sent ≡ (K.state told.old).sent ++ line.now }
+    ensures cause { result ≡ Status.NotWritten →
+        FaultCountRose (F.state kept.old).faults (F.state kept.new).faults
         ⊎ FaultCountRose (K.state told.old).faults (K.state told.new).faults }
 {
-    match keep(alloc, order, end.by_response, response, kept) {
-        Ok(()) => {}
-        Err(LinkError::Fault) => return 4,
-        Err(LinkError::OutOfMemory) => return 5,
-    }
+    let recorded = keep(alloc, order, end.by_response, response, kept);
     match write_out(told, line.as_bytes()) {
-        Ok(()) => status_of(end.ending),
-        Err(LinkError::Fault) => 4,
-        Err(LinkError::OutOfMemory) => 5,
+        Ok(()) => match recorded {
+            Ok(()) => Status::Ended(end.ending),
+            Err(LinkError::Fault) => Status::NotWritten,
+            Err(LinkError::OutOfMemory) => Status::OutOfMemory,
+        },
+        Err(LinkError::Fault) => Status::NotWritten,
+        Err(LinkError::OutOfMemory) => Status::OutOfMemory,
     }
 }
 
-/// Makes a call, and returns the program's status.
+/// Makes a call, and returns how the program ends.
 ///
 /// The request goes to `wire`, the response comes from `source`, the answer goes to `told` as a
 /// line of JSON, and the record to `kept`, where `record=FILE` asks for one.
 ///
-/// - 0: the call returned a payload, or that it was done.
-/// - 1: it returned an error, and the connection is good for the next call.
-/// - 2: the words are not of the grammar, and nothing was sent, read or written.
-/// - 3: the connection failed or ended, or gave bytes that are no message: close it.
-/// - 4: the record or the answer could not be written; the exchange was made.
-/// - 5: memory ran out, and the request may have been sent: close the connection.
+/// - `Ended`: the call was made, and its record and its answer were written.
+/// - `NoCall`: the words are not of the grammar, or a record cannot hold them; nothing was sent,
+///   read or recorded, and `told` got a line of JSON that says why, or a part of it where it failed.
+/// - `NotWritten`: the record or the answer could not be written; the exchange was made, and the
+///   answer was written where `told` did not fail.
+/// - `OutOfMemory`: memory ran out, and the request may have been sent: close the connection.
 pub fn run<W: Sink, S: Source, F: Sink, K: Sink>(
     alloc: Global,
     order: &Order,
@@ -162,23 +172,17 @@ pub fn run<W: Sink, S: Source, F: Sink, K: Sink>(
     source: &mut S,
     kept: &mut F,
     told: &mut K,
-) -> u8
-    ensures bound { result ≤ 5 }
-    ensures words { call_for order.now ≡ None → (result ≡ 2) ⊎ (result ≡ 5) }
-    ensures refused { result ≡ 2 → call_for order.now ≡ None }
-    ensures silent { call_for order.now ≡ None →
-        (W.state wire.new ≡ W.state wire.old) × (S.state source.new ≡ S.state source.old)
-        × (F.state kept.new ≡ F.state kept.old) × (K.state told.new ≡ K.state told.old) }
-    ensures ran { result ≢ 2 → result ≢ 5 →
-        Ran order.now (W.state wire.old) (W.state wire.new) (S.state source.old)
-        (S.state source.new)
-        (F.state kept.old) (F.state kept.new) (K.state told.old) (K.state told.new) result }
+) -> Status
+    ensures { Runs order.now
+        (streams (W.state wire.old) (S.state source.old) (F.state kept.old) (K.state told.old))
+        (streams (W.state wire.new) (S.state source.new) (F.state kept.new) (K.state told.new))
+        result }
 {
     let mut response = Vec::new(alloc);
     let mut line = Text::new(alloc);
     match make_call(alloc, order, wire, source, &mut response, &mut line) {
         Ok(Some(end)) => report(alloc, order, end, &response, line.as_str(), kept, told),
-        Ok(None) => 2,
-        Err(OutOfMemory) => 5,
+        Ok(None) => refuse_words(alloc, order, told),
+        Err(OutOfMemory) => Status::OutOfMemory,
     }
 }

@@ -1,13 +1,20 @@
 //! The line that records a call and its response, as `kmip_run replay` reads it.
-ghost use Rattle.std.specs.Prelude.{◌≡◌, ◌++◌, [], codes, IfOk, OnOk, IsErrOf, IsTrue};
+ghost use Rattle.std.specs.Prelude.{◌≡◌, ◌++◌, ℕ, [], List as TheList, false, codes, Some, option_map};
+ghost use Rattle.std.specs.Prelude.{IfOk, OnOk, IsErrOf, IsTrue};
+ghost use Rattle.hex.specs.Hex.{IsBytes};
 ghost use Rattle.kmip_link.specs.State.{FaultCountRose};
-ghost use Rattle.kmip_call.specs.Exchange.{response_if};
-ghost use Rattle.kmip_call.specs.Record.{with_spaces, response_word, record_line, is_recordable};
-ghost use Rattle.kmip_call.specs.Record.{record_text, record_of};
+ghost use Rattle.kmip_words.specs.Calls.{call_in, typed_call};
+ghost use Rattle.kmip_words.specs.Exchange.{or_empty};
+ghost use Rattle.kmip_words.specs.Streams.{WrotePart};
+ghost use Rattle.kmip_words.specs.declared.call.Call.{Call as TheCall};
+ghost use Rattle.kmip_call.specs.Record.{with_spaces, response_word, record_line, has_byte};
+ghost use Rattle.kmip_call.specs.Record.{is_script_word, are_script_words, is_recordable};
+ghost use Rattle.kmip_call.specs.Record.{raw_words, is_unscripted};
+ghost use Rattle.kmip_call.specs.Record.{recorded_words, record_text, ReadsBack};
 
 use kmip_link::{LinkError, Sink};
-use kmip_wire::{OutOfMemory, Text};
-use kmip_words::{call_of, write_out};
+use kmip_wire::{List, OutOfMemory, Text, clone_items};
+use kmip_words::{Call, Settings, call_of, request_of, typed_call, write_out};
 use std::alloc::Global;
 
 /// Adds the words, each with a space after it.
@@ -42,15 +49,115 @@ fn record_line(alloc: Global, words: &[Text], response: &[u8]) -> Result<Text, O
     Ok(line)
 }
 
-/// Whether a script may hold these words as a call: no word is empty or has a space, and the call
-/// is one of a script.
+/// The same with a line feed, of the words that are recorded for these.
+fn record_text(alloc: Global, words: &[Text], response: &[u8]) -> Result<Text, OutOfMemory>
+    ensures { IfOk result
+        (λ line. line ≡ record_text (recorded_words words.now) response.now) }
+{
+    let words = recorded_words(alloc, words)?;
+    let mut line = record_line(alloc, words.as_slice(), response)?;
+    line.push_str("\n")?;
+    Ok(line)
+}
+
+/// Whether a byte is in a text.
+fn has_byte(byte: u8, text: &str) -> bool
+    ensures { result ≡ has_byte byte text.now }
+{
+    text.as_bytes().contains(&byte)
+}
+
+/// Whether a script may hold a word: it is not empty, and has no space and no line feed.
+fn is_script_word(word: &str) -> bool
+    ensures { result ≡ is_script_word word.now }
+{
+    !word.is_empty() && !has_byte(b' ', word) && !has_byte(b'\n', word)
+}
+
+/// Whether a script may hold each of these words.
+fn are_script_words(words: &[Text]) -> bool
+    ensures { result ≡ are_script_words words.now }
+{
+    match words {
+        [] => true,
+        [first, rest @ ..] => is_script_word(first.as_str()) && are_script_words(rest),
+    }
+}
+
+/// Whether a script may hold these words as a call: no word is empty or has a space or a line feed,
+/// and the call is one of a script.
 pub fn is_recordable(alloc: Global, words: &[Text]) -> Result<bool, OutOfMemory>
     ensures { IfOk result (λ recordable. recordable ≡ is_recordable words.now) }
 {
+    if !are_script_words(words) {
+        return Ok(false);
+    }
     let line = record_line(alloc, words, &[])?;
     match call_of(alloc, line.as_str().as_bytes())? {
         Some(_) => Ok(true),
         None => Ok(false),
+    }
+}
+
+/// The bytes of a request; none where there is none.
+fn or_empty(request: &Option<Vec<u8>>) -> &[u8]
+    ensures { result.now ≡ or_empty (option_map (λ r. r.items) request.now) }
+{
+    match request {
+        Some(bytes) => bytes.as_slice(),
+        None => &[],
+    }
+}
+
+/// `raw` and the bytes of a call's request, without a credential.
+fn raw_words(alloc: Global, call: Call) -> Result<List<Text>, OutOfMemory>
+    ensures { IfOk result (λ words. words ≡ raw_words call) }
+{
+    let settings = Settings::new(None, None, None);
+    let request = request_of(alloc, &settings, call)?;
+    let text = hex::encode_upper(alloc, or_empty(&request))?;
+    let mut words = List::new(alloc);
+    words.push(Text::of(alloc, "raw")?)?;
+    words.push(Text::of(alloc, text.as_str())?)?;
+    Ok(words)
+}
+
+/// Whether a script has no words for a call.
+fn is_unscripted(call: &Call) -> bool
+    ensures { result ≡ is_unscripted call.now }
+{
+    match call {
+        Call::Locate { .. }
+        | Call::Attributes { .. }
+        | Call::CreateAes { .. }
+        | Call::Discover
+        | Call::Request { .. } => true,
+        Call::Query
+        | Call::CreateRsa { .. }
+        | Call::Rng { .. }
+        | Call::Sign { .. }
+        | Call::Activate { .. }
+        | Call::Revoke { .. }
+        | Call::Destroy { .. }
+        | Call::Rename { .. }
+        | Call::Get { .. }
+        | Call::Raw { .. } => false,
+    }
+}
+
+/// The words that are recorded for a typed call: those that were typed, and for `locate`,
+/// `attributes`, `create-aes`, `discover` and calls with options, which a script does not have,
+/// `raw` and the bytes of the request.
+pub fn recorded_words(alloc: Global, words: &[Text]) -> Result<List<Text>, OutOfMemory>
+    ensures { IfOk result (λ recorded. recorded ≡ recorded_words words.now) }
+{
+    let Some(call) = typed_call(alloc, words)? else {
+        return clone_items(words, alloc);
+    };
+    if is_unscripted(&call) {
+        raw_words(alloc, call)
+    } else {
+        clone_items(words, alloc)
     }
 }
 
@@ -62,15 +169,26 @@ pub fn write_record<F: Sink>(
     kept: &mut F,
 ) -> Result<(), LinkError>
     ensures ok { OnOk result (IsTrue (F.state kept.old).tells →
-        (F.state kept.new).sent ≡ (F.state kept.old).sent ++ record_text words.now response.now) }
+        (F.state kept.new).sent ≡ (F.state kept.old).sent
+        ++ record_text (recorded_words words.now) response.now) }
+    ensures part { IsTrue (F.state kept.old).tells →
+        WrotePart (F.state kept.old) (F.state kept.new)
+        (record_text (recorded_words words.now) response.now) }
     ensures cause { IsErrOf result LinkError.Fault →
         FaultCountRose (F.state kept.old).faults (F.state kept.new).faults }
 {
-    let Ok(mut line) = record_line(alloc, words, response) else {
+    let Ok(line) = record_text(alloc, words, response) else {
         return Err(LinkError::OutOfMemory);
     };
-    if line.push_str("\n").is_err() {
-        return Err(LinkError::OutOfMemory);
-    }
     write_out(kept, line.as_str().as_bytes())
 }
+
+/// A record of words that a script may hold, with any response, is one line, from which a script
+/// reads the call of these words and the response. And words that are recorded as they were typed
+/// have the call that was typed.
+pub fn records_read_back()
+    ensures back { (words : TheList (TheList ℕ)) (response : TheList ℕ) →
+        IsTrue (is_recordable words) → IsBytes response → ReadsBack words response }
+    ensures typed { (words : TheList (TheList ℕ)) (call : TheCall) →
+        typed_call words ≡ Some call → is_unscripted call ≡ false → call_in words ≡ Some call }
+{}

@@ -1,7 +1,7 @@
 //! A request to a sink, and one message from a source.
 ghost use Rattle.std.specs.Prelude.{◌≡◌, ◌++◌, ◌≤◌, [], length, take, IfOk, OnOk, IsErrOf, IsTrue};
 ghost use Rattle.kmip_link.specs.State.{SourceKeeps, SinkKeeps, FaultCountRose, source_left};
-ghost use Rattle.kmip_words.specs.Streams.{Gives, GivesPart, WroteProperPart};
+ghost use Rattle.kmip_words.specs.Streams.{Gives, GivesPart, WrotePart, WroteProperPart};
 ghost use Rattle.kmip_call.specs.Wire.{taken_at, contents_of, IsOneAtMost};
 
 use kmip_link::{LinkError, Sink, Source};
@@ -82,6 +82,11 @@ pub fn transfer<W: Sink, S: Source>(
         × (response.new.items ≡
         take (taken_at (source_left (S.state source.old)) limit)
         (source_left (S.state source.old)))) }
+    ensures sent_part { IsTrue (W.state wire.old).tells →
+        WrotePart (W.state wire.old) (W.state wire.new) request.now }
+    ensures taken_part { IsTrue (S.state source.old).tells →
+        GivesPart (S.state source.old) (S.state source.new)
+        (taken_at (source_left (S.state source.old)) limit) }
     ensures write_fault { IsErrOf result TransferStop.WriteFault →
         FaultCountRose (W.state wire.old).faults (W.state wire.new).faults
         × (IsTrue (W.state wire.old).tells →

@@ -8,7 +8,7 @@ use Rattle.kmip_client.specs.declared.error.Error.TheVariants.{ConfigurationErro
 use Rattle.kmip_client.specs.declared.message.MessageStop.{MessageStop}
 use Rattle.kmip_client.specs.Transfer.{Takes, WritesPart}
 use Rattle.kmip_client.specs.Message.{Message, message_at, taken_for, Comes, ReadsMessage, IsRead}
-use Rattle.kmip_client.specs.Client.{lacks_memory}
+use Rattle.kmip_client.specs.Client.{loses_connection, lacks_memory}
 use Rattle.kmip_client.specs.Outcome.{seen_by, OutcomeOf, outcome_by, answer_by, left_for, Moves, Exchanged, completed, write_failed, read_failed, sending_cut, reading_cut, Gives, reading_answer, Caused, not_valid, given, no_memory, FailsReading, reading_failed, read_answer}
 use Rattle.kmip_client.proofs.Messages.{message_short}
 use Rattle.kmip_client.proofs.Said.{OfMessages, message_says}
@@ -189,13 +189,28 @@ kept_caused answer kept (inl is) caused = rw is caused
 kept_caused answer kept (inr is) caused = no_memory is
 
 -- an exchange of the bytes of a request is one of the request
-pub of_request : {A O : Type 0} {before after : LinkState} (reads : O → List ℕ → Result A Error) (answer : O → Result A Error) (request : Option (List ℕ)) (bytes sent : List ℕ) (operation named : O) (limit : Option ℕ) (rest : List ℕ) →
-    request ≡ Some bytes → sent ≡ bytes → named ≡ operation → Exchanged (outcome_by (Some sent) (reads named) limit rest) before after (answer named) → Exchanged (outcome_by request (reads operation) limit rest) before after (answer operation)
-of_request reads answer request bytes sent operation named limit rest has same op exchanged = rw (has, ← same, ← op) exchanged
+pub of_request : {A : Type 0} {before after : LinkState} (reads : List ℕ → Result A Error) (answer : Result A Error) (request : Option (List ℕ)) (bytes sent : List ℕ) (limit : Option ℕ) (rest : List ℕ) →
+    request ≡ Some bytes → sent ≡ bytes → Exchanged (outcome_by (Some sent) reads limit rest) before after answer → Exchanged (outcome_by request reads limit rest) before after answer
+of_request reads answer request bytes sent limit rest has same exchanged = rw (has, ← same) exchanged
 
-pub caused_by : {A O : Type 0} {before after : ℕ} (reads : O → List ℕ → Result A Error) (answer : O → Result A Error) (request : Option (List ℕ)) (bytes sent : List ℕ) (operation named : O) (limit : Option ℕ) →
-    request ≡ Some bytes → sent ≡ bytes → named ≡ operation → Caused (Some sent) (reads named) limit before after (answer named) → Caused request (reads operation) limit before after (answer operation)
-caused_by reads answer request bytes sent operation named limit has same op caused = rw (has, ← same, ← op) caused
+pub caused_by : {A : Type 0} {before after : ℕ} (reads : List ℕ → Result A Error) (answer : Result A Error) (request : Option (List ℕ)) (bytes sent : List ℕ) (limit : Option ℕ) →
+    request ≡ Some bytes → sent ≡ bytes → Caused (Some sent) reads limit before after answer → Caused request reads limit before after answer
+caused_by reads answer request bytes sent limit has same caused = rw (has, ← same) caused
+
+-- what holds of a call's answer as contracts see it, and not of its payload
+pub seen_loses : {P A : Type 0} (val : P → A) (answer : Result P Error) → loses_connection answer ≡ loses_connection (seen_by val answer)
+seen_loses val (Ok payload) = refl
+seen_loses val (Err error) = refl
+
+pub seen_lacks : {P A : Type 0} (val : P → A) (answer : Result P Error) → lacks_memory answer ≡ lacks_memory (seen_by val answer)
+seen_lacks val (Ok payload) = refl
+seen_lacks val (Err OutOfMemory) = refl
+seen_lacks val (Err error) = refl
+
+-- an answer that contracts see as it is
+pub seen_itself : {A : Type 0} (answer : Result A Error) → seen_by (λ payload. payload) answer ≡ answer
+seen_itself (Ok payload) = refl
+seen_itself (Err error) = refl
 
 -- what a diagnostic kept beside an answer leaves of it
 pub kept_is : {P Q S A : Type 0} (val : S → A) (answer kept : Result S Error) → (P × (kept ≡ answer)) ⊎ (Q × (kept ≡ Err OutOfMemory)) → IsKept (seen_by val answer) (seen_by val kept)
@@ -265,10 +280,10 @@ fails_reading state before between after request reading limit taken (Err Messag
     absurd (gives_not_reading (Err OutOfMemory) answer memory_not_reading gives is)
 
 -- a failed reading after the bytes of a request is one after the request
-pub reading_of : {A O T : Type 0} (state : T → LinkState) (before after : T) (reads : O → List ℕ → Result A Error) (answer : O → Result A Error) (request : Option (List ℕ)) (bytes sent : List ℕ) (operation named : O) (limit : Option ℕ) (rest : List ℕ) →
-    request ≡ Some bytes → sent ≡ bytes → named ≡ operation → (answer named ≡ reading_failed → FailsReading state (Some sent) (outcome_by (Some sent) (reads named) limit rest).taken before after) →
-    answer operation ≡ reading_failed → FailsReading state request (outcome_by request (reads operation) limit rest).taken before after
-reading_of state before after reads answer request bytes sent operation named limit rest has same op fails = rw (has, ← same, ← op) fails
+pub reading_of : {A T : Type 0} (state : T → LinkState) (before after : T) (reads : List ℕ → Result A Error) (answer : Result A Error) (request : Option (List ℕ)) (bytes sent : List ℕ) (limit : Option ℕ) (rest : List ℕ) →
+    request ≡ Some bytes → sent ≡ bytes → (answer ≡ reading_failed → FailsReading state (Some sent) (outcome_by (Some sent) reads limit rest).taken before after) →
+    answer ≡ reading_failed → FailsReading state request (outcome_by request reads limit rest).taken before after
+reading_of state before after reads answer request bytes sent limit rest has same fails = rw (has, ← same) fails
 
 pub kept_reading : {A R : Type 0} (answer kept : Result A Error) → IsKept answer kept → (answer ≡ reading_failed → R) → kept ≡ reading_failed → R
 kept_reading answer kept (inl same) fails is = fails (sym same ∙ is)

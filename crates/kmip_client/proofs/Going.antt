@@ -6,13 +6,13 @@ use Rattle.kmip_client.specs.Transfer.{Grows}
 use Rattle.kmip_client.specs.Outcome.{Answer}
 use Rattle.kmip_client.specs.Client.{ClientState, loses_connection, lacks_memory, count_after}
 use Rattle.kmip_client.specs.Calls.{IsCall}
-use Rattle.kmip_client.specs.Session.{session, Told, GoesOn, at_loss, told_by, Calls, CutOff, ends_lost, IsSession}
+use Rattle.kmip_client.specs.Session.{session, CallReport, GoesOn, at_loss, client_report, Calls, CutOff, ends_lost, IsSession}
 use Rattle.kmip_client.proofs.Transfers.{keeps_self, keeps_on}
 use Rattle.kmip_client.proofs.Sessions.{SoFar, StopsOn, Step, turn, stop, end, step_of, nothing_yet, grows_none, grows_on, same_before, exchanged_grows, stops_on, stops_end, CallsOn, calls_on, calls_end, calls_texts, calls_requests, AllGoOn, all_one, have_room, room_one, cut_off, ends_one}
 
 -- These exchanges were made of the first of the requests, the client stands as `now`, and the rest is to come.
 pub record Going {T : Type 0} (state : T → LinkState) (payloads : List RequestPayload) (start now : ClientState T)
-    (exchanges : List Told) (rest : List RequestPayload) : Type 0 where
+    (exchanges : List CallReport) (rest : List RequestPayload) : Type 0 where
   pub keeps : Keeps (state start.link) (state now.link)
   pub credential : now.credential ≡ start.credential
   pub limit : now.limit ≡ start.limit
@@ -43,7 +43,7 @@ going_none state payloads start = record {
 }
 
 -- where nothing came to the link until after the next call, nothing came before it, and it did what a call does then
-next_step : {T : Type 0} {state : T → LinkState} {payloads : List RequestPayload} {start now next : ClientState T} {exchanges : List Told} {payload : RequestPayload} {rest : List RequestPayload} {answer : Answer} →
+next_step : {T : Type 0} {state : T → LinkState} {payloads : List RequestPayload} {start now next : ClientState T} {exchanges : List CallReport} {payload : RequestPayload} {rest : List RequestPayload} {answer : Answer} →
     Going state payloads start now exchanges (payload ∷ rest) → IsCall state payload now next answer →
     IsTrue (state start.link).tells → (state next.link).ever ≡ (state start.link).ever → lacks_memory answer ≡ false →
     ((state now.link).ever ≡ (state start.link).ever) × Step state start.buffered start.credential start.limit payload now.link next.link answer next.request_text next.response_text
@@ -53,11 +53,11 @@ next_step {state = state} {now = now} going call tells same room =
     (quiet, rw (going.buffered, going.credential, going.limit) at (step_of call tells_on (same ∙ sym quiet) room))
 
 -- after the next call it goes on
-pub going_on : {T : Type 0} {state : T → LinkState} {payloads : List RequestPayload} {start now next : ClientState T} {exchanges : List Told} {payload : RequestPayload} {rest : List RequestPayload} {answer : Answer} →
+pub going_on : {T : Type 0} {state : T → LinkState} {payloads : List RequestPayload} {start now next : ClientState T} {exchanges : List CallReport} {payload : RequestPayload} {rest : List RequestPayload} {answer : Answer} →
     Going state payloads start now exchanges (payload ∷ rest) → IsCall state payload now next answer → GoesOn answer →
-    Going state payloads start next (exchanges ++ told_by answer next ∷ []) rest
+    Going state payloads start next (exchanges ++ client_report answer next ∷ []) rest
 going_on {state = state} {payloads = payloads} {start = start} {now = now} {next = next} {exchanges = exchanges} {payload = payload} {rest = rest} {answer = answer} going call on =
-    let told : Told = told_by answer next in
+    let told : CallReport = client_report answer next in
     record {
       keeps = keeps_on going.keeps call.keeps;
       credential = call.credential ∙ going.credential;
@@ -75,11 +75,11 @@ going_on {state = state} {payloads = payloads} {start = start} {now = now} {next
     }
 
 -- after one that lost the connection it ends
-pub session_lost : {T : Type 0} {state : T → LinkState} {payloads : List RequestPayload} {start now next : ClientState T} {exchanges : List Told} {payload : RequestPayload} {rest : List RequestPayload} {answer : Answer} →
+pub session_lost : {T : Type 0} {state : T → LinkState} {payloads : List RequestPayload} {start now next : ClientState T} {exchanges : List CallReport} {payload : RequestPayload} {rest : List RequestPayload} {answer : Answer} →
     Going state payloads start now exchanges (payload ∷ rest) → IsCall state payload now next answer → loses_connection answer ≡ true → lacks_memory answer ≡ false →
-    IsSession state payloads start next (exchanges ++ told_by answer next ∷ [])
+    IsSession state payloads start next (exchanges ++ client_report answer next ∷ [])
 session_lost {state = state} {payloads = payloads} {start = start} {now = now} {next = next} {exchanges = exchanges} {payload = payload} {rest = rest} {answer = answer} going call lost room =
-    let told : Told = told_by answer next in
+    let told : CallReport = client_report answer next in
     let made : Calls state payloads start (exchanges ++ told ∷ []) next =
     calls_end state payloads start (exchanges ++ told ∷ []) next rest (calls_on state payloads start exchanges now next payload rest answer call going.calls) in
     record {
@@ -94,7 +94,7 @@ session_lost {state = state} {payloads = payloads} {start = start} {now = now} {
     }
 
 -- and where no request is left
-pub session_done : {T : Type 0} {state : T → LinkState} {payloads : List RequestPayload} {start now : ClientState T} {exchanges : List Told} →
+pub session_done : {T : Type 0} {state : T → LinkState} {payloads : List RequestPayload} {start now : ClientState T} {exchanges : List CallReport} →
     Going state payloads start now exchanges [] → IsSession state payloads start now exchanges
 session_done {state = state} {payloads = payloads} {start = start} {now = now} {exchanges = exchanges} going =
     let made : Calls state payloads start exchanges now = calls_end state payloads start exchanges now [] going.calls in
@@ -108,7 +108,7 @@ session_done {state = state} {payloads = payloads} {start = start} {now = now} {
     }
 
 -- where memory ran out at the next call, or after it, its answer is lost
-pub session_cut : {T : Type 0} {state : T → LinkState} {payloads : List RequestPayload} {start now next : ClientState T} {exchanges : List Told} {payload : RequestPayload} {rest : List RequestPayload} {answer : Answer} →
+pub session_cut : {T : Type 0} {state : T → LinkState} {payloads : List RequestPayload} {start now next : ClientState T} {exchanges : List CallReport} {payload : RequestPayload} {rest : List RequestPayload} {answer : Answer} →
     Going state payloads start now exchanges (payload ∷ rest) → IsCall state payload now next answer → CutOff state payloads start next
 session_cut {state = state} {payloads = payloads} {start = start} {now = now} {next = next} {exchanges = exchanges} {payload = payload} {rest = rest} {answer = answer} going call =
     cut_off state payloads start exchanges now next payload rest answer call going.calls going.all

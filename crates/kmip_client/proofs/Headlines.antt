@@ -11,21 +11,14 @@ use Rattle.kmip_response.specs.Tables.{response_message}
 use Rattle.kmip_link.specs.State.{LinkState, FaultCountRose}
 use Rattle.kmip_client.specs.declared.error.Error.{Error}
 use Rattle.kmip_client.specs.declared.error.Error.TheVariants.{OutOfMemory}
-use Rattle.kmip_client.specs.declared.message.MessageStop.{MessageStop}
 use Rattle.kmip_client.specs.Message.{Message, message_at, taken_for}
-use Rattle.kmip_client.specs.Outcome.{Answer, outcome_by, answer_by, answer_of, tree_answer, value_answer, read_answer, response_tag, left_for, seen_by, Gives, reading_answer, Exchanged, completed, write_failed, read_failed, sending_cut, reading_cut, Caused, not_valid, given, no_memory}
+use Rattle.kmip_client.specs.Outcome.{Answer, outcome_by, answer_by, answer_of, tree_answer, value_answer, read_answer, response_tag, left_for, seen_by, Gives, Exchanged, completed, write_failed, read_failed, sending_cut, reading_cut, Caused, not_valid, given, no_memory}
 use Rattle.kmip_client.specs.Client.{IsOfOperation}
 use Rattle.kmip_client.proofs.Variants.{variant_of}
-use Rattle.kmip_client.specs.Headline.{IsValidResponse, IsSound, IsAnswered, Headline}
+use Rattle.kmip_client.specs.Headline.{IsValidResponse, IsReadBy, IsSound, IsAnswered, Headline}
 
 error_payload : {A : Type 0} {error : Error} {payload : A} {G : Type 0} → ◌≡◌ {A = Result A Error} (Err error) (Ok payload) → G
 error_payload e = absurd (cc)
-
--- A message is a valid response exactly where it stands at the front and reads so.
-pub record IsReadBy {A : Type 0} (reads : List ℕ → Result A Error) (limit : Option ℕ) (IsValid : List ℕ → List ℕ → A → Type 0) : Type 0 where
-  pub valid : (rest m : List ℕ) (payload : A) → message_at rest limit ≡ Message.Whole m → reads m ≡ Ok payload → IsValid rest m payload
-  pub front : (rest m : List ℕ) (payload : A) → IsValid rest m payload → message_at rest limit ≡ Message.Whole m
-  pub read : (rest m : List ℕ) (payload : A) → IsValid rest m payload → reads m ≡ Ok payload
 
 record IsTaken {A : Type 0} (IsValid : List ℕ → List ℕ → A → Type 0) (rest : List ℕ) (payload : A) (taken : ℕ) : Type 0 where
   m : List ℕ
@@ -70,6 +63,13 @@ pub headline : {A : Type 0} {before after : LinkState} (request : Option (List �
 headline request reads limit IsValid answer by exchanged = λ bytes has sound room.
     headline_of bytes reads limit IsValid answer by (rw has at exchanged) sound room
 
+-- the tree that is computed is the one that the bytes parse as
+pub parses_of : (tree : Tree) (m : List ℕ) → item_of 64 m ≡ Some tree → Parses tree 1 m
+parses_of tree m is = (tree_computed tree 1 m (omega arith, omega arith)).0 is
+
+pub computed_of : (tree : Tree) (m : List ℕ) → Parses tree 1 m → item_of 64 m ≡ Some tree
+computed_of tree m parses = (tree_computed tree 1 m (omega arith, omega arith)).1 parses
+
 -- ---- responses of KMIP's tables
 
 -- a value that answers with a payload
@@ -78,12 +78,6 @@ from_value : (operation : Operation) (limit : Option ℕ) (rest m : List ℕ) (p
 from_value operation limit rest m payload tree None front parses reads answers = error_payload answers
 from_value operation limit rest m payload tree (Some value) front parses reads answers =
     record { tree = tree; value = value; front = front; parses = parses; reads = reads; checks = answers }
-
-pub parses_of : (tree : Tree) (m : List ℕ) → item_of 64 m ≡ Some tree → Parses tree 1 m
-parses_of tree m is = (tree_computed tree 1 m (omega arith, omega arith)).0 is
-
-pub computed_of : (tree : Tree) (m : List ℕ) → Parses tree 1 m → item_of 64 m ≡ Some tree
-computed_of tree m parses = (tree_computed tree 1 m (omega arith, omega arith)).1 parses
 
 from_tree : (operation : Operation) (limit : Option ℕ) (rest m : List ℕ) (payload : Val) (tree : Option Tree) → message_at rest limit ≡ Message.Whole m →
     item_of 64 m ≡ tree → tree_answer operation tree ≡ Ok payload → IsValidResponse operation limit rest m payload
@@ -113,17 +107,10 @@ given_variant operation Message.Ended payload answers = error_payload answers
 given_variant operation (Message.Refused error) payload answers = error_payload answers
 given_variant operation (Message.Whole m) payload answers = read_variant operation (item_of 64 m) payload answers
 
-said_variant : (operation : Operation) (taken : List ℕ) (read : Result (Unit {0}) MessageStop) (payload : Val) → reading_answer (read_answer operation) taken read ≡ Ok payload → IsOfOperation operation payload
-said_variant operation taken (Ok _) payload answers = read_variant operation (item_of 64 taken) payload answers
-said_variant operation taken (Err MessageStop.Ended) payload answers = error_payload answers
-said_variant operation taken (Err (MessageStop.Refused error)) payload answers = error_payload answers
-said_variant operation taken (Err MessageStop.Fault) payload answers = error_payload answers
-said_variant operation taken (Err MessageStop.OutOfMemory) payload answers = error_payload answers
-
-pub told_variant : {P : Type 0} (val : P → Val) (operation : Operation) (taken : List ℕ) (read : Result (Unit {0}) MessageStop) (result : Result P Error) →
-    Gives (reading_answer (read_answer operation) taken read) (seen_by val result) → IfOk result (λ payload. IsOfOperation operation (val payload))
-told_variant val operation taken read (Ok payload) gives = said_variant operation taken read (val payload) (sym gives)
-told_variant val operation taken read (Err error) gives = tt
+pub read_has_variant : {P : Type 0} (val : P → Val) (operation : Operation) (m : List ℕ) (result : Result P Error) →
+    Gives (read_answer operation m) (seen_by val result) → IfOk result (λ payload. IsOfOperation operation (val payload))
+read_has_variant val operation m (Ok payload) gives = read_variant operation (item_of 64 m) (val payload) (sym gives)
+read_has_variant val operation m (Err error) gives = tt
 
 caused_variant : {before after : ℕ} (request : Option (List ℕ)) (operation : Operation) (limit : Option ℕ) (answer : Answer) (payload : Val) → Caused request (read_answer operation) limit before after answer → answer ≡ Ok payload → IsOfOperation operation payload
 caused_variant request operation limit answer payload (not_valid has is) ok = error_payload (sym is ∙ ok)

@@ -10,3 +10,6 @@ pub mod Sessions
 pub mod Going
 pub mod Said
 pub mod Orders
+pub mod Tagged
+pub mod Operations
+pub mod Successes

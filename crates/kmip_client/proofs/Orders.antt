@@ -14,9 +14,9 @@ use Rattle.kmip_client.specs.Message.{Message, message_at, taken_for, Ended, Ref
 use Rattle.kmip_client.specs.Outcome.{Answer, Outcome, outcome, outcome_of, answer_of, read_answer}
 use Rattle.kmip_client.specs.Client.{loses_connection}
 use Rattle.kmip_client.specs.Diagnostics.{diagnostic_for}
-use Rattle.kmip_client.specs.Session.{Turn, turn_of, then_on, session, told_of, turn_told, response_text_of}
+use Rattle.kmip_client.specs.Session.{Turn, turn_of, then_on, session, turn_report, response_text_of}
 use Rattle.kmip_client.specs.Order.{AreServed, answers_to}
-use Rattle.kmip_client.specs.Skeletons.{taken_by, Parse, AllParse, skeletons_of, texts_of}
+use Rattle.kmip_client.specs.Skeletons.{taken_by, AllParse, skeletons_of, texts_of}
 use Rattle.kmip_client.proofs.Said.{OfMessages, message_says}
 
 -- ---- messages in order
@@ -53,21 +53,21 @@ in_order (payload ∷ payloads) credential limit (m ∷ messages) rest served =
 -- ---- what diagnostics tell
 
 -- the response of a turn is told
-abbrev IsTold : Turn → Type 0
-IsTold turn = (taken : List ℕ) → response_text_of true taken turn.outcome.answer ≡ diagnostic_for true taken
+abbrev IsReported : Turn → Type 0
+IsReported turn = (taken : List ℕ) → response_text_of true taken turn.outcome.answer ≡ diagnostic_for true taken
 
 tells : (taken : List ℕ) → OfMessages (λ answer. response_text_of true taken answer ≡ diagnostic_for true taken)
 tells taken = record { ok = λ p. refl; malformed = λ t. refl; internal = λ t. refl; server = λ t. refl; not_found = λ t. refl }
 
-answer_told : (operation : Operation) (here : Message) (taken : List ℕ) → response_text_of true taken (answer_of operation here) ≡ diagnostic_for true taken
-answer_told operation Ended taken = refl
-answer_told operation (Refused error) taken = refl
-answer_told operation (Whole m) taken = message_says (tells taken) operation m
+answer_reported : (operation : Operation) (here : Message) (taken : List ℕ) → response_text_of true taken (answer_of operation here) ≡ diagnostic_for true taken
+answer_reported operation Ended taken = refl
+answer_reported operation (Refused error) taken = refl
+answer_reported operation (Whole m) taken = message_says (tells taken) operation m
 
-turn_is_told : (request : Option (List ℕ)) (bytes : List ℕ) (operation : Operation) (limit : Option ℕ) (rest taken : List ℕ) → request ≡ Some bytes →
+turn_is_reported : (request : Option (List ℕ)) (bytes : List ℕ) (operation : Operation) (limit : Option ℕ) (rest taken : List ℕ) → request ≡ Some bytes →
     response_text_of true taken (outcome_of request operation limit rest).answer ≡ diagnostic_for true taken
-turn_is_told None bytes operation limit rest taken is = absurd (cc)
-turn_is_told (Some own) bytes operation limit rest taken is = answer_told operation (message_at rest limit) taken
+turn_is_reported None bytes operation limit rest taken is = absurd (cc)
+turn_is_reported (Some own) bytes operation limit rest taken is = answer_reported operation (message_at rest limit) taken
 
 abbrev Texts : Type 0
 Texts = Option (List ℕ) × Option (List ℕ)
@@ -77,36 +77,36 @@ abbrev diagnostics : (turns : List Turn) → AllParse turns → List Texts
 diagnostics [] all = []
 diagnostics (turn ∷ turns) all = (Some (diagnostic (Some 0x4200) all.0.message), Some (diagnostic (Some 0x4200) (taken_by turn))) ∷ diagnostics turns all.1
 
-abbrev AreTold : List Turn → Type 0
-AreTold turns = (all : AllParse turns) → texts_of turns ≡ diagnostics turns all
+abbrev AreReported : List Turn → Type 0
+AreReported turns = (all : AllParse turns) → texts_of turns ≡ diagnostics turns all
 
-told_next : (turn : Turn) (turns : List Turn) → IsTold turn → AreTold turns → AreTold (turn ∷ turns)
-told_next turn turns told rest all =
-    let own : (turn_told true turn).request_text ≡ Some (diagnostic (Some 0x4200) all.0.message) = rw all.0.is_request refl in
-    let taken : (turn_told true turn).response_text ≡ Some (diagnostic (Some 0x4200) (taken_by turn)) = told (taken_by turn) in
-    ap (λ (t : Option (List ℕ)). (t, (turn_told true turn).response_text) ∷ texts_of turns) own
+reported_next : (turn : Turn) (turns : List Turn) → IsReported turn → AreReported turns → AreReported (turn ∷ turns)
+reported_next turn turns told rest all =
+    let own : (turn_report true turn).request_text ≡ Some (diagnostic (Some 0x4200) all.0.message) = rw all.0.is_request refl in
+    let taken : (turn_report true turn).response_text ≡ Some (diagnostic (Some 0x4200) (taken_by turn)) = told (taken_by turn) in
+    ap (λ (t : Option (List ℕ)). (t, (turn_report true turn).response_text) ∷ texts_of turns) own
     ∙ (ap (λ (t : Option (List ℕ)). (Some (diagnostic (Some 0x4200) all.0.message), t) ∷ texts_of turns) taken
     ∙ ap (λ (l : List Texts). (Some (diagnostic (Some 0x4200) all.0.message), Some (diagnostic (Some 0x4200) (taken_by turn))) ∷ l) (rest all.1))
 
 -- where a turn's request is known to be some bytes, what it took is told
-told_first : (payload : RequestPayload) (credential : Option CredentialType) (limit : Option ℕ) (rest : List ℕ) (turns : List Turn) → AreTold turns → AreTold (turn_of payload credential limit rest ∷ turns)
-told_first payload credential limit rest turns later all =
-    told_next (turn_of payload credential limit rest) turns
-    (λ taken. turn_is_told (request_bytes payload credential) all.0.message (operation_of payload) limit rest taken all.0.is_request) later all
+reported_first : (payload : RequestPayload) (credential : Option CredentialType) (limit : Option ℕ) (rest : List ℕ) (turns : List Turn) → AreReported turns → AreReported (turn_of payload credential limit rest ∷ turns)
+reported_first payload credential limit rest turns later all =
+    reported_next (turn_of payload credential limit rest) turns
+    (λ taken. turn_is_reported (request_bytes payload credential) all.0.message (operation_of payload) limit rest taken all.0.is_request) later all
 
-either_told : (lost : Bool) (turn : Turn) (later : List Turn) → AreTold (turn ∷ []) → AreTold (turn ∷ later) → AreTold (cond lost (turn ∷ []) (turn ∷ later))
-either_told true turn later one more = one
-either_told false turn later one more = more
+either_reported : (lost : Bool) (turn : Turn) (later : List Turn) → AreReported (turn ∷ []) → AreReported (turn ∷ later) → AreReported (cond lost (turn ∷ []) (turn ∷ later))
+either_reported true turn later one more = one
+either_reported false turn later one more = more
 
-are_told : (payloads : List RequestPayload) (credential : Option CredentialType) (limit : Option ℕ) (rest : List ℕ) → AreTold (session payloads credential limit rest)
+are_reported : (payloads : List RequestPayload) (credential : Option CredentialType) (limit : Option ℕ) (rest : List ℕ) → AreReported (session payloads credential limit rest)
 unfolding session
-are_told [] credential limit rest = λ all. refl
-are_told (payload ∷ payloads) credential limit rest =
+are_reported [] credential limit rest = λ all. refl
+are_reported (payload ∷ payloads) credential limit rest =
     let turn : Turn = turn_of payload credential limit rest in
     let later : List Turn = session payloads credential limit (drop (outcome payload credential limit rest).taken rest) in
-    either_told (loses_connection turn.outcome.answer) turn later
-    (told_first payload credential limit rest [] (λ all. refl))
-    (told_first payload credential limit rest later (are_told payloads credential limit (drop (outcome payload credential limit rest).taken rest)))
+    either_reported (loses_connection turn.outcome.answer) turn later
+    (reported_first payload credential limit rest [] (λ all. refl))
+    (reported_first payload credential limit rest later (are_reported payloads credential limit (drop (outcome payload credential limit rest).taken rest)))
 
 -- ---- diagnostics and skeletons
 
@@ -145,7 +145,7 @@ pub sessions_tell : Tell → (payloads others : List RequestPayload) (credential
     (all : AllParse (session payloads credential limit rest)) → (each : AllParse (session others other most bytes)) →
     (texts_of (session payloads credential limit rest) ≡ texts_of (session others other most bytes)) ↔ (skeletons_of (session payloads credential limit rest) all ≡ skeletons_of (session others other most bytes) each)
 sessions_tell tell payloads others credential other limit most rest bytes all each =
-    let own = are_told payloads credential limit rest all in
-    let their = are_told others other most bytes each in
+    let own = are_reported payloads credential limit rest all in
+    let their = are_reported others other most bytes each in
     let both = lists_tell tell (session payloads credential limit rest) (session others other most bytes) all each in
     (λ h. both.0 (sym own ∙ (h ∙ their)), λ h. own ∙ (both.1 h ∙ sym their))

@@ -1,5 +1,5 @@
 -- What a message can answer.
-use Rattle.std.proofs.Common.{◌≡◌, ℕ, Bool, true, false, cond, not, List, pos, codes, refl, Option, Some, None, Ok, Err}
+use Rattle.std.proofs.Common.{ℕ, Bool, true, false, cond, not, List, pos, Option, Some, None, Ok, Err}
 use Rattle.kmip_wire.specs.Tree.{Tree}
 use Rattle.kmip_wire.specs.Reading.{item_of}
 use Rattle.kmip_shape.specs.Val.{Val, Vals, NoVal, AndVal}
@@ -10,7 +10,7 @@ use Rattle.kmip_enums.specs.declared.result_status.ResultStatus.TheVariants.{Ope
 use Rattle.kmip_enums.specs.declared.result_reason.ResultReason.TheVariants.{ItemNotFound as ItemNotFoundReason}
 use Rattle.kmip_response.specs.Tables.{response_message}
 use Rattle.kmip_client.specs.declared.error.Error.TheVariants.{DeserializeError, InternalError, ServerError, ItemNotFound}
-use Rattle.kmip_client.specs.Check.{check_item, check_items, has_status, has_operation, one_of, field_at, is_number, text_in, failed_text, mismatch_text, operation_shown, batch_count, batch_items, failure, payload_answer, count_of, count_text}
+use Rattle.kmip_client.specs.Check.{check_item, check_items, has_status, has_operation, one_of, field_at, is_number, batch_count, batch_items, failure, payload_answer}
 use Rattle.kmip_client.specs.Outcome.{Answer, read_answer, tree_answer, value_answer, response_tag}
 
 -- it holds of each answer to a whole message

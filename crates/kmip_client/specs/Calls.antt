@@ -36,8 +36,8 @@ outcome_for kind state request before after =
     (left_for (state before.link) (state after))
 
 -- What a call promises for this request, which found the client as `before`, left it as `after` and
--- answered so. `state` is what the link means. What is said where the link `tells` is said of a
--- link that tells its bytes, and the rest of any link.
+-- answered so. `state` is what the link means to contracts. Some fields hold where the link
+-- `tells`: where its bytes are known to contracts. The others hold over any link.
 pub record IsCallOf {T R A : Type 0} (kind : CallKind R A) (state : T → LinkState) (request : R)
     (before after : ClientState T) (answer : Result A Error) : Type 0 where
   -- outcome: what was answered, sent and taken, as it should be or broken off
@@ -118,7 +118,7 @@ pub data Asked {T P E : Type 0} (state : T → LinkState) (request : Result Requ
   not_asked : answer ≡ Err OutOfMemory → after ≡ before →
       Asked state request val before after answer
 
--- what is told of a payload of no interest
+-- a payload of no interest
 abbrev pub nothing_of : {P : Type 0} → P → Unit {0}
 nothing_of payload = tt
 

@@ -1,6 +1,6 @@
 -- What a response message that was read answers to a request of an operation: by its batch count,
--- and by the status, reason,
--- message and operation of its batch item (KMIP 1.0, 6.2, 6.9 to 6.11 and 6.14).
+-- and by the status, reason, message and operation of its batch item (KMIP 1.0, 6.2, 6.9 to 6.11
+-- and 6.14).
 use Rattle.std.specs.Prelude.{ℕ, zero, suc, ℤ, pos, List, [], ◌++◌, Bool, true, false, not, Option, Some, None, if◌then◌else◌, Result, Ok, Err, codes}
 use Rattle.std.specs.Ordering.{int_eq}
 use Rattle.std.specs.Fmt.{decimal}

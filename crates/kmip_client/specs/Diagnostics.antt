@@ -32,8 +32,8 @@ IsResponseText buffered taken (Err (RequestWriteError reason)) text = text ≡ N
 IsResponseText buffered taken answer text = text ≡ diagnostic_for buffered taken
 
 -- whether a response was read, wholly or in part
-abbrev pub is_read : {A : Type 0} → Result A Error → Bool
-is_read (Err OutOfMemory) = false
-is_read (Err (SerializeError reason)) = false
-is_read (Err (RequestWriteError reason)) = false
-is_read answer = true
+abbrev pub has_response : {A : Type 0} → Result A Error → Bool
+has_response (Err OutOfMemory) = false
+has_response (Err (SerializeError reason)) = false
+has_response (Err (RequestWriteError reason)) = false
+has_response answer = true

@@ -24,6 +24,16 @@ pub record IsValidResponse (operation : Operation) (limit : Option ℕ) (rest m 
   pub reads : root_read response_message response_tag tree ≡ Some value
   pub checks : check_response operation value ≡ Ok payload
 
+-- A message is a valid response exactly where it stands at the front of the bytes left and reads
+-- so.
+pub record IsReadBy {A : Type 0} (reads : List ℕ → Result A Error) (limit : Option ℕ)
+    (IsValid : List ℕ → List ℕ → A → Type 0) : Type 0 where
+  pub valid : (rest m : List ℕ) (payload : A) → message_at rest limit ≡ Whole m →
+      reads m ≡ Ok payload → IsValid rest m payload
+  pub front : (rest m : List ℕ) (payload : A) → IsValid rest m payload →
+      message_at rest limit ≡ Whole m
+  pub read : (rest m : List ℕ) (payload : A) → IsValid rest m payload → reads m ≡ Ok payload
+
 -- The link's count of faults did not rise, and is below its last value.
 pub record IsSound (before after : LinkState) : Type 0 where
   pub same : after.faults ≡ before.faults

@@ -13,3 +13,5 @@ pub mod Session
 pub mod Order
 pub mod Skeletons
 pub use Rattle.kmip_request.specs.Requests
+pub mod Untyped
+pub mod Operation

@@ -15,7 +15,7 @@ pub data Message : Type 0 where
   -- these bytes are a head and the contents that it says
   Whole : List ℕ → Message
 
--- the message that an accepted head begins, which tells of n bytes of contents
+-- the message that an accepted head begins, which announces n bytes of contents
 abbrev pub message_by : Result ℕ HeadError → List ℕ → Message
 message_by (Err error) rest = Refused error
 message_by (Ok n) rest = if nat_lt (length rest) (n + 8) then Ended else Whole (take (n + 8) rest)
@@ -31,14 +31,14 @@ taken_for rest Ended = length rest
 taken_for rest (Refused error) = 8
 taken_for rest (Whole m) = length m
 
--- the reading that stopped so far took the front of the bytes left, and came to this message
+-- a reading took the bytes of this message, which stands at the front of the bytes left
 pub record Comes (before after : LinkState) (limit : Option ℕ) (taken : List ℕ)
     (here : Message) : Type 0 where
   pub front : message_at (left before) limit ≡ here
   pub takes : Takes before after (taken_for (left before) here)
   pub bytes : taken ≡ take (taken_for (left before) here) (left before)
 
--- the reading stopped before the end of a message
+-- a reading stopped after n bytes, at most those that would be taken
 pub record StopsWithin (before after : LinkState) (limit : Option ℕ) (n : ℕ) : Type 0 where
   pub within : n ≤ taken_for (left before) (message_at (left before) limit)
   pub takes : Takes before after n

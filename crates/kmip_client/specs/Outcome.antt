@@ -1,6 +1,7 @@
--- What one exchange sends, takes and answers, and what a call did to its link. A call of any kind has
--- the bytes of its request, and its reading: what a whole message answers. So the definitions take
--- these two, and those of a request of KMIP's tables stand below, by their payload and operation.
+-- What one exchange sends, takes and answers, and what a call did to its link. A call of any kind
+-- has the bytes of its request, and its reading: what a whole message answers. So the definitions
+-- take these two, and those of a request of KMIP's tables stand below, by their payload and
+-- operation.
 use Rattle.std.specs.Prelude.{◌≡◌, ℕ, ◌+◌, ◌<◌, ◌≤◌, List, [], ◌++◌, length, take, drop, Option, Some, None, Result, Ok, Err, codes, IsTrue, IsSome}
 use Rattle.kmip_tags.specs.Tags.{RESPONSE_MESSAGE}
 use Rattle.std.specs.Fmt.{decimal}

@@ -1,13 +1,12 @@
 -- Several requests over one client.
 use Rattle.std.specs.Prelude.{◌≡◌, ℕ, ◌+◌, ◌<◌, ◌≤◌, List, [], ◌∷◌, ◌++◌, length, take, drop, map}
-use Rattle.std.specs.Prelude.{Bool, true, false, Option, None, if◌then◌else◌, Ok, Err, IsTrue}
+use Rattle.std.specs.Prelude.{Bool, true, false, Option, None, if◌then◌else◌, Err, IsTrue}
 use Rattle.std.specs.Prelude.{codes}
 use Rattle.kmip_shape.specs.Val.{Val}
 use Rattle.kmip_types.specs.declared.auth.CredentialType.{CredentialType}
 use Rattle.kmip_request.specs.Message.{request_bytes}
 use Rattle.kmip_request.specs.declared.payload.RequestPayload.{RequestPayload}
 use Rattle.kmip_link.specs.State.{LinkState, FaultCountRose, Keeps, left}
-use Rattle.kmip_client.specs.declared.error.Error.{Error}
 use Rattle.kmip_client.specs.declared.error.Error.TheVariants.{SerializeError}
 use Rattle.kmip_client.specs.declared.error.Error.TheVariants.{RequestWriteError, ResponseReadError}
 use Rattle.kmip_client.specs.declared.session.Exchange.{Exchange}
@@ -45,14 +44,14 @@ session (payload ∷ payloads) credential limit rest =
     (session payloads credential limit (drop (outcome payload credential limit rest).taken rest))
 
 -- an exchange, as contracts see it
-pub record Told : Type 0 where
+pub record CallReport : Type 0 where
   pub answer : Answer
   pub request_text : Option (List ℕ)
   pub response_text : Option (List ℕ)
 
 -- an exchange of the code, by the value of its payload
-abbrev pub exchange_told : {P : Type 0} → (P → Val) → Exchange P → Told
-exchange_told val exchange = record {
+abbrev pub exchange_report : {P : Type 0} → (P → Val) → Exchange P → CallReport
+exchange_report val exchange = record {
   answer = seen_by val exchange.answer;
   request_text = exchange.req_diag;
   response_text = exchange.res_diag;
@@ -64,17 +63,17 @@ response_text_of buffered taken (Err (SerializeError reason)) = None
 response_text_of buffered taken (Err (RequestWriteError reason)) = None
 response_text_of buffered taken answer = diagnostic_for buffered taken
 
--- what is told of a request of these bytes that was answered so, after these bytes were taken
-abbrev pub told_of : Bool → Option (List ℕ) → Answer → List ℕ → Told
-told_of buffered request answer taken = record {
+-- the report of a request of these bytes that was answered so, after these bytes were taken
+abbrev pub call_report : Bool → Option (List ℕ) → Answer → List ℕ → CallReport
+call_report buffered request answer taken = record {
   answer = answer;
   request_text = diagnostic_of buffered request;
   response_text = response_text_of buffered taken answer;
 }
 
-abbrev pub turn_told : Bool → Turn → Told
-turn_told buffered turn =
-    told_of buffered turn.request turn.outcome.answer (take turn.outcome.taken turn.rest)
+abbrev pub turn_report : Bool → Turn → CallReport
+turn_report buffered turn =
+    call_report buffered turn.request turn.outcome.answer (take turn.outcome.taken turn.rest)
 
 abbrev pub all_sent : List Turn → List ℕ
 all_sent [] = []
@@ -105,17 +104,17 @@ pub record BreaksIn {T : Type 0} (state : T → LinkState) (done : List Turn) (t
   pub reading : last ≡ reading_failed →
       FailsReading state turn.request turn.outcome.taken between after
 
--- How a session of these turns went, and what it told.
+-- How a session of these turns went, and what it reported.
 pub data Ran {T : Type 0} (state : T → LinkState) (buffered : Bool) (turns : List Turn)
-    (before after : T) (exchanges : List Told) : Type 0 where
-  whole : exchanges ≡ map (turn_told buffered) turns →
+    (before after : T) (exchanges : List CallReport) : Type 0 where
+  whole : exchanges ≡ map (turn_report buffered) turns →
       Moves (state before) (state after) (all_sent turns) (all_taken turns) →
       Ran state buffered turns before after exchanges
   -- the link failed after some of them
   broken : (done : List Turn) (turn : Turn) (more : List Turn) (last : Answer) (sent : List ℕ)
       (taken : ℕ) → turns ≡ done ++ turn ∷ more →
-      exchanges ≡ map (turn_told buffered) done ++
-      told_of buffered turn.request last (take taken turn.rest) ∷ [] →
+      exchanges ≡ map (turn_report buffered) done ++
+      call_report buffered turn.request last (take taken turn.rest) ∷ [] →
       BrokenOff turn.outcome last sent taken →
       FaultCountRose (state before).faults (state after).faults →
       Moves (state before) (state after) (all_sent done ++ sent) (all_taken done + taken) →
@@ -128,34 +127,35 @@ GoesOn answer = (loses_connection answer ≡ false) × (lacks_memory answer ≡ 
 
 -- Over any link: there is one exchange for each request, up to the first that lost the connection,
 -- and none that lacked memory.
-pub data Stops : List RequestPayload → List Told → Type 0 where
+pub data Stops : List RequestPayload → List CallReport → Type 0 where
   at_end : Stops [] []
-  at_loss : (payload : RequestPayload) (payloads : List RequestPayload) (exchange : Told) →
+  at_loss : (payload : RequestPayload) (payloads : List RequestPayload) (exchange : CallReport) →
       loses_connection exchange.answer ≡ true → Stops (payload ∷ payloads) (exchange ∷ [])
-  later : (payload : RequestPayload) (payloads : List RequestPayload) (exchange : Told)
-      (exchanges : List Told) → GoesOn exchange.answer → Stops payloads exchanges →
+  later : (payload : RequestPayload) (payloads : List RequestPayload) (exchange : CallReport)
+      (exchanges : List CallReport) → GoesOn exchange.answer → Stops payloads exchanges →
       Stops (payload ∷ payloads) (exchange ∷ exchanges)
 
--- what a call told that left the client so
-abbrev pub told_by : {T : Type 0} → Answer → ClientState T → Told
-told_by answer client = record {
+-- the report of a call that was answered so and left the client so
+abbrev pub client_report : {T : Type 0} → Answer → ClientState T → CallReport
+client_report answer client = record {
   answer = answer;
   request_text = client.request_text;
   response_text = client.response_text;
 }
 
--- Over any link: each exchange is what a call of `do_request` told, for the requests in order, each
--- call made on the client that the one before left.
+-- Over any link: each exchange is the report of a call of `do_request`, for the requests in order,
+-- each call made on the client that the one before left.
 abbrev pub Calls : {T : Type 0} → (T → LinkState) → List RequestPayload → ClientState T →
-    List Told → ClientState T → Type 0
+    List CallReport → ClientState T → Type 0
 Calls state payloads before [] after = after ≡ before
 Calls state [] before (exchange ∷ exchanges) after = ⊥
 Calls {T} state (payload ∷ payloads) before (exchange ∷ exchanges) after =
     (between : ClientState T) × IsCall state payload before between exchange.answer ×
-    (exchange ≡ told_by exchange.answer between) × Calls state payloads between exchanges after
+    (exchange ≡ client_report exchange.answer between) ×
+    Calls state payloads between exchanges after
 
 -- each but the last answer let the session go on
-abbrev pub GoOn : List Told → Type 0
+abbrev pub GoOn : List CallReport → Type 0
 GoOn [] = Unit {0}
 GoOn (exchange ∷ []) = Unit {0}
 GoOn (exchange ∷ next ∷ exchanges) = GoesOn exchange.answer × GoOn (next ∷ exchanges)
@@ -164,7 +164,7 @@ GoOn (exchange ∷ next ∷ exchanges) = GoesOn exchange.answer × GoOn (next �
 -- out.
 pub record CutOff {T : Type 0} (state : T → LinkState) (payloads : List RequestPayload)
     (before after : ClientState T) : Type 0 where
-  pub exchanges : List Told
+  pub exchanges : List CallReport
   pub made : Calls state payloads before exchanges after
   pub on : GoOn exchanges
 
@@ -176,13 +176,13 @@ abbrev pub held_texts : {T : Type 0} → ClientState T → Texts
 held_texts client = (client.request_text, client.response_text)
 
 -- those of the last exchange, and these where there is none
-abbrev pub last_texts : Texts → List Told → Texts
+abbrev pub last_texts : Texts → List CallReport → Texts
 last_texts texts [] = texts
 last_texts texts (exchange ∷ exchanges) =
     last_texts (exchange.request_text, exchange.response_text) exchanges
 
 -- Over any link: each exchange has the diagnostic of its request.
-abbrev pub AreRequestTexts : Bool → Option CredentialType → List RequestPayload → List Told →
+abbrev pub AreRequestTexts : Bool → Option CredentialType → List RequestPayload → List CallReport →
     Type 0
 AreRequestTexts buffered credential payloads [] = Unit {0}
 AreRequestTexts buffered credential [] (exchange ∷ exchanges) = ⊥
@@ -191,7 +191,7 @@ AreRequestTexts buffered credential (payload ∷ payloads) (exchange ∷ exchang
     AreRequestTexts buffered credential payloads exchanges
 
 -- whether the last answer is a connection error
-abbrev pub ends_lost : List Told → Bool
+abbrev pub ends_lost : List CallReport → Bool
 ends_lost [] = false
 ends_lost (exchange ∷ []) = loses_connection exchange.answer
 ends_lost (exchange ∷ next ∷ exchanges) = ends_lost (next ∷ exchanges)
@@ -199,15 +199,17 @@ ends_lost (exchange ∷ next ∷ exchanges) = ends_lost (next ∷ exchanges)
 -- What `exchange_all` promises of a session for these requests, which found the client as `before`,
 -- left it as `after` and returned these exchanges. `state` is what the link means.
 pub record IsSession {T : Type 0} (state : T → LinkState) (payloads : List RequestPayload)
-    (before after : ClientState T) (exchanges : List Told) : Type 0 where
-  -- what was sent, taken and told, over a link that tells its bytes and got none meanwhile
+    (before after : ClientState T) (exchanges : List CallReport) : Type 0 where
+  -- what was sent, taken and reported, over a link whose bytes are known and that got none
+  -- meanwhile
   pub ran : IsTrue (state before.link).tells → (state after.link).ever ≡ (state before.link).ever →
       Ran state before.buffered
       (session payloads before.credential before.limit (left (state before.link)))
       before.link after.link exchanges
   -- there is one exchange for each request, up to the first that lost the connection
   pub stops : Stops payloads exchanges
-  -- each exchange is what a call of `do_request` told, made on the client that the call before left
+  -- each exchange is the report of a call of `do_request`, made on the client that the call before
+  -- left
   pub calls : Calls state payloads before exchanges after
   -- the client holds the diagnostics of the last exchange, and with none those that it held
   pub texts : held_texts after ≡ last_texts (held_texts before) exchanges

@@ -4,7 +4,7 @@ use Rattle.kmip_wire.specs.Bytes.{HasRanges}
 use Rattle.kmip_wire.specs.Tree.{Tree}
 use Rattle.kmip_wire.specs.Parses.{Parses}
 use Rattle.kmip_diag.specs.Skeleton.{Skeleton, skeleton}
-use Rattle.kmip_client.specs.Session.{Turn, turn_told}
+use Rattle.kmip_client.specs.Session.{Turn, turn_report}
 
 -- the bytes that a turn takes
 abbrev pub taken_by : Turn → List ℕ
@@ -32,4 +32,4 @@ skeletons_of (turn ∷ turns) all =
 -- the diagnostics of the requests and of the responses, in order, where the buffer is on
 abbrev pub texts_of : List Turn → List (Option (List ℕ) × Option (List ℕ))
 texts_of turns = map (λ turn.
-    ((turn_told true turn).request_text, (turn_told true turn).response_text)) turns
+    ((turn_report true turn).request_text, (turn_report true turn).response_text)) turns

@@ -1,5 +1,5 @@
 //! What a call answers: the payload of any operation, or that of some.
-ghost use Rattle.std.specs.Prelude.{◌≡◌, ◌⊎◌, IfOk};
+ghost use Rattle.std.specs.Prelude.{◌≡◌, ◌⊎◌};
 ghost use Rattle.kmip_shape.specs.Val.{Val, Case};
 ghost use Rattle.kmip_enums.specs.Operations.{operation_line};
 ghost use Rattle.kmip_enums.specs.declared.operation.Operation.{Operation as TheOperation};
@@ -8,19 +8,13 @@ ghost use Rattle.kmip_response.specs.Values.{create_key_pair_payload_val, rng_re
 ghost use Rattle.kmip_response.specs.Values.{sign_payload_val, unique_identifier_payload_val};
 ghost use Rattle.kmip_response.specs.Values.{attribute_edit_payload_val, get_payload_val};
 ghost use Rattle.kmip_client.specs.Client.{IsOfOperation};
-ghost use Rattle.kmip_client.specs.Outcome.{Gives, answer_with_payload, seen_by, reading_answer};
-ghost use Rattle.kmip_client.specs.Outcome.{read_answer};
 
-use crate::answer::answer_read;
-use crate::error::Error;
-use crate::message::MessageStop;
 use kmip_enums::Operation;
 use kmip_response::{
     AttributeEditResponsePayload, CreateKeyPairResponsePayload, GetResponsePayload,
     QueryResponsePayload, RNGRetrieveResponsePayload, ResponsePayload, SignResponsePayload,
     UniqueIdentifierResponsePayload,
 };
-use std::alloc::Global;
 
 /// A payload that a call answers. A call is over any of them, so that its proof sees no variant.
 pub trait Answered: Drop {
@@ -38,21 +32,21 @@ pub trait Answered: Drop {
 }
 
 /// A payload that a call of any operation answers.
-pub trait AnsweredByAny: Answered {
+pub trait AnyPayload: Answered {
     /// Its value, which is the same as a payload's of each operation.
     ghost whole: { Self → Val };
 
-    /// That it is so. It does nothing.
-    fn answers_any()
+    /// It answers each operation, and its value is the same for each. It does nothing.
+    fn whole_holds()
         ensures answers { (operation : TheOperation) → Self.Answers operation }
         ensures whole { (operation : TheOperation) → (payload : Self) →
             Self.val operation payload ≡ whole payload };
 }
 
-impl AnsweredByAny for ResponsePayload {
+impl AnyPayload for ResponsePayload {
     ghost whole = { response_payload_val };
 
-    fn answers_any() {}
+    fn whole_holds() {}
 }
 
 /// The payload of any operation.
@@ -168,32 +162,4 @@ impl Answered for RNGRetrieveResponsePayload {
             _ => unreachable!(),
         }
     }
-}
-
-/// The payload that is asked for, or the error.
-fn part<P: Answered>(
-    operation: Operation,
-    answer: Result<ResponsePayload, Error>,
-) -> Result<P, Error>
-    requires answers { P.Answers operation }
-    requires own { IfOk answer (λ payload. IsOfOperation operation (response_payload_val payload)) }
-    ensures { seen_by (P.val operation) result ≡ answer_with_payload answer }
-{
-    match answer {
-        Ok(payload) => Ok(P::of(operation, payload)),
-        Err(error) => Err(error),
-    }
-}
-
-/// What a reading answers, of which these bytes were taken.
-pub fn answer_to<P: Answered>(
-    alloc: Global,
-    operation: Operation,
-    taken: &[u8],
-    read: Result<(), MessageStop>,
-) -> Result<P, Error>
-    requires { P.Answers operation }
-    ensures { Gives (reading_answer (read_answer operation) taken.now read) (seen_by (P.val operation) result) }
-{
-    part(operation, answer_read(alloc, operation, taken, read))
 }

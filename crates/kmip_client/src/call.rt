@@ -2,21 +2,20 @@
 ghost use Rattle.std.specs.Prelude.{◌≡◌, ◌⊎◌, ◌-◌, take, true, false, None, Some, Ok, Err};
 ghost use Rattle.std.specs.Prelude.{IfOk, IsTrue, option_map};
 ghost use Rattle.kmip_link.specs.State.{Keeps};
-ghost use Rattle.kmip_shape.specs.Val.{Val};
-ghost use Rattle.kmip_request.specs.Message.{request_bytes, credential_of, operation_of};
+ghost use Rattle.kmip_request.specs.Message.{credential_of};
 ghost use Rattle.kmip_client.specs.Outcome.{Exchanged, Caused, FailsReading, reading_failed};
-ghost use Rattle.kmip_client.specs.Outcome.{outcome, left_for, seen_by, read_answer};
+ghost use Rattle.kmip_client.specs.Outcome.{outcome_by, left_for, seen_by};
 ghost use Rattle.kmip_client.specs.declared.error.Error.TheVariants.{OutOfMemory as no_memory};
-ghost use Rattle.kmip_client.specs.Diagnostics.{diagnostic_for, is_read};
+ghost use Rattle.kmip_client.specs.Diagnostics.{diagnostic_for, has_response};
 ghost use Rattle.kmip_client.specs.Diagnostics.{IsRequestText, IsResponseText};
 
-use crate::answered::Answered;
+use crate::call_request::CallRequest;
 use crate::error::Error;
 use crate::exchange::{exchange, serialize};
 use crate::room::{FIRST_ROOM, Room};
 use kmip_diag::PrettyPrinter;
 use kmip_link::Link;
-use kmip_request::{Authentication, RequestPayload};
+use kmip_request::Authentication;
 use kmip_wire::{Config, OutOfMemory, Text};
 use std::alloc::Global;
 
@@ -61,8 +60,8 @@ fn diagnostic_for(alloc: Global, config: &Config, bytes: &[u8]) -> Result<Option
 }
 
 /// Whether a response was read, wholly or in part.
-fn is_read<P: Drop>(answer: &Result<P, Error>) -> bool
-    ensures { (val : P → Val) → result ≡ is_read (seen_by val answer.now) }
+fn has_response<P: Drop>(answer: &Result<P, Error>) -> bool
+    ensures { result ≡ has_response answer.now }
 {
     match answer {
         Err(Error::OutOfMemory | Error::SerializeError(_) | Error::RequestWriteError(_)) => false,
@@ -90,46 +89,49 @@ fn keep<P: Drop>(
 
 /// Writes the request, sends it, reads its response and keeps the diagnostics of both. The messages
 /// stand in `room`.
-pub fn call<L: Link, P: Answered>(
+pub fn call<L: Link, R: CallRequest>(
     alloc: Global,
     link: &mut L,
     settings: &Settings,
-    payload: &RequestPayload,
+    request: &R,
     diagnostics: &mut Diagnostics,
     room: &mut Room,
-) -> Result<P, Error>
-    requires answers { P.Answers (operation_of payload.now) }
+) -> Result<R::Payload, Error>
+    requires readable { R.IsRead request.now }
     requires request { diagnostics.old.request ≡ None }
     requires response { diagnostics.old.response ≡ None }
     ensures keeps { Keeps (L.state link.old) (L.state link.new) }
     ensures exchange { IsTrue (L.state link.old).tells →
-        Exchanged (outcome payload.now (option_map credential_of settings.now.authentication)
-        settings.now.config.max_bytes (left_for (L.state link.old) (L.state link.new)))
-        (L.state link.old) (L.state link.new) (seen_by (P.val (operation_of payload.now)) result) }
-    ensures caused { Caused
-        (request_bytes payload.now (option_map credential_of settings.now.authentication))
-        (read_answer (operation_of payload.now)) settings.now.config.max_bytes
-        (L.state link.old).faults (L.state link.new).faults
-        (seen_by (P.val (operation_of payload.now)) result) }
+        Exchanged (outcome_by (R.kind.bytes_of (R.request request.now)
+        (option_map credential_of settings.now.authentication))
+        (R.kind.reads (R.request request.now)) settings.now.config.max_bytes
+        (left_for (L.state link.old) (L.state link.new)))
+        (L.state link.old) (L.state link.new) (seen_by (R.seen request.now) result) }
+    ensures caused { Caused (R.kind.bytes_of (R.request request.now)
+        (option_map credential_of settings.now.authentication))
+        (R.kind.reads (R.request request.now)) settings.now.config.max_bytes
+        (L.state link.old).faults (L.state link.new).faults (seen_by (R.seen request.now) result) }
     ensures reading { IsTrue (L.state link.old).tells →
-        seen_by (P.val (operation_of payload.now)) result ≡ reading_failed →
-        FailsReading L.state
-        (request_bytes payload.now (option_map credential_of settings.now.authentication))
-        (outcome payload.now (option_map credential_of settings.now.authentication)
-        settings.now.config.max_bytes (left_for (L.state link.old) (L.state link.new))).taken
+        seen_by (R.seen request.now) result ≡ reading_failed →
+        FailsReading L.state (R.kind.bytes_of (R.request request.now)
+        (option_map credential_of settings.now.authentication))
+        (outcome_by (R.kind.bytes_of (R.request request.now)
+        (option_map credential_of settings.now.authentication))
+        (R.kind.reads (R.request request.now)) settings.now.config.max_bytes
+        (left_for (L.state link.old) (L.state link.new))).taken
         link.old link.new }
     ensures request_text { IsRequestText settings.now.config.has_buf
-        (request_bytes payload.now (option_map credential_of settings.now.authentication))
-        (seen_by (P.val (operation_of payload.now)) result) diagnostics.new.request }
+        (R.kind.bytes_of (R.request request.now)
+        (option_map credential_of settings.now.authentication))
+        (seen_by (R.seen request.now) result) diagnostics.new.request }
     ensures response_text { IsTrue (L.state link.old).tells →
         IsResponseText settings.now.config.has_buf
         (take ((L.state link.new).pos - (L.state link.old).pos)
         (left_for (L.state link.old) (L.state link.new)))
-        (seen_by (P.val (operation_of payload.now)) result) diagnostics.new.response }
+        (seen_by (R.seen request.now) result) diagnostics.new.response }
     ensures quiet { settings.now.config.has_buf ≡ false → diagnostics.new.response ≡ None }
 {
-    let operation = payload.operation();
-    match serialize(alloc, payload, &settings.authentication, &mut room.request) {
+    match serialize(alloc, request, &settings.authentication, &mut room.request) {
         Ok(()) => {}
         Err(error) => return Err(error),
     }
@@ -140,11 +142,11 @@ pub fn call<L: Link, P: Answered>(
         alloc,
         link,
         &settings.config,
-        operation,
+        request,
         room.request.as_slice(),
         &mut room.taken,
     );
-    if !is_read(&answer) {
+    if !has_response(&answer) {
         return answer;
     }
     let made = diagnostic_for(alloc, &settings.config, &room.taken);

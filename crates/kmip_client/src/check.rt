@@ -1,4 +1,4 @@
-//! What a response message answers.
+//! What a response answers: its bytes are decoded and checked, and its payload is taken out.
 ghost use Rattle.std.specs.Prelude.{◌≡◌, ◌++◌, ◌<◌, IfOk, IfErr, Some, Err, codes, pos, length};
 ghost use Rattle.std.specs.Ordering.{int_eq};
 ghost use Rattle.kmip_shape.specs.Val.{Text as text_val};
@@ -12,15 +12,18 @@ ghost use Rattle.kmip_enums.specs.declared.result_reason.ResultReason.{ResultRea
 ghost use Rattle.kmip_client.specs.Check.{check_response, check_item, is_number, text_in, one_of};
 ghost use Rattle.kmip_client.specs.Check.{operation_shown, count_text, failed_text, failure};
 ghost use Rattle.kmip_client.specs.Check.{mismatch_text, payload_answer};
-ghost use Rattle.kmip_client.specs.Outcome.{Gives, answer_with_payload};
+ghost use Rattle.kmip_client.specs.Client.{IsOfOperation};
+ghost use Rattle.kmip_client.specs.Outcome.{Gives, answer_with_payload, read_answer, seen_by};
 ghost use Rattle.kmip_client.specs.declared.error.Error.TheVariants.{ServerError, InternalError};
 ghost use Rattle.kmip_client.specs.declared.error.Error.TheVariants.{OutOfMemory};
 
+use crate::answered::Answered;
 use crate::error::Error;
 use kmip_enums::{Operation, ResultReason, ResultStatus};
 use kmip_response::{BatchItem, ResponseHeader, ResponseMessage, ResponsePayload};
-use kmip_shape::Enumeration;
-use kmip_wire::Text;
+use kmip_shape::read::ReadError;
+use kmip_shape::{Enumeration, read_root};
+use kmip_wire::{ItemRef, Text};
 use std::alloc::Global;
 
 /// Whether a batch item names this operation.
@@ -47,7 +50,7 @@ fn is_not_found(reason: Option<ResultReason>) -> bool
     }
 }
 
-/// That there is not one batch item, but this many.
+/// The error where there is not one batch item, but this many.
 fn not_single(alloc: Global, count: usize) -> Result<ResponsePayload, Error>
     ensures { Gives (Err (ServerError (count_text count))) (answer_with_payload result) }
 {
@@ -55,7 +58,7 @@ fn not_single(alloc: Global, count: usize) -> Result<ResponsePayload, Error>
     Err(Error::ServerError(Text::of_string(text)))
 }
 
-/// What the server says of a failure.
+/// The error of a failure, with the server's message.
 fn failure(
     alloc: Global,
     operation: Operation,
@@ -78,7 +81,7 @@ fn failure(
     }
 }
 
-/// That the response is one to another operation, or to none.
+/// The error where the response is one to another operation, or to none.
 fn mismatch(
     alloc: Global,
     answered: Option<Operation>,
@@ -155,7 +158,7 @@ fn counts_one(header: &ResponseHeader) -> bool
 }
 
 /// What a response message answers.
-pub fn check_message(
+fn check_message(
     alloc: Global,
     operation: Operation,
     message: ResponseMessage,
@@ -179,4 +182,48 @@ pub fn check_message(
         Some(item) => check_item(alloc, operation, item),
         None => not_single(alloc, count),
     }
+}
+
+/// What the bytes of a whole message answer: they are checked, read as a response message, and its
+/// payload is taken out.
+fn read_response(alloc: Global, operation: Operation, m: &[u8]) -> Result<ResponsePayload, Error>
+    ensures { Gives (read_answer operation m.now) (answer_with_payload result) }
+{
+    let Some(item) = ItemRef::root(m) else {
+        return Err(Error::DeserializeError(Text::of(alloc, "malformed TTLV")?));
+    };
+    match read_root::<ResponseMessage>(alloc, item) {
+        Ok(message) => check_message(alloc, operation, message),
+        Err(ReadError::Unread) => {
+            Err(Error::InternalError(Text::of(alloc, "not a response message")?))
+        }
+        Err(ReadError::OutOfMemory) => Err(Error::OutOfMemory),
+    }
+}
+
+/// The payload that is asked for, or the error.
+fn part<P: Answered>(
+    operation: Operation,
+    answer: Result<ResponsePayload, Error>,
+) -> Result<P, Error>
+    requires answers { P.Answers operation }
+    requires own { IfOk answer (λ payload. IsOfOperation operation (response_payload_val payload)) }
+    ensures { seen_by (P.val operation) result ≡ answer_with_payload answer }
+{
+    match answer {
+        Ok(payload) => Ok(P::of(operation, payload)),
+        Err(error) => Err(error),
+    }
+}
+
+/// The same, as the payload that a call returns.
+pub fn decode_response<P: Answered>(
+    alloc: Global,
+    operation: Operation,
+    m: &[u8],
+) -> Result<P, Error>
+    requires { P.Answers operation }
+    ensures { Gives (read_answer operation m.now) (seen_by (P.val operation) result) }
+{
+    part(operation, read_response(alloc, operation, m))
 }

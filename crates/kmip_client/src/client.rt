@@ -2,24 +2,27 @@
 ghost use Rattle.std.specs.Prelude.{◌≡◌, None, IfOk, option_map};
 ghost use Rattle.kmip_request.specs.Message.{operation_of, credential_of};
 ghost use Rattle.kmip_request.specs.Fits.{FitsCredential};
-ghost use Rattle.kmip_shape.specs.Val.{Val};
 ghost use Rattle.kmip_response.specs.Values.{response_payload_val};
 ghost use Rattle.kmip_client.specs.Client.{ClientState, loses_connection, lacks_memory};
 ghost use Rattle.kmip_client.specs.Client.{count_after, IsOfOperation};
 ghost use Rattle.kmip_client.specs.Outcome.{answer_with_payload, seen_by};
-ghost use Rattle.kmip_client.specs.Calls.{IsCall};
+ghost use Rattle.kmip_client.specs.Calls.{IsCall, IsCallOf};
+ghost use Rattle.kmip_client.specs.Operation.{IsOperationCall};
 
 use crate::answered::Answered;
 use crate::call::{Diagnostics, Settings, call};
+use crate::call_request::{CallRequest, TypedRequest};
 use crate::error::Error;
+use crate::operation::{OperationRequest, Version};
 use crate::room::{Room, keep};
+use kmip_enums::Operation;
 use kmip_link::Link;
 use kmip_request::{Authentication, RequestPayload};
 use kmip_response::ResponsePayload;
 use kmip_shape::Item;
-use kmip_wire::{Config, OutOfMemory, Text, clone_optional};
+use kmip_wire::{Config, OutOfMemory, Text, Tree, clone_optional};
 use std::alloc::Global;
-use std::marker::Model;
+use std::marker::{Model, PhantomData};
 
 /// Sends requests over a link, and returns what the responses say.
 #[derive(Drop)]
@@ -194,7 +197,46 @@ impl<T: Link> Client<T> {
         self.request(alloc, &payload)
     }
 
-    /// The same, over any payload that a call answers.
+    /// Sends a request of any operation, whose payload is a tree, and returns the payload of its
+    /// response as a tree: so it makes the calls that KMIP's tables have not, and reads the
+    /// responses that are past them. No unknown item or number makes a response unreadable.
+    ///
+    /// It sends the one canonical message that `do_request` would send with this version, operation
+    /// and payload, and the client's credential (`operation_tree`, specs/Operation.antt). The
+    /// payload is sent as it stands: KMIP wants a structure with the tag Request Payload (KMIP 1.0,
+    /// 9.1.3.1). Link faults and lack of memory aside, it returns a payload exactly where the bytes
+    /// left begin with a message that parses and is a success (`IsSuccess`, specs/Untyped.antt): a
+    /// Response Message whose header counts one batch item and which has one, with the status
+    /// Success and this operation. The payload is that of the item, and an empty structure with the
+    /// tag Response Payload where it has none. Its errors are those of `do_request`, but for these:
+    ///
+    /// - `ServerError`, `ItemNotFound`: the server refused the request. The text always has the
+    ///   server's message, and the number of a reason that KMIP 1.2 does not list.
+    /// - `InternalError`: the message is well formed and is neither a success nor such a refusal.
+    ///
+    /// Its contract has the fields of `IsCall`, for this request and this reading of a response:
+    /// `exchange`, `caused`, `reading`, `headline`, `keeps`, `credential`, `limit`, `buffered`,
+    /// `count`, `request_text`, `response_text` and `quiet`.
+    pub fn do_operation(
+        &mut self,
+        alloc: Global,
+        operation: Operation,
+        version: Version,
+        payload: &Tree,
+    ) -> Result<Tree, Error>
+        ensures { IsOperationCall T.state
+            (record { operation = operation; version = version; payload = payload.now })
+            self.old self.new result }
+    {
+        let request = OperationRequest {
+            operation,
+            version,
+            payload,
+        };
+        self.make_call(alloc, &request)
+    }
+
+    /// The same as `do_request`, over any payload that a call answers.
     pub(crate) fn request<P: Answered>(
         &mut self,
         alloc: Global,
@@ -207,6 +249,20 @@ impl<T: Link> Client<T> {
             (λ answer. IsOfOperation (operation_of payload.now)
             (P.val (operation_of payload.now) answer)) }
     {
+        let request = TypedRequest::<P> {
+            payload,
+            returns: PhantomData,
+        };
+        self.make_call(alloc, &request)
+    }
+
+    /// Makes a call.
+    fn make_call<R: CallRequest>(&mut self, alloc: Global, request: &R) -> Result<R::Payload, Error>
+        requires { R.IsRead request.now }
+        ensures { IsCallOf R.kind T.state (R.request request.now) self.old self.new
+            (seen_by (R.seen request.now) result) }
+    {
+        R::readings_hold();
         self.diagnostics = Diagnostics {
             request: None,
             response: None,
@@ -216,7 +272,7 @@ impl<T: Link> Client<T> {
             alloc,
             &mut self.link,
             &self.settings,
-            payload,
+            request,
             &mut self.diagnostics,
             room,
         );
@@ -228,7 +284,7 @@ impl<T: Link> Client<T> {
 
 /// Whether the connection failed.
 pub(crate) fn loses_connection<P: Drop>(answer: &Result<P, Error>) -> bool
-    ensures { (val : P → Val) → result ≡ loses_connection (seen_by val answer.now) }
+    ensures { result ≡ loses_connection answer.now }
 {
     match answer {
         Ok(_) => false,
@@ -238,7 +294,7 @@ pub(crate) fn loses_connection<P: Drop>(answer: &Result<P, Error>) -> bool
 
 /// Whether memory ran out.
 pub(crate) fn lacks_memory<P: Drop>(answer: &Result<P, Error>) -> bool
-    ensures { (val : P → Val) → result ≡ lacks_memory (seen_by val answer.now) }
+    ensures { result ≡ lacks_memory answer.now }
 {
     match answer {
         Err(Error::OutOfMemory) => true,

@@ -4,40 +4,39 @@ ghost use Rattle.std.specs.Prelude.{Err, Ok, List, ℕ, IfOk, IfErr, OnOk, OnErr
 ghost use Rattle.std.specs.Prelude.{codes};
 ghost use Rattle.std.specs.Option.{option_map};
 ghost use Rattle.kmip_link.specs.State.{Keeps, FaultCountRose, Writes, left};
-ghost use Rattle.kmip_request.specs.Message.{request_bytes, credential_of, operation_of};
+ghost use Rattle.kmip_request.specs.Message.{credential_of};
 ghost use Rattle.kmip_client.specs.Transfer.{WritesPart};
-ghost use Rattle.kmip_client.specs.Outcome.{Exchanged, Caused, FailsReading, reading_failed};
-ghost use Rattle.kmip_client.specs.Outcome.{outcome_of, left_for, seen_by, read_answer};
+ghost use Rattle.kmip_client.specs.Outcome.{Exchanged, Caused, FailsReading, reading_failed, Gives};
+ghost use Rattle.kmip_client.specs.Outcome.{outcome_by, left_for, seen_by, refused_text};
+ghost use Rattle.kmip_client.specs.Outcome.{reading_answer};
 ghost use Rattle.kmip_client.specs.Client.{lacks_memory};
 ghost use Rattle.kmip_client.specs.declared.error.Error.TheVariants.{SerializeError};
 ghost use Rattle.kmip_client.specs.declared.error.Error.TheVariants.{RequestWriteError};
-ghost use Rattle.kmip_client.specs.declared.error.Error.TheVariants.{OutOfMemory};
+ghost use Rattle.kmip_client.specs.declared.error.Error.TheVariants.{DeserializeError, OutOfMemory};
 
-use crate::answered::{Answered, answer_to};
+use crate::call_request::CallRequest;
 use crate::error::Error;
-use crate::message::read_message;
+use crate::message::{MessageStop, read_message};
 use crate::transfer::write_all;
-use kmip_enums::Operation;
 use kmip_link::{Link, LinkError};
-use kmip_request::{Authentication, RequestPayload, write_request_into};
-use kmip_wire::{Buffer, Config, Text, WireError};
+use kmip_request::Authentication;
+use kmip_wire::{Buffer, Config, HeadError, Text, WireError};
 use std::alloc::Global;
 
 /// Writes the one canonical message of a request, in place of what was in the buffer.
-pub fn serialize(
+pub fn serialize<R: CallRequest>(
     alloc: Global,
-    payload: &RequestPayload,
+    request: &R,
     authentication: &Option<Authentication>,
     out: &mut Buffer,
 ) -> Result<(), Error>
-    ensures ok { OnOk result (request_bytes payload.now
-        (option_map credential_of authentication.now) ≡
-        Some out.new.bytes) }
+    ensures ok { OnOk result (R.kind.bytes_of (R.request request.now)
+        (option_map credential_of authentication.now) ≡ Some out.new.bytes) }
     ensures err { IfErr result (λ e. ((e ≡ SerializeError (codes "request has no wire form")) ×
-        (request_bytes payload.now (option_map credential_of authentication.now) ≡ None)) ⊎
-        (e ≡ OutOfMemory)) }
+        (R.kind.bytes_of (R.request request.now) (option_map credential_of authentication.now) ≡
+        None)) ⊎ (e ≡ OutOfMemory)) }
 {
-    match write_request_into(payload, authentication, out) {
+    match request.write(alloc, authentication, out) {
         Ok(()) => Ok(()),
         Err(WireError::OutOfMemory) => Err(Error::OutOfMemory),
         Err(_) => Err(Error::SerializeError(Text::of(alloc, "request has no wire form")?)),
@@ -61,41 +60,82 @@ pub fn send<L: Link>(alloc: Global, link: &mut L, request: &[u8]) -> Result<(), 
     }
 }
 
-/// Sends a request and returns what its response says. `taken`, which is empty, gets the bytes that
-/// were read.
-pub fn exchange<L: Link, P: Answered>(
+/// Why a head was refused.
+fn refused<P>(alloc: Global, error: HeadError) -> Result<P, Error>
+    ensures { Gives (Err (DeserializeError (refused_text error))) result }
+{
+    match error {
+        HeadError::NotStructure => {
+            Err(Error::DeserializeError(Text::of(alloc, "not a structure")?))
+        }
+        HeadError::TooLong { size, limit } => {
+            let text = format!(in alloc; "response size {size} exceeds limit {limit}")?;
+            Err(Error::DeserializeError(Text::of_string(text)))
+        }
+    }
+}
+
+/// What is answered after a message was read, or was not. These bytes were taken.
+fn answer<R: CallRequest>(
+    alloc: Global,
+    request: &R,
+    taken: &[u8],
+    read: Result<(), MessageStop>,
+) -> Result<R::Payload, Error>
+    requires { R.IsRead request.now }
+    ensures { Gives (reading_answer (R.kind.reads (R.request request.now)) taken.now read)
+        (seen_by (R.seen request.now) result) }
+{
+    match read {
+        Ok(()) => request.read(alloc, taken),
+        Err(MessageStop::Ended) => {
+            Err(Error::ResponseReadError(Text::of(alloc, "end of input")?))
+        }
+        Err(MessageStop::Refused(error)) => refused(alloc, error),
+        Err(MessageStop::Fault) => {
+            Err(Error::ResponseReadError(Text::of(alloc, "link failed")?))
+        }
+        Err(MessageStop::OutOfMemory) => Err(Error::OutOfMemory),
+    }
+}
+
+/// Sends the bytes of a request and returns what its response says. `taken`, which is empty, gets
+/// the bytes that were read.
+pub fn exchange<L: Link, R: CallRequest>(
     alloc: Global,
     link: &mut L,
     config: &Config,
-    operation: Operation,
-    request: &[u8],
+    request: &R,
+    bytes: &[u8],
     taken: &mut Vec<u8>,
-) -> Result<P, Error>
-    requires answers { P.Answers operation }
+) -> Result<R::Payload, Error>
+    requires readable { R.IsRead request.now }
     requires empty { taken.old.items ≡ [] }
     ensures keeps { Keeps (L.state link.old) (L.state link.new) }
     ensures exchange { IsTrue (L.state link.old).tells →
-        Exchanged (outcome_of (Some request.now) operation config.now.max_bytes
-        (left_for (L.state link.old) (L.state link.new))) (L.state link.old) (L.state link.new)
-        (seen_by (P.val operation) result) }
-    ensures caused { Caused (Some request.now) (read_answer operation) config.now.max_bytes
-        (L.state link.old).faults (L.state link.new).faults (seen_by (P.val operation) result) }
+        Exchanged (outcome_by (Some bytes.now) (R.kind.reads (R.request request.now))
+        config.now.max_bytes (left_for (L.state link.old) (L.state link.new))) (L.state link.old)
+        (L.state link.new) (seen_by (R.seen request.now) result) }
+    ensures caused { Caused (Some bytes.now) (R.kind.reads (R.request request.now))
+        config.now.max_bytes (L.state link.old).faults (L.state link.new).faults
+        (seen_by (R.seen request.now) result) }
     ensures reading { IsTrue (L.state link.old).tells →
-        seen_by (P.val operation) result ≡ reading_failed →
-        FailsReading L.state (Some request.now)
-        (outcome_of (Some request.now) operation config.now.max_bytes
+        seen_by (R.seen request.now) result ≡ reading_failed →
+        FailsReading L.state (Some bytes.now)
+        (outcome_by (Some bytes.now) (R.kind.reads (R.request request.now)) config.now.max_bytes
         (left_for (L.state link.old) (L.state link.new))).taken
         link.old link.new }
-    ensures bytes { IsTrue (L.state link.old).tells →
-        lacks_memory (seen_by (P.val operation) result) ≡ false →
+    ensures taken { IsTrue (L.state link.old).tells →
+        lacks_memory (seen_by (R.seen request.now) result) ≡ false →
         taken.new.items ≡
         take ((L.state link.new).pos - (L.state link.old).pos)
         (left_for (L.state link.old) (L.state link.new)) }
 {
-    match send(alloc, link, request) {
+    match send(alloc, link, bytes) {
         Ok(()) => {}
         Err(error) => return Err(error),
     }
     let read = read_message(link, config, taken);
-    answer_to(alloc, operation, taken, read)
+    R::readings_hold();
+    answer(alloc, request, taken, read)
 }

@@ -14,13 +14,14 @@
 //! Nine helpers make the calls of a signing service; [`Client::do_request`] makes any of the
 //! seventeen operations: it writes one request message, reads one response and returns its payload
 //! or a named [`Error`]. Its contract says what was sent and read after each outcome, and the cause
-//! of each error. [`exchange_all`] makes several calls in order.
+//! of each error. [`Client::do_operation`] makes any operation of a payload tree, with the same
+//! contract. [`exchange_all`] makes several calls in order.
 #![tactic(auto)]
 
-mod answer;
 mod answered;
 mod builder;
 mod call;
+mod call_request;
 mod check;
 mod client;
 mod error;
@@ -28,9 +29,11 @@ mod exchange;
 mod helpers;
 mod laws;
 mod message;
+mod operation;
 mod room;
 mod session;
 mod transfer;
+mod untyped;
 
 pub use builder::ClientBuilder;
 pub use client::Client;
@@ -38,4 +41,5 @@ pub use error::{Error, Result};
 pub use kmip_request as request;
 pub use kmip_response as response;
 pub use laws::{diagnostics_of_sessions, messages_are_answered_in_order};
+pub use operation::Version;
 pub use session::{Answers, Exchange, exchange_all};

@@ -2,10 +2,10 @@
 ghost use Rattle.std.specs.Prelude.{◌≡◌, map, IfOk, IfErr, OnErr};
 ghost use Rattle.kmip_link.specs.State.{Keeps};
 ghost use Rattle.kmip_response.specs.Values.{response_payload_val};
-ghost use Rattle.kmip_client.specs.Session.{IsSession, exchange_told, CutOff};
+ghost use Rattle.kmip_client.specs.Session.{IsSession, exchange_report, CutOff};
 ghost use Rattle.kmip_client.specs.declared.error.Error.TheVariants.{OutOfMemory as no_memory};
 
-use crate::answered::AnsweredByAny;
+use crate::answered::AnyPayload;
 use crate::client::{Client, lacks_memory, loses_connection};
 use crate::error::{Error, Result};
 use kmip_link::Link;
@@ -19,9 +19,9 @@ use std::alloc::Global;
 pub struct Exchange<P = ResponsePayload> {
     /// What its call answered.
     pub answer: Result<P>,
-    /// The diagnostic of the request, as `last_req_diag_str` told it after the call.
+    /// The diagnostic of the request, as `last_req_diag_str` had it after the call.
     pub req_diag: Option<Text>,
-    /// The diagnostic of the response, as `last_res_diag_str` told it after the call.
+    /// The diagnostic of the response, as `last_res_diag_str` had it after the call.
     pub res_diag: Option<Text>,
 }
 
@@ -45,7 +45,7 @@ pub fn exchange_all<T: Link>(
     payloads: List<RequestPayload>,
 ) -> Result<Answers>
     ensures session { IfOk result (λ answers. IsSession T.state payloads client.old client.new
-        (map (exchange_told response_payload_val) answers)) }
+        (map (exchange_report response_payload_val) answers)) }
     ensures cut { OnErr result (CutOff T.state payloads client.old client.new) }
     ensures keeps { Keeps (T.state client.old.link) (T.state client.new.link) }
     ensures settings { (client.new.credential ≡ client.old.credential) ×
@@ -57,13 +57,13 @@ pub fn exchange_all<T: Link>(
 }
 
 /// The same, over any payload that each call answers, so that its proof sees no variant.
-fn exchanges<T: Link, P: AnsweredByAny>(
+fn exchanges<T: Link, P: AnyPayload>(
     alloc: Global,
     client: &mut Client<T>,
     payloads: Vec<RequestPayload>,
 ) -> Result<List<Exchange<P>>>
     ensures session { IfOk result (λ answers. IsSession T.state payloads.items client.old client.new
-        (map (exchange_told P.whole) answers)) }
+        (map (exchange_report P.whole) answers)) }
     ensures cut { OnErr result (CutOff T.state payloads.items client.old client.new) }
     ensures keeps { Keeps (T.state client.old.link) (T.state client.new.link) }
     ensures settings { (client.new.credential ≡ client.old.credential) ×
@@ -71,7 +71,7 @@ fn exchanges<T: Link, P: AnsweredByAny>(
         (client.new.buffered ≡ client.old.buffered) }
     ensures memory { IfErr result (λ e. e ≡ no_memory) }
 {
-    P::answers_any();
+    P::whole_holds();
     let mut exchanges = List::new(alloc);
     for payload in payloads {
         let answer = client.request(alloc, &payload);

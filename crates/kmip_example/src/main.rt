@@ -5,47 +5,14 @@
 //! else 0, also where the server does not sign.
 #![tactic(auto)]
 
-use kmip_client::{Client, ClientBuilder, Error};
-use kmip_enums::Operation;
+mod signing;
+
+use kmip_client::{ClientBuilder, Error};
 use kmip_link::{Link, StreamLink};
-use kmip_wire::{Blob, Config, Text};
+use kmip_wire::Config;
+use signing::sign_with_new_key;
 use std::alloc::Global;
 use std::process::ExitCode;
-
-/// A new key pair, and what its private key signed.
-#[derive(Drop)]
-struct Signed {
-    private_key: Text,
-    public_key: Text,
-    signature: Blob,
-}
-
-/// Signs the message with a key that is made for it; `None` where the server does not sign.
-fn sign_with_new_key<T: Link>(
-    alloc: Global,
-    client: &mut Client<T>,
-    message: &[u8],
-) -> Result<Option<Signed>, Error> {
-    let server = client.query(alloc)?;
-    let signs = match &server.operations {
-        Some(operations) => operations.as_slice().contains(&Operation::Sign),
-        None => false,
-    };
-    if !signs {
-        return Ok(None);
-    }
-    let private_name = Text::of(alloc, "issuing")?;
-    let public_name = Text::of(alloc, "issuing-public")?;
-    let pair = client.create_rsa_key_pair(alloc, 2048, private_name, public_name)?;
-    let (private_key, public_key) = pair;
-    client.activate_key(alloc, private_key.as_str())?;
-    let signed = client.sign(alloc, private_key.as_str(), message)?;
-    Ok(Some(Signed {
-        private_key,
-        public_key,
-        signature: signed.signature_data,
-    }))
-}
 
 /// What to do about an error.
 fn advice(error: &Error) -> &'static str {

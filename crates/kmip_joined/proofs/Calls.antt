@@ -12,19 +12,19 @@ use Rattle.kmip_store.specs.declared.call.Call.TheVariants.{Query, CreateRsaKeyP
 use Rattle.kmip_store.specs.declared.maker.Asked.{Asked}
 use Rattle.kmip_store.specs.declared.maker.Made.{Made}
 use Rattle.kmip_store.proofs.Plains.{as_many}
-use Rattle.kmip_server_core.specs.Answering.{list_of_option}
+use Rattle.std.specs.Option.{option_to_list}
 use Rattle.kmip_server_core.specs.Requests.{request_of, call_operation}
 use Rattle.kmip_server_core.specs.Served.{served, asks}
-use Rattle.kmip_server.specs.Calls.{call_told, settings_of, before_all, expected_of, finish_of}
-use Rattle.kmip_server.specs.Came.{standing}
-use Rattle.kmip_server.specs.Joined.{Settings, Between, Expected, AsTold, Unsent, CallTold, Next, turn_with, turn_call_told, answered_with, sent_with, next, expected_calls, finish, has_unsent, Meet}
-use Rattle.kmip_server.specs.Link.{ServerLinkState, IsOpen, IsKnown}
+use Rattle.kmip_server.specs.Calls.{report_of, call_settings, before_all}
+use Rattle.kmip_server.specs.OneCall.{standing}
+use Rattle.kmip_server.specs.Joined.{CallSettings, Between, Expected, Reported, Unsent, JoinedReport, Next, turn_with, joined_report, answered_with, sent_with, next, expected_calls, finish, has_unsent, ReportsMatch}
+use Rattle.kmip_server.specs.Link.{ServerLinkState, IsOpen}
 use Rattle.kmip_server.specs.Machine.{first_for}
 use Rattle.kmip_server.specs.declared.answers.CallAnswer.{CallAnswer}
 use Rattle.kmip_words.specs.Exchange.{Settings as LineSettings, Asked as LineAsked, Step, step_of, request_asked, asked_of, value_in_style, or_empty}
 use Rattle.kmip_joined.specs.Lines.{line_call}
 use Rattle.kmip_joined.specs.World.{World, Joined, next_made, after_request, after_sending, joined_step, world_of}
-use Rattle.kmip_joined.specs.Told.{IsJoined, IsPlain, IsMade, IsMadeSo, IsSuited, Tells, makes_pair, is_pair}
+use Rattle.kmip_joined.specs.Told.{IsJoined, HasPlainAnswers, IsMade, IsMadeSo, IsSuited, ReportsStep, makes_pair, is_pair}
 use Rattle.kmip_joined.proofs.Own.{append_none, first_is}
 use Rattle.kmip_joined.proofs.Plain.{world_same, world_at, Stands, stands}
 use Rattle.kmip_joined.proofs.Told.{told_as}
@@ -34,34 +34,34 @@ use Rattle.kmip_joined.proofs.Told.{told_as}
 -- what the maker is asked for a request
 abbrev pub extra_of : Between → Option (List ℕ) → List Asked
 extra_of now None = []
-extra_of now (Some request) = list_of_option (asks now.objects request)
+extra_of now (Some request) = option_to_list (asks now.objects request)
 
-asked_with : (settings : Settings) (call : Call) (now after : Between) (request : List ℕ) (response : Option (List ℕ)) → (answered_with settings call now after request response).after.asked ≡ after.asked
+asked_with : (settings : CallSettings) (call : Call) (now after : Between) (request : List ℕ) (response : Option (List ℕ)) → (answered_with settings call now after request response).after.asked ≡ after.asked
 asked_with settings call now after request None = refl
 asked_with settings call now after request (Some response) = refl
 
-after_asked : (settings : Settings) (call : Call) (now : Between) (request : Option (List ℕ)) → (sent_with settings call now request).after.asked ≡ now.asked ++ extra_of now request
+after_asked : (settings : CallSettings) (call : Call) (now : Between) (request : Option (List ℕ)) → (sent_with settings call now request).after.asked ≡ now.asked ++ extra_of now request
 after_asked settings call now None = sym (append_none now.asked)
 after_asked settings call now (Some request) = asked_with settings call now _ request _
 
-told_same : (a b : CallTold) → AsTold a ≡ AsTold b → b ≡ a
+told_same : (a b : JoinedReport) → Reported a ≡ Reported b → b ≡ a
 told_same a b e = cc
 
 -- a response was made
-record Formed (settings : Settings) (call : Call) (now after : Between) (request : List ℕ) (response : Option (List ℕ)) (x : CallTold) : Type 0 where
-  told : x ≡ turn_call_told settings call (turn_with settings call (Some request) (after.rest ++ or_empty response))
+record Formed (settings : CallSettings) (call : Call) (now after : Between) (request : List ℕ) (response : Option (List ℕ)) (x : JoinedReport) : Type 0 where
+  told : x ≡ joined_report settings call (turn_with settings call (Some request) (after.rest ++ or_empty response))
   objects : (answered_with settings call now after request response).after.objects ≡ after.objects
   rest : (answered_with settings call now after request response).after.rest
       ≡ drop (outcome_of (Some request) (call_operation call) settings.limit (after.rest ++ or_empty response)).taken (after.rest ++ or_empty response)
 
-formed : (settings : Settings) (call : Call) (now after : Between) (request : List ℕ) (response : Option (List ℕ)) (x : CallTold) → (answered_with settings call now after request response).expected ≡ AsTold x →
+formed : (settings : CallSettings) (call : Call) (now after : Between) (request : List ℕ) (response : Option (List ℕ)) (x : JoinedReport) → (answered_with settings call now after request response).expected ≡ Reported x →
     Formed settings call now after request response x
 formed settings call now after request None x is = absurd (cc)
 formed settings call now after request (Some response) x is = record { told = told_same _ _ is; objects = refl; rest = refl }
 
 -- what the program's definitions say of a call that is told so
-record Comes (settings : Settings) (call : Call) (now : Between) (request : Option (List ℕ)) (after : World) (x : CallTold) : Type 0 where
-  told : x ≡ turn_call_told settings call (turn_with settings call request after.rest)
+record Comes (settings : CallSettings) (call : Call) (now : Between) (request : Option (List ℕ)) (after : World) (x : JoinedReport) : Type 0 where
+  told : x ≡ joined_report settings call (turn_with settings call request after.rest)
   objects : (sent_with settings call now request).after.objects ≡ after.objects
   rest : (sent_with settings call now request).after.rest ≡ drop (outcome_of request (call_operation call) settings.limit after.rest).taken after.rest
   answers : length (sent_with settings call now request).after.asked ≡ after.answers
@@ -70,12 +70,12 @@ record Comes (settings : Settings) (call : Call) (now : Between) (request : Opti
 abbrev IsNext : Between → Option (List ℕ) → Type 0
 IsNext now request = now.given ≡ plain_answers (length now.asked) (extra_of now request)
 
-comes : (settings : Settings) (call : Call) (now : Between) (request : Option (List ℕ)) (x : CallTold) → settings.time ≡ pos 0 → IsNext now request → (sent_with settings call now request).expected ≡ AsTold x →
+comes : (settings : CallSettings) (call : Call) (now : Between) (request : Option (List ℕ)) (x : JoinedReport) → settings.time ≡ pos 0 → IsNext now request → (sent_with settings call now request).expected ≡ Reported x →
     Comes settings call now request (after_sending (world_at now) request) x
 comes settings call now None x time made is = record { told = told_same _ _ is; objects = refl; rest = refl; answers = refl }
 comes settings call now (Some request) x time made is =
     let q : Option Asked = asks now.objects request in
-    let first : first_for q now.given ≡ next_made (world_at now) q = first_is q (length now.asked) now.given [] (made ∙ ap (λ (l : List Asked). plain_answers (length now.asked) l) (sym (append_none (list_of_option q)))) in
+    let first : first_for q now.given ≡ next_made (world_at now) q = first_is q (length now.asked) now.given [] (made ∙ ap (λ (l : List Asked). plain_answers (length now.asked) l) (sym (append_none (option_to_list q)))) in
     let same : served now.objects request (first_for q now.given) settings.time ≡ served now.objects request (next_made (world_at now) q) (pos 0) =
     ap (λ (m : Option Made). served now.objects request m settings.time) first ∙ ap (λ (t : ℤ). served now.objects request (next_made (world_at now) q) t) time in
     let bytes : response_bytes (served now.objects request (first_for q now.given) settings.time).message ≡ response_bytes (served now.objects request (next_made (world_at now) q) (pos 0)).message =
@@ -84,15 +84,15 @@ comes settings call now (Some request) x time made is =
     let rest : now.rest ++ or_empty (response_bytes (served now.objects request (first_for q now.given) settings.time).message) ≡ (after_request (world_at now) request).rest =
     ap (λ (b : Option (List ℕ)). now.rest ++ or_empty b) bytes in
     record {
-      told = f.told ∙ ap (λ (l : List ℕ). turn_call_told settings call (turn_with settings call (Some request) l)) rest;
+      told = f.told ∙ ap (λ (l : List ℕ). joined_report settings call (turn_with settings call (Some request) l)) rest;
       objects = f.objects ∙ ap (λ s. s.objects) same;
       rest = f.rest ∙ ap (λ (l : List ℕ). drop (outcome_of (Some request) (call_operation call) settings.limit l).taken l) rest;
-      answers = ap length (after_asked settings call now (Some request)) ∙ length-append now.asked (list_of_option q);
+      answers = ap length (after_asked settings call now (Some request)) ∙ length-append now.asked (option_to_list q);
     }
 
 -- ---- one call of a list
 
-next_is : (settings : Settings) (now : Between) (call : Call) → next settings now call ≡ sent_with settings call now (request_bytes (request_of call) settings.credential)
+next_is : (settings : CallSettings) (now : Between) (call : Call) → next settings now call ≡ sent_with settings call now (request_bytes (request_of call) settings.credential)
 unfolding next
 next_is settings now call = refl
 
@@ -107,11 +107,11 @@ cond_same : (b : Bool) (x : Between) → cond b x x ≡ x
 cond_same true x = refl
 cond_same false x = refl
 
-expected_one : (settings : Settings) (now : Between) (call : Call) → expected_calls settings now (call ∷ []) ≡ (next settings now call).expected ∷ []
+expected_one : (settings : CallSettings) (now : Between) (call : Call) → expected_calls settings now (call ∷ []) ≡ (next settings now call).expected ∷ []
 unfolding expected_calls
 expected_one settings now call = ap (λ (l : List Expected). (next settings now call).expected ∷ l) (cond_none (next settings now call).stops)
 
-finish_one : (settings : Settings) (now : Between) (call : Call) → finish settings now (call ∷ []) ≡ (next settings now call).after
+finish_one : (settings : CallSettings) (now : Between) (call : Call) → finish settings now (call ∷ []) ≡ (next settings now call).after
 unfolding finish
 finish_one settings now call = cond_same (next settings now call).stops (next settings now call).after
 
@@ -119,12 +119,12 @@ finish_one settings now call = cond_same (next settings now call).stops (next se
 pub record Only (e : Expected) (xs : List CallAnswer) : Type 0 where
   pub x : CallAnswer
   pub is : xs ≡ x ∷ []
-  pub told : e ≡ AsTold (call_told x)
+  pub told : e ≡ Reported (report_of x)
 
-only : (settings : Settings) (e : Expected) (xs : List CallAnswer) → Meet settings (e ∷ []) (map call_told xs) → (has_unsent (e ∷ []) ≡ true → ⊥) → Only e xs
-only settings (AsTold told) [] meet sound = absurd meet
-only settings (AsTold told) (x ∷ []) meet sound = record { x = x; is = refl; told = ap AsTold (sym meet.0) }
-only settings (AsTold told) (x ∷ y ∷ xs) meet sound = absurd meet.1
+only : (settings : CallSettings) (e : Expected) (xs : List CallAnswer) → ReportsMatch settings (e ∷ []) (map report_of xs) → (has_unsent (e ∷ []) ≡ true → ⊥) → Only e xs
+only settings (Reported told) [] meet sound = absurd meet
+only settings (Reported told) (x ∷ []) meet sound = record { x = x; is = refl; told = ap Reported (sym meet.0) }
+only settings (Reported told) (x ∷ y ∷ xs) meet sound = absurd meet.1
 only settings (Unsent request) xs meet sound = absurd (sound refl)
 
 -- ---- the program's step
@@ -140,7 +140,7 @@ asked_line (DestroyKey id) credential = refl
 asked_line (RenameKey id name) credential = refl
 asked_line (GetKey id) credential = refl
 
-abbrev line_settings : Settings → LineSettings
+abbrev line_settings : CallSettings → LineSettings
 line_settings settings = record { credential = settings.credential; limit = settings.limit; buffered = settings.buffered }
 
 -- the step of what is asked
@@ -158,18 +158,18 @@ step_is settings call world = ap (λ (it : LineAsked). step_for settings call wo
 
 pub record MadeSo (settings : LineSettings) (call : Call) (before after : ServerLinkState PlainMemory) (x : CallAnswer) : Type 0 where
   pub world : world_of after ≡ (joined_step settings (line_call call) (world_of before)).after
-  pub told : Tells (joined_step settings (line_call call) (world_of before)).step settings.buffered x
+  pub told : ReportsStep (joined_step settings (line_call call) (world_of before)).step settings.buffered x
 
 -- what is known of a call before and after it, with what stood before it by the maker's answers in the end
-pub record Known (settings : Settings) (call : Call) (before after : ServerLinkState PlainMemory) (now : Between) (x : CallAnswer) : Type 0 where
+pub record Known (settings : CallSettings) (call : Call) (before after : ServerLinkState PlainMemory) (now : Between) (x : CallAnswer) : Type 0 where
   pub time : settings.time ≡ pos 0
-  pub plain_after : IsPlain after
+  pub plain_after : HasPlainAnswers after
   pub stood : (extra : List Asked) → after.server.maker.asked ≡ now.asked ++ extra → Stands before now extra
   pub ends : standing plain_state after ≡ (next settings now call).after
-  pub told : (next settings now call).expected ≡ AsTold (call_told x)
+  pub told : (next settings now call).expected ≡ Reported (report_of x)
   pub pair : makes_pair call ≡ true → IfOk x.answer (λ a. is_pair a ≡ true)
 
-made_known : (settings : Settings) (call : Call) (before after : ServerLinkState PlainMemory) (now : Between) (x : CallAnswer) → Known settings call before after now x → MadeSo (line_settings settings) call before after x
+made_known : (settings : CallSettings) (call : Call) (before after : ServerLinkState PlainMemory) (now : Between) (x : CallAnswer) → Known settings call before after now x → MadeSo (line_settings settings) call before after x
 made_known settings call before after now x known =
     let request : Option (List ℕ) = request_bytes (request_of call) settings.credential in
     let n : Next = sent_with settings call now request in
@@ -177,7 +177,7 @@ made_known settings call before after now x known =
     let ends : standing plain_state after ≡ n.after = known.ends ∙ ap (λ (it : Next). it.after) e in
     let asked : after.server.maker.asked ≡ now.asked ++ extra_of now request = ap (λ (b : Between). b.asked) ends ∙ after_asked settings call now request in
     let stood : Stands before now (extra_of now request) = known.stood (extra_of now request) asked in
-    let it = comes settings call now request (call_told x) known.time stood.given (sym (ap (λ (it : Next). it.expected) e) ∙ known.told) in
+    let it = comes settings call now request (report_of x) known.time stood.given (sym (ap (λ (it : Next). it.expected) e) ∙ known.told) in
     let step : joined_step (line_settings settings) (line_call call) (world_of before) ≡ step_for (line_settings settings) call (world_at now) (asked_of (request_of call) settings.credential) =
     step_is (line_settings settings) call (world_of before)
     ∙ ap (λ (w : World). step_for (line_settings settings) call w (asked_of (request_of call) settings.credential)) stood.world in
@@ -186,7 +186,7 @@ made_known settings call before after now x known =
           (ap length known.plain_after ∙ as_many 0 after.server.maker.asked ∙ ap (λ (b : Between). length b.asked) ends ∙ it.answers)
           (ap (λ (b : Between). b.rest) ends ∙ it.rest)
           ∙ ap (λ (j : Joined). j.after) (sym step);
-      told = subst (λ (j : Joined). Tells j.step settings.buffered x) (sym step) (told_as settings call request (after_sending (world_at now) request).rest x it.told known.pair);
+      told = subst (λ (j : Joined). ReportsStep j.step settings.buffered x) (sym step) (told_as settings call request (after_sending (world_at now) request).rest x it.told known.pair);
     }
 
 -- the first answer of a list of one
@@ -196,51 +196,28 @@ popped rest x y e = cc
 abbrev Clients : Type 0
 Clients = ClientState (ServerLinkState PlainMemory)
 
--- what a call's contract says, and two looks that leave the client as it is
-pub made_of : (old looked called new : Clients) (call : Call) (xs : List CallAnswer) → IsOpen plain_state old.link → looked ≡ old → new ≡ called → IsKnown plain_state old.link → IsPlain old.link → IsPlain called.link →
-    called.link.faults ≡ 0 → settings_of called ≡ settings_of looked →
-    (IsOpen plain_state looked.link → Meet (settings_of looked) (expected_of plain_state looked called.link (call ∷ [])) (map call_told xs)) →
-    (IsOpen plain_state looked.link → standing plain_state called.link ≡ finish_of plain_state looked called.link (call ∷ [])) →
-    (IsOpen plain_state looked.link → has_unsent (expected_of plain_state looked called.link (call ∷ [])) ≡ true → 0 < called.link.faults) →
-    (IsOpen plain_state looked.link → has_unsent (expected_of plain_state looked called.link (call ∷ [])) ≡ false → IsOpen plain_state called.link) →
-    IsMade old new call xs
-made_of old looked called new call xs is_open stays stays_too known plain plain_after sound same meet ends faulted opened =
-    let open_too : IsOpen plain_state looked.link = subst (λ (c : Clients). IsOpen plain_state c.link) (sym stays) is_open in
-    let made : IsMade looked called call xs = record {
-      known = subst (λ (c : Clients). IsKnown plain_state c.link) (sym stays) known;
-      plain = subst (λ (c : Clients). IsPlain c.link) (sym stays) plain;
-      plain_after = plain_after;
-      sound = sound;
-      settings = same;
-      meet = meet open_too;
-      ends = ends open_too;
-      faulted = faulted open_too;
-      opened = opened open_too;
-    } in
-    subst (λ (c : Clients). IsMade old c call xs) (sym stays_too) (subst (λ (c : Clients). IsMade c called call xs) stays made)
-
-one_of : (old new : Clients) (call : Call) (xs : List CallAnswer) → IsMade old new call xs →
-    Only (next (settings_of old) (before_all plain_state old new.link) call).expected xs
-one_of old new call xs said =
-    let s : Settings = settings_of old in
+one_of : (old new : Clients) (call : Call) (xs : List CallAnswer) → IsOpen plain_state old.link → IsMade old new call xs →
+    Only (next (call_settings old) (before_all plain_state old new.link) call).expected xs
+one_of old new call xs opened said =
+    let s : CallSettings = call_settings old in
     let now : Between = before_all plain_state old new.link in
     let one : expected_calls s now (call ∷ []) ≡ (next s now call).expected ∷ [] = expected_one s now call in
-    only s (next s now call).expected xs (subst (λ (es : List Expected). Meet s es (map call_told xs)) one said.meet)
-    (λ cut. let above : 0 < new.link.faults = said.faulted (ap has_unsent one ∙ cut) in let sound : new.link.faults ≡ 0 = said.sound in omega (arith, above, sound))
+    only s (next s now call).expected xs (subst (λ (es : List Expected). ReportsMatch s es (map report_of xs)) one (said.session.joined opened))
+    (λ cut. let above : 0 < new.link.faults = said.session.faulted opened (ap has_unsent one ∙ cut) in let sound : new.link.faults ≡ 0 = said.sound in omega (arith, above, sound))
 
 came_so : (old new : Clients) (call : Call) (xs rest : List CallAnswer) (x : CallAnswer) → IsJoined old.link → IsMade old new call xs → xs ≡ x ∷ rest → (makes_pair call ≡ true → IfOk x.answer (λ a. is_pair a ≡ true)) →
-    MadeSo (line_settings (settings_of old)) call old.link new.link x
+    MadeSo (line_settings (call_settings old)) call old.link new.link x
 came_so old new call xs rest x joined said last pair =
-    let s : Settings = settings_of old in
+    let s : CallSettings = call_settings old in
     let now : Between = before_all plain_state old new.link in
-    let it = one_of old new call xs said in
+    let it = one_of old new call xs joined.is_open said in
     let same : it.x ≡ x = popped rest x it.x (sym it.is ∙ last) in
     made_known s call old.link new.link now x (record {
       time = joined.time;
       plain_after = said.plain_after;
       stood = λ extra asked. stands old.link new.link.server.maker.given new.link.server.maker.asked extra joined.is_open said.known said.plain said.plain_after asked;
-      ends = said.ends ∙ finish_one s now call;
-      told = it.told ∙ ap (λ (a : CallAnswer). AsTold (call_told a)) same;
+      ends = said.session.finished joined.is_open ∙ finish_one s now call;
+      told = it.told ∙ ap (λ (a : CallAnswer). Reported (report_of a)) same;
       pair = pair;
     })
 
@@ -252,11 +229,11 @@ not_true false not = refl
 
 pub still_joined : (old new : Clients) (call : Call) (xs : List CallAnswer) → IsJoined old.link → IsMade old new call xs → IsJoined new.link
 still_joined old new call xs joined made = record {
-  is_open = made.opened (not_true _ (λ cut. let above : 0 < new.link.faults = made.faulted cut in let sound : new.link.faults ≡ 0 = made.sound in omega (arith, above, sound)));
-  time = ap (λ (s : Settings). s.time) made.settings ∙ joined.time;
+  is_open = made.session.opened joined.is_open (not_true _ (λ cut. let above : 0 < new.link.faults = made.session.faulted joined.is_open cut in let sound : new.link.faults ≡ 0 = made.sound in omega (arith, above, sound)));
+  time = ap (λ (s : CallSettings). s.time) made.settings ∙ joined.time;
 }
 
-pub same_settings : (old new : Clients) (call : Call) (xs : List CallAnswer) → IsMade old new call xs → line_settings (settings_of new) ≡ line_settings (settings_of old)
+pub same_settings : (old new : Clients) (call : Call) (xs : List CallAnswer) → IsMade old new call xs → line_settings (call_settings new) ≡ line_settings (call_settings old)
 same_settings old new call xs made = ap line_settings made.settings
 
 -- ---- so a call was made

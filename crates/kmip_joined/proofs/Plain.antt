@@ -9,15 +9,15 @@ use Rattle.kmip_store.specs.declared.object.Object.{Object}
 use Rattle.kmip_store.proofs.Plains.{as_many}
 use Rattle.kmip_server.specs.Split.{messages_in}
 use Rattle.kmip_server.specs.Machine.{Run, fresh, run_of}
-use Rattle.kmip_server.specs.Link.{ServerLinkState, server_link_state, IsOpen, IsKnown}
+use Rattle.kmip_server.specs.Link.{ServerLinkState, server_link_state, IsOpen, LinkFacts}
 use Rattle.kmip_server.specs.Joined.{Between}
-use Rattle.kmip_server.specs.Came.{between}
+use Rattle.kmip_server.specs.OneCall.{between}
 use Rattle.kmip_joined.specs.World.{World, world_of}
-use Rattle.kmip_joined.specs.Told.{IsPlain}
+use Rattle.kmip_joined.specs.Told.{HasPlainAnswers}
 use Rattle.kmip_joined.proofs.Own.{Own, owned, own_of, own_serve, asked_by, asked_is, append_none, runs_own, IsOwn}
 
 -- what the server did so far, by the messages alone
-before_own : (link : ServerLinkState PlainMemory) → IsOpen plain_state link → IsKnown plain_state link → IsPlain link →
+before_own : (link : ServerLinkState PlainMemory) → IsOpen plain_state link → LinkFacts plain_state link → HasPlainAnswers link →
     owned link.server.objects link.server.maker.asked ≡ fold (own_serve link.server.time) (owned [] []) (messages_in link.sent).whole
 unfolding run_of
 before_own link opened known plain =
@@ -55,7 +55,7 @@ pub record Stands (link : ServerLinkState PlainMemory) (now : Between) (extra : 
   pub world : world_of link ≡ world_at now
   pub given : now.given ≡ plain_answers (length now.asked) extra
 
-pub stands : (link : ServerLinkState PlainMemory) (given : List Made) (asked extra : List Asked) → IsOpen plain_state link → IsKnown plain_state link → IsPlain link →
+pub stands : (link : ServerLinkState PlainMemory) (given : List Made) (asked extra : List Asked) → IsOpen plain_state link → LinkFacts plain_state link → HasPlainAnswers link →
     given ≡ plain_answers 0 asked → asked ≡ (between link.server.time given (server_link_state plain_state link)).asked ++ extra →
     Stands link (between link.server.time given (server_link_state plain_state link)) extra
 stands link given asked extra opened known plain plain_after is =

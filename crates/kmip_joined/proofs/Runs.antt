@@ -9,7 +9,7 @@ use Rattle.kmip_wire.specs.declared.memory.OutOfMemory.{OutOfMemory}
 use Rattle.kmip_words.specs.Exchange.{settings_of, Step}
 use Rattle.kmip_joined.specs.Lines.{line_call}
 use Rattle.kmip_joined.specs.World.{joined_step, world_of}
-use Rattle.kmip_joined.specs.Told.{IsJoined, IsMade, IsMadeSo, IsShown, IsSuited, Runs, Tells, makes_pair}
+use Rattle.kmip_joined.specs.Told.{IsJoined, IsMade, IsMadeSo, IsShown, IsSuited, Runs, ReportsStep, makes_pair}
 use Rattle.kmip_joined.proofs.Calls.{made_so}
 
 abbrev Clients : Type 0
@@ -21,7 +21,7 @@ ran_so : (before after : Clients) (call : Call) (xs : List CallAnswer) (told : C
 ran_so before after call xs told pair diag failed old new joined kept is made suited shown =
     let m : IsMadeSo before after call told = made_so before after call xs told pair joined made is suited in
     let s : Step = (joined_step (settings_of before) (line_call call) (world_of before.link)).step in
-    let tells : Tells s diag told = subst (λ (b : Bool). Tells s b told) (sym kept) m.tells in
+    let tells : ReportsStep s diag told = subst (λ (b : Bool). ReportsStep s b told) (sym kept) m.tells in
     record { text = shown.text s tells; failed_is = shown.failed_is ∙ tells.failed; world = m.world }
 
 pub ran_ok : (before after : Clients) (call : Call) (xs : List CallAnswer) (told : CallAnswer) (pair diag : Bool) (result : Result Bool OutOfMemory) (old new : List ℕ) → IsJoined before.link → diag ≡ before.buffered → pair ≡ makes_pair call →

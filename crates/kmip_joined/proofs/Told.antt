@@ -13,13 +13,13 @@ use Rattle.kmip_client.proofs.Headlines.{seen_variant}
 use Rattle.kmip_client.proofs.Said.{OfMessages, message_says}
 use Rattle.kmip_store.specs.declared.call.Call.{Call}
 use Rattle.kmip_server_core.specs.Requests.{call_operation}
-use Rattle.kmip_server.specs.Calls.{call_told}
-use Rattle.kmip_server.specs.Joined.{Settings, turn_with, turn_call_told}
+use Rattle.kmip_server.specs.Calls.{report_of}
+use Rattle.kmip_server.specs.Joined.{CallSettings, turn_with, joined_report}
 use Rattle.kmip_server.specs.declared.answers.CallAnswer.{CallAnswer}
 use Rattle.kmip_words.specs.Exchange.{told_lines, value_in_style, step_of}
 use Rattle.kmip_words.proofs.Diagnostics.{told_of}
 use Rattle.kmip_joined.specs.Lines.{line_call}
-use Rattle.kmip_joined.specs.Told.{Tells, makes_pair, is_pair}
+use Rattle.kmip_joined.specs.Told.{ReportsStep, makes_pair, is_pair}
 use Rattle.kmip_joined.proofs.Shown.{shown_is}
 
 -- no outcome is want of memory
@@ -69,9 +69,9 @@ of_operation (Some bytes) operation limit rest =
     (given refl rest (seen_itself (answer_of operation (message_at rest limit))))
 
 -- so a call that was told as a turn is told as its step says
-pub told_as : (settings : Settings) (call : Call) (request : Option (List ℕ)) (rest : List ℕ) (x : CallAnswer) → call_told x ≡ turn_call_told settings call (turn_with settings call request rest) →
+pub told_as : (settings : CallSettings) (call : Call) (request : Option (List ℕ)) (rest : List ℕ) (x : CallAnswer) → report_of x ≡ joined_report settings call (turn_with settings call request rest) →
     (makes_pair call ≡ true → IfOk x.answer (λ a. is_pair a ≡ true)) →
-    Tells (step_of (λ payload. value_in_style (line_call call) payload Bare) Bare settings.buffered rest (outcome_of request (call_operation call) settings.limit rest)) settings.buffered x
+    ReportsStep (step_of (λ payload. value_in_style (line_call call) payload Bare) Bare settings.buffered rest (outcome_of request (call_operation call) settings.limit rest)) settings.buffered x
 told_as settings call request rest x is pair =
     let o = outcome_of request (call_operation call) settings.limit rest in
     let b : Bool = settings.buffered in

@@ -1,5 +1,5 @@
 -- What a call of a client over a server in memory did.
-use Rattle.std.specs.Prelude.{◌≡◌, ℕ, ◌<◌, pos, List, [], ◌∷◌, ◌++◌, map, Bool, true, false, Option, Result, Ok, Err, IfOk}
+use Rattle.std.specs.Prelude.{◌≡◌, ℕ, pos, List, [], ◌∷◌, ◌++◌, Bool, true, false, Result, Ok, Err, IfOk}
 use Rattle.kmip_shape.specs.Shown.{shown_in_style}
 use Rattle.kmip_shape.specs.declared.style.Style.TheVariants.{Bare}
 use Rattle.kmip_response.specs.Tables.{query_payload, rng_retrieve_payload, sign_payload, attribute_edit_payload, get_payload}
@@ -11,10 +11,9 @@ use Rattle.kmip_store.specs.declared.call.Call.{Call}
 use Rattle.kmip_store.specs.declared.call.Call.TheVariants.{CreateRsaKeyPair}
 use Rattle.kmip_store.specs.Plain.{PlainMemory, plain_state, plain_answers}
 use Rattle.kmip_client.specs.Client.{ClientState}
-use Rattle.kmip_server.specs.Calls.{call_told, settings_of, expected_of, finish_of}
-use Rattle.kmip_server.specs.Came.{standing}
-use Rattle.kmip_server.specs.Joined.{has_unsent, Meet}
-use Rattle.kmip_server.specs.Link.{ServerLinkState, IsKnown, IsOpen}
+use Rattle.kmip_server.specs.Calls.{call_settings}
+use Rattle.kmip_server.specs.Session.{IsCallSession}
+use Rattle.kmip_server.specs.Link.{ServerLinkState, LinkFacts, IsOpen}
 use Rattle.kmip_server.specs.declared.answers.Answered.{Answered}
 use Rattle.kmip_server.specs.declared.answers.Answered.TheVariants as answered
 use Rattle.kmip_server.specs.declared.answers.CallAnswer.{CallAnswer}
@@ -28,17 +27,19 @@ pub record IsJoined (link : ServerLinkState PlainMemory) : Type 0 where
   pub time : link.server.time ≡ pos 0
 
 -- the answers of the maker are those by their numbers
-abbrev pub IsPlain : ServerLinkState PlainMemory → Type 0
-IsPlain link = link.server.maker.given ≡ plain_answers 0 link.server.maker.asked
+abbrev pub HasPlainAnswers : ServerLinkState PlainMemory → Type 0
+HasPlainAnswers link = link.server.maker.given ≡ plain_answers 0 link.server.maker.asked
 
 -- what a helper returned, as it is shown
 abbrev pub answered_shown : Answered → List ℕ
 answered_shown answered.Unit = done_in_style Bare
 answered_shown (answered.Pair first second) = pair_in_style first second Bare
-answered_shown (answered.Query payload) = shown_in_style query_payload (query_payload_val payload) Bare
+answered_shown (answered.Query payload) =
+    shown_in_style query_payload (query_payload_val payload) Bare
 answered_shown (answered.Random payload) =
     shown_in_style rng_retrieve_payload (rng_retrieve_payload_val payload) Bare
-answered_shown (answered.Signed payload) = shown_in_style sign_payload (sign_payload_val payload) Bare
+answered_shown (answered.Signed payload) =
+    shown_in_style sign_payload (sign_payload_val payload) Bare
 answered_shown (answered.Renamed payload) =
     shown_in_style attribute_edit_payload (attribute_edit_payload_val payload) Bare
 answered_shown (answered.Got payload) = shown_in_style get_payload (get_payload_val payload) Bare
@@ -52,30 +53,23 @@ abbrev pub is_pair : Answered → Bool
 is_pair (answered.Pair first second) = true
 is_pair x = false
 
--- What is known of a call that was made, whose answer is the one in the list: the link is not
--- faulted, its maker's answers are those by their numbers, and the call came as the definitions of
--- kmip_server say.
+-- What is known of a call that was made, whose report is the one in the list: the link is not
+-- faulted, its maker's answers are those by their numbers, and the call did what `call_all` says.
 pub record IsMade (before after : ClientState (ServerLinkState PlainMemory)) (call : Call)
     (answers : List CallAnswer) : Type 0 where
-  pub known : IsKnown plain_state before.link
-  pub plain : IsPlain before.link
-  pub plain_after : IsPlain after.link
+  pub known : LinkFacts plain_state before.link
+  pub plain : HasPlainAnswers before.link
+  pub plain_after : HasPlainAnswers after.link
   pub sound : after.link.faults ≡ 0
-  pub settings : settings_of after ≡ settings_of before
-  pub meet : Meet (settings_of before) (expected_of plain_state before after.link (call ∷ []))
-      (map call_told answers)
-  pub ends : standing plain_state after.link ≡ finish_of plain_state before after.link (call ∷ [])
-  pub faulted : has_unsent (expected_of plain_state before after.link (call ∷ [])) ≡ true →
-      0 < after.link.faults
-  pub opened : has_unsent (expected_of plain_state before after.link (call ∷ [])) ≡ false →
-      IsOpen plain_state after.link
+  pub settings : call_settings after ≡ call_settings before
+  pub session : IsCallSession plain_state (call ∷ []) before after answers
 
 -- the report of a call is that of this step
-pub record Tells (s : Step) (buffered : Bool) (told : CallAnswer) : Type 0 where
-  pub sent : told.sent ≡ s.sent
-  pub texts : told_lines buffered told.req_diag told.res_diag ≡ s.told
-  pub shown : answer_line answered_shown Bare told.answer ≡ s.shown
-  pub failed : is_error told.answer ≡ s.failed
+pub record ReportsStep (s : Step) (buffered : Bool) (report : CallAnswer) : Type 0 where
+  pub sent : report.sent ≡ s.sent
+  pub texts : told_lines buffered report.req_diag report.res_diag ≡ s.told
+  pub shown : answer_line answered_shown Bare report.answer ≡ s.shown
+  pub failed : is_error report.answer ≡ s.failed
 
 -- the first of the answers, which is an error or a pair where a pair was asked for
 pub record IsSuited (pair : Bool) (answers : List CallAnswer) (x : CallAnswer) : Type 0 where
@@ -90,13 +84,13 @@ ended_so (Err error) = Err error
 
 -- a call was made on a client, with this report
 pub record IsMadeSo (before after : ClientState (ServerLinkState PlainMemory)) (call : Call)
-    (told : CallAnswer) : Type 0 where
+    (report : CallAnswer) : Type 0 where
   pub settings : line_settings after ≡ line_settings before
   pub joined : IsJoined after.link
   pub world : world_of after.link ≡ (joined_step (line_settings before) (line_call call)
       (world_of before.link)).after
-  pub tells : Tells (joined_step (line_settings before) (line_call call)
-      (world_of before.link)).step before.buffered told
+  pub tells : ReportsStep (joined_step (line_settings before) (line_call call)
+      (world_of before.link)).step before.buffered report
 
 -- what a call did to the client and its server, and to the text
 pub record Runs (it : Joined) (after : World) (failed : Bool) (old new : List ℕ) : Type 0 where
@@ -105,7 +99,7 @@ pub record Runs (it : Joined) (after : World) (failed : Bool) (old new : List �
   pub world : after ≡ it.after
 
 -- the text was added of each step that has this report
-pub record IsShown (buffered : Bool) (told : CallAnswer) (failed : Bool) (old new : List ℕ) : Type
+pub record IsShown (buffered : Bool) (report : CallAnswer) (failed : Bool) (old new : List ℕ) : Type
     0 where
-  pub text : (s : Step) → Tells s buffered told → new ≡ old ++ call_text s
-  pub failed_is : failed ≡ is_error told.answer
+  pub text : (s : Step) → ReportsStep s buffered report → new ≡ old ++ call_text s
+  pub failed_is : failed ≡ is_error report.answer

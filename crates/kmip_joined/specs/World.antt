@@ -8,7 +8,7 @@ use Rattle.kmip_store.specs.Plain.{PlainMemory, plain_answer, plain_state}
 use Rattle.kmip_store.specs.declared.maker.Asked.{Asked}
 use Rattle.kmip_store.specs.declared.maker.Made.{Made}
 use Rattle.kmip_store.specs.declared.object.Object.{Object}
-use Rattle.kmip_server_core.specs.Answering.{list_of_option}
+use Rattle.std.specs.Option.{option_to_list}
 use Rattle.kmip_server_core.specs.Served.{served, asks}
 use Rattle.kmip_server.specs.Link.{ServerLinkState, server_link_state}
 use Rattle.kmip_words.specs.Exchange.{Settings, Step, step, request_asked, or_empty}
@@ -38,7 +38,7 @@ after_request world request =
     let s = served world.objects request (next_made world question) (pos 0) in
     record {
       objects = s.objects;
-      answers = world.answers + length (list_of_option question);
+      answers = world.answers + length (option_to_list question);
       rest = world.rest ++ or_empty (response_bytes s.message);
     }
 

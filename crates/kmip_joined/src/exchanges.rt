@@ -26,17 +26,17 @@ fn lent(text: &Option<Text>) -> Option<&str>
 
 /// Adds what a call sent, its diagnostics where they are kept, and its answer, and returns whether
 /// this is an error.
-fn show_told(
+fn show_report(
     alloc: Global,
     diag: bool,
-    told: &CallAnswer,
+    report: &CallAnswer,
     output: &mut Text,
 ) -> Result<bool, OutOfMemory>
-    ensures { IfOk result (λ failed. IsShown diag told.now failed output.old output.new) }
+    ensures { IfOk result (λ failed. IsShown diag report.now failed output.old output.new) }
 {
-    show_sent(alloc, told.sent.as_slice(), output)?;
-    show_diagnostics(diag, lent(&told.req_diag), lent(&told.res_diag), output)?;
-    let ending = show_answer(alloc, &told.answer, output)?;
+    show_sent(alloc, report.sent.as_slice(), output)?;
+    show_diagnostics(diag, lent(&report.req_diag), lent(&report.res_diag), output)?;
+    let ending = show_answer(alloc, &report.answer, output)?;
     Ok(ending.is_failure())
 }
 
@@ -66,7 +66,7 @@ pub fn exchange(
     let pair = makes_pair(&call);
     let answers = call_one(alloc, client, call)?;
     match suited(pair, &answers) {
-        Some(told) => show_told(alloc, diag, told, output),
+        Some(report) => show_report(alloc, diag, report, output),
         None => Err(OutOfMemory),
     }
 }

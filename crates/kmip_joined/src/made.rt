@@ -1,9 +1,10 @@
 //! A call of a client over a server in memory.
 ghost use Rattle.std.specs.Prelude.{◌≡◌, true, false, IfOk, IfSome};
-ghost use Rattle.kmip_server.specs.Link.{IsKnown};
+ghost use Rattle.kmip_server.specs.Link.{LinkFacts};
 ghost use Rattle.kmip_store.specs.Plain.{plain_state};
 ghost use Rattle.kmip_joined.specs.World.{world_of, nothing_yet};
-ghost use Rattle.kmip_joined.specs.Told.{IsJoined, IsPlain, IsMade, IsSuited, makes_pair, is_pair};
+ghost use Rattle.kmip_joined.specs.Told.{IsJoined, HasPlainAnswers, IsMade, IsSuited, makes_pair};
+ghost use Rattle.kmip_joined.specs.Told.{is_pair};
 
 use kmip_client::{Client, Error};
 use kmip_server::{Answered, Call, CallAnswer, CallAnswers, ServerLink, call_all};
@@ -21,9 +22,9 @@ pub fn joined_link(alloc: Global) -> ServerLink<PlainMaker>
 
 /// Whether a message came whose response has no wire form. Its clauses also say what holds of the
 /// link and its maker.
-fn look(client: &mut Client<ServerLink<PlainMaker>>) -> bool
-    ensures known { IsKnown plain_state client.old.link }
-    ensures plain { IsPlain client.old.link }
+fn has_faulted(client: &mut Client<ServerLink<PlainMaker>>) -> bool
+    ensures known { LinkFacts plain_state client.old.link }
+    ensures plain { HasPlainAnswers client.old.link }
     ensures sound { result ≡ false → client.old.link.faults ≡ 0 }
     ensures stays { client.new ≡ client.old }
 {
@@ -41,7 +42,7 @@ pub fn makes_pair(call: &Call) -> bool
 }
 
 /// True only where an answer is an error, or is a pair if a pair was asked for.
-fn suits(pair: bool, answer: &Result<Answered, Error>) -> bool
+fn answer_of_kind(pair: bool, answer: &Result<Answered, Error>) -> bool
     ensures { result ≡ true → pair ≡ true → IfOk answer.now (λ x. is_pair x ≡ true) }
 {
     match answer {
@@ -55,7 +56,7 @@ pub fn suited(pair: bool, answers: &CallAnswers) -> Option<&CallAnswer>
     ensures { IfSome result (λ answer. IsSuited pair answers.now answer.now) }
 {
     match answers.get(0) {
-        Some(answer) if suits(pair, &answer.answer) => Some(answer),
+        Some(answer) if answer_of_kind(pair, &answer.answer) => Some(answer),
         _ => None,
     }
 }
@@ -69,13 +70,13 @@ pub fn call_one(
     requires { IsJoined client.old.link }
     ensures { IfOk result (λ answers. IsMade client.old client.new call answers) }
 {
-    look(client);
+    has_faulted(client);
     let mut calls = List::new(alloc);
     calls.push(call)?;
     let Ok(answers) = call_all(alloc, client, calls) else {
         return Err(OutOfMemory);
     };
-    if look(client) {
+    if has_faulted(client) {
         return Err(OutOfMemory);
     }
     Ok(answers)

@@ -10,6 +10,7 @@
 #![tactic(auto)]
 
 mod authentication;
+mod equality_laws;
 mod header;
 mod helpers;
 mod laws;
@@ -19,6 +20,7 @@ mod payload;
 mod writing;
 
 pub use authentication::{Authentication, Credential, CredentialValue, Password, Username};
+pub use equality_laws::equality;
 pub use header::{ProtocolVersion, RequestHeader};
 pub use helpers::{
     activate_request, destroy_request, get_request, key_pair_request, query_request,

@@ -3,3 +3,4 @@ pub mod Values
 pub mod Same
 pub mod Constructors
 pub mod Roots
+pub mod Equality

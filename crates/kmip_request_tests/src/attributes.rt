@@ -10,6 +10,7 @@ use kmip_tags::tags::{
     ATTRIBUTE, COMMON_TEMPLATE_ATTRIBUTE, PRIVATE_KEY_TEMPLATE_ATTRIBUTE,
     PUBLIC_KEY_TEMPLATE_ATTRIBUTE, TEMPLATE_ATTRIBUTE,
 };
+use kmip_test_messages::message;
 use kmip_types::{
     ApplicationData, ApplicationNamespace, CryptographicAlgorithm, CryptographicLength,
     CryptographicParameters, CryptographicUsageMask, LinkedObjectIdentifier, NameValue,
@@ -20,7 +21,7 @@ use std::alloc::Global;
 use std::process::Abort;
 use std::test::Fail;
 
-/// The attribute has no index and a copy that equals it, and is written as these bytes, in hex.
+/// The attribute has no index and a copy that equals it, and is written as these bytes, in the notation.
 fn is_made(
     rt: &impl Abort,
     alloc: Global,
@@ -30,7 +31,7 @@ fn is_made(
     assert!(rt; attribute.1.is_none());
     assert!(rt; attribute.try_clone(alloc)? == attribute);
     let written = to_blob(alloc, &attribute, Tag::of(ATTRIBUTE))?;
-    let expected = hex::decode(alloc, expected)?;
+    let expected = message(alloc, expected)?;
     assert!(rt; written.as_slice() == expected.as_slice());
     Ok(())
 }
@@ -39,11 +40,7 @@ fn is_made(
 fn unique_identifier(rt: HostRuntime) -> Result<(), Fail> {
     let alloc = rt.alloc();
     let attribute = Attribute::UniqueIdentifier(alloc, Text::of(alloc, "k1")?)?;
-    // 08{0A "Unique Identifier",0B "k1"}
-    let expected = concat!(
-        "420008010000003042000A0700000011556E69717565204964656E74696669657200000000000000",
-        "42000B07000000026B31000000000000",
-    );
+    let expected = r#"08{0A "Unique Identifier",0B "k1"}"#;
     is_made(&rt, alloc, attribute, expected)
 }
 
@@ -51,11 +48,7 @@ fn unique_identifier(rt: HostRuntime) -> Result<(), Fail> {
 fn name(rt: HostRuntime) -> Result<(), Fail> {
     let alloc = rt.alloc();
     let attribute = Attribute::Name(alloc, Text::of(alloc, "n")?)?;
-    // 08{0A "Name",0B{55 "n",54 e1}}
-    let expected = concat!(
-        "420008010000003842000A07000000044E616D650000000042000B01000000204200550700000001",
-        "6E0000000000000042005405000000040000000100000000",
-    );
+    let expected = r#"08{0A "Name",0B{55 "n",54 e1}}"#;
     is_made(&rt, alloc, attribute, expected)
 }
 
@@ -63,11 +56,7 @@ fn name(rt: HostRuntime) -> Result<(), Fail> {
 fn uri(rt: HostRuntime) -> Result<(), Fail> {
     let alloc = rt.alloc();
     let attribute = Attribute::URI(alloc, Text::of(alloc, "u:n")?)?;
-    // 08{0A "Name",0B{55 "u:n",54 e2}}
-    let expected = concat!(
-        "420008010000003842000A07000000044E616D650000000042000B01000000204200550700000003",
-        "753A6E000000000042005405000000040000000200000000",
-    );
+    let expected = r#"08{0A "Name",0B{55 "u:n",54 e2}}"#;
     is_made(&rt, alloc, attribute, expected)
 }
 
@@ -75,11 +64,7 @@ fn uri(rt: HostRuntime) -> Result<(), Fail> {
 fn object_type(rt: HostRuntime) -> Result<(), Fail> {
     let alloc = rt.alloc();
     let attribute = Attribute::ObjectType(alloc, ObjectType::PrivateKey)?;
-    // 08{0A "Object Type",0B e4}
-    let expected = concat!(
-        "420008010000002842000A070000000B4F626A6563742054797065000000000042000B0500000004",
-        "0000000400000000",
-    );
+    let expected = r#"08{0A "Object Type",0B e4}"#;
     is_made(&rt, alloc, attribute, expected)
 }
 
@@ -87,11 +72,7 @@ fn object_type(rt: HostRuntime) -> Result<(), Fail> {
 fn cryptographic_algorithm(rt: HostRuntime) -> Result<(), Fail> {
     let alloc = rt.alloc();
     let attribute = Attribute::CryptographicAlgorithm(alloc, CryptographicAlgorithm::RSA)?;
-    // 08{0A "Cryptographic Algorithm",0B e4}
-    let expected = concat!(
-        "420008010000003042000A070000001743727970746F6772617068696320416C676F726974686D00",
-        "42000B05000000040000000400000000",
-    );
+    let expected = r#"08{0A "Cryptographic Algorithm",0B e4}"#;
     is_made(&rt, alloc, attribute, expected)
 }
 
@@ -99,11 +80,7 @@ fn cryptographic_algorithm(rt: HostRuntime) -> Result<(), Fail> {
 fn cryptographic_length(rt: HostRuntime) -> Result<(), Fail> {
     let alloc = rt.alloc();
     let attribute = Attribute::CryptographicLength(alloc, 2048)?;
-    // 08{0A "Cryptographic Length",0B i2048}
-    let expected = concat!(
-        "420008010000003042000A070000001443727970746F67726170686963204C656E67746800000000",
-        "42000B02000000040000080000000000",
-    );
+    let expected = r#"08{0A "Cryptographic Length",0B i2048}"#;
     is_made(&rt, alloc, attribute, expected)
 }
 
@@ -114,11 +91,7 @@ fn cryptographic_parameters(rt: HostRuntime) -> Result<(), Fail> {
         alloc,
         CryptographicParameters::default().with_padding_method(PaddingMethod::PSS),
     )?;
-    // 08{0A "Cryptographic Parameters",0B{5F eA}}
-    let expected = concat!(
-        "420008010000003842000A070000001843727970746F6772617068696320506172616D6574657273",
-        "42000B010000001042005F05000000040000000A00000000",
-    );
+    let expected = r#"08{0A "Cryptographic Parameters",0B{5F eA}}"#;
     is_made(&rt, alloc, attribute, expected)
 }
 
@@ -126,11 +99,7 @@ fn cryptographic_parameters(rt: HostRuntime) -> Result<(), Fail> {
 fn operation_policy_name(rt: HostRuntime) -> Result<(), Fail> {
     let alloc = rt.alloc();
     let attribute = Attribute::OperationPolicyName(alloc, Text::of(alloc, "p")?)?;
-    // 08{0A "Operation Policy Name",0B "p"}
-    let expected = concat!(
-        "420008010000003042000A07000000154F7065726174696F6E20506F6C696379204E616D65000000",
-        "42000B07000000017000000000000000",
-    );
+    let expected = r#"08{0A "Operation Policy Name",0B "p"}"#;
     is_made(&rt, alloc, attribute, expected)
 }
 
@@ -138,11 +107,7 @@ fn operation_policy_name(rt: HostRuntime) -> Result<(), Fail> {
 fn cryptographic_usage_mask(rt: HostRuntime) -> Result<(), Fail> {
     let alloc = rt.alloc();
     let attribute = Attribute::CryptographicUsageMask(alloc, CryptographicUsageMask::Sign)?;
-    // 08{0A "Cryptographic Usage Mask",0B i1}
-    let expected = concat!(
-        "420008010000003042000A070000001843727970746F67726170686963205573616765204D61736B",
-        "42000B02000000040000000100000000",
-    );
+    let expected = r#"08{0A "Cryptographic Usage Mask",0B i1}"#;
     is_made(&rt, alloc, attribute, expected)
 }
 
@@ -150,11 +115,7 @@ fn cryptographic_usage_mask(rt: HostRuntime) -> Result<(), Fail> {
 fn activation_date(rt: HostRuntime) -> Result<(), Fail> {
     let alloc = rt.alloc();
     let attribute = Attribute::ActivationDate(alloc, 5)?;
-    // 08{0A "Activation Date",0B d5}
-    let expected = concat!(
-        "420008010000002842000A070000000F41637469766174696F6E20446174650042000B0900000008",
-        "0000000000000005",
-    );
+    let expected = r#"08{0A "Activation Date",0B d5}"#;
     is_made(&rt, alloc, attribute, expected)
 }
 
@@ -162,11 +123,7 @@ fn activation_date(rt: HostRuntime) -> Result<(), Fail> {
 fn object_group(rt: HostRuntime) -> Result<(), Fail> {
     let alloc = rt.alloc();
     let attribute = Attribute::ObjectGroup(alloc, Text::of(alloc, "g")?)?;
-    // 08{0A "Object Group",0B "g"}
-    let expected = concat!(
-        "420008010000002842000A070000000C4F626A6563742047726F75700000000042000B0700000001",
-        "6700000000000000",
-    );
+    let expected = r#"08{0A "Object Group",0B "g"}"#;
     is_made(&rt, alloc, attribute, expected)
 }
 
@@ -178,11 +135,7 @@ fn link(rt: HostRuntime) -> Result<(), Fail> {
         LinkType::PublicKeyLink,
         LinkedObjectIdentifier(Text::of(alloc, "k2")?),
     )?;
-    // 08{0A "Link",0B{4B e102,4C "k2"}}
-    let expected = concat!(
-        "420008010000003842000A07000000044C696E6B0000000042000B010000002042004B0500000004",
-        "000001020000000042004C07000000026B32000000000000",
-    );
+    let expected = r#"08{0A "Link",0B{4B e102,4C "k2"}}"#;
     is_made(&rt, alloc, attribute, expected)
 }
 
@@ -194,12 +147,7 @@ fn application_specific_information(rt: HostRuntime) -> Result<(), Fail> {
         ApplicationNamespace(Text::of(alloc, "ssl")?),
         ApplicationData(Text::of(alloc, "www")?),
     )?;
-    // 08{0A "Application Specific Information",0B{03 "ssl",02 "www"}}
-    let expected = concat!(
-        "420008010000005042000A07000000204170706C69636174696F6E20537065636966696320496E66",
-        "6F726D6174696F6E42000B0100000020420003070000000373736C00000000004200020700000003",
-        "7777770000000000",
-    );
+    let expected = r#"08{0A "Application Specific Information",0B{03 "ssl",02 "www"}}"#;
     is_made(&rt, alloc, attribute, expected)
 }
 
@@ -207,11 +155,7 @@ fn application_specific_information(rt: HostRuntime) -> Result<(), Fail> {
 fn contact_information(rt: HostRuntime) -> Result<(), Fail> {
     let alloc = rt.alloc();
     let attribute = Attribute::ContactInformation(alloc, Text::of(alloc, "Joe")?)?;
-    // 08{0A "Contact Information",0B "Joe"}
-    let expected = concat!(
-        "420008010000003042000A0700000013436F6E7461637420496E666F726D6174696F6E0000000000",
-        "42000B07000000034A6F650000000000",
-    );
+    let expected = r#"08{0A "Contact Information",0B "Joe"}"#;
     is_made(&rt, alloc, attribute, expected)
 }
 
@@ -225,7 +169,7 @@ fn is_template<T: WriteItem>(
 ) -> Result<(), Fail> {
     let tag = Tag::new(tag).ok_or("no tag")?;
     let written = to_blob(alloc, template, tag)?;
-    let expected = hex::decode(alloc, expected)?;
+    let expected = message(alloc, expected)?;
     assert!(rt; written.as_slice() == expected.as_slice());
     Ok(())
 }
@@ -234,11 +178,7 @@ fn is_template<T: WriteItem>(
 fn named_template_attribute(rt: HostRuntime) -> Result<(), Fail> {
     let alloc = rt.alloc();
     let template = TemplateAttribute::named(alloc, Text::of(alloc, "t")?, List::new(alloc))?;
-    // 91{53{55 "t",54 e1}}
-    let expected = concat!(
-        "42009101000000284200530100000020420055070000000174000000000000004200540500000004",
-        "0000000100000000",
-    );
+    let expected = r#"91{53{55 "t",54 e1}}"#;
     is_template(&rt, alloc, &template, TEMPLATE_ATTRIBUTE, expected)
 }
 
@@ -246,11 +186,7 @@ fn named_template_attribute(rt: HostRuntime) -> Result<(), Fail> {
 fn named_common_template_attribute(rt: HostRuntime) -> Result<(), Fail> {
     let alloc = rt.alloc();
     let template = CommonTemplateAttribute::named(alloc, Text::of(alloc, "t")?, List::new(alloc))?;
-    // 1F{53{55 "t",54 e1}}
-    let expected = concat!(
-        "42001F01000000284200530100000020420055070000000174000000000000004200540500000004",
-        "0000000100000000",
-    );
+    let expected = r#"1F{53{55 "t",54 e1}}"#;
     is_template(&rt, alloc, &template, COMMON_TEMPLATE_ATTRIBUTE, expected)
 }
 
@@ -262,11 +198,7 @@ fn named_private_key_template_attribute(rt: HostRuntime) -> Result<(), Fail> {
         Text::of(alloc, "t")?,
         List::new(alloc),
     )?;
-    // 65{53{55 "t",54 e1}}
-    let expected = concat!(
-        "42006501000000284200530100000020420055070000000174000000000000004200540500000004",
-        "0000000100000000",
-    );
+    let expected = r#"65{53{55 "t",54 e1}}"#;
     is_template(
         &rt,
         alloc,
@@ -284,11 +216,7 @@ fn named_public_key_template_attribute(rt: HostRuntime) -> Result<(), Fail> {
         Text::of(alloc, "t")?,
         List::new(alloc),
     )?;
-    // 6E{53{55 "t",54 e1}}
-    let expected = concat!(
-        "42006E01000000284200530100000020420055070000000174000000000000004200540500000004",
-        "0000000100000000",
-    );
+    let expected = r#"6E{53{55 "t",54 e1}}"#;
     is_template(
         &rt,
         alloc,

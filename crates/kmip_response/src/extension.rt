@@ -16,7 +16,7 @@ use kmip_tags::tags::{CRITICALITY_INDICATOR, MESSAGE_EXTENSION, VENDOR_IDENTIFIC
 use kmip_wire::{Buffer, ItemRef, OutOfMemory, Tag, Text, TryClone};
 use std::alloc::Global;
 
-/// The contents of a vendor's extension, which are skipped.
+/// The contents of a vendor's extension, which are skipped in reading and not written.
 #[derive(Clone, Copy, PartialEq, Eq, Default, Drop)]
 pub struct VendorExtension;
 
@@ -27,7 +27,7 @@ pub struct MessageExtension {
     pub vendor_identification: Text,
     /// Whether a receiver that does not know the extension is to refuse the message.
     pub criticality_indicator: bool,
-    /// The vendor's own items, which are skipped.
+    /// The vendor's own items: KMIP 1.0, 6.16.
     pub vendor_extension: VendorExtension,
 }
 

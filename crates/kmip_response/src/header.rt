@@ -87,7 +87,8 @@ pub struct ResponseHeader {
     pub protocol_version: ProtocolVersion,
     /// When the response was made, in seconds since 1970-01-01 00:00 UTC: KMIP 1.0, 6.5.
     pub timestamp: i64,
-    /// How many batch items the header says there are: KMIP 1.0, 6.14. Reading does not count them.
+    /// The number of batch items that the header states: KMIP 1.0, 6.14. Neither reading nor
+    /// writing compares it with their number.
     pub batch_count: i32,
 }
 

@@ -1,4 +1,4 @@
-//! Responses: what a server returns, and how it is read from checked bytes.
+//! Responses: what a server returns, and how it is read, written and shown.
 //!
 //! ```rust
 //! use kmip_response::{ResponseMessage, from_slice};
@@ -11,13 +11,14 @@
 //!
 //! Each type reads its children in one pass, makes no tree, and takes memory only for what the
 //! value holds. Fields may stand in any order, and items under unknown tags are skipped. `Unread`
-//! comes where a field that may stand once stands twice, a required one is missing, an item is of
-//! another type than its field, or an enumeration has a number outside its table.
+//! is returned where a field that may stand once stands twice, a required one is missing, an item
+//! is of another type than its field, or an enumeration has a number outside its table.
 #![tactic(auto)]
 
 mod batch_item;
 mod extension;
 mod header;
+mod laws;
 mod message;
 mod payload;
 mod payloads;
@@ -31,6 +32,7 @@ pub use kmip_response_objects::{
     MACOrSignatureKeyInformation, ManagedObject, Name, PrivateKey, PublicKey, SymmetricKey,
     TemplateAttribute,
 };
+pub use laws::front_structure_computed;
 pub use message::ResponseMessage;
 pub use payload::ResponsePayload;
 pub use payloads::attributes::{

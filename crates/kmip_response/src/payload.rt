@@ -1,6 +1,9 @@
 //! The payload of a response.
 
-ghost use Rattle.std.specs.Prelude.{◌≡◌};
+ghost use Rattle.std.specs.Prelude.{◌≡◌, IfOk, Some, None, Err};
+ghost use Rattle.kmip_wire.specs.Items.{item_tree};
+ghost use Rattle.kmip_shape.specs.Reads.{read_of};
+ghost use Rattle.kmip_shape.specs.Resume.{outer_of};
 ghost use Rattle.kmip_response.specs.Tables.{response_payload};
 ghost use Rattle.kmip_response.specs.Values.{response_payload_val};
 ghost use Rattle.kmip_response.specs.Same.{response_payload_same};
@@ -62,55 +65,50 @@ pub enum ResponsePayload {
 impl TryClone for ResponsePayload {
     fn try_clone(&self, alloc: Global) -> Result<ResponsePayload, OutOfMemory> {
         match self {
-            ResponsePayload::Create(payload) => Ok(ResponsePayload::Create(payload.try_clone(
-                alloc,
-            )?)),
-            ResponsePayload::CreateKeyPair(payload) => Ok(ResponsePayload::CreateKeyPair(
-                payload.try_clone(alloc)?,
-            )),
-            ResponsePayload::Register(payload) => Ok(ResponsePayload::Register(payload.try_clone(
-                alloc,
-            )?)),
-            ResponsePayload::Locate(payload) => Ok(ResponsePayload::Locate(payload.try_clone(
-                alloc,
-            )?)),
-            ResponsePayload::Get(payload) => Ok(ResponsePayload::Get(payload.try_clone(alloc)?)),
-            ResponsePayload::GetAttributes(payload) => Ok(ResponsePayload::GetAttributes(
-                payload.try_clone(alloc)?,
-            )),
-            ResponsePayload::GetAttributeList(payload) => Ok(ResponsePayload::GetAttributeList(
-                payload.try_clone(alloc)?,
-            )),
-            ResponsePayload::AddAttribute(payload) => Ok(ResponsePayload::AddAttribute(
-                payload.try_clone(alloc)?,
-            )),
-            ResponsePayload::ModifyAttribute(payload) => Ok(ResponsePayload::ModifyAttribute(
-                payload.try_clone(alloc)?,
-            )),
-            ResponsePayload::DeleteAttribute(payload) => Ok(ResponsePayload::DeleteAttribute(
-                payload.try_clone(alloc)?,
-            )),
-            ResponsePayload::Activate(payload) => Ok(ResponsePayload::Activate(payload.try_clone(
-                alloc,
-            )?)),
-            ResponsePayload::Revoke(payload) => Ok(ResponsePayload::Revoke(payload.try_clone(
-                alloc,
-            )?)),
-            ResponsePayload::Destroy(payload) => Ok(ResponsePayload::Destroy(payload.try_clone(
-                alloc,
-            )?)),
-            ResponsePayload::Query(payload) => Ok(ResponsePayload::Query(payload.try_clone(
-                alloc,
-            )?)),
-            ResponsePayload::DiscoverVersions(payload) => Ok(ResponsePayload::DiscoverVersions(
-                payload.try_clone(alloc)?,
-            )),
-            ResponsePayload::Sign(payload) => Ok(ResponsePayload::Sign(payload.try_clone(alloc)?)),
-            ResponsePayload::RNGRetrieve(payload) => Ok(ResponsePayload::RNGRetrieve(
-                payload.try_clone(alloc)?,
-            )),
+            Self::Create(payload) => payload.try_clone(alloc).map(Self::Create),
+            Self::CreateKeyPair(payload) => payload.try_clone(alloc).map(Self::CreateKeyPair),
+            Self::Register(payload) => payload.try_clone(alloc).map(Self::Register),
+            Self::Locate(payload) => payload.try_clone(alloc).map(Self::Locate),
+            Self::Get(payload) => payload.try_clone(alloc).map(Self::Get),
+            Self::GetAttributes(payload) => payload.try_clone(alloc).map(Self::GetAttributes),
+            Self::GetAttributeList(payload) => payload.try_clone(alloc).map(Self::GetAttributeList),
+            Self::AddAttribute(payload) => payload.try_clone(alloc).map(Self::AddAttribute),
+            Self::ModifyAttribute(payload) => payload.try_clone(alloc).map(Self::ModifyAttribute),
+            Self::DeleteAttribute(payload) => payload.try_clone(alloc).map(Self::DeleteAttribute),
+            Self::Activate(payload) => payload.try_clone(alloc).map(Self::Activate),
+            Self::Revoke(payload) => payload.try_clone(alloc).map(Self::Revoke),
+            Self::Destroy(payload) => payload.try_clone(alloc).map(Self::Destroy),
+            Self::Query(payload) => payload.try_clone(alloc).map(Self::Query),
+            Self::DiscoverVersions(payload) => payload.try_clone(alloc).map(Self::DiscoverVersions),
+            Self::Sign(payload) => payload.try_clone(alloc).map(Self::Sign),
+            Self::RNGRetrieve(payload) => payload.try_clone(alloc).map(Self::RNGRetrieve),
         }
     }
+}
+
+/// A call on the payload of a variant, whichever it is.
+macro_rules! of_payload {
+    ($of:expr, $payload:ident => $call:expr) => {
+        match $of {
+            ResponsePayload::Create($payload) => $call,
+            ResponsePayload::CreateKeyPair($payload) => $call,
+            ResponsePayload::Register($payload) => $call,
+            ResponsePayload::Locate($payload) => $call,
+            ResponsePayload::Get($payload) => $call,
+            ResponsePayload::GetAttributes($payload) => $call,
+            ResponsePayload::GetAttributeList($payload) => $call,
+            ResponsePayload::AddAttribute($payload) => $call,
+            ResponsePayload::ModifyAttribute($payload) => $call,
+            ResponsePayload::DeleteAttribute($payload) => $call,
+            ResponsePayload::Activate($payload) => $call,
+            ResponsePayload::Revoke($payload) => $call,
+            ResponsePayload::Destroy($payload) => $call,
+            ResponsePayload::Query($payload) => $call,
+            ResponsePayload::DiscoverVersions($payload) => $call,
+            ResponsePayload::Sign($payload) => $call,
+            ResponsePayload::RNGRetrieve($payload) => $call,
+        }
+    };
 }
 
 impl Item for ResponsePayload {
@@ -119,25 +117,7 @@ impl Item for ResponsePayload {
     ghost val = { response_payload_val };
 
     fn known(&self) {
-        match self {
-            ResponsePayload::Create(payload) => payload.known(),
-            ResponsePayload::CreateKeyPair(payload) => payload.known(),
-            ResponsePayload::Register(payload) => payload.known(),
-            ResponsePayload::Locate(payload) => payload.known(),
-            ResponsePayload::Get(payload) => payload.known(),
-            ResponsePayload::GetAttributes(payload) => payload.known(),
-            ResponsePayload::GetAttributeList(payload) => payload.known(),
-            ResponsePayload::AddAttribute(payload) => payload.known(),
-            ResponsePayload::ModifyAttribute(payload) => payload.known(),
-            ResponsePayload::DeleteAttribute(payload) => payload.known(),
-            ResponsePayload::Activate(payload) => payload.known(),
-            ResponsePayload::Revoke(payload) => payload.known(),
-            ResponsePayload::Destroy(payload) => payload.known(),
-            ResponsePayload::Query(payload) => payload.known(),
-            ResponsePayload::DiscoverVersions(payload) => payload.known(),
-            ResponsePayload::Sign(payload) => payload.known(),
-            ResponsePayload::RNGRetrieve(payload) => payload.known(),
-        }
+        of_payload!(self, payload => payload.known())
     }
 
     ghost faithful = { response_payload_same };
@@ -145,98 +125,52 @@ impl Item for ResponsePayload {
 
 impl WriteItem for ResponsePayload {
     fn wire_len(&self, tag: Tag) -> Option<u64> {
-        match self {
-            ResponsePayload::Create(payload) => payload.wire_len(tag),
-            ResponsePayload::CreateKeyPair(payload) => payload.wire_len(tag),
-            ResponsePayload::Register(payload) => payload.wire_len(tag),
-            ResponsePayload::Locate(payload) => payload.wire_len(tag),
-            ResponsePayload::Get(payload) => payload.wire_len(tag),
-            ResponsePayload::GetAttributes(payload) => payload.wire_len(tag),
-            ResponsePayload::GetAttributeList(payload) => payload.wire_len(tag),
-            ResponsePayload::AddAttribute(payload) => payload.wire_len(tag),
-            ResponsePayload::ModifyAttribute(payload) => payload.wire_len(tag),
-            ResponsePayload::DeleteAttribute(payload) => payload.wire_len(tag),
-            ResponsePayload::Activate(payload) => payload.wire_len(tag),
-            ResponsePayload::Revoke(payload) => payload.wire_len(tag),
-            ResponsePayload::Destroy(payload) => payload.wire_len(tag),
-            ResponsePayload::Query(payload) => payload.wire_len(tag),
-            ResponsePayload::DiscoverVersions(payload) => payload.wire_len(tag),
-            ResponsePayload::Sign(payload) => payload.wire_len(tag),
-            ResponsePayload::RNGRetrieve(payload) => payload.wire_len(tag),
-        }
+        of_payload!(self, payload => payload.wire_len(tag))
     }
 
     fn write_into(&self, tag: Tag, out: &mut Buffer) {
-        match self {
-            ResponsePayload::Create(payload) => payload.write_into(tag, out),
-            ResponsePayload::CreateKeyPair(payload) => payload.write_into(tag, out),
-            ResponsePayload::Register(payload) => payload.write_into(tag, out),
-            ResponsePayload::Locate(payload) => payload.write_into(tag, out),
-            ResponsePayload::Get(payload) => payload.write_into(tag, out),
-            ResponsePayload::GetAttributes(payload) => payload.write_into(tag, out),
-            ResponsePayload::GetAttributeList(payload) => payload.write_into(tag, out),
-            ResponsePayload::AddAttribute(payload) => payload.write_into(tag, out),
-            ResponsePayload::ModifyAttribute(payload) => payload.write_into(tag, out),
-            ResponsePayload::DeleteAttribute(payload) => payload.write_into(tag, out),
-            ResponsePayload::Activate(payload) => payload.write_into(tag, out),
-            ResponsePayload::Revoke(payload) => payload.write_into(tag, out),
-            ResponsePayload::Destroy(payload) => payload.write_into(tag, out),
-            ResponsePayload::Query(payload) => payload.write_into(tag, out),
-            ResponsePayload::DiscoverVersions(payload) => payload.write_into(tag, out),
-            ResponsePayload::Sign(payload) => payload.write_into(tag, out),
-            ResponsePayload::RNGRetrieve(payload) => payload.write_into(tag, out),
-        }
+        of_payload!(self, payload => payload.write_into(tag, out))
     }
+}
+
+/// Reads the payload that a variant holds. Each arm below calls it, and so has no value of its own
+/// whose drop is to be proved.
+fn read_as<T: ReadItem, F: FnOnce(T) -> ResponsePayload>(
+    variant: F,
+    alloc: Global,
+    outer: Outer<'_>,
+    item: ItemRef<'_>,
+) -> Result<ResponsePayload, ReadError>
+    requires { F.IsAlwaysCallable variant }
+    ensures ok { IfOk result (λ x. (payload : T) × F.post variant payload x ×
+        (read_of T.shape (outer_of outer.entry) (item_tree item.entry) ≡ Some (T.val payload))) }
+    ensures unread { result ≡ Err ReadError.Unread →
+        read_of T.shape (outer_of outer.entry) (item_tree item.entry) ≡ None }
+{
+    let payload = T::read(alloc, outer, item)?;
+    Ok(variant(payload))
 }
 
 impl ReadItem for ResponsePayload {
     fn read(alloc: Global, outer: Outer<'_>, item: ItemRef<'_>) -> Result<Self, ReadError> {
         match outer.number {
-            Some(1) => Ok(ResponsePayload::Create(CreateResponsePayload::read(
-                alloc, outer, item,
-            )?)),
-            Some(2) => Ok(ResponsePayload::CreateKeyPair(CreateKeyPairResponsePayload::read(
-                alloc, outer, item,
-            )?)),
-            Some(3) => Ok(ResponsePayload::Register(RegisterResponsePayload::read(
-                alloc, outer, item,
-            )?)),
-            Some(8) => Ok(ResponsePayload::Locate(LocateResponsePayload::read(
-                alloc, outer, item,
-            )?)),
-            Some(10) => Ok(ResponsePayload::Get(Boxed::read(alloc, outer, item)?)),
-            Some(11) => Ok(ResponsePayload::GetAttributes(GetAttributesResponsePayload::read(
-                alloc, outer, item,
-            )?)),
-            Some(12) => Ok(ResponsePayload::GetAttributeList(GetAttributeListResponsePayload::read(
-                alloc, outer, item,
-            )?)),
-            Some(13) => Ok(ResponsePayload::AddAttribute(AttributeEditResponsePayload::read(
-                alloc, outer, item,
-            )?)),
-            Some(14) => Ok(ResponsePayload::ModifyAttribute(AttributeEditResponsePayload::read(
-                alloc, outer, item,
-            )?)),
-            Some(15) => Ok(ResponsePayload::DeleteAttribute(AttributeEditResponsePayload::read(
-                alloc, outer, item,
-            )?)),
-            Some(18) => Ok(ResponsePayload::Activate(UniqueIdentifierResponsePayload::read(
-                alloc, outer, item,
-            )?)),
-            Some(19) => Ok(ResponsePayload::Revoke(UniqueIdentifierResponsePayload::read(
-                alloc, outer, item,
-            )?)),
-            Some(20) => Ok(ResponsePayload::Destroy(UniqueIdentifierResponsePayload::read(
-                alloc, outer, item,
-            )?)),
-            Some(24) => Ok(ResponsePayload::Query(Boxed::read(alloc, outer, item)?)),
-            Some(30) => Ok(ResponsePayload::DiscoverVersions(DiscoverVersionsResponsePayload::read(
-                alloc, outer, item,
-            )?)),
-            Some(33) => Ok(ResponsePayload::Sign(SignResponsePayload::read(alloc, outer, item)?)),
-            Some(37) => Ok(ResponsePayload::RNGRetrieve(RNGRetrieveResponsePayload::read(
-                alloc, outer, item,
-            )?)),
+            Some(1) => read_as(Self::Create, alloc, outer, item),
+            Some(2) => read_as(Self::CreateKeyPair, alloc, outer, item),
+            Some(3) => read_as(Self::Register, alloc, outer, item),
+            Some(8) => read_as(Self::Locate, alloc, outer, item),
+            Some(10) => read_as(Self::Get, alloc, outer, item),
+            Some(11) => read_as(Self::GetAttributes, alloc, outer, item),
+            Some(12) => read_as(Self::GetAttributeList, alloc, outer, item),
+            Some(13) => read_as(Self::AddAttribute, alloc, outer, item),
+            Some(14) => read_as(Self::ModifyAttribute, alloc, outer, item),
+            Some(15) => read_as(Self::DeleteAttribute, alloc, outer, item),
+            Some(18) => read_as(Self::Activate, alloc, outer, item),
+            Some(19) => read_as(Self::Revoke, alloc, outer, item),
+            Some(20) => read_as(Self::Destroy, alloc, outer, item),
+            Some(24) => read_as(Self::Query, alloc, outer, item),
+            Some(30) => read_as(Self::DiscoverVersions, alloc, outer, item),
+            Some(33) => read_as(Self::Sign, alloc, outer, item),
+            Some(37) => read_as(Self::RNGRetrieve, alloc, outer, item),
             _ => Err(ReadError::Unread),
         }
     }
@@ -245,31 +179,23 @@ impl ReadItem for ResponsePayload {
 impl ShowItem for ResponsePayload {
     fn show_into(&self, out: &mut TextWriter) {
         match self {
-            ResponsePayload::Create(payload) => show_case("Create", payload, out),
-            ResponsePayload::CreateKeyPair(payload) => show_case("CreateKeyPair", payload, out),
-            ResponsePayload::Register(payload) => show_case("Register", payload, out),
-            ResponsePayload::Locate(payload) => show_case("Locate", payload, out),
-            ResponsePayload::Get(payload) => show_case("Get", payload, out),
-            ResponsePayload::GetAttributes(payload) => show_case("GetAttributes", payload, out),
-            ResponsePayload::GetAttributeList(payload) => show_case(
-                "GetAttributeList",
-                payload,
-                out,
-            ),
-            ResponsePayload::AddAttribute(payload) => show_case("AddAttribute", payload, out),
-            ResponsePayload::ModifyAttribute(payload) => show_case("ModifyAttribute", payload, out),
-            ResponsePayload::DeleteAttribute(payload) => show_case("DeleteAttribute", payload, out),
-            ResponsePayload::Activate(payload) => show_case("Activate", payload, out),
-            ResponsePayload::Revoke(payload) => show_case("Revoke", payload, out),
-            ResponsePayload::Destroy(payload) => show_case("Destroy", payload, out),
-            ResponsePayload::Query(payload) => show_case("Query", payload, out),
-            ResponsePayload::DiscoverVersions(payload) => show_case(
-                "DiscoverVersions",
-                payload,
-                out,
-            ),
-            ResponsePayload::Sign(payload) => show_case("Sign", payload, out),
-            ResponsePayload::RNGRetrieve(payload) => show_case("RNGRetrieve", payload, out),
+            Self::Create(payload) => show_case("Create", payload, out),
+            Self::CreateKeyPair(payload) => show_case("CreateKeyPair", payload, out),
+            Self::Register(payload) => show_case("Register", payload, out),
+            Self::Locate(payload) => show_case("Locate", payload, out),
+            Self::Get(payload) => show_case("Get", payload, out),
+            Self::GetAttributes(payload) => show_case("GetAttributes", payload, out),
+            Self::GetAttributeList(payload) => show_case("GetAttributeList", payload, out),
+            Self::AddAttribute(payload) => show_case("AddAttribute", payload, out),
+            Self::ModifyAttribute(payload) => show_case("ModifyAttribute", payload, out),
+            Self::DeleteAttribute(payload) => show_case("DeleteAttribute", payload, out),
+            Self::Activate(payload) => show_case("Activate", payload, out),
+            Self::Revoke(payload) => show_case("Revoke", payload, out),
+            Self::Destroy(payload) => show_case("Destroy", payload, out),
+            Self::Query(payload) => show_case("Query", payload, out),
+            Self::DiscoverVersions(payload) => show_case("DiscoverVersions", payload, out),
+            Self::Sign(payload) => show_case("Sign", payload, out),
+            Self::RNGRetrieve(payload) => show_case("RNGRetrieve", payload, out),
         }
     }
 }

@@ -17,11 +17,15 @@ pub enum ResponseError {
     Malformed,
     /// The Structure at the front has another tag, or its fields are not those of the table.
     Unread,
-    /// Out of memory: whether the bytes are a response is not known.
+    /// Memory ran out before it was known whether the bytes are a response.
     OutOfMemory,
 }
 
-/// Reads the item at the front of the bytes. Bytes after it are not looked at.
+/// Reads the Structure as which some of the first bytes parse: by the law
+/// `front_structure_computed` that is `front_structure`. Bytes after it are not read.
+///
+/// `Malformed` is returned exactly where no front of the bytes is a well-formed Structure, and
+/// `Unread` only where the Structure at the front is no value of the type.
 pub fn from_slice<T: ReadRoot>(alloc: Global, bytes: &[u8]) -> Result<T, ResponseError>
     ensures ok { IfOk result (λ x.
         option_and_then (root_read T.shape T.root_tag) (front_structure bytes.now) ≡

@@ -24,8 +24,8 @@ pub struct Attribute {
     pub name: AttributeName,
     /// Which of the attributes of this name it is, counted from 0: KMIP 1.0, 2.1.1.
     pub index: Option<AttributeIndex>,
-    /// Its value, of the variant that `name` selects; under any other name, of the variant of its
-    /// item's type.
+    /// Its value, of the variant that `name` selects; where `name` selects none, of the variant of
+    /// its item's type.
     pub value: AttributeValue,
 }
 

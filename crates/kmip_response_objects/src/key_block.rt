@@ -28,7 +28,7 @@ pub struct KeyValue {
     /// `Wrapped` where the key value is one Byte String, and else in the key block's format:
     /// KMIP 1.0, 2.1.7.
     pub key_material: KeyMaterial,
-    /// Attributes of the key that stand, and are wrapped, with the key material.
+    /// Attributes of the key, which are wrapped together with the key material.
     pub attributes: Option<List<Attribute>>,
 }
 

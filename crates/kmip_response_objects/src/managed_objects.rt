@@ -24,8 +24,8 @@ use kmip_tags::tags::{CERTIFICATE, PRIVATE_KEY, PUBLIC_KEY, SYMMETRIC_KEY};
 use kmip_wire::{Buffer, ItemRef, Tag};
 use std::alloc::Global;
 
-/// The items under the tags of managed objects. The object type says under which of them the object
-/// stands; the others are not looked at.
+/// The items under the tags of managed objects. The object type chooses under which of these tags
+/// the object stands; items under the others are not read.
 #[derive(Drop)]
 pub struct ManagedObjects<'a> {
     certificate: Case<'a, Certificate, 1, CERTIFICATE>,

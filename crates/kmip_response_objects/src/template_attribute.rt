@@ -23,7 +23,7 @@ use std::alloc::Global;
 pub struct TemplateAttribute {
     /// The names of templates, whose attributes belong to it too: KMIP 1.0, 3.2.
     pub name: Option<List<Name>>,
-    /// The attributes that it gives itself: KMIP 1.0, 2.1.1.
+    /// The attributes that stand in it: KMIP 1.0, 2.1.1.
     pub attributes: Option<List<Attribute>>,
 }
 

@@ -33,20 +33,19 @@ IsHeld message = Fits response_message (response_message_val message)
 
 -- A message is settled where it has a tree and each value in it is selected.
 --
--- It has a tree exactly where no child of a custom structure writes a structure, and no key
--- material is `Structure`, nor
--- `Wrapped` beside attributes. What is selected goes by the message's table, choice by choice:
+-- It has a tree exactly where no child of a custom structure is written as a structure, and no key
+-- material is `Structure`, nor `Wrapped` beside attributes. What is selected goes by the message's
+-- table, choice by choice:
 -- - the payload of a batch item is that of its operation, and one without an operation has none
--- (KMIP 1.0, 7.2);
+--   (KMIP 1.0, 7.2);
 -- - the object of a Get payload is of its object type (KMIP 1.0, 4.10);
 -- - the value of an attribute is of the variant that the attribute's name selects, and under a name
--- outside the table of
---   the variant of its item's type (KMIP 1.0, 2.1.1 and 3);
+--   outside the table of the variant of its item's type (KMIP 1.0, 2.1.1 and 3);
 -- - a child of a custom structure is of the variant of its item's type, so it is of one of the nine
--- plain variants;
+--   plain variants;
 -- - key material is `Bytes` in a key block of the formats 1 to 6 and the transparent key of the
--- format in one of the
---   formats 7 to 13, or `Wrapped` with no attributes in any (KMIP 1.0, 2.1.3 and 2.1.7);
+--   format in one of the formats 7 to 13, or `Wrapped` with no attributes in any (KMIP 1.0, 2.1.3
+--   and 2.1.7);
 -- - a list of at least one is not empty, and no optional list is Some of an empty one.
 abbrev pub IsSettled : ResponseMessage → Type 0
 IsSettled message =

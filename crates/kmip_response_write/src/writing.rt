@@ -14,7 +14,7 @@ use kmip_tags::tags::RESPONSE_MESSAGE;
 use kmip_wire::{Blob, Buffer, Tag, WireError};
 use std::alloc::Global;
 
-/// How many canonical bytes an item has, where it has any.
+/// The number of an item's canonical bytes, where it has any.
 #[tactic(auto, using(kmip_shape::proofs::Lengths::wire_len_law))]
 fn item_len<T: WriteItem>(item: &T, tag: Tag) -> Option<u64>
     ensures { result ≡ option_map length (bytes_of T.shape tag (T.val item.now)) }
@@ -32,8 +32,8 @@ fn write_item<T: WriteItem>(item: &T, tag: Tag, out: &mut Buffer)
     item.write_into(tag, out);
 }
 
-/// The canonical bytes of an item. `NoForm` comes exactly where there are none, and `Malformed`
-/// never.
+/// The canonical bytes of an item. `NoForm` is returned exactly where there are none, and
+/// `Malformed` never.
 fn to_blob<T: WriteItem>(alloc: Global, item: &T, tag: Tag) -> Result<Blob, WireError>
     ensures { GivesBytes result (bytes_of T.shape tag (T.val item.now)) }
 {
@@ -56,12 +56,13 @@ fn message_bytes(alloc: Global, message: &ResponseMessage) -> Result<Blob, WireE
 /// The canonical bytes of a response (KMIP 1.0, 7.1), each record's items in the order of its
 /// table.
 ///
-/// `NoForm` comes exactly where there are none: where an item's length reaches 2^32, a child of a
-/// custom structure writes a structure, or key material is `Structure`, or `Wrapped` beside
-/// attributes. `Malformed` never comes. An optional list that is present and empty writes nothing,
-/// as an absent one does.
+/// `NoForm` is returned exactly where there are none: where an item's length reaches 2^32, a child
+/// of a custom structure is written as a structure, or key material is `Structure`, or `Wrapped`
+/// beside attributes. `Malformed` is never returned. For an optional list that is present and empty
+/// nothing is written, as for an absent one.
 ///
-/// Memory is taken once, before the first byte is written; `OutOfMemory` comes where it is refused.
+/// Memory is taken once, before the first byte is written; `OutOfMemory` is returned where it is
+/// refused.
 ///
 /// What is written of a settled message is read as that message.
 pub fn to_vec(alloc: Global, message: &ResponseMessage) -> Result<Blob, WireError>

@@ -37,7 +37,7 @@ explained_alone (line ∷ lines) number =
       | Some text ↦ λ e. rw (explained_line line lines number text (sym e)) refl
     ] refl
 
--- what was written so far, and what the lines left come to
+-- what was written so far, and what the lines left add
 pub record SoFar (all : Transcript) (old now : List ℕ) (rest : Transcript) : Type 0 where
   pub text : old ++ all.text ≡ now ++ rest.text
   pub status : all.status ≡ rest.status

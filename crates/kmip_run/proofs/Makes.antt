@@ -150,7 +150,7 @@ pub one_in_all : (failed : Bool) → one_ok failed + one_error failed ≡ 1
 one_in_all true = refl
 one_in_all false = refl
 
--- the lines tell what was made
+-- the lines say what was made
 pub tells_all : {c : Counts} {before after : MemoryState} (count ok errors sent taken : ℕ) (old new : List ℕ) → Makes c before after ok errors taken →
     sent ≡ length after.sent - length before.sent → new ≡ old ++ made_text count ok errors sent taken → Replays (counted_transcript count c) before after 0 old new
 tells_all {c = c} {before = before} {after = after} count ok errors sent taken old new makes sent_is text =

@@ -1,4 +1,4 @@
--- What the diagnostics of sessions tell whose requests are valid and whose messages parse.
+-- What the diagnostics of sessions show, where the requests are valid and the messages parse.
 use Rattle.std.proofs.Common.{◌≡◌, ℕ, ◌+◌, ◌-◌, Bool, true, false, cond, List, [], ◌∷◌, take, drop, map, refl, ◌∙◌, sym, ap, arith, Option, Some, None}
 use Rattle.std.specs.Prelude.{IsSome, ◌↔◌}
 use Rattle.std.specs.Option.{option_map, option_and_then}

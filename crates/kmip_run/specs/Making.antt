@@ -1,4 +1,4 @@
--- The exchanges that `make N` makes, each from a number, and what they come to.
+-- The exchanges that `make N` makes, each from a number, and their results.
 use Rattle.std.specs.Prelude.{◌≡◌, ℕ, zero, suc, ℤ, pos, ◌+◌, ◌*◌, ◌/◌, ◌%◌, ◌^◌, ◌==◌, List, [], ◌∷◌, ◌++◌, length, drop, replicate, Bool, true, false, None, if◌then◌else◌, codes}
 use Rattle.kmip_tags.specs.Tags.{BATCH_COUNT, BATCH_ITEM, DATA, OPERATION, PROTOCOL_VERSION, PROTOCOL_VERSION_MAJOR, PROTOCOL_VERSION_MINOR, RESPONSE_HEADER, RESPONSE_MESSAGE, RESPONSE_PAYLOAD, RESULT_MESSAGE, RESULT_REASON, RESULT_STATUS, TIME_STAMP, UNIQUE_IDENTIFIER}
 use Rattle.std.specs.Fmt.{decimal}
@@ -106,7 +106,7 @@ kind_made kind v x =
 unfoldable pub made_of : ℕ → Recorded
 made_of x = kind_made (x / 2 ^ 32 % 4) (x / 2 ^ 34) x
 
--- what exchanges come to: the bytes that are fed and sent, how many bytes are taken, and how many
+-- the results of exchanges: the bytes that are fed and sent, how many bytes are taken, and how many
 -- answers are payloads and how many errors
 pub record Counts : Type 0 where
   pub fed : List ℕ

@@ -3,8 +3,8 @@
 //!
 //! Its words say what to do. Its standard input is the script: one call or one diagnostic a line,
 //! or two lines of captured bytes; `make` reads none. It writes what each call sent and returned,
-//! what each diagnostic shows, what each captured exchange came to, or how many exchanges were made
-//! and what they came to. It ends with a status from 0 to 6, as `program::run` says.
+//! what each diagnostic shows, the outcome of each captured exchange, or how many exchanges were made
+//! and their results. It ends with a status from 0 to 6, as `program::run` says.
 #![tactic(auto)]
 
 mod auditing;

@@ -1,4 +1,4 @@
-//! Exchanges that are made from a number, and what they come to.
+//! Exchanges that are made from a number, and their results.
 ghost use Rattle.std.specs.Prelude.{◌≡◌, ◌+◌, ◌<◌, ◌++◌, ◌^◌, drop, length, IfOk, OnOk};
 ghost use Rattle.kmip_words.specs.Exchange.{settings_of, step};
 ghost use Rattle.kmip_run.specs.Making.{next_of, one_ok, one_error, counts_after, made_text};
@@ -134,7 +134,7 @@ fn show_tally(
     output.push_str(text.as_str())
 }
 
-/// Makes `count` exchanges, adds what they came to as five lines, and returns the status.
+/// Makes `count` exchanges, adds their results as five lines, and returns the status.
 pub fn make(
     alloc: Global,
     client: &mut Client<MemoryLink>,

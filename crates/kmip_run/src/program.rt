@@ -176,6 +176,8 @@ fn run_script<S: Source, K: Sink>(
         result ≢ 3 → result ≢ 4 → result ≢ 5 →
         Replays (script_transcript command (source_left (S.state source.old))) link.old link.new
         result (K.state sink.old).sent (K.state sink.new).sent }
+    ensures status { IsTrue (S.state source.old).tells → result ≢ 3 → result ≢ 4 → result ≢ 5 →
+        result ≡ (script_transcript command (source_left (S.state source.old))).status }
     ensures part { IsTrue (S.state source.old).tells → IsTrue (K.state sink.old).tells →
         (result ≡ 4) ⊎ (result ≡ 5) →
         WrotePart (K.state sink.old) (K.state sink.new)
@@ -277,7 +279,7 @@ pub fn run<S: Source, K: Sink>(
         (S.state source.new).pos ≡
         (S.state source.old).pos + read_by (command_of words.now)
         (length (source_left (S.state source.old))) }
-    ensures complete { IsTrue (S.state source.old).tells → IsTrue (K.state sink.old).tells →
+    ensures complete { IsTrue (S.state source.old).tells →
         (FaultCountRose (S.state source.old).faults (S.state source.new).faults → ⊥) →
         (FaultCountRose (K.state sink.old).faults (K.state sink.new).faults → ⊥) →
         IsOfGrammar words.now (source_left (S.state source.old)) →

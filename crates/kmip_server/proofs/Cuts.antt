@@ -1,45 +1,43 @@
 -- A call whose response has no wire form: its request is not sent whole, and the link keeps it.
-use Rattle.std.proofs.Common.{◌≡◌, ℕ, ℤ, pos, not, ◌+◌, ◌<◌, ◌≤◌, List, [], ◌∷◌, ◌++◌, length, take, drop, refl, ◌∙◌, ap, sym, subst, arith, Option, Some, None, Bool, true, false, cond, Result, Ok, Err, IsTrue, codes}
+use Rattle.std.proofs.Common.{◌≡◌, ℕ, ℤ, pos, not, ◌+◌, ◌<◌, List, [], ◌∷◌, ◌++◌, length, take, drop, refl, ◌∙◌, ap, sym, subst, arith, Option, Some, None, Bool, true, false, cond, Err, IsTrue, codes}
 use Rattle.std.proofs.Math.Seq.{drop-append_seam}
 use Rattle.kmip_shape.specs.Val.{Val, Vals, NoVal, AndVal}
-use Rattle.kmip_server.specs.Split.{IsMessage, Split, messages_in}
+use Rattle.kmip_server.specs.Split.{Split, messages_in}
 use Rattle.kmip_wire.specs.Tree.{Tree}
 use Rattle.kmip_request.specs.Message.{request_bytes, operation_of}
-use Rattle.kmip_request_read.specs.Reading.{request_read, request_for}
+use Rattle.kmip_request_read.specs.Reading.{request_read}
 use Rattle.kmip_response_write.specs.Settled.{response_bytes}
 use Rattle.kmip_wire.specs.Reading.{item_of}
 use Rattle.kmip_shape.specs.Reads.{root_read}
 use Rattle.kmip_enums.specs.declared.operation.Operation.{Operation}
-use Rattle.kmip_types.specs.declared.auth.CredentialType.{CredentialType}
 use Rattle.kmip_link.specs.State.{LinkState, left}
 use Rattle.kmip_enums.specs.ResultReasons.{result_reason_line}
 use Rattle.kmip_enums.specs.declared.result_status.ResultStatus.TheVariants.{OperationFailed, OperationPending, OperationUndone}
 use Rattle.kmip_enums.specs.declared.result_reason.ResultReason.TheVariants as reasons
 use Rattle.kmip_client.specs.Calls.{IsCall}
-use Rattle.kmip_client.specs.Check.{check_response, batch_count, batch_items, check_items, check_item, failure, payload_answer, is_number, has_status, has_operation, one_of, field_at, text_in, failed_text, mismatch_text, operation_shown}
-use Rattle.kmip_client.specs.Client.{ClientState, loses_connection, lacks_memory}
+use Rattle.kmip_client.specs.Check.{batch_count, batch_items, check_items, check_item, failure, payload_answer, is_number, has_status, has_operation, one_of, field_at, text_in, failed_text, mismatch_text, operation_shown}
+use Rattle.kmip_client.specs.Client.{ClientState, loses_connection}
 use Rattle.kmip_client.specs.Diagnostics.{IsRequestText, IsResponseText, diagnostic_of}
 use Rattle.kmip_client.specs.Message.{Message, message_at}
 use Rattle.kmip_response.specs.Tables.{response_message}
-use Rattle.kmip_client.specs.Outcome.{Answer, response_tag, Outcome, outcome_of, outcome, left_for, Moves, Exchanged, completed, write_failed, read_failed, sending_cut, reading_cut, answer_of, read_answer, tree_answer, value_answer}
+use Rattle.kmip_client.specs.Outcome.{Answer, response_tag, outcome_of, left_for, Moves, Exchanged, completed, write_failed, read_failed, sending_cut, reading_cut, answer_of, tree_answer, value_answer}
 use Rattle.kmip_client.specs.declared.error.Error.TheVariants.{RequestWriteError, InternalError, ServerError, ItemNotFound}
 use Rattle.kmip_store.specs.declared.call.Call.{Call}
 use Rattle.kmip_store.specs.declared.object.Object.{Object}
 use Rattle.kmip_store.specs.declared.maker.Made.{Made}
-use Rattle.kmip_store.specs.declared.maker.Asked.{Asked}
 use Rattle.kmip_store.specs.Makers.{MakerState}
-use Rattle.kmip_server_core.specs.Answering.{list_of_option}
+use Rattle.std.specs.Option.{option_to_list}
 use Rattle.kmip_server_core.specs.Served.{Served, served, served_request, asks, asks_request}
 use Rattle.kmip_server_core.specs.Requests.{request_of}
 use Rattle.kmip_server.specs.Machine.{Run, first_for, rest_for, then_bytes, serve, fresh, run_of}
-use Rattle.kmip_server.specs.Serving.{AreHeld}
-use Rattle.kmip_server.specs.Joined.{Settings, Between, CallTold, IsReadBack, Next, next, helper_answer, IsUnsent}
-use Rattle.kmip_server.specs.Link.{ServerLinkState, server_link_state, IsCut, IsKnown, IsOpen}
-use Rattle.kmip_server.specs.Came.{between, standing, Agrees, WasCut, IsCalled, IsRequestOf, fails_writing}
-use Rattle.kmip_server.specs.Calls.{settings_of}
+use Rattle.kmip_server.specs.Serving.{AreResponsesHeld}
+use Rattle.kmip_server.specs.Joined.{CallSettings, JoinedReport, IsReadBack, next, helper_answer, IsUnsent}
+use Rattle.kmip_server.specs.Link.{ServerLinkState, server_link_state, IsCut, LinkFacts, IsOpen}
+use Rattle.kmip_server.specs.OneCall.{between, CutCall, CallEffect, IsRequestOf, fails_writing}
+use Rattle.kmip_server.specs.Calls.{call_settings}
 use Rattle.kmip_server.proofs.Splits.{with_begun, split_part}
 use Rattle.kmip_server.proofs.Frames.{AreMessages, same_frames, response_to, run_framed, serve_ever, serve_given, serve_asked}
-use Rattle.kmip_server.proofs.Steps.{IsReady, next_unformed, after_bytes, same_next, same_between}
+use Rattle.kmip_server.proofs.Steps.{IsReady, next_unformed, same_next, same_between}
 use Rattle.kmip_server.proofs.Opened.{AreRequests, code_told, ready_of, time_same, tells_same}
 
 -- ---- only a link answers that a request was not sent
@@ -151,7 +149,7 @@ append_none (x ∷ xs) = ap (λ l. x ∷ l) (append_none xs)
 
 -- ---- the call
 
-unsent_of : (settings : Settings) (call : Call) (before after : LinkState) (answer : Answer) (a b : Option (List ℕ)) (request : Option (List ℕ)) (broke : Broke request before after answer) →
+unsent_of : (settings : CallSettings) (call : Call) (before after : LinkState) (answer : Answer) (a b : Option (List ℕ)) (request : Option (List ℕ)) (broke : Broke request before after answer) →
     IsRequestText settings.buffered request answer a → ((taken : List ℕ) → IsResponseText settings.buffered taken answer b → b ≡ None) → (taken : List ℕ) → IsResponseText settings.buffered taken answer b →
     (answer ≡ Err (RequestWriteError (codes "link failed")) → a ≡ diagnostic_of settings.buffered request) →
     IsUnsent settings broke.bytes (code_told before after (helper_answer call answer) a b)
@@ -165,16 +163,16 @@ unsent_of settings call before after answer a b request broke p none taken q tex
 }
 
 request_text_is : (buffered : Bool) (request : Option (List ℕ)) (answer : Answer) (a : Option (List ℕ)) → IsRequestText buffered request answer a → answer ≡ Err (RequestWriteError (codes "link failed")) → a ≡ diagnostic_of buffered request
-request_text_is buffered request answer a p is = let p' : IsRequestText {A = Val} buffered request (Err (RequestWriteError (codes "link failed"))) a = subst (λ (x : Answer). IsRequestText {A = Val} buffered request x a) is p in p'
+request_text_is buffered request answer a p is = let p' : IsRequestText {A = Val} buffered request (Err (RequestWriteError (codes "link failed"))) a = subst (λ (x : Answer). IsRequestText buffered request x a) is p in p'
 
 response_text_is : (buffered : Bool) (answer : Answer) (b : Option (List ℕ)) → answer ≡ Err (RequestWriteError (codes "link failed")) → (taken : List ℕ) → IsResponseText buffered taken answer b → b ≡ None
-response_text_is buffered answer b is taken q = let q' : IsResponseText {A = Val} buffered taken (Err (RequestWriteError (codes "link failed"))) b = subst (λ (x : Answer). IsResponseText {A = Val} buffered taken x b) is q in q'
+response_text_is buffered answer b is taken q = let q' : IsResponseText {A = Val} buffered taken (Err (RequestWriteError (codes "link failed"))) b = subst (λ (x : Answer). IsResponseText buffered taken x b) is q in q'
 
 -- what serving came to before the message that was kept
-pub cut_of : AreMessages → AreRequests → {M : Type 0} (state : M → MakerState) (settings : Settings) (call : Call) (before : LinkState) (after : ServerLinkState M) (told : CallTold) (b : List ℕ) (n : ℕ) →
+pub cut_of : AreMessages → AreRequests → {M : Type 0} (state : M → MakerState) (settings : CallSettings) (call : Call) (before : LinkState) (after : ServerLinkState M) (told : JoinedReport) (b : List ℕ) (n : ℕ) →
     request_bytes (request_of call) settings.credential ≡ Some b → IsReadBack call settings.credential → n < length b → Moves before (server_link_state state after) (take n b) 0 → IsReady settings.time before →
     0 < after.faults → IsRequestOf call after.kept → IsCut settings.time after.server.objects (state after.server.maker) after.ever after.sent after.kept → IsUnsent settings b told →
-    WasCut state settings call before after told
+    CutCall state settings call before after told
 cut_of responses requests state settings call before after told b n valid reads part moves ready faults kept_is cut unsent =
     let t : ℤ = settings.time in
     let given : List Made = (state after.server.maker).given in
@@ -195,14 +193,14 @@ cut_of responses requests state settings call before after told b n valid reads 
     let asked_same : asks run.objects after.kept ≡ asks run.objects b = asks_same run.objects b after.kept reads_same in
     let givens : rest_for (asks run.objects b) run.given ≡ [] =
     ap (λ q. rest_for q run.given) (sym asked_same) ∙ sym (serve_given t run after.kept) ∙ ap (λ (r : Run). (serve t r after.kept).given) (sym runs) ∙ cut.given in
-    let askeds : run.asked ++ list_of_option (asks run.objects b) ≡ (state after.server.maker).asked =
-    ap (λ q. run.asked ++ list_of_option q) (sym asked_same) ∙ sym (serve_asked t run after.kept) ∙ ap (λ (r : Run). (serve t r after.kept).asked) (sym runs) ∙ cut.asked in
+    let askeds : run.asked ++ option_to_list (asks run.objects b) ≡ (state after.server.maker).asked =
+    ap (λ q. run.asked ++ option_to_list q) (sym asked_same) ∙ sym (serve_asked t run after.kept) ∙ ap (λ (r : Run). (serve t r after.kept).asked) (sym runs) ∙ cut.asked in
     let objects : run.objects ≡ after.server.objects = ap (λ (r : Run). r.objects) (sym runs) ∙ cut.objects_are in
     let stays : after.pos ≡ before.pos = let e : after.pos ≡ before.pos + 0 = moves.pos in omega (arith, e) in
     let rest : left before ≡ left (server_link_state state after) = ap (λ l. drop before.pos l) same ∙ ap (λ p. drop p after.ever) (sym stays) in
     record {
       faults = faults;
-      agrees = record { ever = ever ∙ ap Some (sym same); held = subst (AreHeld t (fresh given)) wholes cut.held };
+      agrees = record { ever = ever ∙ ap Some (sym same); held = subst (AreResponsesHeld t (fresh given)) wholes cut.held };
       request = b;
       next_is = next_unformed settings (between t given before) call b valid none
           ∙ same_next _ _ _ _ _ _ refl refl (same_between _ _ _ _ _ _ _ _ objects givens askeds rest);
@@ -218,12 +216,12 @@ cut_of responses requests state settings call before after told b n valid reads 
 
 pub cut_called : AreMessages → AreRequests → {M : Type 0} (state : M → MakerState) (before after : ClientState (ServerLinkState M)) (call : Call) (answer : Answer) →
     IsReadBack call before.credential →
-    IsCall (server_link_state state) (request_of call) before after answer → fails_writing answer ≡ true → IsOpen state before.link → IsKnown state before.link → IsKnown state after.link →
+    IsCall (server_link_state state) (request_of call) before after answer → fails_writing answer ≡ true → IsOpen state before.link → LinkFacts state before.link → LinkFacts state after.link →
     after.link.starved ≡ false → 0 < after.link.faults → IsRequestOf call after.link.kept →
-    IsCalled state (settings_of before) call before.link after.link
+    CallEffect state (call_settings before) call before.link after.link
     (code_told (server_link_state state before.link) (server_link_state state after.link) (helper_answer call answer) after.request_text after.response_text) (loses_connection answer)
 cut_called responses requests state before after call answer reads is_call so opened known known' fed faults kept_is =
-    let settings : Settings = settings_of before in
+    let settings : CallSettings = call_settings before in
     let lb : LinkState = server_link_state state before.link in
     let la : LinkState = server_link_state state after.link in
     let request : Option (List ℕ) = request_bytes (request_of call) before.credential in
@@ -234,5 +232,5 @@ cut_called responses requests state before after call answer reads is_call so op
     let unsent : IsUnsent settings broke.bytes (code_told lb la (helper_answer call answer) after.request_text after.response_text) =
     unsent_of settings call lb la answer after.request_text after.response_text request broke is_call.request_text (response_text_is before.buffered answer after.response_text broke.answer_is) _ (is_call.response_text refl)
     (request_text_is before.buffered request answer after.request_text is_call.request_text) in
-    IsCalled.was_cut (ap loses_connection broke.answer_is)
+    CallEffect.cut_short (ap loses_connection broke.answer_is)
     (cut_of responses requests state settings call lb after.link _ broke.bytes broke.n broke.valid reads broke.part broke.moves (ready_of state before.link opened known) faults kept_is cut unsent)

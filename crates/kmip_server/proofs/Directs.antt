@@ -1,44 +1,42 @@
 -- What is expected of calls over a server that starts with nothing to read is what the object map answers.
-use Rattle.std.proofs.Common.{◌≡◌, ℕ, ℤ, ◌+◌, ◌<◌, List, [], ◌∷◌, ◌++◌, length, take, drop, map, refl, ◌∙◌, ap, sym, subst, arith, Option, Some, None, Bool, true, false, cond, Result, Ok, Err}
+use Rattle.std.proofs.Common.{◌≡◌, ℕ, ℤ, List, [], ◌∷◌, ◌++◌, drop, map, refl, ◌∙◌, ap, sym, subst, Option, Some, None, true, false, Result, Ok, Err}
 use Rattle.std.specs.Prelude.{IfOk}
 use Rattle.std.proofs.Math.Seq.{drop-length}
 use Rattle.kmip_response.specs.Values.{response_message_val}
-use Rattle.kmip_request_read.specs.Reading.{Request, request_read, request_for, minor_for}
-use Rattle.kmip_server.specs.Split.{IsMessage}
+use Rattle.kmip_request_read.specs.Reading.{request_read, request_for}
 use Rattle.kmip_server.proofs.Responses.{AreReadBack, ReadsBack, reads_back}
 use Rattle.kmip_server.proofs.Readings.{answer_is, taken_is}
-use Rattle.kmip_request.specs.Fits.{FitsRequest}
 use Rattle.kmip_response_write.specs.Settled.{IsHeld as IsHeldResponse, IsSettled, response_bytes}
-use Rattle.kmip_request_read.specs.Matched.{IsMatched}
-use Rattle.kmip_request.specs.Message.{request_bytes, operation_of}
-use Rattle.kmip_types.specs.declared.auth.CredentialType.{CredentialType}
-use Rattle.kmip_request.specs.declared.payload.RequestPayload.{RequestPayload}
+use Rattle.kmip_request.specs.Message.{operation_of}
 use Rattle.kmip_response.specs.declared.message.ResponseMessage.{ResponseMessage}
 use Rattle.kmip_client.specs.Check.{check_response, check_item}
-use Rattle.kmip_client.specs.Client.{loses_connection}
-use Rattle.kmip_client.specs.Outcome.{Answer, answer_of, outcome_of}
-use Rattle.kmip_client.specs.Message.{message_at}
+use Rattle.kmip_client.specs.Client.{ClientState, loses_connection, count_after}
+use Rattle.kmip_client.specs.Outcome.{Answer}
 use Rattle.kmip_store.specs.declared.call.Call.{Call}
 use Rattle.kmip_store.specs.declared.call.Call.TheVariants.{Query, CreateRsaKeyPair, RngRetrieve, Sign, ActivateKey, RevokeKey, DestroyKey, RenameKey, GetKey}
 use Rattle.kmip_store.specs.declared.object.Object.{Object}
 use Rattle.kmip_store.specs.declared.maker.Made.{Made}
 use Rattle.kmip_store.specs.declared.maker.Asked.{Asked}
-use Rattle.kmip_server_core.specs.Answering.{list_of_option}
+use Rattle.std.specs.Option.{option_to_list}
 use Rattle.kmip_store.specs.Steps.{Answer as Reply, NotFound, Denied, Failed, Done, Supports, Created, Random, Signed, Got, question, step}
-use Rattle.kmip_server_core.specs.Served.{Served, served_call, served_request, asks_request, served, asks}
+use Rattle.kmip_server_core.specs.Served.{Served, served_call, served, asks}
 use Rattle.kmip_server_core.specs.Requests.{request_of, call_of, is_served, call_operation}
 use Rattle.kmip_response.specs.declared.batch_item.BatchItem.{BatchItem}
 use Rattle.kmip_response.specs.declared.payload.ResponsePayload.{ResponsePayload}
 use Rattle.kmip_server_core.specs.Items.{payload_for, done_item, item_for, message_with}
 use Rattle.kmip_server.specs.Machine.{first_for, rest_for}
-use Rattle.kmip_server.specs.Joined.{Settings, Between, CallTold, Expected, AsTold, Next, IsHeldNext, Unless, AreHeldNext, helper_answer, turn_call_told, turn_with, next_with, next, expected_calls, Meets, Meet, finish, has_unsent}
-use Rattle.kmip_server.specs.Direct.{done_answer, reply_answer, direct, IsWithin, OneFits, AllFit, answers_of}
+use Rattle.kmip_server.specs.Joined.{CallSettings, Between, JoinedReport, Reported, Next, IsHeldNext, Unless, AreHeldNext, helper_answer, joined_report, turn_with, next, expected_calls, ReportsMatch, finish, last_is_lost}
+use Rattle.kmip_server.specs.Direct.{done_answer, reply_answer, direct, answered_calls, OneFits, AllFit, answers_of}
 use Rattle.kmip_server.proofs.Steps.{after_bytes, next_formed, same_next, same_between}
 use Rattle.kmip_client.specs.declared.error.Error.{Error}
 use Rattle.kmip_store.specs.Makers.{MakerState}
+use Rattle.kmip_store.specs.Runs.{objects_after}
+use Rattle.kmip_server.proofs.Going.{finish_cons, finish_end, between_new, open_new}
+use Rattle.kmip_server.proofs.Chain.{ran_texts, ran_requests}
 use Rattle.kmip_server.specs.Link.{ServerLinkState, server_link_state, IsOpen}
-use Rattle.kmip_server.specs.Came.{between, standing, IsEnded}
-use Rattle.kmip_server.specs.Calls.{call_told}
+use Rattle.kmip_server.specs.OneCall.{between, CallsEnd}
+use Rattle.kmip_server.specs.Calls.{report_of, call_settings}
+use Rattle.kmip_server.specs.Session.{CallsRan, IsCallSession}
 use Rattle.kmip_server.specs.declared.answers.CallAnswer.{CallAnswer}
 
 -- what the crates below promise
@@ -134,13 +132,13 @@ abbrev starts : List Object → List Made → List Asked → Between
 starts objects given asked = record { objects = objects; given = given; asked = asked; rest = [] }
 
 -- what a call is told as, whose answer is the object map's
-record Own (settings : Settings) (objects : List Object) (given : List Made) (asked : List Asked) (call : Call) : Type 0 where
-  pub told : CallTold
+record Own (settings : CallSettings) (objects : List Object) (given : List Made) (asked : List Asked) (call : Call) : Type 0 where
+  pub told : JoinedReport
   pub answer : told.answer ≡ reply_answer call (step objects call (first_for (question objects call) given)).answer
   pub next_is : next settings (starts objects given asked) call ≡ record {
-    expected = AsTold told;
+    expected = Reported told;
     stops = false;
-    after = starts (step objects call (first_for (question objects call) given)).objects (rest_for (question objects call) given) (asked ++ list_of_option (question objects call));
+    after = starts (step objects call (first_for (question objects call) given)).objects (rest_for (question objects call) given) (asked ++ option_to_list (question objects call));
   }
 
 served_call_objects : (objects : List Object) (call : Call) (made : Option Made) (t : ℤ) → (served_call objects call made t).objects ≡ (step objects call made).objects
@@ -151,7 +149,7 @@ served_call_message : (objects : List Object) (call : Call) (made : Option Made)
 unfolding served_call
 served_call_message objects call made t = refl
 
-own_next : Laws → (settings : Settings) (objects : List Object) (given : List Made) (askeds : List Asked) (call : Call) → OneFits settings objects call (first_for (question objects call) given) →
+own_next : Laws → (settings : CallSettings) (objects : List Object) (given : List Made) (askeds : List Asked) (call : Call) → OneFits settings objects call (first_for (question objects call) given) →
     IsHeldNext settings (starts objects given askeds) call → Own settings objects given askeds call
 own_next laws settings objects given askeds call fits held =
     let t : ℤ = settings.time in
@@ -176,91 +174,109 @@ own_next laws settings objects given askeds call fits held =
     let rests : drop turn.outcome.taken r ≡ [] = ap (λ n. drop n r) (taken_is r settings.limit m back fits.within) ∙ drop-length r in
     let objects_is : (after_bytes settings now b).objects ≡ (step objects call made).objects = ap (λ (s : Served). s.objects) is_served_so ∙ served_call_objects objects call made t in
     let given_is : (after_bytes settings now b).given ≡ rest_for (question objects call) given = ap (λ q. rest_for q given) asked in
-    let asked_is : (after_bytes settings now b).asked ≡ askeds ++ list_of_option (question objects call) = ap (λ q. askeds ++ list_of_option q) asked in
+    let asked_is : (after_bytes settings now b).asked ≡ askeds ++ option_to_list (question objects call) = ap (λ q. askeds ++ option_to_list q) asked in
     record {
-      told = turn_call_told settings call turn;
+      told = joined_report settings call turn;
       answer = helped_is;
       next_is = next_formed settings now call b r fits.valid formed ∙ same_next _ _ _ _ _ _ refl stops (same_between _ _ _ _ _ _ _ _ objects_is given_is asked_is rests);
     }
 
 -- ---- all calls
 
-expected_on : (settings : Settings) (now : Between) (call : Call) (calls : List Call) (told : CallTold) (after : Between) → next settings now call ≡ record { expected = AsTold told; stops = false; after = after } →
-    expected_calls settings now (call ∷ calls) ≡ AsTold told ∷ expected_calls settings after calls
+expected_on : (settings : CallSettings) (now : Between) (call : Call) (calls : List Call) (told : JoinedReport) (after : Between) → next settings now call ≡ record { expected = Reported told; stops = false; after = after } →
+    expected_calls settings now (call ∷ calls) ≡ Reported told ∷ expected_calls settings after calls
 unfolding expected_calls
 expected_on settings now call calls told after e = rw e refl
 
-expected_end : (settings : Settings) (now : Between) → expected_calls settings now [] ≡ []
+expected_end : (settings : CallSettings) (now : Between) → expected_calls settings now [] ≡ []
 unfolding expected_calls
 expected_end settings now = refl
 
-held_first : (settings : Settings) (now : Between) (call : Call) (calls : List Call) → AreHeldNext settings now (call ∷ calls) → IsHeldNext settings now call
+held_first : (settings : CallSettings) (now : Between) (call : Call) (calls : List Call) → AreHeldNext settings now (call ∷ calls) → IsHeldNext settings now call
 unfolding AreHeldNext
 held_first settings now call calls held = held.0
 
-held_later : (settings : Settings) (now : Between) (call : Call) (calls : List Call) (told : CallTold) (after : Between) → next settings now call ≡ record { expected = AsTold told; stops = false; after = after } →
+held_later : (settings : CallSettings) (now : Between) (call : Call) (calls : List Call) (told : JoinedReport) (after : Between) → next settings now call ≡ record { expected = Reported told; stops = false; after = after } →
     AreHeldNext settings now (call ∷ calls) → AreHeldNext settings after calls
 unfolding AreHeldNext
 held_later settings now call calls told after e held = let later : Unless (next settings now call).stops (AreHeldNext settings (next settings now call).after calls) = held.1 in
     subst (λ (n : Next). Unless n.stops (AreHeldNext settings n.after calls)) e later
 
 -- Client and server joined answer as the object map.
-pub joined_is_direct : Laws → (settings : Settings) (objects : List Object) (given : List Made) (asked : List Asked) (calls : List Call) (xs : List CallTold) → AllFit settings objects given calls →
-    AreHeldNext settings (starts objects given asked) calls → Meet settings (expected_calls settings (starts objects given asked) calls) xs → answers_of xs ≡ direct objects given calls
-joined_is_direct laws settings objects given asked [] xs fit held meet = go xs (subst (λ es. Meet settings es xs) (expected_end settings _) meet)
+pub joined_is_direct : Laws → (settings : CallSettings) (objects : List Object) (given : List Made) (asked : List Asked) (calls : List Call) (xs : List JoinedReport) → AllFit settings objects given calls →
+    AreHeldNext settings (starts objects given asked) calls → ReportsMatch settings (expected_calls settings (starts objects given asked) calls) xs → answers_of xs ≡ direct objects given calls
+joined_is_direct laws settings objects given asked [] xs fit held meet = go xs (subst (λ es. ReportsMatch settings es xs) (expected_end settings _) meet)
   where
-    go : (ys : List CallTold) → Meet settings [] ys → answers_of ys ≡ []
+    go : (ys : List JoinedReport) → ReportsMatch settings [] ys → answers_of ys ≡ []
     go [] m = refl
     go (y ∷ ys) m = absurd m
 joined_is_direct laws settings objects given asked (call ∷ calls) xs fit held meet =
-    go (λ ys m. joined_is_direct laws settings (step objects call (first_for (question objects call) given)).objects (rest_for (question objects call) given) (asked ++ list_of_option (question objects call)) calls ys fit.1
+    go (λ ys m. joined_is_direct laws settings (step objects call (first_for (question objects call) given)).objects (rest_for (question objects call) given) (asked ++ option_to_list (question objects call)) calls ys fit.1
     (held_later settings _ call calls own.told _ own.next_is held) m)
-    xs (subst (λ es. Meet settings es xs) (expected_on settings _ call calls own.told _ own.next_is) meet)
+    xs (subst (λ es. ReportsMatch settings es xs) (expected_on settings _ call calls own.told _ own.next_is) meet)
   where
     own : Own settings objects given asked call
     own = own_next laws settings objects given asked call fit.0 (held_first settings _ call calls held)
 
-    go : ((ys : List CallTold) → Meet settings (expected_calls settings (starts (step objects call (first_for (question objects call) given)).objects (rest_for (question objects call) given) (asked ++ list_of_option (question objects call))) calls) ys →
+    go : ((ys : List JoinedReport) → ReportsMatch settings (expected_calls settings (starts (step objects call (first_for (question objects call) given)).objects (rest_for (question objects call) given) (asked ++ option_to_list (question objects call))) calls) ys →
         answers_of ys ≡ direct (step objects call (first_for (question objects call) given)).objects (rest_for (question objects call) given) calls) →
-        (ys : List CallTold) → Meet settings (AsTold own.told ∷ expected_calls settings (starts (step objects call (first_for (question objects call) given)).objects (rest_for (question objects call) given) (asked ++ list_of_option (question objects call))) calls) ys →
+        (ys : List JoinedReport) → ReportsMatch settings (Reported own.told ∷ expected_calls settings (starts (step objects call (first_for (question objects call) given)).objects (rest_for (question objects call) given) (asked ++ option_to_list (question objects call))) calls) ys →
         answers_of ys ≡ direct objects given (call ∷ calls)
     go hypothesis [] m = absurd m
     go hypothesis (y ∷ ys) m =
-        let first : y.answer ≡ reply_answer call (step objects call (first_for (question objects call) given)).answer = ap (λ (x : CallTold). x.answer) m.0 ∙ own.answer in
+        let first : y.answer ≡ reply_answer call (step objects call (first_for (question objects call) given)).answer = ap (λ (x : JoinedReport). x.answer) m.0 ∙ own.answer in
         let later = hypothesis ys m.1 in
         ap (λ a. a ∷ answers_of ys) first ∙ ap (λ as'. reply_answer call (step objects call (first_for (question objects call) given)).answer ∷ as') later
 
 -- over a link that was just made
-pub direct_new : Laws → (settings : Settings) (now : Between) (given : List Made) (calls : List Call) (xs : List CallTold) → now ≡ record { objects = []; given = given; asked = []; rest = [] } → AllFit settings [] given calls →
-    AreHeldNext settings now calls → Meet settings (expected_calls settings now calls) xs → answers_of xs ≡ direct [] given calls
+pub direct_new : Laws → (settings : CallSettings) (now : Between) (given : List Made) (calls : List Call) (xs : List JoinedReport) → now ≡ record { objects = []; given = given; asked = []; rest = [] } → AllFit settings [] given calls →
+    AreHeldNext settings now calls → ReportsMatch settings (expected_calls settings now calls) xs → answers_of xs ≡ direct [] given calls
 direct_new laws settings now given calls xs is fit held meet =
-    joined_is_direct laws settings [] given [] calls xs fit (subst (λ n. AreHeldNext settings n calls) is held) (subst (λ n. Meet settings (expected_calls settings n calls) xs) is meet)
+    joined_is_direct laws settings [] given [] calls xs fit (subst (λ n. AreHeldNext settings n calls) is held) (subst (λ n. ReportsMatch settings (expected_calls settings n calls) xs) is meet)
 
-pub if_ok : {A E : Type 0} (P Q : A → Type 0) (r : Result A E) → ((x : A) → P x → Q x) → IfOk r P → IfOk r Q
-if_ok P Q (Ok x) on h = on x h
-if_ok P Q (Err e) on h = h
+-- the objects are those of the object map too
+objects_are_direct : Laws → (settings : CallSettings) (objects : List Object) (given : List Made) (asked : List Asked) (calls : List Call) → AllFit settings objects given calls →
+    AreHeldNext settings (starts objects given asked) calls → (finish settings (starts objects given asked) calls).objects ≡ objects_after objects (answered_calls objects given calls)
+objects_are_direct laws settings objects given asked [] fit held = ap (λ (b : Between). b.objects) (finish_end settings (starts objects given asked))
+objects_are_direct laws settings objects given asked (call ∷ calls) fit held =
+    let own : Own settings objects given asked call = own_next laws settings objects given asked call fit.0 (held_first settings _ call calls held) in
+    ap (λ (b : Between). b.objects) (finish_cons settings _ call calls (Reported own.told) false _ own.next_is)
+    ∙ objects_are_direct laws settings (step objects call (first_for (question objects call) given)).objects (rest_for (question objects call) given) (asked ++ option_to_list (question objects call)) calls fit.1
+    (held_later settings _ call calls own.told _ own.next_is held)
 
--- ---- the clauses of the calls, one by one
+objects_new : Laws → (settings : CallSettings) (now : Between) (given : List Made) (calls : List Call) → now ≡ record { objects = []; given = given; asked = []; rest = [] } → AllFit settings [] given calls →
+    AreHeldNext settings now calls → (finish settings now calls).objects ≡ objects_after [] (answered_calls [] given calls)
+objects_new laws settings now given calls is fit held =
+    ap (λ n. (finish settings n calls).objects) is ∙ objects_are_direct laws settings [] given [] calls fit (subst (λ n. AreHeldNext settings n calls) is held)
 
-abbrev pub Ends : {M : Type 0} → (M → MakerState) → Settings → ServerLinkState M → ServerLinkState M → List Call → Result (List CallAnswer) Error → Type 0
-Ends state settings before after calls result = IfOk result (λ answers. IsOpen state before → IsEnded state settings (server_link_state state before) after calls (map call_told answers))
+-- ---- all that is promised of calls
 
-pub meets_of : {M : Type 0} (state : M → MakerState) (settings : Settings) (before after : ServerLinkState M) (calls : List Call) (result : Result (List CallAnswer) Error) → Ends state settings before after calls result →
-    IfOk result (λ answers. IsOpen state before → Meet settings (expected_calls settings (between settings.time (state after.server.maker).given (server_link_state state before)) calls) (map call_told answers))
-meets_of state settings before after calls (Ok answers) h = λ opened. (h opened).meet
-meets_of state settings before after calls (Err error) h = h
+session_of : Laws → {M : Type 0} (state : M → MakerState) (calls : List Call) (before after : ClientState (ServerLinkState M)) (reports : List CallAnswer) → CallsRan state calls before reports after →
+    (IsOpen state before.link → CallsEnd state (call_settings before) (server_link_state state before.link) after.link calls (map report_of reports)) →
+    after.errors ≡ count_after before.errors (last_is_lost (map report_of reports)) → IsCallSession state calls before after reports
+session_of laws state calls before after reports ran ended count =
+    let settings : CallSettings = call_settings before in
+    let given : List Made = (state after.link.server.maker).given in
+    let now : Between = between before.link.server.time given (server_link_state state before.link) in
+    record {
+      ran = ran;
+      texts = ran_texts ran;
+      requests = ran_requests state before.buffered before.credential refl refl ran;
+      count = count;
+      joined = λ opened. (ended opened).meet;
+      finished = λ opened. (ended opened).ends;
+      opened = λ opened. (ended opened).opened;
+      faulted = λ opened. (ended opened).faulted;
+      direct_answers = λ new fit.
+          let end = ended (open_new state before.link new) in
+          direct_new laws settings now given calls (map report_of reports) (between_new before.link.server.time given (server_link_state state before.link) new.sent new.ever new.pos) fit end.held end.meet;
+      direct_objects = λ new fit.
+          let end = ended (open_new state before.link new) in
+          ap (λ (b : Between). b.objects) end.ends ∙ objects_new laws settings now given calls (between_new before.link.server.time given (server_link_state state before.link) new.sent new.ever new.pos) fit end.held;
+    }
 
-pub ends_of : {M : Type 0} (state : M → MakerState) (settings : Settings) (before after : ServerLinkState M) (calls : List Call) (result : Result (List CallAnswer) Error) → Ends state settings before after calls result →
-    IfOk result (λ answers. IsOpen state before → standing state after ≡ finish settings (between settings.time (state after.server.maker).given (server_link_state state before)) calls)
-ends_of state settings before after calls (Ok answers) h = λ opened. (h opened).ends
-ends_of state settings before after calls (Err error) h = h
-
-pub opened_of : {M : Type 0} (state : M → MakerState) (settings : Settings) (before after : ServerLinkState M) (calls : List Call) (result : Result (List CallAnswer) Error) → Ends state settings before after calls result →
-    IfOk result (λ answers. IsOpen state before → has_unsent (expected_calls settings (between settings.time (state after.server.maker).given (server_link_state state before)) calls) ≡ false → IsOpen state after)
-opened_of state settings before after calls (Ok answers) h = λ opened. (h opened).opened
-opened_of state settings before after calls (Err error) h = h
-
-pub faulted_of : {M : Type 0} (state : M → MakerState) (settings : Settings) (before after : ServerLinkState M) (calls : List Call) (result : Result (List CallAnswer) Error) → Ends state settings before after calls result →
-    IfOk result (λ answers. IsOpen state before → has_unsent (expected_calls settings (between settings.time (state after.server.maker).given (server_link_state state before)) calls) ≡ true → 0 < after.faults)
-faulted_of state settings before after calls (Ok answers) h = λ opened. (h opened).faulted
-faulted_of state settings before after calls (Err error) h = h
+pub session_if : Laws → {M : Type 0} (state : M → MakerState) (calls : List Call) (before after : ClientState (ServerLinkState M)) (result : Result (List CallAnswer) Error) → IfOk result (λ reports. CallsRan state calls before reports after) →
+    IfOk result (λ reports. IsOpen state before.link → CallsEnd state (call_settings before) (server_link_state state before.link) after.link calls (map report_of reports)) →
+    IfOk result (λ reports. after.errors ≡ count_after before.errors (last_is_lost (map report_of reports))) → IfOk result (λ reports. IsCallSession state calls before after reports)
+session_if laws state calls before after (Ok reports) ran ended count = session_of laws state calls before after reports ran ended count
+session_if laws state calls before after (Err error) ran ended count = ran

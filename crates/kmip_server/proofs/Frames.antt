@@ -1,16 +1,16 @@
 -- Responses are messages: so many of them at the front of some bytes are found in one way.
-use Rattle.std.proofs.Common.{◌≡◌, ℕ, ℤ, ◌+◌, ◌<◌, ◌≤◌, zero, suc, List, [], ◌∷◌, ◌++◌, length, take, drop, refl, ◌∙◌, ap, sym, subst, arith, append_assoc, Option, Some, None, add_assoc}
+use Rattle.std.proofs.Common.{◌≡◌, ℕ, ℤ, ◌+◌, zero, suc, List, [], ◌∷◌, ◌++◌, length, take, refl, ◌∙◌, ap, sym, subst, arith, append_assoc, Option, Some, None}
 use Rattle.std.specs.List.{fold}
 use Rattle.std.proofs.Math.Seq.{take-append_seam}
-use Rattle.std.proofs.lemmas.List.{length-append, append_cancel_left}
+use Rattle.std.proofs.lemmas.List.{append_cancel_left}
 use Rattle.std.proofs.lemmas.List.Sums.{fold-append}
 use Rattle.kmip_wire.specs.Head.{head_length}
 use Rattle.kmip_server.specs.Split.{IsMessage}
 use Rattle.kmip_response_write.specs.Settled.{response_bytes}
 use Rattle.kmip_response.specs.declared.message.ResponseMessage.{ResponseMessage}
 use Rattle.kmip_store.specs.declared.maker.Made.{Made}
-use Rattle.kmip_server_core.specs.Answering.{list_of_option}
-use Rattle.kmip_server_core.specs.Served.{Served, served, asks}
+use Rattle.std.specs.Option.{option_to_list}
+use Rattle.kmip_server_core.specs.Served.{served, asks}
 use Rattle.kmip_server.specs.Machine.{Run, first_for, rest_for, then_bytes, serve, fresh, run_of}
 use Rattle.kmip_server.proofs.Splits.{head_same}
 
@@ -80,7 +80,7 @@ pub serve_given : (t : ℤ) (run : Run) (b : List ℕ) → (serve t run b).given
 unfolding serve
 serve_given t run b = refl
 
-pub serve_asked : (t : ℤ) (run : Run) (b : List ℕ) → (serve t run b).asked ≡ run.asked ++ list_of_option (asks run.objects b)
+pub serve_asked : (t : ℤ) (run : Run) (b : List ℕ) → (serve t run b).asked ≡ run.asked ++ option_to_list (asks run.objects b)
 unfolding serve
 serve_asked t run b = refl
 

@@ -6,10 +6,11 @@ pub mod Responses
 pub mod Readings
 pub mod Directs
 pub mod Asked
-pub mod Takes
+pub mod Cutting
 pub mod Accepts
 pub mod Opened
 pub mod Cuts
 pub mod Going
 pub mod ReadBack
 pub mod Ones
+pub mod Chain

@@ -1,21 +1,19 @@
 -- A response that has a wire form within the limit is the message that a client takes, and answers what it says.
-use Rattle.std.proofs.Common.{◌≡◌, ℕ, ℤ, ◌+◌, ◌<◌, ◌≤◌, List, [], ◌∷◌, ◌++◌, length, take, drop, refl, ◌∙◌, ap, sym, subst, arith, Option, Some, None, Bool, true, false, cond, get_or, Ok, Err, le-ltb}
-use Rattle.std.specs.Prelude.{nat_lt, ◌==◌}
+use Rattle.std.proofs.Common.{◌≡◌, ℕ, ◌+◌, ◌≤◌, List, length, take, drop, refl, ◌∙◌, ap, sym, arith, Option, Some, None, false, Ok, le-ltb}
+use Rattle.std.specs.Prelude.{nat_lt}
 use Rattle.std.proofs.Math.ListN.{get_or-append}
-use Rattle.std.proofs.Math.Seq.{take-length, drop-length}
+use Rattle.std.proofs.Math.Seq.{take-length}
 use Rattle.std.proofs.lemmas.List.{take-append-drop, length-take-le}
-use Rattle.std.proofs.lemmas.Bool.Decides.{nat_tests}
-use Rattle.kmip_shape.specs.Val.{Val}
 use Rattle.kmip_response.specs.Values.{response_message_val}
 use Rattle.kmip_wire.specs.Head.{head_code, head_length}
 use Rattle.kmip_wire.specs.Heads.{head_says, within}
 use Rattle.kmip_server.specs.Split.{IsMessage}
 use Rattle.kmip_enums.specs.declared.operation.Operation.{Operation}
 use Rattle.kmip_response.specs.declared.message.ResponseMessage.{ResponseMessage}
-use Rattle.kmip_client.specs.Message.{Message, Whole, message_at, message_by, taken_for}
-use Rattle.kmip_client.specs.Outcome.{Answer, answer_of, read_answer, tree_answer, value_answer}
+use Rattle.kmip_client.specs.Message.{Whole, message_at, taken_for}
+use Rattle.kmip_client.specs.Outcome.{answer_of, tree_answer, value_answer}
 use Rattle.kmip_client.specs.Check.{check_response}
-use Rattle.kmip_server.specs.Direct.{IsWithin}
+use Rattle.kmip_server.specs.Direct.{IsWithinLimit}
 use Rattle.kmip_server.proofs.Splits.{head_same}
 use Rattle.kmip_server.proofs.Responses.{ReadsBack}
 
@@ -29,11 +27,11 @@ length_same b h =
     let l : length (take 8 b) ≡ 8 = length-take-le 8 b h in
     sym (head_same (take 8 b) (drop 8 b) (omega arith)) ∙ ap head_length (take-append-drop 8 b)
 
-within_says : (n : ℕ) (limit : Option ℕ) (b : List ℕ) → length b ≡ 8 + n → IsWithin limit b → within n limit ≡ Ok n
+within_says : (n : ℕ) (limit : Option ℕ) (b : List ℕ) → length b ≡ 8 + n → IsWithinLimit limit b → within n limit ≡ Ok n
 within_says n None b size h = refl
 within_says n (Some limit) b size h = rw (le-ltb limit (n + 8) (omega arith)) refl
 
-pub whole_is : (b : List ℕ) (limit : Option ℕ) → IsMessage b → head_code b ≡ 1 → IsWithin limit b → message_at b limit ≡ Whole b
+pub whole_is : (b : List ℕ) (limit : Option ℕ) → IsMessage b → head_code b ≡ 1 → IsWithinLimit limit b → message_at b limit ≡ Whole b
 unfolding message_at
 whole_is b limit message structure h =
     let n : ℕ = head_length b in
@@ -44,11 +42,11 @@ whole_is b limit message structure h =
     let all : n + 8 ≡ length b = let s : length b ≡ 8 + n = message.size in omega arith in
     rw (long, says, enough) (ap (λ k. Whole (take k b)) all ∙ ap Whole (take-length b))
 
-pub answer_is : (operation : Operation) (m : ResponseMessage) (b : List ℕ) (limit : Option ℕ) → ReadsBack m b → IsWithin limit b → answer_of operation (message_at b limit) ≡ check_response operation (response_message_val m)
+pub answer_is : (operation : Operation) (m : ResponseMessage) (b : List ℕ) (limit : Option ℕ) → ReadsBack m b → IsWithinLimit limit b → answer_of operation (message_at b limit) ≡ check_response operation (response_message_val m)
 answer_is operation m b limit back h =
     ap (answer_of operation) (whole_is b limit back.message back.structure h)
     ∙ ap (tree_answer operation) back.parses
     ∙ ap (value_answer operation) back.reads
 
-pub taken_is : (b : List ℕ) (limit : Option ℕ) (m : ResponseMessage) → ReadsBack m b → IsWithin limit b → taken_for b (message_at b limit) ≡ length b
+pub taken_is : (b : List ℕ) (limit : Option ℕ) (m : ResponseMessage) → ReadsBack m b → IsWithinLimit limit b → taken_for b (message_at b limit) ≡ length b
 taken_is b limit m back h = ap (taken_for b) (whole_is b limit back.message back.structure h)

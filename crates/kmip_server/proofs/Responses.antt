@@ -1,8 +1,8 @@
 -- The bytes of a response are one structure, which parses as its tree.
-use Rattle.std.proofs.Common.{◌≡◌, ℕ, ◌+◌, ◌≤◌, ◌<◌, ◌^◌, ◌%◌, Bool, true, false, cond, nat_lt, ltb-true, length, List, [], Option, Some, None, refl, ◌∙◌, sym, ap, subst, arith}
+use Rattle.std.proofs.Common.{◌≡◌, ℕ, ◌≤◌, ◌<◌, ◌^◌, ◌%◌, Bool, true, false, cond, nat_lt, ltb-true, length, List, Option, Some, None, refl, ◌∙◌, ap, subst, arith}
 use Rattle.std.specs.Option.{option_and_then}
 use Rattle.std.proofs.lemmas.Nat.{from_be_bytes-to_be_bytes_4}
-use Rattle.kmip_wire.specs.Tree.{Tree, Trees, trees_of}
+use Rattle.kmip_wire.specs.Tree.{Tree, trees_of}
 use Rattle.kmip_wire.specs.Head.{head_length, head_code}
 use Rattle.kmip_wire.specs.Bytes.{bytes, all_bytes, structure_bytes, item_bytes}
 use Rattle.kmip_wire.specs.Reading.{item_of}

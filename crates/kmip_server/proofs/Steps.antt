@@ -1,56 +1,53 @@
 -- One call over a server: from what the client did to its link, to what was expected of the call.
-use Rattle.std.proofs.Common.{◌≡◌, ℕ, ℤ, ◌+◌, ◌-◌, ◌<◌, ◌≤◌, List, [], ◌∷◌, ◌++◌, length, take, drop, refl, ◌∙◌, ap, sym, subst, arith, append_assoc, Option, Some, None, Bool, true, false}
+use Rattle.std.proofs.Common.{◌≡◌, ℕ, ℤ, ◌+◌, ◌≤◌, List, [], ◌∷◌, ◌++◌, length, drop, refl, ◌∙◌, ap, sym, subst, Some, None, Bool, true}
 use Rattle.std.proofs.lemmas.List.{drop-append-le, drop-drop}
 use Rattle.kmip_server.specs.Split.{IsMessage, Split, messages_in}
 use Rattle.kmip_request.specs.Message.{request_bytes, operation_of}
 use Rattle.kmip_response_write.specs.Settled.{response_bytes}
-use Rattle.kmip_response.specs.declared.message.ResponseMessage.{ResponseMessage}
-use Rattle.kmip_types.specs.declared.auth.CredentialType.{CredentialType}
-use Rattle.kmip_request.specs.declared.payload.RequestPayload.{RequestPayload}
 use Rattle.kmip_link.specs.State.{LinkState, left}
-use Rattle.kmip_client.specs.Outcome.{Answer, Outcome, outcome_of, outcome, left_for, Moves}
+use Rattle.kmip_client.specs.Outcome.{outcome_of, left_for, Moves}
 use Rattle.kmip_client.specs.Client.{loses_connection}
-use Rattle.kmip_client.specs.Session.{Turn, told_of}
+use Rattle.kmip_client.specs.Session.{Turn}
 use Rattle.kmip_store.specs.declared.call.Call.{Call}
 use Rattle.kmip_store.specs.declared.object.Object.{Object}
 use Rattle.kmip_store.specs.declared.maker.Asked.{Asked}
 use Rattle.kmip_store.specs.declared.maker.Made.{Made}
-use Rattle.kmip_server_core.specs.Answering.{list_of_option}
-use Rattle.kmip_server_core.specs.Served.{Served, served, asks}
+use Rattle.std.specs.Option.{option_to_list}
+use Rattle.kmip_server_core.specs.Served.{served, asks}
 use Rattle.kmip_server_core.specs.Requests.{request_of}
 use Rattle.kmip_server.specs.Machine.{Run, first_for, rest_for, serve, fresh, run_of}
-use Rattle.kmip_server.specs.Serving.{IsHeldTo, AreHeld}
-use Rattle.kmip_server.specs.Joined.{Settings, Between, CallTold, Expected, AsTold, Next, IsReadBack, IsHeldNext, turn_call_told, turn_with, next_with, answered_with, sent_with, next, expected_calls}
-use Rattle.kmip_server.specs.Came.{between, Agrees, Came, CameAll}
+use Rattle.kmip_server.specs.Serving.{IsHeldTo, AreResponsesHeld}
+use Rattle.kmip_server.specs.Joined.{CallSettings, Between, Expected, Next, IsReadBack, IsHeldNext, joined_report, turn_with, next_with, next}
+use Rattle.kmip_server.specs.OneCall.{between, Agrees, CallAlwaysMatches}
 use Rattle.kmip_server.proofs.Splits.{split_message}
-use Rattle.kmip_server.proofs.Frames.{AreMessages, Framed, same_frames, response_to, run_framed, run_on, serve_objects, serve_given, serve_asked, Back, back_from}
+use Rattle.kmip_server.proofs.Frames.{AreMessages, same_frames, run_framed, run_on, serve_objects, serve_given, serve_asked, Back, back_from}
 use Rattle.kmip_server.proofs.Helds.{held_last}
 
 append_none : (xs : List ℕ) → xs ≡ xs ++ []
 append_none [] = refl
 append_none (x ∷ xs) = ap (λ l. x ∷ l) (append_none xs)
 
-pub next_invalid : (settings : Settings) (now : Between) (call : Call) → request_bytes (request_of call) settings.credential ≡ None →
+pub next_invalid : (settings : CallSettings) (now : Between) (call : Call) → request_bytes (request_of call) settings.credential ≡ None →
     next settings now call ≡ next_with settings call (turn_with settings call None now.rest) now
 unfolding next
 next_invalid settings now call none = rw none refl
 
 -- the objects and the answers to come once these bytes were served
-abbrev pub after_bytes : Settings → Between → List ℕ → Between
+abbrev pub after_bytes : CallSettings → Between → List ℕ → Between
 after_bytes settings now b = record {
   objects = (served now.objects b (first_for (asks now.objects b) now.given) settings.time).objects;
   given = rest_for (asks now.objects b) now.given;
-  asked = now.asked ++ list_of_option (asks now.objects b);
+  asked = now.asked ++ option_to_list (asks now.objects b);
   rest = now.rest;
 }
 
-pub next_formed : (settings : Settings) (now : Between) (call : Call) (b response : List ℕ) → request_bytes (request_of call) settings.credential ≡ Some b →
+pub next_formed : (settings : CallSettings) (now : Between) (call : Call) (b response : List ℕ) → request_bytes (request_of call) settings.credential ≡ Some b →
     response_bytes (served now.objects b (first_for (asks now.objects b) now.given) settings.time).message ≡ Some response →
     next settings now call ≡ next_with settings call (turn_with settings call (Some b) (now.rest ++ response)) (after_bytes settings now b)
 unfolding next
 next_formed settings now call b response valid formed = rw (valid, formed) refl
 
-pub next_unformed : (settings : Settings) (now : Between) (call : Call) (b : List ℕ) → request_bytes (request_of call) settings.credential ≡ Some b →
+pub next_unformed : (settings : CallSettings) (now : Between) (call : Call) (b : List ℕ) → request_bytes (request_of call) settings.credential ≡ Some b →
     response_bytes (served now.objects b (first_for (asks now.objects b) now.given) settings.time).message ≡ None →
     next settings now call ≡ record { expected = Expected.Unsent b; stops = true; after = record (after_bytes settings now b) { objects = now.objects } }
 unfolding next
@@ -79,7 +76,7 @@ pub same_between : (o o' : List Object) (g g' : List Made) (a a' : List Asked) (
 same_between o o' g g' a a' r r' p q k s = rw (p, q, k, s) refl
 
 -- the response to the request of a call was a message that Rust can hold
-held_next : (settings : Settings) (call : Call) (b : List ℕ) (t : ℤ) (given : List Made) (link : LinkState) → t ≡ settings.time → request_bytes (request_of call) settings.credential ≡ Some b →
+held_next : (settings : CallSettings) (call : Call) (b : List ℕ) (t : ℤ) (given : List Made) (link : LinkState) → t ≡ settings.time → request_bytes (request_of call) settings.credential ≡ Some b →
     IsReadBack call settings.credential → IsHeldTo t (run_of t given (messages_in link.sent).whole) b → IsHeldNext settings (between t given link) call
 held_next settings call b t given link time valid reads one = record {
   reads = reads;
@@ -90,10 +87,10 @@ held_next settings call b t given link time valid reads one = record {
 }
 
 -- a call with a valid request
-pub valid_call : AreMessages → (settings : Settings) (call : Call) (before after : LinkState) (b : List ℕ) → request_bytes (request_of call) settings.credential ≡ Some b → IsMessage b → IsReadBack call settings.credential →
+pub valid_call : AreMessages → (settings : CallSettings) (call : Call) (before after : LinkState) (b : List ℕ) → request_bytes (request_of call) settings.credential ≡ Some b → IsMessage b → IsReadBack call settings.credential →
     IsReady settings.time before → Moves before after b (outcome_of (Some b) (operation_of (request_of call)) settings.limit (left_for before after)).taken →
     let turn = turn_with settings call (Some b) (left_for before after) in
-    CameAll settings call before after (turn_call_told settings call turn) (loses_connection turn.outcome.answer)
+    CallAlwaysMatches settings call before after (joined_report settings call turn) (loses_connection turn.outcome.answer)
 valid_call law settings call before after b valid message reads ready moves =
     let t : ℤ = settings.time in
     let w : List (List ℕ) = (messages_in before.sent).whole in
@@ -107,7 +104,7 @@ valid_call law settings call before after b valid message reads ready moves =
           let runs : run_of t given (messages_in after.sent).whole ≡ serve t (run_of t given w) b = ap (λ (s : Split). run_of t given s.whole) split_is ∙ run_on t given w b in
           let back : Back t (run_of t given w) b before.ever more =
           back_from law t given w b before.ever more (run_framed law t ready.given w before.ever ready.agrees.ever) (ap (λ (r : Run). r.ever) (sym runs) ∙ agrees.ever ∙ ap Some moves.ever.is) in
-          let holds : AreHeld t (fresh given) w × IsHeldTo t (run_of t given w) b = held_last t given w b (subst (λ (s : Split). AreHeld t (fresh given) s.whole) split_is agrees.held) in
+          let holds : AreResponsesHeld t (fresh given) w × IsHeldTo t (run_of t given w) b = held_last t given w b (subst (λ (s : Split). AreResponsesHeld t (fresh given) s.whole) split_is agrees.held) in
           let now : Between = between t given before in
           let objects : (run_of t given (messages_in after.sent).whole).objects ≡ (after_bytes settings now b).objects = ap (λ (r : Run). r.objects) runs ∙ serve_objects t (run_of t given w) b in
           let givens : (run_of t given (messages_in after.sent).whole).given ≡ (after_bytes settings now b).given = ap (λ (r : Run). r.given) runs ∙ serve_given t (run_of t given w) b in
@@ -124,10 +121,10 @@ valid_call law settings call before after b valid message reads ready moves =
     }
 
 -- a call whose request is not valid: nothing was sent, so nothing came
-pub invalid_call : AreMessages → (settings : Settings) (call : Call) (before after : LinkState) → request_bytes (request_of call) settings.credential ≡ None →
+pub invalid_call : AreMessages → (settings : CallSettings) (call : Call) (before after : LinkState) → request_bytes (request_of call) settings.credential ≡ None →
     IsReady settings.time before → IsReady settings.time (record after { sent = before.sent }) → Moves before after [] 0 →
     let turn = turn_with settings call None (left_for before after) in
-    CameAll settings call before after (turn_call_told settings call turn) (loses_connection turn.outcome.answer)
+    CallAlwaysMatches settings call before after (joined_report settings call turn) (loses_connection turn.outcome.answer)
 invalid_call law settings call before after none ready now_ready moves =
     let t : ℤ = settings.time in
     let w : List (List ℕ) = (messages_in before.sent).whole in
@@ -145,7 +142,7 @@ invalid_call law settings call before after none ready now_ready moves =
           let after_is : record now { rest = left_for before after } ≡ between t given after =
           same_between _ _ _ _ _ _ _ _ (ap (λ (r : Run). r.objects) (sym runs)) (ap (λ (r : Run). r.given) (sym runs)) (ap (λ (r : Run). r.asked) (sym runs)) (sym (left_after before after 0 moves.pos)) in
           record {
-            agrees = record { ever = ap (λ (r : Run). r.ever) (sym runs) ∙ agrees.ever ∙ ap Some (sym ever); held = subst (λ l. AreHeld t (fresh given) (messages_in l).whole) sent agrees.held };
+            agrees = record { ever = ap (λ (r : Run). r.ever) (sym runs) ∙ agrees.ever ∙ ap Some (sym ever); held = subst (λ l. AreResponsesHeld t (fresh given) (messages_in l).whole) sent agrees.held };
             next_is = next_invalid settings now call none
                 ∙ ap (λ (r : List ℕ). next_with settings call (turn_with settings call None r) now) (sym rests)
                 ∙ same_next _ _ _ _ _ _ refl refl after_is;

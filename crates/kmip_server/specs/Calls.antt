@@ -1,5 +1,5 @@
 -- What a call of a helper returned.
-use Rattle.std.specs.Prelude.{◌≡◌, ℕ, ℤ, List, [], Bool, Option, Result, Ok, Err, length, drop}
+use Rattle.std.specs.Prelude.{◌≡◌, List, Result, Err}
 use Rattle.kmip_link.specs.State.{LinkState}
 use Rattle.kmip_shape.specs.Val.{Val, Text, Record, One, AndField, NoField}
 use Rattle.kmip_response.specs.Values.{response_payload_val}
@@ -12,8 +12,8 @@ use Rattle.kmip_client.specs.declared.error.Error.TheVariants.{OutOfMemory}
 use Rattle.kmip_store.specs.declared.call.Call.{Call}
 use Rattle.kmip_server_core.specs.Requests.{request_of}
 use Rattle.kmip_store.specs.Makers.{MakerState}
-use Rattle.kmip_server.specs.Joined.{Settings, Between, Expected, no_val, helper_answer, CallTold, expected_calls, finish}
-use Rattle.kmip_server.specs.Came.{between}
+use Rattle.kmip_server.specs.Joined.{CallSettings, Between, Expected, no_val, helper_answer, JoinedReport, expected_calls, finish}
+use Rattle.kmip_server.specs.OneCall.{between}
 use Rattle.kmip_server.specs.Link.{ServerLinkState, server_link_state}
 use Rattle.kmip_server.specs.declared.answers.Answered.{Answered}
 use Rattle.kmip_server.specs.declared.answers.Answered.TheVariants as answered
@@ -34,24 +34,24 @@ answered_val (answered.Got payload) = response_payload_val (payloads.Get payload
 abbrev pub answered_seen : Result Answered Error → Answer
 answered_seen = seen_by answered_val
 
-abbrev pub call_told : CallAnswer → CallTold
-call_told x = record {
+abbrev pub report_of : CallAnswer → JoinedReport
+report_of x = record {
   sent = x.sent;
   answer = answered_seen x.answer;
   request_text = x.req_diag;
   response_text = x.res_diag;
 }
 
--- What a helper's call did: its request went over the link, and it returned its part of what that
--- came to; or memory ran out before, and nothing changed.
-pub data IsAsked {T : Type 0} (state : T → LinkState) (call : Call) (before after : ClientState T)
+-- What a helper's call did: its request went over the link, and it returned its part of the answer;
+-- or memory ran out before, and nothing changed.
+pub data HelperRan {T : Type 0} (state : T → LinkState) (call : Call) (before after : ClientState T)
     (result : Result Answered Error) : Type 0 where
   called : (answer : Answer) → IsCall state (request_of call) before after answer →
-      answered_seen result ≡ helper_answer call answer → IsAsked state call before after result
-  not_made : result ≡ Err OutOfMemory → after ≡ before → IsAsked state call before after result
+      answered_seen result ≡ helper_answer call answer → HelperRan state call before after result
+  not_made : result ≡ Err OutOfMemory → after ≡ before → HelperRan state call before after result
 
-abbrev pub settings_of : {M : Type 0} → ClientState (ServerLinkState M) → Settings
-settings_of client = record {
+abbrev pub call_settings : {M : Type 0} → ClientState (ServerLinkState M) → CallSettings
+call_settings client = record {
   credential = client.credential;
   limit = client.limit;
   buffered = client.buffered;
@@ -70,9 +70,9 @@ before_all state client after =
 abbrev pub expected_of : {M : Type 0} → (M → MakerState) → ClientState (ServerLinkState M) →
     ServerLinkState M → List Call → List Expected
 expected_of state client after calls =
-    expected_calls (settings_of client) (before_all state client after) calls
+    expected_calls (call_settings client) (before_all state client after) calls
 
 abbrev pub finish_of : {M : Type 0} → (M → MakerState) → ClientState (ServerLinkState M) →
     ServerLinkState M → List Call → Between
 finish_of state client after calls =
-    finish (settings_of client) (before_all state client after) calls
+    finish (call_settings client) (before_all state client after) calls

@@ -7,22 +7,21 @@ use Rattle.kmip_response_write.specs.Settled.{response_bytes, IsHeld as IsHeldRe
 use Rattle.kmip_types.specs.declared.auth.CredentialType.{CredentialType}
 use Rattle.kmip_client.specs.Outcome.{Answer, outcome_of}
 use Rattle.kmip_client.specs.Client.{loses_connection}
-use Rattle.kmip_client.specs.Session.{Turn, told_of, Told}
+use Rattle.kmip_client.specs.Session.{Turn, call_report}
 use Rattle.kmip_client.specs.Diagnostics.{diagnostic_of}
-use Rattle.kmip_client.specs.declared.error.Error.{Error}
 use Rattle.kmip_client.specs.declared.error.Error.TheVariants.{RequestWriteError}
 use Rattle.kmip_store.specs.declared.call.Call.{Call}
 use Rattle.kmip_store.specs.declared.call.Call.TheVariants.{CreateRsaKeyPair, ActivateKey, RevokeKey, DestroyKey}
 use Rattle.kmip_store.specs.declared.object.Object.{Object}
 use Rattle.kmip_store.specs.declared.maker.Asked.{Asked}
 use Rattle.kmip_store.specs.declared.maker.Made.{Made}
-use Rattle.kmip_server_core.specs.Answering.{list_of_option}
-use Rattle.kmip_server_core.specs.Served.{Served, served, asks}
+use Rattle.std.specs.Option.{option_to_list}
+use Rattle.kmip_server_core.specs.Served.{served, asks}
 use Rattle.kmip_server_core.specs.Requests.{request_of}
 use Rattle.kmip_server.specs.Machine.{first_for, rest_for}
 
 -- the settings of a client, and the time stamp of its server
-pub record Settings : Type 0 where
+pub record CallSettings : Type 0 where
   pub credential : Option CredentialType
   pub limit : Option ℕ
   pub buffered : Bool
@@ -59,26 +58,27 @@ helper_answer call (Ok val) = Ok (part_for call val)
 helper_answer call (Err error) = Err error
 
 -- the report of a call: what it sent, its answer, and its diagnostics
-pub record CallTold : Type 0 where
+pub record JoinedReport : Type 0 where
   pub sent : List ℕ
   pub answer : Answer
   pub request_text : Option (List ℕ)
   pub response_text : Option (List ℕ)
 
-abbrev pub turn_call_told : Settings → Call → Turn → CallTold
-turn_call_told settings call turn =
-    let told = told_of settings.buffered turn.request turn.outcome.answer (take turn.outcome.taken turn.rest) in
+abbrev pub joined_report : CallSettings → Call → Turn → JoinedReport
+joined_report settings call turn =
+    let texts = call_report settings.buffered turn.request turn.outcome.answer
+    (take turn.outcome.taken turn.rest) in
     record {
       sent = turn.outcome.sent;
       answer = helper_answer call turn.outcome.answer;
-      request_text = told.request_text;
-      response_text = told.response_text;
+      request_text = texts.request_text;
+      response_text = texts.response_text;
     }
 
 -- what is to come of a call
 pub data Expected : Type 0 where
   -- it is reported so
-  AsTold : CallTold → Expected
+  Reported : JoinedReport → Expected
   -- the response has no wire form, so the request, of these bytes, is not sent whole
   Unsent : List ℕ → Expected
 
@@ -89,7 +89,7 @@ pub record Next : Type 0 where
   pub after : Between
 
 -- the turn of a call whose request has these bytes, if it is valid, over these bytes left to read
-abbrev pub turn_with : Settings → Call → Option (List ℕ) → List ℕ → Turn
+abbrev pub turn_with : CallSettings → Call → Option (List ℕ) → List ℕ → Turn
 turn_with settings call request rest =
     record {
       request = request;
@@ -97,15 +97,15 @@ turn_with settings call request rest =
       outcome = outcome_of request (operation_of (request_of call)) settings.limit rest;
     }
 
-abbrev pub next_with : Settings → Call → Turn → Between → Next
+abbrev pub next_with : CallSettings → Call → Turn → Between → Next
 next_with settings call turn after = record {
-  expected = AsTold (turn_call_told settings call turn);
+  expected = Reported (joined_report settings call turn);
   stops = loses_connection turn.outcome.answer;
   after = record after { rest = drop turn.outcome.taken turn.rest };
 }
 
 -- where the response has no wire form, the objects stay
-abbrev pub answered_with : Settings → Call → Between → Between → List ℕ → Option (List ℕ) → Next
+abbrev pub answered_with : CallSettings → Call → Between → Between → List ℕ → Option (List ℕ) → Next
 answered_with settings call now after request None =
     record {
       expected = Unsent request;
@@ -115,7 +115,7 @@ answered_with settings call now after request None =
 answered_with settings call now after request (Some response) =
     next_with settings call (turn_with settings call (Some request) (after.rest ++ response)) after
 
-abbrev pub sent_with : Settings → Call → Between → Option (List ℕ) → Next
+abbrev pub sent_with : CallSettings → Call → Between → Option (List ℕ) → Next
 sent_with settings call now None =
     next_with settings call (turn_with settings call None now.rest) now
 sent_with settings call now (Some request) =
@@ -125,26 +125,26 @@ sent_with settings call now (Some request) =
     (record {
       objects = s.objects;
       given = rest_for q now.given;
-      asked = now.asked ++ list_of_option q;
+      asked = now.asked ++ option_to_list q;
       rest = now.rest;
     }) request
     (response_bytes s.message)
 
 -- one call: where its request is valid the response to it is added to the bytes left, and the
 -- outcome of the call is that over these bytes
-unfoldable pub next : Settings → Between → Call → Next
+unfoldable pub next : CallSettings → Between → Call → Next
 next settings now call =
     sent_with settings call now (request_bytes (request_of call) settings.credential)
 
 -- the calls in order, none after a lost connection
-unfoldable pub expected_calls : Settings → Between → List Call → List Expected
+unfoldable pub expected_calls : CallSettings → Between → List Call → List Expected
 expected_calls settings now [] = []
 expected_calls settings now (call ∷ calls) = (next settings now call).expected ∷
     (if (next settings now call).stops then []
     else expected_calls settings (next settings now call).after calls)
 
 -- server and client after the last of the calls that are made
-unfoldable pub finish : Settings → Between → List Call → Between
+unfoldable pub finish : CallSettings → Between → List Call → Between
 finish settings now [] = now
 finish settings now (call ∷ calls) =
     if (next settings now call).stops then (next settings now call).after
@@ -154,7 +154,7 @@ finish settings now (call ∷ calls) =
 abbrev pub has_unsent : List Expected → Bool
 has_unsent [] = false
 has_unsent (Unsent request ∷ es) = true
-has_unsent (AsTold told ∷ es) = has_unsent es
+has_unsent (Reported report ∷ es) = has_unsent es
 
 -- The bytes of a call's request, where it is valid, are read as that request.
 abbrev pub IsReadBack : Call → Option CredentialType → Type 0
@@ -164,7 +164,7 @@ IsReadBack call credential = (request : List ℕ) →
 
 -- The request is read back, and the response to it, where it has a wire form, is a message that
 -- Rust can hold.
-pub record IsHeldNext (settings : Settings) (now : Between) (call : Call) : Type 0 where
+pub record IsHeldNext (settings : CallSettings) (now : Between) (call : Call) : Type 0 where
   pub reads : IsReadBack call settings.credential
   pub holds : (request response : List ℕ) →
       request_bytes (request_of call) settings.credential ≡ Some request →
@@ -178,7 +178,7 @@ Unless true P = Unit {0}
 Unless false P = P
 
 -- so it is for each of the calls that are made
-unfoldable pub AreHeldNext : Settings → Between → List Call → Type 0
+unfoldable pub AreHeldNext : CallSettings → Between → List Call → Type 0
 AreHeldNext settings now [] = Unit {0}
 AreHeldNext settings now (call ∷ calls) =
     IsHeldNext settings now call ×
@@ -186,26 +186,27 @@ AreHeldNext settings now (call ∷ calls) =
     (AreHeldNext settings (next settings now call).after calls)
 
 -- a call that the link cut short: a proper part of the request was sent
-pub record IsUnsent (settings : Settings) (request : List ℕ) (told : CallTold) : Type 0 where
+pub record IsUnsent (settings : CallSettings) (request : List ℕ)
+    (report : JoinedReport) : Type 0 where
   pub n : ℕ
   pub part : n < length request
-  pub sent : told.sent ≡ take n request
-  pub answer : told.answer ≡ Err (RequestWriteError (codes "link failed"))
-  pub request_text : told.request_text ≡ diagnostic_of settings.buffered (Some request)
-  pub response_text : told.response_text ≡ None
+  pub sent : report.sent ≡ take n request
+  pub answer : report.answer ≡ Err (RequestWriteError (codes "link failed"))
+  pub request_text : report.request_text ≡ diagnostic_of settings.buffered (Some request)
+  pub response_text : report.response_text ≡ None
 
-abbrev pub Meets : Settings → Expected → CallTold → Type 0
-Meets settings (AsTold told) told' = told' ≡ told
-Meets settings (Unsent request) told' = IsUnsent settings request told'
+abbrev pub ReportMatches : CallSettings → Expected → JoinedReport → Type 0
+ReportMatches settings (Reported report) report' = report' ≡ report
+ReportMatches settings (Unsent request) report' = IsUnsent settings request report'
 
 -- The calls were reported as expected, one for one.
-abbrev pub Meet : Settings → List Expected → List CallTold → Type 0
-Meet settings [] [] = Unit {0}
-Meet settings (e ∷ es) (x ∷ xs) = Meets settings e x × Meet settings es xs
-Meet settings es xs = ⊥
+abbrev pub ReportsMatch : CallSettings → List Expected → List JoinedReport → Type 0
+ReportsMatch settings [] [] = Unit {0}
+ReportsMatch settings (e ∷ es) (x ∷ xs) = ReportMatches settings e x × ReportsMatch settings es xs
+ReportsMatch settings es xs = ⊥
 
 -- whether the last answer is a connection error
-abbrev pub ends_lost : List CallTold → Bool
-ends_lost [] = false
-ends_lost (x ∷ []) = loses_connection x.answer
-ends_lost (x ∷ y ∷ xs) = ends_lost (y ∷ xs)
+abbrev pub last_is_lost : List JoinedReport → Bool
+last_is_lost [] = false
+last_is_lost (x ∷ []) = loses_connection x.answer
+last_is_lost (x ∷ y ∷ xs) = last_is_lost (y ∷ xs)

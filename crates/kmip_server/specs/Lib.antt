@@ -3,6 +3,7 @@ pub mod Split
 pub mod Serving
 pub mod Link
 pub mod Joined
-pub mod Came
+pub mod OneCall
 pub mod Calls
 pub mod Direct
+pub mod Session

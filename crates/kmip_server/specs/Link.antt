@@ -1,5 +1,5 @@
 -- A link over a server of its own, as contracts see it, and what holds of each.
-use Rattle.std.specs.Prelude.{◌≡◌, ◌≢◌, ℕ, ℤ, pos, negsuc, ◌+◌, ◌*◌, ◌<◌, ◌≤◌, suc, List, [], ◌∷◌, ◌++◌, length, Bool, true, false, Option, Some, None, IsTrue, Result, Ok, Err, take}
+use Rattle.std.specs.Prelude.{◌≡◌, ℕ, ℤ, pos, negsuc, ◌*◌, ◌<◌, ◌≤◌, suc, List, [], ◌∷◌, ◌++◌, length, Bool, true, false, Some, None, IsTrue, Result, Ok, Err, take}
 use Rattle.kmip_link.specs.State.{LinkState}
 use Rattle.kmip_link.specs.declared.link.LinkError.{LinkError}
 use Rattle.kmip_link.specs.declared.link.LinkError.TheVariants.{Fault, OutOfMemory}
@@ -7,10 +7,10 @@ use Rattle.kmip_wire.specs.declared.error.WireError.TheVariants.{NoForm}
 use Rattle.kmip_store.specs.declared.object.Object.{Object}
 use Rattle.kmip_store.specs.declared.maker.Made.{Made}
 use Rattle.kmip_store.specs.Makers.{MakerState}
-use Rattle.kmip_server_core.specs.State.{ServerState, Answers}
+use Rattle.kmip_server_core.specs.State.{ServerState, AnswersRequest}
 use Rattle.kmip_server.specs.Split.{is_message, messages_in}
-use Rattle.kmip_server.specs.Machine.{Run, fresh, serve, run_of}
-use Rattle.kmip_server.specs.Serving.{AreHeld}
+use Rattle.kmip_server.specs.Machine.{fresh, serve, run_of}
+use Rattle.kmip_server.specs.Serving.{AreResponsesHeld}
 use Rattle.kmip_server.specs.declared.link.Refusal.{Refusal}
 
 pub record ServerLinkState (M : Type 0) : Type 0 where
@@ -58,20 +58,20 @@ IsServed time objects maker ever sent = (more : List Made) →
     }
 
 -- and each response was a message that Rust can hold
-pub record Serves (time : ℤ) (objects : List Object) (maker : MakerState)
+pub record HasServed (time : ℤ) (objects : List Object) (maker : MakerState)
     (ever sent : List ℕ) : Type 0 where
   pub run : IsServed time objects maker ever sent
   pub held : (more : List Made) →
-      AreHeld time (fresh (maker.given ++ more)) (messages_in sent).whole
+      AreResponsesHeld time (fresh (maker.given ++ more)) (messages_in sent).whole
 
--- What holds once a message came whose response has no wire form: the same, but that the maker was
--- last asked the question of that message, where it has one. The message begins with what was sent
--- of it, and is longer.
+-- What holds once there was a message whose response has no wire form: the same, but that the maker
+-- was last asked the question of that message, where it has one. The message begins with what was
+-- sent of it, and is longer.
 pub record IsCut (time : ℤ) (objects : List Object) (maker : MakerState)
     (ever sent kept : List ℕ) : Type 0 where
   pub objects_are : (run_of time maker.given (messages_in sent).whole).objects ≡ objects
   pub ever_is : (run_of time maker.given (messages_in sent).whole).ever ≡ Some ever
-  pub held : AreHeld time (fresh maker.given) (messages_in sent).whole
+  pub held : AreResponsesHeld time (fresh maker.given) (messages_in sent).whole
   pub none : (serve time (run_of time maker.given (messages_in sent).whole) kept).ever ≡ None
   pub asked : (serve time (run_of time maker.given (messages_in sent).whole)
       kept).asked ≡ maker.asked
@@ -80,26 +80,23 @@ pub record IsCut (time : ℤ) (objects : List Object) (maker : MakerState)
   pub begins : take (length (messages_in sent).begun) kept ≡ (messages_in sent).begun
   pub longer : length (messages_in sent).begun < length kept
 
--- What holds of each link that is not starved and whose maker tells: where it is not faulted, and
--- where it is.
-pub record IsKept {M : Type 0} (state : M → MakerState) (link : ServerLinkState M)
-    (begun : List ℕ) : Type 0 where
+-- What holds of each link.
+pub record LinkFacts {M : Type 0} (state : M → MakerState) (link : ServerLinkState M) : Type 0 where
   pub within : link.pos ≤ length link.ever
-  pub begun_is : begun ≡ (messages_in link.sent).begun
+  -- no message is kept before there was a fault
+  pub none_kept : link.faults ≡ 0 → link.kept ≡ []
+  -- where it is not starved and its maker tells: before a fault, and after one
   pub serves : link.starved ≡ false → IsTrue (state link.server.maker).tells → link.faults ≡ 0 →
-      Serves link.server.time link.server.objects (state link.server.maker) link.ever link.sent
+      HasServed link.server.time link.server.objects (state link.server.maker) link.ever link.sent
   pub cut : link.starved ≡ false → IsTrue (state link.server.maker).tells → 0 < link.faults →
       IsCut link.server.time link.server.objects (state link.server.maker) link.ever link.sent
       link.kept
 
--- what its user knows of it: the same, but for the begun message
-pub record IsKnown {M : Type 0} (state : M → MakerState) (link : ServerLinkState M) : Type 0 where
-  pub within : link.pos ≤ length link.ever
-  pub serves : link.starved ≡ false → IsTrue (state link.server.maker).tells → link.faults ≡ 0 →
-      Serves link.server.time link.server.objects (state link.server.maker) link.ever link.sent
-  pub cut : link.starved ≡ false → IsTrue (state link.server.maker).tells → 0 < link.faults →
-      IsCut link.server.time link.server.objects (state link.server.maker) link.ever link.sent
-      link.kept
+-- the same, with the bytes of the message that is begun
+pub record LinkInvariant {M : Type 0} (state : M → MakerState) (link : ServerLinkState M)
+    (begun : List ℕ) : Type 0 where
+  pub facts : LinkFacts state link
+  pub begun_is : begun ≡ (messages_in link.sent).begun
 
 -- a link that calls can go over: it is neither starved nor faulted, was sent only whole messages,
 -- and its maker tells
@@ -127,7 +124,7 @@ pub record IsNew {M : Type 0} (state : M → MakerState) (link : ServerLinkState
 pub record Holds {M : Type 0} (state : M → MakerState) (server : ServerState M)
     (ever sent begun : List ℕ) : Type 0 where
   pub begun_is : begun ≡ (messages_in sent).begun
-  pub serves : Serves server.time server.objects (state server.maker) ever sent
+  pub serves : HasServed server.time server.objects (state server.maker) ever sent
 
 -- the message that is kept after a refusal
 abbrev pub kept_in : Refusal → List ℕ
@@ -157,29 +154,31 @@ pub record Accepted (bytes : List ℕ) (n : ℕ) (ever ever' sent sent' : List �
 
 -- What a link that was not faulted did with bytes: `server`, `ever` and `sent` are those before,
 -- and `server'`, `ever'` and `sent'` those after.
-pub data Did {M : Type 0} (state : M → MakerState) (server server' : ServerState M)
+pub data WriteEffect {M : Type 0} (state : M → MakerState) (server server' : ServerState M)
     (ever ever' sent sent' bytes : List ℕ) (result : Result ℕ Refusal) : Type 0 where
   -- all bytes are taken, and the begun message goes on
   goes_on : (n : ℕ) → result ≡ Ok n → n ≡ length bytes →
       (messages_in sent').whole ≡ (messages_in sent).whole → server' ≡ server → ever' ≡ ever →
-      Did state server server' ever ever' sent sent' bytes result
+      WriteEffect state server server' ever ever' sent sent' bytes result
   -- it ends, and the server's response to it is added after what there was to read
   ends : (n : ℕ) (message response : List ℕ) → result ≡ Ok n →
       messages_in sent' ≡ record { whole = (messages_in sent).whole ++ message ∷ []; begun = [] } →
-      Answers state server server' message (Ok response) → ever' ≡ ever ++ response →
-      Did state server server' ever ever' sent sent' bytes result
+      AnswersRequest state server server' message (Ok response) → ever' ≡ ever ++ response →
+      WriteEffect state server server' ever ever' sent sent' bytes result
   -- it ends, and the response to it has no wire form
   formless : (n : ℕ) (refusal : Refusal) → result ≡ Err refusal →
       is_message (kept_in refusal) ≡ true →
       kept_in refusal ≡ (messages_in sent).begun ++ take n bytes →
-      Answers state server server' (kept_in refusal) (Err NoForm) → is_memory refusal ≡ false →
-      Did state server server' ever ever' sent sent' bytes result
+      AnswersRequest state server server' (kept_in refusal) (Err NoForm) →
+      is_memory refusal ≡ false →
+      WriteEffect state server server' ever ever' sent sent' bytes result
   no_memory : result ≡ Err Refusal.OutOfMemory →
-      Did state server server' ever ever' sent sent' bytes result
+      WriteEffect state server server' ever ever' sent sent' bytes result
 
 -- What a write did. It returns `Fault` exactly where the link is faulted already, and then the
--- server is not asked, or where it ends a message whose response has no wire form, which the link
--- keeps. It takes bytes up to the end of a message. It starves the link only where memory runs out.
+-- server is not asked, or where it ends a message whose response has no wire form: then the link
+-- keeps this message, and else what it kept. It takes bytes up to the end of a message. It starves
+-- the link only where memory runs out.
 pub data WritesTo {M : Type 0} (state : M → MakerState) (before after : ServerLinkState M)
     (bytes : List ℕ) (result : Result ℕ LinkError) : Type 0 where
   refused : 0 < before.faults → result ≡ Err Fault → after.starved ≡ before.starved →
@@ -187,18 +186,18 @@ pub data WritesTo {M : Type 0} (state : M → MakerState) (before after : Server
       WritesTo state before after bytes result
   goes_on : (n : ℕ) → before.faults ≡ 0 → after.starved ≡ before.starved → result ≡ Ok n →
       n ≡ length bytes → (messages_in after.sent).whole ≡ (messages_in before.sent).whole →
-      after.server ≡ before.server → after.ever ≡ before.ever →
+      after.server ≡ before.server → after.ever ≡ before.ever → after.kept ≡ before.kept →
       WritesTo state before after bytes result
   ends : (n : ℕ) (message response : List ℕ) → before.faults ≡ 0 → after.starved ≡ before.starved →
       result ≡ Ok n → messages_in
       after.sent ≡ record { whole = (messages_in before.sent).whole ++ message ∷ []; begun = [] } →
-      Answers state before.server after.server message (Ok response) →
-      after.ever ≡ before.ever ++ response →
+      AnswersRequest state before.server after.server message (Ok response) →
+      after.ever ≡ before.ever ++ response → after.kept ≡ before.kept →
       WritesTo state before after bytes result
   formless : (n : ℕ) → before.faults ≡ 0 → after.starved ≡ before.starved → result ≡ Err Fault →
       is_message after.kept ≡ true → after.kept ≡ (messages_in before.sent).begun ++ take n bytes →
-      Answers state before.server after.server after.kept (Err NoForm) →
+      AnswersRequest state before.server after.server after.kept (Err NoForm) →
       WritesTo state before after bytes result
   -- the link is starved from then on
   no_memory : before.faults ≡ 0 → result ≡ Err OutOfMemory → after.starved ≡ true →
-      after.faults ≡ 0 → WritesTo state before after bytes result
+      after.faults ≡ 0 → after.kept ≡ before.kept → WritesTo state before after bytes result

@@ -1,13 +1,13 @@
 -- What a server comes to that serves messages one after the other.
-use Rattle.std.specs.Prelude.{◌≡◌, ℕ, ℤ, List, [], ◌∷◌, ◌++◌, fold, Option, Some, None}
+use Rattle.std.specs.Prelude.{ℕ, ℤ, List, [], ◌∷◌, ◌++◌, fold, Option, Some, None}
 use Rattle.kmip_response_write.specs.Settled.{response_bytes}
 use Rattle.kmip_store.specs.declared.object.Object.{Object}
 use Rattle.kmip_store.specs.declared.maker.Asked.{Asked}
 use Rattle.kmip_store.specs.declared.maker.Made.{Made}
-use Rattle.kmip_server_core.specs.Answering.{list_of_option}
-use Rattle.kmip_server_core.specs.Served.{Served, served, asks}
+use Rattle.std.specs.Option.{option_to_list}
+use Rattle.kmip_server_core.specs.Served.{served, asks}
 
--- what serving messages came to
+-- the result of serving messages
 pub record Run : Type 0 where
   pub objects : List Object
   -- the bytes of the responses, one after the other; `None` once a response has no wire form
@@ -38,7 +38,7 @@ serve time run b =
     record {
       objects = s.objects;
       ever = then_bytes run.ever (response_bytes s.message);
-      asked = run.asked ++ list_of_option (asks run.objects b);
+      asked = run.asked ++ option_to_list (asks run.objects b);
       given = rest_for (asks run.objects b) run.given;
     }
 

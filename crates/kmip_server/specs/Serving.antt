@@ -16,6 +16,7 @@ IsHeldTo time run b = (bytes : List ℕ) → response_bytes (message_to time run
     IsHeldResponse (message_to time run b)
 
 -- so it is for each of these messages in order
-abbrev pub AreHeld : ℤ → Run → List (List ℕ) → Type 0
-AreHeld time run [] = Unit {0}
-AreHeld time run (b ∷ bs) = IsHeldTo time run b × AreHeld time (serve time run b) bs
+abbrev pub AreResponsesHeld : ℤ → Run → List (List ℕ) → Type 0
+AreResponsesHeld time run [] = Unit {0}
+AreResponsesHeld time run (b ∷ bs) =
+    IsHeldTo time run b × AreResponsesHeld time (serve time run b) bs

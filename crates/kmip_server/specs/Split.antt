@@ -33,7 +33,7 @@ unfoldable pub messages_in : List ℕ → Split
 messages_in sent = fold took nothing_sent sent
 
 -- the next bytes go to the begun message, up to its end
-pub record Takes (begun bytes message : List ℕ) (whole : Bool) : Type 0 where
+pub record CutsMessage (begun bytes message : List ℕ) (whole : Bool) : Type 0 where
   pub n : ℕ
   pub within : n ≤ length bytes
   pub some : 0 < length bytes → 0 < n

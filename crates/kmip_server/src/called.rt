@@ -1,14 +1,17 @@
 //! One call of a client over a server.
-ghost use Rattle.std.specs.Prelude.{◌≡◌, List, IfOk, IfErr, drop, length, true};
+ghost use Rattle.std.specs.Prelude.{◌≡◌, ◌↔◌, List, IfOk, IfErr, OnErr, drop, length, IsTrue};
+ghost use Rattle.std.specs.Prelude.{false};
 ghost use Rattle.kmip_link.specs.State.{Keeps};
 ghost use Rattle.kmip_client.specs.Client.{loses_connection, lacks_memory, count_after};
 ghost use Rattle.kmip_client.specs.Client.{ClientState};
 ghost use Rattle.kmip_client.specs.Outcome.{seen_by};
 ghost use Rattle.kmip_client.specs.declared.error.Error.TheVariants.{OutOfMemory as no_memory};
-ghost use Rattle.kmip_server.specs.Calls.{answered_val, answered_seen, call_told, settings_of};
-ghost use Rattle.kmip_server.specs.Came.{IsCalled, IsLeft, IsSettledBy, IsRequestOf, fails_writing};
-ghost use Rattle.kmip_server.specs.Link.{ServerLinkState, server_link_state, IsOpen, IsKnown};
+ghost use Rattle.kmip_server.specs.Calls.{answered_val, answered_seen, report_of, call_settings};
+ghost use Rattle.kmip_server.specs.OneCall.{CallEffect, LinkIs, IsLinkAfterCall, IsRequestOf};
+ghost use Rattle.kmip_server.specs.OneCall.{fails_writing};
+ghost use Rattle.kmip_server.specs.Link.{ServerLinkState, server_link_state, IsOpen, LinkFacts};
 ghost use Rattle.kmip_server.specs.Joined.{IsReadBack};
+ghost use Rattle.kmip_server.specs.Session.{CallRan, CallLost};
 
 use crate::answers::{Answered, CallAnswer};
 use crate::ask::ask;
@@ -21,7 +24,7 @@ use kmip_wire::{Blob, OutOfMemory};
 use std::alloc::Global;
 
 /// How a call left its link.
-enum Left {
+enum LinkAfter {
     Open,
     Faulted,
     Starved,
@@ -47,10 +50,10 @@ fn lacks_memory(answer: &Result<Answered>) -> bool
     }
 }
 
-/// How many bytes were sent so far; and what holds of the link.
-pub fn look<M: Maker>(client: &mut Client<ServerLink<M>>) -> usize
+/// How many bytes were sent so far. Its clauses also say what holds of the link.
+pub fn sent_len<M: Maker>(client: &mut Client<ServerLink<M>>) -> usize
     ensures sent { result ≡ length client.old.link.sent }
-    ensures kept { IsKnown M.state client.old.link }
+    ensures facts { LinkFacts M.state client.old.link }
     ensures stays { client.new ≡ client.old }
 {
     let link = client.inner();
@@ -58,30 +61,30 @@ pub fn look<M: Maker>(client: &mut Client<ServerLink<M>>) -> usize
     link.sent().len()
 }
 
-/// How the last call left the link; and what holds of it.
-fn left_by<M: Maker>(client: &mut Client<ServerLink<M>>) -> Left
-    ensures left { IsLeft client.old.link result }
-    ensures kept { IsKnown M.state client.old.link }
+/// How the last call left the link. Its clauses also say what holds of the link.
+fn link_after<M: Maker>(client: &mut Client<ServerLink<M>>) -> LinkAfter
+    ensures after { LinkIs client.old.link result }
+    ensures facts { LinkFacts M.state client.old.link }
     ensures stays { client.new ≡ client.old }
 {
     let link = client.inner();
     link.known();
     if link.starved() {
-        Left::Starved
+        LinkAfter::Starved
     } else if link.faulted() {
-        Left::Faulted
+        LinkAfter::Faulted
     } else {
-        Left::Open
+        LinkAfter::Open
     }
 }
 
-/// True only where the link keeps the request of this call.
+/// Whether the link keeps the request of this call.
 fn keeps_request_of<M: Maker>(
     alloc: Global,
     client: &mut Client<ServerLink<M>>,
     call: &Call,
 ) -> std::result::Result<bool, OutOfMemory>
-    ensures kept { IfOk result (λ is. is ≡ true → IsRequestOf call.now client.old.link.kept) }
+    ensures kept { IfOk result (λ is. IsTrue is ↔ IsRequestOf call.now client.old.link.kept) }
     ensures stays { client.new ≡ client.old }
 {
     is_request_of(alloc, call, client.inner().kept())
@@ -99,21 +102,21 @@ fn fails_writing(answer: &Result<Answered>) -> bool
 
 /// Checks that a call left the link open, or was cut short by a response with no wire form. Else it
 /// returns `OutOfMemory`.
-fn settle<M: Maker>(
+fn check_link_after_call<M: Maker>(
     alloc: Global,
     client: &mut Client<ServerLink<M>>,
     call: &Call,
     answer: &Result<Answered>,
 ) -> std::result::Result<(), OutOfMemory>
-    ensures settled { IfOk result (λ _.
-        IsSettledBy call.now (answered_seen answer.now) client.old.link) }
-    ensures kept { IsKnown M.state client.old.link }
+    ensures after { IfOk result (λ _.
+        IsLinkAfterCall call.now (answered_seen answer.now) client.old.link) }
+    ensures facts { LinkFacts M.state client.old.link }
     ensures stays { client.new ≡ client.old }
 {
-    match left_by(client) {
-        Left::Open => Ok(()),
-        Left::Starved => Err(OutOfMemory),
-        Left::Faulted => {
+    match link_after(client) {
+        LinkAfter::Open => Ok(()),
+        LinkAfter::Starved => Err(OutOfMemory),
+        LinkAfter::Faulted => {
             if !fails_writing(answer) {
                 return Err(OutOfMemory);
             }
@@ -143,14 +146,15 @@ fn sent_from<M: Maker>(
     }
 }
 
-/// The report of a call: what it sent, its answer, and copies of its diagnostics.
+/// The report of a call that was made once `from` bytes were sent: what it sent, its answer, and
+/// copies of its diagnostics.
 fn call_answer<M: Maker>(
     alloc: Global,
     client: &mut Client<ServerLink<M>>,
     from: usize,
     answer: Result<Answered>,
 ) -> std::result::Result<CallAnswer, OutOfMemory>
-    ensures told { IfOk result (λ x. x ≡ record {
+    ensures report { IfOk result (λ report. report ≡ record {
       sent = drop from client.old.link.sent;
       answer = answer;
       req_diag = client.old.request_text;
@@ -182,30 +186,36 @@ fn reads_back<T>(
 }
 
 /// Makes a call, and says whether it was the last: its answer is a connection error.
+///
+/// Its only error is `OutOfMemory`: then the call was made and its report is lost, or it was not
+/// made.
 pub fn make_call<M: Maker>(
     alloc: Global,
     client: &mut Client<ServerLink<M>>,
     call: &Call,
 ) -> Result<(CallAnswer, bool)>
+    ensures ran { IfOk result (λ r. CallRan M.state call.now client.old client.new r.0) }
+    ensures room { IfOk result (λ r. lacks_memory (report_of r.0).answer ≡ false) }
+    ensures cut { OnErr result (CallLost M.state call.now client.old client.new) }
     ensures called { IfOk result (λ r. IsOpen M.state client.old.link →
-        IsCalled M.state (settings_of client.old) call.now client.old.link client.new.link
-        (call_told r.0) r.1) }
+        CallEffect M.state (call_settings client.old) call.now client.old.link client.new.link
+        (report_of r.0) r.1) }
     ensures keeps { Keeps (server_link_state M.state client.old.link)
         (server_link_state M.state client.new.link) }
-    ensures settings { settings_of client.new ≡ settings_of client.old }
-    ensures known { IfOk result (λ r. IsKnown M.state client.new.link) }
-    ensures lost { IfOk result (λ r. r.1 ≡ loses_connection (call_told r.0).answer) }
+    ensures settings { call_settings client.new ≡ call_settings client.old }
+    ensures facts { IfOk result (λ r. LinkFacts M.state client.new.link) }
+    ensures lost { IfOk result (λ r. r.1 ≡ loses_connection (report_of r.0).answer) }
     ensures count { IfOk result (λ r. client.new.errors ≡ count_after client.old.errors r.1) }
     ensures memory { IfErr result (λ e. e ≡ no_memory) }
 {
     request_is_message();
     reads_back(alloc, client, call)?;
-    let from = look(client);
+    let from = sent_len(client);
     let answer = ask(alloc, client, call);
     if lacks_memory(&answer) {
         return Err(Error::OutOfMemory);
     }
-    settle(alloc, client, call, &answer)?;
+    check_link_after_call(alloc, client, call, &answer)?;
     let lost = loses_connection(&answer);
     Ok((call_answer(alloc, client, from, answer)?, lost))
 }

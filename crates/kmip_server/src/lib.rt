@@ -11,7 +11,7 @@ mod ask;
 mod called;
 mod joined;
 mod link;
-mod take;
+mod messages;
 
 pub use answers::{Answered, CallAnswer, CallAnswers};
 pub use joined::call_all;

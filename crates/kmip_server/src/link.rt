@@ -4,11 +4,13 @@ ghost use Rattle.std.specs.Prelude.{◌≢◌, IfOk, IfErr, OnErr, IsErrOf, ℕ,
 ghost use Rattle.kmip_link.specs.declared.link.LinkError.{LinkError};
 ghost use Rattle.kmip_link.specs.State.{Keeps, IsIdle, Reads, Writes, FaultCountRose};
 ghost use Rattle.kmip_store.specs.Makers.{MakerKeeps};
-ghost use Rattle.kmip_server.specs.Link.{ServerLinkState, server_link_state, IsKept, IsKnown};
-ghost use Rattle.kmip_server.specs.Link.{Holds, Accepted, IsRefused, IsUnused, Did, WritesTo};
+ghost use Rattle.kmip_server.specs.Link.{ServerLinkState, server_link_state, LinkInvariant};
+ghost use Rattle.kmip_server.specs.Link.{LinkFacts};
+ghost use Rattle.kmip_server.specs.Link.{Holds, Accepted, IsRefused, IsUnused, WriteEffect};
+ghost use Rattle.kmip_server.specs.Link.{WritesTo};
 ghost use Rattle.kmip_server.specs.Split.{messages_in};
 
-use crate::take::{grow_both, take_bytes};
+use crate::messages::{cut_message, grow_both};
 use kmip_link::{Link, LinkError};
 use kmip_server_core::Server;
 use kmip_store::Maker;
@@ -43,7 +45,7 @@ impl<M: Maker> Model for ServerLink<M> {
       starved = l.starved;
     } };
 
-    ghost invariant = { λ l. IsKept M.state (record {
+    ghost invariant = { λ l. LinkInvariant M.state (record {
       server = l.server;
       ever = l.ever.items;
       pos = l.pos;
@@ -120,7 +122,7 @@ impl<M: Maker> ServerLink<M> {
 
     /// What holds of each link.
     pub fn known(&self)
-        ensures { IsKnown M.state self.now }
+        ensures { LinkFacts M.state self.now }
     {
         let _ = &self.pos;
     }
@@ -162,8 +164,8 @@ fn accept<M: Maker>(
     ensures refused { IsTrue (M.state server.old.maker).tells →
         Holds M.state server.old ever.old.items sent.old.items begun.old.items →
         IsRefused M.state server.new ever.new.items sent.new.items result }
-    ensures did { begun.old.items ≡ (messages_in sent.old.items).begun →
-        Did M.state server.old server.new ever.old.items ever.new.items
+    ensures effect { begun.old.items ≡ (messages_in sent.old.items).begun →
+        WriteEffect M.state server.old server.new ever.old.items ever.new.items
         sent.old.items sent.new.items bytes.now result }
     ensures begun { IfOk result (λ n. begun.old.items ≡ (messages_in sent.old.items).begun →
         begun.new.items ≡ (messages_in sent.new.items).begun) }
@@ -172,7 +174,7 @@ fn accept<M: Maker>(
     ensures keeps { MakerKeeps (M.state server.old.maker) (M.state server.new.maker) }
     ensures time { server.new.time ≡ server.old.time }
 {
-    let (message, whole) = take_bytes(alloc, begun, bytes)?;
+    let (message, whole) = cut_message(alloc, begun, bytes)?;
     let count = message.len() - begun.len();
     if !whole {
         sent.extend_from_slice(&bytes[..count])?;
@@ -203,7 +205,8 @@ impl<M: Maker> Link for ServerLink<M> {
             (server_link_state M.state self.new) into.new n) }
         ensures idle { OnErr result (IsIdle (server_link_state M.state self.old)
             (server_link_state M.state self.new)) }
-        ensures cause { IsErrOf result LinkError.Fault → FaultCountRose self.old.faults self.new.faults }
+        ensures cause { IsErrOf result LinkError.Fault →
+            FaultCountRose self.old.faults self.new.faults }
         ensures never { IfErr result (λ e. ⊥) }
         ensures rest { self.new ≡ record self.old { pos = self.new.pos } }
     {
@@ -227,7 +230,8 @@ impl<M: Maker> Link for ServerLink<M> {
             (server_link_state M.state self.new) (take n bytes.now)) }
         ensures idle { OnErr result (IsIdle (server_link_state M.state self.old)
             (server_link_state M.state self.new)) }
-        ensures cause { IsErrOf result LinkError.Fault → FaultCountRose self.old.faults self.new.faults }
+        ensures cause { IsErrOf result LinkError.Fault →
+            FaultCountRose self.old.faults self.new.faults }
         ensures answers { WritesTo M.state self.old self.new bytes.now result }
     {
         if self.faults > 0 {

@@ -9,8 +9,9 @@ use Rattle.kmip_response.specs.declared.batch_item.BatchItem.{BatchItem}
 use Rattle.kmip_response.specs.declared.message.ResponseMessage.{ResponseMessage}
 use Rattle.kmip_response_write.specs.Settled.{IsHeld, response_bytes}
 use Rattle.kmip_request_read.specs.Reading.{Request, request_read}
-use Rattle.kmip_store.specs.Answers.{suits, Grew, IsStep, Asks}
+use Rattle.kmip_store.specs.Answers.{IsGiven, IsStep, StepsAsking}
 use Rattle.kmip_store.specs.Makers.{MakerState}
+use Rattle.kmip_store.proofs.Questions.{none_given}
 use Rattle.kmip_store.specs.Steps.{Answer, Stepped, stay, step, question}
 use Rattle.kmip_store.specs.declared.call.Call.{Call}
 use Rattle.kmip_store.specs.declared.error.StoreError.{StoreError}
@@ -21,7 +22,7 @@ use Rattle.kmip_store.specs.declared.object.Object.{Object}
 use Rattle.kmip_server_core.specs.Requests.{is_served, call_of}
 use Rattle.kmip_server_core.specs.Items.{item_for, invalid_item, unsupported_item, unhelped_item, message_with}
 use Rattle.kmip_server_core.specs.Served.{Served, served_call, served_request, served, asks_request, asks}
-use Rattle.kmip_server_core.specs.Answering.{list_of_option, Took, IsGiven, IsWritten, AnswersBy, answered, no_form, no_memory, answer_of, Tells, Serves}
+use Rattle.kmip_server_core.specs.Answering.{IsWritten, AnswersBy, answered, no_form, no_memory, step_answer, ItemReports, AnswersCall}
 
 -- the same, where the question and what is served are seen otherwise
 pub answers_as : (q q' : Option Asked) (s s' : Option Made → Served) (objects : List Object) (before after : MakerState) (new : List Object) (result : Result (List ℕ) WireError) →
@@ -48,25 +49,6 @@ unwritten q s objects before after made NoForm given w = no_form made given w re
 unwritten q s objects before after made Malformed given w = absurd w
 unwritten q s objects before after made OutOfMemory given w = no_memory refl refl
 
-append_none : {A : Type 0} (xs : List A) → xs ≡ xs ++ []
-append_none [] = refl
-append_none (x ∷ xs) = ap (λ l. x ∷ l) (append_none xs)
-
--- where nobody is asked
-pub no_question : (m : MakerState) → IsGiven None None m m
-no_question m = record { suits_it = refl; took = λ _. record { asked = append_none m.asked; given = append_none m.given } }
-
--- ---- what the store says of its maker
-
-grew_took : (q : Option Asked) (made : Option Made) (before after : MakerState) → Grew before after q made → Took q made before after
-grew_took None None before after g = record { asked = g.asked ∙ append_none before.asked; given = g.given ∙ append_none before.given }
-grew_took (Some asked) (Some made) before after g = record { asked = g.asked; given = g.given }
-grew_took None (Some made) before after g = absurd g
-grew_took (Some asked) None before after g = absurd g
-
-pub step_given : (objects : List Object) (call : Call) (new : List Object) (answer : Answer) (before after : MakerState) (s : IsStep objects call new answer before after) → IsGiven (question objects call) s.made before after
-step_given objects call new answer before after s = record { suits_it = s.asks; took = λ tells. grew_took (question objects call) s.made before after (s.told tells) }
-
 -- ---- items and messages
 
 pub tells_item : (call : Call) (o : Option Answer) (item : BatchItem) → option_map (item_for call) o ≡ Some item → (a : Answer) × (o ≡ Some a) × (item ≡ item_for call a)
@@ -85,7 +67,7 @@ objects_told objects call made time = refl
 -- ---- calls that ask the maker, and change no objects
 
 asked_step : {T : Type 0} (answer : T → Answer) (objects : List Object) (call : Call) (new : List Object) (before after : MakerState) (r : Result T StoreError) (a : Answer) →
-    Asks answer objects call new before after r → answer_of answer r ≡ Some a → IsStep objects call new a before after
+    StepsAsking answer objects call new before after r → step_answer answer r ≡ Some a → IsStep objects call new a before after
 asked_step answer objects call new before after (Ok x) a s h = subst (λ y. IsStep objects call new y before after) (some_same (answer x) a h) s
 asked_step answer objects call new before after (Err errors.ItemNotFound) a s h = subst (λ y. IsStep objects call new y before after) (some_same Answer.NotFound a h) s
 asked_step answer objects call new before after (Err errors.PermissionDenied) a s h = subst (λ y. IsStep objects call new y before after) (some_same Answer.Denied a h) s
@@ -93,28 +75,28 @@ asked_step answer objects call new before after (Err errors.CryptographicFailure
 asked_step answer objects call new before after (Err errors.OutOfMemory) a s h = none_some _ h
 
 step_serves : (objects new : List Object) (call : Call) (time : ℤ) (before after : MakerState) (a : Answer) (item : BatchItem) (result : Result (List ℕ) WireError) →
-    IsStep objects call new a before after → new ≡ objects → item ≡ item_for call a → IsWritten (message_with time item) result → Serves call time objects before after new result
+    IsStep objects call new a before after → new ≡ objects → item ≡ item_for call a → IsWritten (message_with time item) result → AnswersCall call time objects before after new result
 step_serves objects new call time before after a item result s stays item_is w =
-    subst (λ n. Serves call time objects before after n result) (sym stays)
+    subst (λ n. AnswersCall call time objects before after n result) (sym stays)
     (written_still (question objects call) (λ made. served_call objects call made time) objects before after s.made result
-    (step_given objects call new a before after s)
+    (s.given)
     (sym stays ∙ (sym (ap (λ (x : Stepped). x.objects) s.step_is) ∙ objects_told objects call s.made time))
     (subst (λ m. IsWritten m result) (message_told objects call s.made time a item (ap (λ (x : Stepped). x.answer) s.step_is) item_is) w))
 
 pub asking_serves : {T : Type 0} (answer : T → Answer) (objects new : List Object) (call : Call) (time : ℤ) (before after : MakerState) (r : Result T StoreError) (item : BatchItem) (result : Result (List ℕ) WireError) →
-    Asks answer objects call new before after r → new ≡ objects → Tells answer call r item → IsWritten (message_with time item) result → Serves call time objects before after new result
+    StepsAsking answer objects call new before after r → new ≡ objects → ItemReports answer call r item → IsWritten (message_with time item) result → AnswersCall call time objects before after new result
 asking_serves answer objects new call time before after r item result asks stays tells w =
-    let t = tells_item call (answer_of answer r) item tells in
+    let t = tells_item call (step_answer answer r) item tells in
     step_serves objects new call time before after t.0 item result (asked_step answer objects call new before after r t.0 asks t.1) stays t.2 w
 
 -- ---- calls that ask nobody, and change no objects
 
 pub telling_serves : (objects : List Object) (call : Call) (time : ℤ) (maker : MakerState) (item : BatchItem) (result : Result (List ℕ) WireError) →
     question objects call ≡ None → (step objects call None).objects ≡ objects → item ≡ item_for call (step objects call None).answer → IsWritten (message_with time item) result →
-    Serves call time objects maker maker objects result
+    AnswersCall call time objects maker maker objects result
 telling_serves objects call time maker item result none stays item_is w =
     written_still (question objects call) (λ made. served_call objects call made time) objects maker maker None result
-    (subst (λ q. IsGiven q None maker maker) (sym none) (no_question maker))
+    (subst (λ q. IsGiven q None maker maker) (sym none) (none_given maker))
     (sym stays ∙ objects_told objects call None time)
     (subst (λ m. IsWritten m result) (message_told objects call None time (step objects call None).answer item refl item_is) w)
 
@@ -124,7 +106,7 @@ telling_serves objects call time maker item result none stays item_is w =
 pub refused_answers : (q : Option Asked) (s : Option Made → Served) (objects : List Object) (maker : MakerState) (message : ResponseMessage) (result : Result (List ℕ) WireError) → q ≡ None →
     message ≡ (s None).message → objects ≡ (s None).objects → IsWritten message result → AnswersBy q s objects maker maker objects result
 refused_answers q s objects maker message result none is stays w =
-    written_still q s objects maker maker None result (subst (λ x. IsGiven x None maker maker) (sym none) (no_question maker)) stays (subst (λ m. IsWritten m result) is w)
+    written_still q s objects maker maker None result (subst (λ x. IsGiven x None maker maker) (sym none) (none_given maker)) stays (subst (λ m. IsWritten m result) is w)
 
 pub unsupported : (objects : List Object) (request : Request) (maker : MakerState) (time : ℤ) (result : Result (List ℕ) WireError) → is_served request.operation ≡ false →
     IsWritten (message_with time (unsupported_item request.operation)) result →
@@ -139,7 +121,7 @@ unhelped objects request maker time result is none w =
     refused_answers (asks_request objects (Some request)) (λ made. served_request objects (Some request) made time) objects maker (message_with time (unhelped_item request.operation)) result (rw (is, none) refl) (rw (is, none) refl) (rw (is, none) refl) w
 
 pub helped : (objects : List Object) (request : Request) (call : Call) (before after : MakerState) (time : ℤ) (new : List Object) (result : Result (List ℕ) WireError) → is_served request.operation ≡ true → call_of request ≡ Some call →
-    Serves call time objects before after new result →
+    AnswersCall call time objects before after new result →
     AnswersBy (asks_request objects (Some request)) (λ made. served_request objects (Some request) made time) objects before after new result
 helped objects request call before after time new result is some a =
     answers_as (question objects call) (asks_request objects (Some request)) (λ made. served_call objects call made time) (λ made. served_request objects (Some request) made time) objects before after new result (rw (is, some) refl) (λ made. rw (is, some) refl) a

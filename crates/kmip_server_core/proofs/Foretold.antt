@@ -6,7 +6,8 @@ use Rattle.kmip_shape.proofs.Parts.{some_same}
 use Rattle.kmip_wire.specs.declared.error.WireError.{WireError}
 use Rattle.kmip_response.specs.declared.batch_item.BatchItem.{BatchItem}
 use Rattle.kmip_response_write.specs.Settled.{IsHeld, response_bytes}
-use Rattle.kmip_store.specs.Answers.{Steps}
+use Rattle.kmip_store.specs.Answers.{Steps, IsGiven}
+use Rattle.kmip_store.proofs.Questions.{none_given}
 use Rattle.kmip_store.specs.Makers.{MakerState}
 use Rattle.kmip_store.specs.Objects.{find_in, object_of, is_pre_active, is_active, is_destroyed}
 use Rattle.kmip_store.specs.Steps.{Answer, Done, Denied, Stepped, stay, step_where, on_found, activate, revoke, destroy, rename, get, step, question}
@@ -17,8 +18,8 @@ use Rattle.kmip_store.specs.declared.error.StoreError.TheVariants as errors
 use Rattle.kmip_store.specs.declared.object.Object.{Object}
 use Rattle.kmip_server_core.specs.Items.{item_for, message_with}
 use Rattle.kmip_server_core.specs.Served.{served_call}
-use Rattle.kmip_server_core.specs.Answering.{IsGiven, IsWritten, AnswersBy, answered, no_memory, answer_of, Tells, Serves, change_answer, response_of}
-use Rattle.kmip_server_core.proofs.Answering.{no_question, message_told, objects_told, unwritten}
+use Rattle.kmip_server_core.specs.Answering.{IsWritten, AnswersBy, answered, no_memory, step_answer, ItemReports, AnswersCall, change_answer, response_of}
+use Rattle.kmip_server_core.proofs.Answering.{message_told, objects_told, unwritten}
 
 -- ---- what is foretold is what the step answers
 
@@ -58,23 +59,23 @@ get_stays objects id = go (find_in objects id)
 -- ---- what is answered
 
 -- the item tells the step's answer, where that was foretold
-foretold_item : (call : Call) (f : Result (Unit {0}) StoreError) (answer : Answer) (item : BatchItem) → answer_of (λ _. Done) f ≡ Some answer → Tells (λ _. Done) call f item → item ≡ item_for call answer
+foretold_item : (call : Call) (f : Result (Unit {0}) StoreError) (answer : Answer) (item : BatchItem) → step_answer (λ _. Done) f ≡ Some answer → ItemReports (λ _. Done) call f item → item ≡ item_for call answer
 foretold_item call f answer item says tells =
     let h : option_map (item_for call) (Some answer) ≡ Some item = subst (λ o. option_map (item_for call) o ≡ Some item) says tells in
     sym (some_same (item_for call answer) item h)
 
 done_serves : (objects new : List Object) (call : Call) (time : ℤ) (maker : MakerState) (item : BatchItem) (bytes : List ℕ) → question objects call ≡ None →
-    item ≡ item_for call (step objects call None).answer → IsWritten (message_with time item) (Ok bytes) → (step objects call None).objects ≡ new → Serves call time objects maker maker new (Ok bytes)
+    item ≡ item_for call (step objects call None).answer → IsWritten (message_with time item) (Ok bytes) → (step objects call None).objects ≡ new → AnswersCall call time objects maker maker new (Ok bytes)
 done_serves objects new call time maker item bytes none item_is w news =
     let same = message_told objects call None time (step objects call None).answer item refl item_is in
-    answered None bytes (subst (λ q. IsGiven q None maker maker) (sym none) (no_question maker))
+    answered None bytes (subst (λ q. IsGiven q None maker maker) (sym none) (none_given maker))
     (subst IsHeld same w.0) (subst (λ m. response_bytes m ≡ Some bytes) same w.1) refl
     (sym news ∙ objects_told objects call None time)
 
 -- a call that the store then did, or refused, or lacked memory for
 pub changing_serves : (objects new : List Object) (call : Call) (time : ℤ) (maker : MakerState) (f r : Result (Unit {0}) StoreError) (item : BatchItem) (bytes : List ℕ) → question objects call ≡ None →
-    answer_of (λ _. Done) f ≡ Some (step objects call None).answer → Tells (λ _. Done) call f item → IsWritten (message_with time item) (Ok bytes) →
-    Steps (λ _. Done) objects call new r → Serves call time objects maker maker new (response_of r bytes)
+    step_answer (λ _. Done) f ≡ Some (step objects call None).answer → ItemReports (λ _. Done) call f item → IsWritten (message_with time item) (Ok bytes) →
+    Steps (λ _. Done) objects call new r → AnswersCall call time objects maker maker new (response_of r bytes)
 changing_serves objects new call time maker f (Ok x) item bytes none says tells w s = done_serves objects new call time maker item bytes none (foretold_item call f _ item says tells) w (ap (λ (x : Stepped). x.objects) s)
 changing_serves objects new call time maker f (Err errors.ItemNotFound) item bytes none says tells w s = done_serves objects new call time maker item bytes none (foretold_item call f _ item says tells) w (ap (λ (x : Stepped). x.objects) s)
 changing_serves objects new call time maker f (Err errors.PermissionDenied) item bytes none says tells w s = done_serves objects new call time maker item bytes none (foretold_item call f _ item says tells) w (ap (λ (x : Stepped). x.objects) s)
@@ -83,9 +84,9 @@ changing_serves objects new call time maker f (Err errors.OutOfMemory) item byte
 
 -- a call whose message was not written
 pub unchanged_serves : (objects : List Object) (call : Call) (time : ℤ) (maker : MakerState) (f : Result (Unit {0}) StoreError) (item : BatchItem) (error : WireError) → question objects call ≡ None →
-    answer_of (λ _. Done) f ≡ Some (step objects call None).answer → Tells (λ _. Done) call f item → IsWritten (message_with time item) (Err error) →
-    Serves call time objects maker maker objects (Err error)
+    step_answer (λ _. Done) f ≡ Some (step objects call None).answer → ItemReports (λ _. Done) call f item → IsWritten (message_with time item) (Err error) →
+    AnswersCall call time objects maker maker objects (Err error)
 unchanged_serves objects call time maker f item error none says tells w =
     unwritten (question objects call) (λ made. served_call objects call made time) objects maker maker None error
-    (subst (λ q. IsGiven q None maker maker) (sym none) (no_question maker))
+    (subst (λ q. IsGiven q None maker maker) (sym none) (none_given maker))
     (subst (λ m. IsWritten m (Err error)) (message_told objects call None time (step objects call None).answer item refl (foretold_item call f _ item says tells)) w)

@@ -3,7 +3,7 @@ use Rattle.std.proofs.Common.{◌≡◌, ◌+◌, ℕ, ℤ, List, length, refl, 
 use Rattle.std.specs.Prelude.{Result, Ok, Err}
 use Rattle.kmip_wire.specs.declared.error.WireError.{WireError}
 use Rattle.kmip_response_write.specs.Settled.{IsHeld, response_bytes}
-use Rattle.kmip_store.specs.Answers.{IsStep, Asks}
+use Rattle.kmip_store.specs.Answers.{IsStep, StepsAsking}
 use Rattle.kmip_store.specs.Makers.{MakerState}
 use Rattle.kmip_store.specs.Objects.{identifier}
 use Rattle.kmip_store.specs.Steps.{Answer, NotFound, Denied, Failed, Created, Stepped, create, step, question}
@@ -16,8 +16,8 @@ use Rattle.kmip_store.specs.declared.maker.Made.TheVariants as answers
 use Rattle.kmip_store.specs.declared.object.Object.{Object}
 use Rattle.kmip_server_core.specs.Items.{item_for, message_with}
 use Rattle.kmip_server_core.specs.Served.{served_call}
-use Rattle.kmip_server_core.specs.Answering.{IsTold, answered, no_memory, Serves, response_of_pair}
-use Rattle.kmip_server_core.proofs.Answering.{step_given, message_told, objects_told}
+use Rattle.kmip_server_core.specs.Answering.{IsItemWritten, answered, no_memory, AnswersCall, response_of_pair}
+use Rattle.kmip_server_core.proofs.Answering.{message_told, objects_told}
 
 -- a pair that was made has the next two identifiers
 created_is : (objects : List Object) (bits : ℤ) (private public : List ℕ) (made : Option Made) (x y : List ℕ) → (create objects bits private public made).answer ≡ Created x y →
@@ -41,17 +41,17 @@ not_denied objects bits private public (Some answers.Refused) h = cc
 not_denied objects bits private public None h = cc
 
 told_serves : (objects new : List Object) (call : Call) (time : ℤ) (before after : MakerState) (given answer : Answer) (bytes : List ℕ) (s : IsStep objects call new given before after) →
-    (step objects call s.made).answer ≡ answer → IsTold time (item_for call answer) bytes → Serves call time objects before after new (Ok bytes)
+    (step objects call s.made).answer ≡ answer → IsItemWritten time (item_for call answer) bytes → AnswersCall call time objects before after new (Ok bytes)
 told_serves objects new call time before after given answer bytes s is t =
     let same = message_told objects call s.made time answer (item_for call answer) is refl in
-    answered s.made bytes (step_given objects call new given before after s) (subst IsHeld same t.0) (subst (λ m. response_bytes m ≡ Some bytes) same t.1) refl
+    answered s.made bytes s.given (subst IsHeld same t.0) (subst (λ m. response_bytes m ≡ Some bytes) same t.1) refl
     (sym (ap (λ (x : Stepped). x.objects) s.step_is) ∙ objects_told objects call s.made time)
 
 pub pair_serves : (objects new : List Object) (bits : ℤ) (private public : List ℕ) (time : ℤ) (before after : MakerState) (r : Result (List ℕ × List ℕ) StoreError) (made refused : List ℕ) →
-    Asks (λ pair. Created pair.0 pair.1) objects (CreateRsaKeyPair bits private public) new before after r →
-    IsTold time (item_for (CreateRsaKeyPair bits private public) (Created (identifier (length objects)) (identifier (length objects + 1)))) made →
-    IsTold time (item_for (CreateRsaKeyPair bits private public) Failed) refused →
-    Serves (CreateRsaKeyPair bits private public) time objects before after new (response_of_pair r made refused)
+    StepsAsking (λ pair. Created pair.0 pair.1) objects (CreateRsaKeyPair bits private public) new before after r →
+    IsItemWritten time (item_for (CreateRsaKeyPair bits private public) (Created (identifier (length objects)) (identifier (length objects + 1)))) made →
+    IsItemWritten time (item_for (CreateRsaKeyPair bits private public) Failed) refused →
+    AnswersCall (CreateRsaKeyPair bits private public) time objects before after new (response_of_pair r made refused)
 pair_serves objects new bits private public time before after (Ok pair) made refused s t f =
     told_serves objects new (CreateRsaKeyPair bits private public) time before after (Created pair.0 pair.1) (Created (identifier (length objects)) (identifier (length objects + 1))) made s
     (created_is objects bits private public s.made pair.0 pair.1 (ap (λ (x : Stepped). x.answer) s.step_is)) t

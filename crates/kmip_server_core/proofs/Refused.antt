@@ -16,19 +16,19 @@ use Rattle.kmip_enums.specs.declared.operation.Operation.TheVariants as operatio
 use Rattle.kmip_shape.proofs.Parts.{none_some, some_same}
 use Rattle.kmip_server_core.specs.Requests.{call_operation}
 use Rattle.kmip_server_core.specs.Items.{item_for}
-use Rattle.kmip_server_core.specs.Answering.{refusal_of, Tells}
+use Rattle.kmip_server_core.specs.Answering.{refusal_of, ItemReports}
 
 -- the item of a refusal tells it, whatever the rest of the call
 pub refusals_tell : {T A : Type 0} (answer : T → Answer) (call : A → Call) (operation : Operation) (r : Result T StoreError) (error : StoreError) (result : Result BatchItem OutOfMemory) → r ≡ Err error →
     ((a : A) → call_operation (call a) ≡ operation) → IfOk result (λ item. (c : Call) → call_operation c ≡ operation → option_map (item_for c) (refusal_of error) ≡ Some item) →
-    IfOk result (λ item. (a : A) → Tells answer (call a) r item)
-refusals_tell answer call operation r error (Ok item) is of h = λ a. subst (λ x. Tells answer (call a) x item) (sym is) (h (call a) (of a))
+    IfOk result (λ item. (a : A) → ItemReports answer (call a) r item)
+refusals_tell answer call operation r error (Ok item) is of h = λ a. subst (λ x. ItemReports answer (call a) x item) (sym is) (h (call a) (of a))
 refusals_tell answer call operation r error (Err e) is of h = h
 
 pub refusal_tells : {T : Type 0} (answer : T → Answer) (call : Call) (operation : Operation) (r : Result T StoreError) (error : StoreError) (result : Result BatchItem OutOfMemory) → r ≡ Err error →
     call_operation call ≡ operation → IfOk result (λ item. (c : Call) → call_operation c ≡ operation → option_map (item_for c) (refusal_of error) ≡ Some item) →
-    IfOk result (λ item. Tells answer call r item)
-refusal_tells answer call operation r error (Ok item) is of h = subst (λ x. Tells answer call x item) (sym is) (h call of)
+    IfOk result (λ item. ItemReports answer call r item)
+refusal_tells answer call operation r error (Ok item) is of h = subst (λ x. ItemReports answer call x item) (sym is) (h call of)
 refusal_tells answer call operation r error (Err e) is of h = h
 
 -- an object that is not told

@@ -1,8 +1,9 @@
 -- Which helper's call a payload is.
 use Rattle.std.proofs.Common.{◌≡◌, ℕ, List, refl, ◌∙◌, ap, sym, subst, Option, Some, None, Bool, true, false}
-use Rattle.std.specs.Prelude.{if◌then◌else◌}
+use Rattle.std.specs.Prelude.{if◌then◌else◌, ◌↔◌, IsTrue, Result, Ok, Err, IfOk}
 use Rattle.std.specs.Option.{option_and_then}
 use Rattle.kmip_shape.specs.Val.{Val}
+use Rattle.kmip_wire.specs.declared.memory.OutOfMemory.{OutOfMemory}
 use Rattle.kmip_shape.specs.Fits.{Fits}
 use Rattle.kmip_shape.proofs.Parts.{none_some, some_same}
 use Rattle.kmip_types.specs.SameValues.{same_val, same_val-sound, same_val-refl}
@@ -86,6 +87,23 @@ other_request p c some other = none_called p (λ d h. other (ap request_of (some
 -- bytes of the payload that are not those of the one call whose request it may be
 pub other_bytes : (b : List ℕ) (p : RequestPayload) (credential : Option CredentialType) (c : Call) → candidate_call p ≡ Some c → request_bytes p credential ≡ Some b → (request_bytes (request_of c) credential ≡ Some b → ⊥) → None ≡ call_of (request_for p)
 other_bytes b p credential c some written other = other_request p c some (λ h. other (ap (λ x. request_bytes x credential) h ∙ written))
+
+-- bytes of the payload are the request of a call where its request is written as them
+pub is_of : (r : Result Bool OutOfMemory) (b : List ℕ) (p : RequestPayload) (credential : Option CredentialType) (c : Call) → request_read b ≡ Some (request_for p) → request_bytes p credential ≡ Some b →
+    IfOk r (λ same. same ≡ true → request_read b ≡ Some (request_for (request_of c))) → IfOk r (λ same. same ≡ false → request_bytes (request_of c) credential ≡ Some b → ⊥) →
+    IfOk r (λ is. IsTrue is ↔ (request_read b ≡ Some (request_for (request_of c))))
+is_of (Ok true) b p credential c read written same other = (λ t. same refl, λ h. refl)
+is_of (Ok false) b p credential c read written same other = (
+  λ t. absurd (cc),
+  λ h.
+      let vals : request_payload_val (request_of c) ≡ request_payload_val p = ap (λ (x : Request). x.payload) (some_same (request_for (request_of c)) (request_for p) (sym h ∙ read)) in
+      absurd (other refl (ap (λ x. request_bytes x credential) (request_payload_same (request_of c) p vals) ∙ written)),
+)
+is_of (Err e) b p credential c read written same other = tt
+
+-- and bytes that are no request are that of no call
+pub is_of_none : (b : List ℕ) (c : Call) → request_read b ≡ None → IsTrue false ↔ (request_read b ≡ Some (request_for (request_of c)))
+is_of_none b c none = (λ t. absurd (cc), λ h. none_some _ (sym none ∙ h))
 
 -- ---- what the code writes
 

@@ -1,12 +1,12 @@
 -- What a server returned, and what it did to its objects and its maker.
-use Rattle.std.specs.Prelude.{◌≡◌, ℕ, ℤ, Bool, cond, List, [], ◌∷◌, ◌++◌, true, Option, Some, None, Result, Ok, Err, IsTrue}
+use Rattle.std.specs.Prelude.{◌≡◌, ℕ, ℤ, Bool, cond, List, Option, Some, None, Result, Ok, Err}
 use Rattle.std.specs.Option.{option_map}
 use Rattle.kmip_wire.specs.declared.error.WireError.{WireError}
 use Rattle.kmip_wire.specs.declared.error.WireError.TheVariants.{NoForm, Malformed, OutOfMemory}
 use Rattle.kmip_response.specs.declared.batch_item.BatchItem.{BatchItem}
 use Rattle.kmip_response.specs.declared.message.ResponseMessage.{ResponseMessage}
 use Rattle.kmip_response_write.specs.Settled.{IsHeld, response_bytes}
-use Rattle.kmip_store.specs.Answers.{suits}
+use Rattle.kmip_store.specs.Answers.{IsGiven}
 use Rattle.kmip_store.specs.Makers.{MakerState}
 use Rattle.kmip_store.specs.Steps.{Answer, NotFound, Denied, Failed, Done, question}
 use Rattle.kmip_store.specs.declared.call.Call.{Call}
@@ -18,23 +18,6 @@ use Rattle.kmip_store.specs.declared.object.Object.{Object}
 use Rattle.kmip_server_core.specs.Items.{item_for, message_with}
 use Rattle.kmip_server_core.specs.Served.{Served, served_call}
 
-abbrev pub list_of_option : {T : Type 0} → Option T → List T
-list_of_option None = []
-list_of_option (Some x) = x ∷ []
-
--- the lists of a maker grew by the question, where there is one, and by the answer to it
-pub record Took (question : Option Asked) (made : Option Made) (before after : MakerState) : Type
-    0 where
-  pub asked : after.asked ≡ before.asked ++ list_of_option question
-  pub given : after.given ≡ before.given ++ list_of_option made
-
--- There is an answer exactly where there is a question, of the question's kind or a refusal. A
--- maker that tells was asked this question and gave this answer, and nothing else.
-pub record IsGiven (question : Option Asked) (made : Option Made) (before after : MakerState) : Type
-    0 where
-  pub suits_it : suits question made ≡ true
-  pub took : IsTrue before.tells → Took question made before after
-
 -- what writing a response returned
 abbrev pub IsWritten : ResponseMessage → Result (List ℕ) WireError → Type 0
 IsWritten message (Ok bytes) = IsHeld message × (response_bytes message ≡ Some bytes)
@@ -43,8 +26,8 @@ IsWritten message (Err Malformed) = ⊥
 IsWritten message (Err OutOfMemory) = Unit {0}
 
 -- the message of this time with this item is held, and written as these bytes
-abbrev pub IsTold : ℤ → BatchItem → List ℕ → Type 0
-IsTold time item bytes = IsWritten (message_with time item) (Ok bytes)
+abbrev pub IsItemWritten : ℤ → BatchItem → List ℕ → Type 0
+IsItemWritten time item bytes = IsWritten (message_with time item) (Ok bytes)
 
 -- The maker was asked the question and gave an answer, and what is served with that answer was
 -- done, and returned as bytes; or the message has no wire form, and the objects stay; or memory ran
@@ -71,26 +54,26 @@ refusal_of errors.CryptographicFailure = Some Failed
 refusal_of errors.OutOfMemory = None
 
 -- a result as the answer of a step; none where memory ran out
-abbrev pub answer_of : {T : Type 0} → (T → Answer) → Result T StoreError → Option Answer
-answer_of answer (Ok x) = Some (answer x)
-answer_of answer (Err error) = refusal_of error
+abbrev pub step_answer : {T : Type 0} → (T → Answer) → Result T StoreError → Option Answer
+step_answer answer (Ok x) = Some (answer x)
+step_answer answer (Err error) = refusal_of error
 
 -- the item reports what a call of the store returned
-abbrev pub Tells : {T : Type 0} → (T → Answer) → Call → Result T StoreError → BatchItem → Type 0
-Tells answer call result item = option_map (item_for call) (answer_of answer result) ≡ Some item
+abbrev pub ItemReports : {T : Type 0} → (T → Answer) → Call → Result T StoreError → BatchItem → Type 0
+ItemReports answer call result item = option_map (item_for call) (step_answer answer result) ≡ Some item
 
 -- ---- a helper's call
 
 -- what a server returned for the request of a helper's call, and did
-abbrev pub Serves : Call → ℤ → List Object → MakerState → MakerState → List Object →
+abbrev pub AnswersCall : Call → ℤ → List Object → MakerState → MakerState → List Object →
     Result (List ℕ) WireError → Type 0
-Serves call time objects before after new result = AnswersBy (question objects call)
+AnswersCall call time objects before after new result = AnswersBy (question objects call)
     (λ made. served_call objects call made time) objects before after new result
 
 -- the same of a call that asks no maker
-abbrev pub ServesAlone : Call → ℤ → List Object → List Object → Result (List ℕ) WireError → Type 0
-ServesAlone call time objects new result =
-    (maker : MakerState) → Serves call time objects maker maker new result
+abbrev pub AnswersCallAlone : Call → ℤ → List Object → List Object → Result (List ℕ) WireError → Type 0
+AnswersCallAlone call time objects new result =
+    (maker : MakerState) → AnswersCall call time objects maker maker new result
 
 -- the store's answer to a call that changes an object, by whether it has the object, and whether
 -- the state of the object allows the call

@@ -13,8 +13,8 @@ pub record ServerState (M : Type 0) : Type 0 where
   pub time : ℤ
 
 -- what a server returned for these bytes, and did; `state` is its maker as contracts see it
-abbrev pub Answers : {M : Type 0} → (M → MakerState) → ServerState M → ServerState M → List ℕ →
+abbrev pub AnswersRequest : {M : Type 0} → (M → MakerState) → ServerState M → ServerState M → List ℕ →
     Result (List ℕ) WireError → Type 0
-Answers state before after b result = AnswersBy (asks before.objects b)
+AnswersRequest state before after b result = AnswersBy (asks before.objects b)
     (λ made. served before.objects b made before.time)
     before.objects (state before.maker) (state after.maker) after.objects result

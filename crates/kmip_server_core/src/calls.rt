@@ -3,18 +3,18 @@
 ghost use Rattle.std.specs.Prelude.{◌≡◌, ℤ, List};
 ghost use Rattle.kmip_store.specs.Makers.{MakerKeeps};
 ghost use Rattle.kmip_store.specs.declared.call.Call.TheVariants as calls;
-ghost use Rattle.kmip_server_core.specs.Answering.{Serves, ServesAlone};
+ghost use Rattle.kmip_server_core.specs.Answering.{AnswersCall, AnswersCallAlone};
 
 use crate::items::{get_item, query_item, rng_item, sign_item};
 use crate::keys::{activate, destroy, rename, revoke};
+use crate::message::Stamp;
 use crate::pair::create;
-use crate::stamp::Stamp;
 use kmip_store::{Call, Maker, Store};
 use kmip_wire::{Blob, Text, WireError};
 
 /// Returns which operations the server has, and for which types of objects (KMIP 1.0, 4.24).
 fn query(stamp: &Stamp, store: &Store) -> Result<Blob, WireError>
-    ensures { ServesAlone calls.Query stamp.now.time store.now store.now result }
+    ensures { AnswersCallAlone calls.Query stamp.now.time store.now store.now result }
 {
     let item = query_item(stamp.alloc)?;
     stamp.write(item)
@@ -22,7 +22,7 @@ fn query(stamp: &Stamp, store: &Store) -> Result<Blob, WireError>
 
 /// Returns an object (KMIP 1.0, 4.10).
 fn get(stamp: &Stamp, store: &Store, id: &Text) -> Result<Blob, WireError>
-    ensures { ServesAlone (calls.GetKey id.now) stamp.now.time store.now store.now result }
+    ensures { AnswersCallAlone (calls.GetKey id.now) stamp.now.time store.now store.now result }
 {
     let item = get_item(stamp.alloc, store, id)?;
     stamp.write(item)
@@ -35,7 +35,7 @@ fn retrieve<M: Maker>(
     maker: &mut M,
     num_bytes: i32,
 ) -> Result<Blob, WireError>
-    ensures answers { Serves (calls.RngRetrieve num_bytes) stamp.now.time store.old
+    ensures answers { AnswersCall (calls.RngRetrieve num_bytes) stamp.now.time store.old
         (M.state maker.old) (M.state maker.new) store.new result }
     ensures keeps { MakerKeeps (M.state maker.old) (M.state maker.new) }
 {
@@ -51,7 +51,7 @@ fn sign<M: Maker>(
     id: &Text,
     in_bytes: &Blob,
 ) -> Result<Blob, WireError>
-    ensures answers { Serves (calls.Sign id.now in_bytes.now) stamp.now.time store.old
+    ensures answers { AnswersCall (calls.Sign id.now in_bytes.now) stamp.now.time store.old
         (M.state maker.old) (M.state maker.new) store.new result }
     ensures keeps { MakerKeeps (M.state maker.old) (M.state maker.new) }
 {
@@ -67,7 +67,7 @@ pub fn answer_call<M: Maker>(
     maker: &mut M,
     call: &Call,
 ) -> Result<Blob, WireError>
-    ensures answers { Serves call.now stamp.now.time store.old
+    ensures answers { AnswersCall call.now stamp.now.time store.old
         (M.state maker.old) (M.state maker.new) store.new result }
     ensures keeps { MakerKeeps (M.state maker.old) (M.state maker.new) }
 {

@@ -7,7 +7,7 @@ ghost use Rattle.kmip_store.specs.Steps.{Supports, Created, Random, Signed, Done
 ghost use Rattle.kmip_store.specs.Steps.{supported_operations};
 ghost use Rattle.kmip_store.specs.declared.call.Call.{Call};
 ghost use Rattle.kmip_store.specs.declared.call.Call.TheVariants as calls;
-ghost use Rattle.kmip_server_core.specs.Answering.{refusal_of, Tells};
+ghost use Rattle.kmip_server_core.specs.Answering.{refusal_of, ItemReports};
 ghost use Rattle.kmip_server_core.specs.Items.{failed_item, done_item, item_for, key_type, key_block_of};
 ghost use Rattle.kmip_server_core.specs.Items.{key_object, name_attribute, pair_item};
 ghost use Rattle.kmip_server_core.specs.Requests.{call_operation};
@@ -152,7 +152,7 @@ pub fn pair_item(private_id: Text, public_id: Text) -> BatchItem
 
 /// The item with random bytes, or why there are none.
 pub fn rng_item(alloc: Global, answer: Result<Blob, StoreError>) -> Result<BatchItem, OutOfMemory>
-    ensures { IfOk result (λ item. (n : ℤ) → Tells Random (calls.RngRetrieve n) answer item) }
+    ensures { IfOk result (λ item. (n : ℤ) → ItemReports Random (calls.RngRetrieve n) answer item) }
 {
     match answer {
         Ok(random_bytes) => Ok(success_item(
@@ -170,7 +170,7 @@ pub fn sign_item(
     answer: Result<Blob, StoreError>,
 ) -> Result<BatchItem, OutOfMemory>
     ensures { IfOk result (λ item. (contents : List ℕ) →
-        Tells Signed (calls.Sign id.now contents) answer item) }
+        ItemReports Signed (calls.Sign id.now contents) answer item) }
 {
     match answer {
         Ok(signature_data) => Ok(success_item(
@@ -203,7 +203,7 @@ pub fn activate_item(
     id: &Text,
     answer: Result<(), StoreError>,
 ) -> Result<BatchItem, OutOfMemory>
-    ensures { IfOk result (λ item. Tells (λ _. Done) (calls.ActivateKey id.now) answer item) }
+    ensures { IfOk result (λ item. ItemReports (λ _. Done) (calls.ActivateKey id.now) answer item) }
 {
     match answer {
         Ok(()) => Ok(success_item(
@@ -220,7 +220,7 @@ pub fn revoke_item(
     id: &Text,
     answer: Result<(), StoreError>,
 ) -> Result<BatchItem, OutOfMemory>
-    ensures { IfOk result (λ item. Tells (λ _. Done) (calls.RevokeKey id.now) answer item) }
+    ensures { IfOk result (λ item. ItemReports (λ _. Done) (calls.RevokeKey id.now) answer item) }
 {
     match answer {
         Ok(()) => Ok(success_item(
@@ -237,7 +237,7 @@ pub fn destroy_item(
     id: &Text,
     answer: Result<(), StoreError>,
 ) -> Result<BatchItem, OutOfMemory>
-    ensures { IfOk result (λ item. Tells (λ _. Done) (calls.DestroyKey id.now) answer item) }
+    ensures { IfOk result (λ item. ItemReports (λ _. Done) (calls.DestroyKey id.now) answer item) }
 {
     match answer {
         Ok(()) => Ok(success_item(
@@ -270,7 +270,7 @@ pub fn rename_item(
     answer: Result<(), StoreError>,
 ) -> Result<BatchItem, OutOfMemory>
     ensures { IfOk result (λ item.
-        Tells (λ _. Done) (calls.RenameKey id.now new_name.now) answer item) }
+        ItemReports (λ _. Done) (calls.RenameKey id.now new_name.now) answer item) }
 {
     match answer {
         Ok(()) => {

@@ -6,16 +6,16 @@ ghost use Rattle.kmip_store.specs.Objects.{find_in, object_of, is_pre_active, is
 ghost use Rattle.kmip_store.specs.Objects.{is_destroyed};
 ghost use Rattle.kmip_store.specs.Steps.{Done, Denied};
 ghost use Rattle.kmip_store.specs.declared.call.Call.TheVariants as calls;
-ghost use Rattle.kmip_server_core.specs.Answering.{answer_of, change_answer, response_of, ServesAlone};
+ghost use Rattle.kmip_server_core.specs.Answering.{step_answer, change_answer, response_of, AnswersCallAlone};
 
 use crate::items::{activate_item, destroy_item, rename_item, revoke_item};
-use crate::stamp::Stamp;
+use crate::message::Stamp;
 use kmip_store::{Store, StoreError};
 use kmip_wire::{Blob, Text, WireError};
 
 /// What the store will return where it has the object.
 fn permission(allowed: bool) -> Result<(), StoreError>
-    ensures { answer_of (λ _. Done) result ≡ Some (cond allowed Done Denied) }
+    ensures { step_answer (λ _. Done) result ≡ Some (cond allowed Done Denied) }
 {
     if allowed {
         Ok(())
@@ -26,7 +26,7 @@ fn permission(allowed: bool) -> Result<(), StoreError>
 
 /// What the store will return for a call that makes the object Active.
 fn activates(store: &Store, id: &str) -> Result<(), StoreError>
-    ensures { answer_of (λ _. Done) result ≡ Some
+    ensures { step_answer (λ _. Done) result ≡ Some
         (change_answer (λ object. is_pre_active object.state)
         (option_map object_of (find_in store.now id.now))) }
 {
@@ -38,7 +38,7 @@ fn activates(store: &Store, id: &str) -> Result<(), StoreError>
 
 /// What the store will return for a call that makes the object Deactivated.
 fn revokes(store: &Store, id: &str) -> Result<(), StoreError>
-    ensures { answer_of (λ _. Done) result ≡ Some (change_answer (λ object. is_active object.state)
+    ensures { step_answer (λ _. Done) result ≡ Some (change_answer (λ object. is_active object.state)
         (option_map object_of (find_in store.now id.now))) }
 {
     match store.find(id) {
@@ -49,7 +49,7 @@ fn revokes(store: &Store, id: &str) -> Result<(), StoreError>
 
 /// What the store will return for a call that makes the object Destroyed.
 fn destroys(store: &Store, id: &str) -> Result<(), StoreError>
-    ensures { answer_of (λ _. Done) result ≡ Some (change_answer
+    ensures { step_answer (λ _. Done) result ≡ Some (change_answer
         (λ object. not (is_active object.state || is_destroyed object.state))
         (option_map object_of (find_in store.now id.now))) }
 {
@@ -61,7 +61,7 @@ fn destroys(store: &Store, id: &str) -> Result<(), StoreError>
 
 /// What the store will return for a call that gives the object another name, memory aside.
 fn renames(store: &Store, id: &str) -> Result<(), StoreError>
-    ensures { answer_of (λ _. Done) result ≡ Some (change_answer
+    ensures { step_answer (λ _. Done) result ≡ Some (change_answer
         (λ object. not (is_destroyed object.state))
         (option_map object_of (find_in store.now id.now))) }
 {
@@ -84,7 +84,7 @@ fn respond(answer: Result<(), StoreError>, response: Blob) -> Result<Blob, WireE
 
 /// Makes a PreActive key Active (KMIP 1.0, 4.18).
 pub fn activate(stamp: &Stamp, store: &mut Store, id: &Text) -> Result<Blob, WireError>
-    ensures { ServesAlone (calls.ActivateKey id.now) stamp.now.time store.old store.new result }
+    ensures { AnswersCallAlone (calls.ActivateKey id.now) stamp.now.time store.old store.new result }
 {
     let item = activate_item(stamp.alloc, id, activates(store, id.as_str()))?;
     match stamp.write(item) {
@@ -95,7 +95,7 @@ pub fn activate(stamp: &Stamp, store: &mut Store, id: &Text) -> Result<Blob, Wir
 
 /// Makes an Active key Deactivated (KMIP 1.0, 4.19).
 pub fn revoke(stamp: &Stamp, store: &mut Store, id: &Text) -> Result<Blob, WireError>
-    ensures { ServesAlone (calls.RevokeKey id.now) stamp.now.time store.old store.new result }
+    ensures { AnswersCallAlone (calls.RevokeKey id.now) stamp.now.time store.old store.new result }
 {
     let item = revoke_item(stamp.alloc, id, revokes(store, id.as_str()))?;
     match stamp.write(item) {
@@ -106,7 +106,7 @@ pub fn revoke(stamp: &Stamp, store: &mut Store, id: &Text) -> Result<Blob, WireE
 
 /// Makes a key Destroyed (KMIP 1.0, 4.20).
 pub fn destroy(stamp: &Stamp, store: &mut Store, id: &Text) -> Result<Blob, WireError>
-    ensures { ServesAlone (calls.DestroyKey id.now) stamp.now.time store.old store.new result }
+    ensures { AnswersCallAlone (calls.DestroyKey id.now) stamp.now.time store.old store.new result }
 {
     let item = destroy_item(stamp.alloc, id, destroys(store, id.as_str()))?;
     match stamp.write(item) {
@@ -122,7 +122,7 @@ pub fn rename(
     id: &Text,
     new_name: &Text,
 ) -> Result<Blob, WireError>
-    ensures { ServesAlone (calls.RenameKey id.now new_name.now) stamp.now.time
+    ensures { AnswersCallAlone (calls.RenameKey id.now new_name.now) stamp.now.time
         store.old store.new result }
 {
     let item = rename_item(stamp.alloc, id, new_name, renames(store, id.as_str()))?;

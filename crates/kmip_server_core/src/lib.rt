@@ -13,13 +13,13 @@ mod calls;
 mod items;
 mod keys;
 mod laws;
-mod own;
+mod message;
 mod pair;
-mod picking;
+mod recognize;
+mod request;
 mod server;
-mod stamp;
 
 pub use kmip_store::Call;
 pub use laws::{helper_is_matched, own_call, served_is_settled};
-pub use own::{call_known, is_request_of, request_of};
+pub use request::{call_known, is_request_of, request_of};
 pub use server::Server;

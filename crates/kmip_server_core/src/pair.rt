@@ -5,11 +5,11 @@ ghost use Rattle.kmip_store.specs.Makers.{MakerKeeps};
 ghost use Rattle.kmip_store.specs.Objects.{identifier};
 ghost use Rattle.kmip_store.specs.Steps.{Created, Failed};
 ghost use Rattle.kmip_store.specs.declared.call.Call.TheVariants.{CreateRsaKeyPair};
-ghost use Rattle.kmip_server_core.specs.Answering.{Serves, IsTold, response_of_pair};
+ghost use Rattle.kmip_server_core.specs.Answering.{AnswersCall, IsItemWritten, response_of_pair};
 ghost use Rattle.kmip_server_core.specs.Items.{pair_item as item_of_pair};
 
 use crate::items::{failure_item, pair_item};
-use crate::stamp::Stamp;
+use crate::message::Stamp;
 use kmip_enums::{Operation, ResultReason};
 use kmip_response::BatchItem;
 use kmip_store::{Maker, Store, StoreError};
@@ -19,8 +19,8 @@ use kmip_wire::{Blob, OutOfMemory, Text, WireError};
 ///
 /// An item of a pair has only identifiers and fixed texts, which are short: it has a wire form, and
 /// writing it fails only where memory runs out. No clause says so.
-fn tell(stamp: &Stamp, item: BatchItem) -> Result<Blob, OutOfMemory>
-    ensures { IfOk result (λ bytes. IsTold stamp.now.time item bytes) }
+fn write_response(stamp: &Stamp, item: BatchItem) -> Result<Blob, OutOfMemory>
+    ensures { IfOk result (λ bytes. IsItemWritten stamp.now.time item bytes) }
 {
     match stamp.write(item) {
         Ok(response) => Ok(response),
@@ -30,13 +30,13 @@ fn tell(stamp: &Stamp, item: BatchItem) -> Result<Blob, OutOfMemory>
 
 /// The bytes of the response with the identifiers of the next pair.
 fn created_bytes(stamp: &Stamp, store: &Store) -> Result<Blob, OutOfMemory>
-    ensures { IfOk result (λ bytes. IsTold stamp.now.time (item_of_pair
+    ensures { IfOk result (λ bytes. IsItemWritten stamp.now.time (item_of_pair
         (Created (identifier (length store.now)) (identifier (length store.now + 1)))) bytes) }
 {
     match store.next_identifiers() {
         Ok(pair) => {
             let (private_id, public_id) = pair;
-            tell(stamp, pair_item(private_id, public_id))
+            write_response(stamp, pair_item(private_id, public_id))
         }
         Err(_) => Err(OutOfMemory),
     }
@@ -44,7 +44,7 @@ fn created_bytes(stamp: &Stamp, store: &Store) -> Result<Blob, OutOfMemory>
 
 /// The bytes of the response that refuses a pair.
 fn refusal_bytes(stamp: &Stamp) -> Result<Blob, OutOfMemory>
-    ensures { IfOk result (λ bytes. IsTold stamp.now.time (item_of_pair Failed) bytes) }
+    ensures { IfOk result (λ bytes. IsItemWritten stamp.now.time (item_of_pair Failed) bytes) }
 {
     let item = failure_item(
         stamp.alloc,
@@ -52,7 +52,7 @@ fn refusal_bytes(stamp: &Stamp) -> Result<Blob, OutOfMemory>
         ResultReason::CryptographicFailure,
         "maker failed",
     )?;
-    tell(stamp, item)
+    write_response(stamp, item)
 }
 
 /// Of the two responses, the one that reports the store's result.
@@ -80,7 +80,7 @@ pub fn create<M: Maker>(
     private_name: &Text,
     public_name: &Text,
 ) -> Result<Blob, WireError>
-    ensures answers { Serves (CreateRsaKeyPair key_length private_name.now public_name.now)
+    ensures answers { AnswersCall (CreateRsaKeyPair key_length private_name.now public_name.now)
         stamp.now.time store.old (M.state maker.old) (M.state maker.new) store.new result }
     ensures keeps { MakerKeeps (M.state maker.old) (M.state maker.new) }
 {

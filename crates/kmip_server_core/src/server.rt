@@ -7,11 +7,11 @@ ghost use Rattle.kmip_request_read.specs.Reading.{request_for, request_read};
 ghost use Rattle.kmip_server_core.specs.Answering.{AnswersBy};
 ghost use Rattle.kmip_server_core.specs.Requests.{is_served};
 ghost use Rattle.kmip_server_core.specs.Served.{served, served_request, asks, asks_request};
-ghost use Rattle.kmip_server_core.specs.State.{ServerState, Answers};
+ghost use Rattle.kmip_server_core.specs.State.{ServerState, AnswersRequest};
 
 use crate::calls::answer_call;
-use crate::picking::call_of;
-use crate::stamp::Stamp;
+use crate::message::Stamp;
+use crate::recognize::call_of;
 use kmip_enums::{Operation, ResultReason};
 use kmip_request::RequestPayload;
 use kmip_request_read::{RequestReadError, from_slice};
@@ -84,7 +84,7 @@ impl<M: Maker> Server<M> {
     /// After both the objects are as they were: the response is made before the store changes. The
     /// maker is asked last, and only where the call takes its answer.
     pub fn answer(&mut self, request: &[u8]) -> Result<Blob, WireError>
-        ensures answers { Answers M.state self.old self.new request.now result }
+        ensures answers { AnswersRequest M.state self.old self.new request.now result }
         ensures keeps { MakerKeeps (M.state self.old.maker) (M.state self.new.maker) }
         ensures time { self.new.time ≡ self.old.time }
     {

@@ -1,131 +1,135 @@
-//! Calls over a server that was just made.
-use crate::helpers::Ask::{Activate, Destroy, Get, Pair, Query, Random, Rename, Revoke, Sign};
-use crate::helpers::{Row, blob, client_over, joined, plain_link, tells};
-use kmip_client::Client;
+//! Calls of a client over a server that was just made.
+use crate::common::TestCall::{
+    Activate, CreatePair, Destroy, Get, Query, Random, Rename, Revoke, Sign,
+};
+use crate::common::blob;
+use crate::reports::Returned::{DeserializeError, ItemNotFound, ServerError, Value};
+use crate::reports::{Row, check_calls, client_over, client_with_diagnostics, plain_link};
 use kmip_server::ServerLink;
-use kmip_store::{Made, Maker, MemoryMaker};
+use kmip_store::{Made, MemoryMaker};
 use kmip_wire::{Config, List};
 use std::alloc::Global;
 use std::test::Fail;
 
-/// The calls of a life, and a call on a key that there is not.
+/// A key made, what is allowed in each state, its end, and a key that there is not.
 const LIFE: &[Row<'static>] = &[
-    (Pair, "1 2"),
+    (CreatePair(2048), Value("1 2")),
     (
         Sign("1"),
-        "Operation Sign failed: not allowed in this state",
+        ServerError("Operation Sign failed: not allowed in this state"),
     ),
-    (Activate("1"), "()"),
+    (Activate("1"), Value("()")),
     (
         Sign("1"),
-        "{unique_identifier=\"1\",signature_data=x\"0000000000000002\"}",
+        Value("{unique_identifier=\"1\",signature_data=x\"0000000000000002\"}"),
     ),
     (
         Get("1"),
-        "{object_type=PrivateKey,unique_identifier=\"1\",cryptographic_object=PrivateKey{key_block={key_format_type=PKCS1,key_value={key_material=Bytes(x\"000000000000000101\")},cryptographic_algorithm=RSA,cryptographic_length=2048}}}",
+        Value(
+            "{object_type=PrivateKey,unique_identifier=\"1\",cryptographic_object=PrivateKey{key_block={key_format_type=PKCS1,key_value={key_material=Bytes(x\"000000000000000101\")},cryptographic_algorithm=RSA,cryptographic_length=2048}}}",
+        ),
     ),
     (
         Destroy("1"),
-        "Operation Destroy failed: not allowed in this state",
+        ServerError("Operation Destroy failed: not allowed in this state"),
     ),
-    (Revoke("1"), "()"),
-    (Destroy("1"), "()"),
-    (Get("1"), "Operation Get failed: not allowed in this state"),
-    (Activate("9"), "Operation Activate failed: no such object"),
+    (Revoke("1"), Value("()")),
+    (Destroy("1"), Value("()")),
+    (
+        Get("1"),
+        ServerError("Operation Get failed: not allowed in this state"),
+    ),
+    (
+        Activate("9"),
+        ItemNotFound("Operation Activate failed: no such object"),
+    ),
 ];
 
-/// The life of a key.
 #[test]
-fn a_life(rt: HostRuntime) -> Result<(), Fail> {
+fn answers_follow_the_state_of_a_key(rt: HostRuntime) -> Result<(), Fail> {
     let alloc = rt.alloc();
-    tells(&rt, alloc, &mut joined(plain_link(alloc)), LIFE, None)
+    let mut client = client_with_diagnostics(plain_link(alloc));
+    check_calls(&rt, alloc, &mut client, LIFE, None)
 }
 
 /// Random bytes, what a server can do, and a name.
 const OTHERS: &[Row<'static>] = &[
-    (Random, "{random_bytes=x\"0101\"}"),
+    (Random(2), Value("{random_bytes=x\"0101\"}")),
     (
         Query,
-        "{operations=[CreateKeyPair,Get,ModifyAttribute,Activate,Revoke,Destroy,Query,Sign,RNGRetrieve],object_types=[PublicKey,PrivateKey]}",
+        Value(
+            "{operations=[CreateKeyPair,Get,ModifyAttribute,Activate,Revoke,Destroy,Query,Sign,RNGRetrieve],object_types=[PublicKey,PrivateKey]}",
+        ),
     ),
-    (Pair, "1 2"),
+    (CreatePair(2048), Value("1 2")),
     (
         Rename("2", "new"),
-        "{unique_identifier=\"2\",attribute={name=\"Name\",value=Name{name_value=\"new\",name_type=UninterpretedTextString}}}",
+        Value(
+            "{unique_identifier=\"2\",attribute={name=\"Name\",value=Name{name_value=\"new\",name_type=UninterpretedTextString}}}",
+        ),
     ),
 ];
 
-/// The other calls, and the diagnostics of the first.
 #[test]
-fn other_calls(rt: HostRuntime) -> Result<(), Fail> {
+fn a_call_reports_what_it_sent_and_both_diagnostics(rt: HostRuntime) -> Result<(), Fail> {
     let alloc = rt.alloc();
+    let mut client = client_with_diagnostics(plain_link(alloc));
     let first = (
         120,
         "78[77[69[6Ai6Bi]0Di]0F[5Ce25:79[C4i]]]",
         "7B[7A[69[6Ai6Bi]92d0Di]0F[5Ce25:7Fe0:7C[C2x]]]",
     );
-    tells(
-        &rt,
-        alloc,
-        &mut joined(plain_link(alloc)),
-        OTHERS,
-        Some(first),
-    )
+    check_calls(&rt, alloc, &mut client, OTHERS, Some(first))
 }
 
 /// A pair, and a byte.
 fn pair_and_byte(alloc: Global) -> Result<List<Made>, Fail> {
     let (private_key, public_key) = (blob(alloc, b"\x01")?, blob(alloc, b"\x02")?);
     let byte = blob(alloc, b"\x03")?;
-    let mut given = List::new(alloc);
-    given.push(Made::Pair(private_key, public_key))?;
-    given.push(Made::Bytes(byte))?;
-    Ok(given)
+    let mut answers = List::new(alloc);
+    answers.push(Made::Pair(private_key, public_key))?;
+    answers.push(Made::Bytes(byte))?;
+    Ok(answers)
 }
 
-/// A link round a server whose maker makes a pair, refuses, and makes a byte.
+/// A link over a server whose maker makes a pair, refuses, and makes a byte.
 fn refusing_link(alloc: Global) -> Result<ServerLink<MemoryMaker>, Fail> {
     let maker = MemoryMaker::new(alloc, pair_and_byte(alloc)?, &[1])?;
     Ok(ServerLink::new(alloc, maker, 0))
 }
 
-/// What the maker makes, and that it refuses its second answer.
 const REFUSED: &[Row<'static>] = &[
-    (Pair, "1 2"),
-    (Activate("1"), "()"),
-    (Sign("1"), "Operation Sign failed: maker failed"),
+    (CreatePair(2048), Value("1 2")),
+    (Activate("1"), Value("()")),
     (
         Sign("1"),
-        "{unique_identifier=\"1\",signature_data=x\"03\"}",
+        ServerError("Operation Sign failed: maker failed"),
+    ),
+    (
+        Sign("1"),
+        Value("{unique_identifier=\"1\",signature_data=x\"03\"}"),
     ),
 ];
 
-/// A maker that refuses its second answer.
 #[test]
-fn a_maker_that_refuses(rt: HostRuntime) -> Result<(), Fail> {
+fn a_signature_that_the_maker_refused_is_made_at_the_next_call(
+    rt: HostRuntime,
+) -> Result<(), Fail> {
     let alloc = rt.alloc();
-    tells(
-        &rt,
-        alloc,
-        &mut joined(refusing_link(alloc)?),
-        REFUSED,
-        None,
-    )
+    let mut client = client_with_diagnostics(refusing_link(alloc)?);
+    check_calls(&rt, alloc, &mut client, REFUSED, None)
 }
 
-/// Whether the link is neither faulted nor starved.
-fn is_sound<M: Maker>(client: &mut Client<ServerLink<M>>) -> bool {
-    let link = client.inner();
-    !link.faulted() && !link.starved()
-}
-
-/// A response that is longer than the client's limit loses no connection, but what it left is read as the next.
 #[test]
-fn over_the_limit(rt: HostRuntime) -> Result<(), Fail> {
+fn a_response_over_the_limit_loses_no_connection(rt: HostRuntime) -> Result<(), Fail> {
     let alloc = rt.alloc();
     let mut client = client_over(plain_link(alloc), Config::new().with_max_bytes(16));
-    let rows = [(Random, "response size 152 exceeds limit 16")];
-    tells(&rt, alloc, &mut client, &rows, None)?;
-    assert!(rt; is_sound(&mut client));
+    let rows = [(
+        Random(2),
+        DeserializeError("response size 152 exceeds limit 16"),
+    )];
+    check_calls(&rt, alloc, &mut client, &rows, None)?;
+    assert!(rt; !client.inner().faulted(), "the link is not faulted");
+    assert!(rt; !client.inner().starved(), "the link is not starved");
     Ok(())
 }

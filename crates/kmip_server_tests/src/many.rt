@@ -1,42 +1,36 @@
 //! Many calls, and long ones.
-use crate::helpers::Ask::{Activate, Pair};
-use crate::helpers::{add, asked, joined, plain_link, tells, text};
-use kmip_client::Client;
-use kmip_server::{Call, ServerLink};
-use kmip_store::Maker;
+use crate::common::TestCall::{Activate, CreatePair};
+use crate::common::text;
+use crate::reports::Returned::{self, ItemNotFound, Value};
+use crate::reports::{add_call, check_calls, client_with_diagnostics, make_calls, plain_link};
+use kmip_server::Call;
 use kmip_wire::{List, Text, TryClone};
 use std::alloc::Global;
 use std::test::Fail;
 
-const NO_OBJECT: &str = "Operation Activate failed: no such object";
+const NO_OBJECT: Returned = ItemNotFound("Operation Activate failed: no such object");
 
 /// So many calls for a pair.
 fn pairs(alloc: Global, count: usize) -> Result<List<Call>, Fail> {
     let mut calls = List::new(alloc);
     for _ in 0..count {
-        add(alloc, &mut calls, Pair)?;
+        add_call(alloc, &mut calls, CreatePair(2048))?;
     }
     Ok(calls)
 }
 
-/// How many answers so many calls for a pair have, and how many objects there are then.
-fn made<M: Maker>(
-    alloc: Global,
-    client: &mut Client<ServerLink<M>>,
-    count: usize,
-) -> Result<[usize; 2], Fail> {
-    let answers = asked(alloc, client, pairs(alloc, count)?)?.len();
-    Ok([answers, client.inner().server().store().len()])
-}
-
-/// 2,000 pairs, and the last of their keys.
 #[test]
-fn many_pairs(rt: HostRuntime) -> Result<(), Fail> {
+fn two_thousand_pairs_are_four_thousand_objects(rt: HostRuntime) -> Result<(), Fail> {
     let alloc = rt.alloc();
-    let mut client = joined(plain_link(alloc));
-    assert!(rt; made(alloc, &mut client, 2000)? == [2000, 4000]);
-    let rows = [(Activate("4000"), "()"), (Activate("4001"), NO_OBJECT)];
-    tells(&rt, alloc, &mut client, &rows, None)
+    let mut client = client_with_diagnostics(plain_link(alloc));
+    let reports = make_calls(alloc, &mut client, pairs(alloc, 2000)?)?;
+    assert_eq!(rt; reports.len(), 2000, "calls made");
+    assert_eq!(rt; client.inner().server().store().len(), 4000, "objects");
+    let rows = [
+        (Activate("4000"), Value("()")),
+        (Activate("4001"), NO_OBJECT),
+    ];
+    check_calls(&rt, alloc, &mut client, &rows, None)
 }
 
 /// The text, doubled so often.
@@ -49,9 +43,8 @@ fn doubled(alloc: Global, first: &str, times: usize) -> Result<Text, Fail> {
     Ok(made)
 }
 
-/// An identifier of 16 MiB.
 #[test]
-fn a_long_identifier(rt: HostRuntime) -> Result<(), Fail> {
+fn an_identifier_of_16_mib_is_sent_and_names_no_object(rt: HostRuntime) -> Result<(), Fail> {
     let alloc = rt.alloc();
     let id = doubled(alloc, "0123456789abcdef", 20)?;
     let first = (
@@ -59,12 +52,7 @@ fn a_long_identifier(rt: HostRuntime) -> Result<(), Fail> {
         "78[77[69[6Ai6Bi]0Di]0F[5Ce12:79[94t]]]",
         "7B[7A[69[6Ai6Bi]92d0Di]0F[5Ce12:7Fe1:7Ee1:7Dt]]",
     );
+    let mut client = client_with_diagnostics(plain_link(alloc));
     let rows = [(Activate(id.as_str()), NO_OBJECT)];
-    tells(
-        &rt,
-        alloc,
-        &mut joined(plain_link(alloc)),
-        &rows,
-        Some(first),
-    )
+    check_calls(&rt, alloc, &mut client, &rows, Some(first))
 }

@@ -1,4 +1,4 @@
-pub mod Places
+pub mod Identifiers
 pub mod Questions
 pub mod Kept
 pub mod Plains

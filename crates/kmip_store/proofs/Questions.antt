@@ -1,36 +1,62 @@
 -- Calls that ask a maker, as steps.
-use Rattle.std.proofs.Common.{◌≡◌, ℕ, ◌+◌, ℤ, true, List, [], ◌∷◌, ◌++◌, length, Option, Some, refl, sym, subst}
+use Rattle.std.proofs.Common.{◌≡◌, ℕ, ◌+◌, ℤ, true, List, [], ◌∷◌, ◌++◌, length, Option, Some, None, refl, sym, subst, append-nil}
 use Rattle.std.specs.Prelude.{IsTrue, Result, Ok, Err}
 use Rattle.kmip_enums.specs.declared.object_type.ObjectType.TheVariants.{PublicKey, PrivateKey}
 use Rattle.kmip_store.specs.declared.object.Object.{Object}
 use Rattle.kmip_store.specs.declared.maker.Asked.{Asked}
 use Rattle.kmip_store.specs.declared.maker.Asked.TheVariants as questions
 use Rattle.kmip_store.specs.declared.maker.Made.{Made}
-use Rattle.kmip_store.specs.declared.maker.Made.TheVariants.{Pair, Bytes, Refused}
+use Rattle.kmip_store.specs.declared.maker.Made.TheVariants.{Pair, Refused}
 use Rattle.kmip_store.specs.declared.error.StoreError.{StoreError}
-use Rattle.kmip_store.specs.declared.error.StoreError.TheVariants.{ItemNotFound, PermissionDenied, CryptographicFailure, OutOfMemory}
+use Rattle.std.specs.Result.{IsErrAnd}
 use Rattle.kmip_store.specs.declared.maker.MakerError.{MakerError}
-use Rattle.kmip_store.specs.declared.maker.MakerError.TheVariants.{Fault}
-use Rattle.kmip_store.specs.Makers.{MakerState, Answered, MakerFaultsRose, Makes, is_answer}
+use Rattle.kmip_store.specs.declared.maker.MakerError.TheVariants.{Fault, OutOfMemory}
+use Rattle.kmip_store.specs.Errors.{store_error}
+use Rattle.kmip_store.specs.Makers.{MakerState, MakerGrew, MakerFaultsRose, MakerCall, is_answer}
 use Rattle.kmip_store.specs.Objects.{find_in, identifier}
 use Rattle.kmip_store.specs.declared.call.Call.{Call}
 use Rattle.kmip_store.specs.declared.call.Call.TheVariants.{CreateRsaKeyPair, Sign}
 use Rattle.kmip_store.specs.Steps.{Answer, Signed, Created, Failed, stay, step, question, can_sign, key_of, made_bytes}
-use Rattle.kmip_store.specs.Answers.{Grew, suits, IsStep, Asks, Gets}
+use Rattle.kmip_store.specs.Answers.{answers_question, IsGiven, IsStep, StepsAsking}
 
--- what a call of a maker that refused did
-pub refusal : {T : Type 0} (made : T → Made) (question : Asked) (before after : MakerState) (e : MakerError) → e ≡ Fault → Makes made question before after (Err e) → (IsTrue before.tells → Answered before after question Refused) × MakerFaultsRose before.faults after.faults
-refusal made question before after e f h = subst (λ (x : MakerError). Makes made question before after (Err x)) f h
+-- a call that put this question to the maker and got this answer
+given_by : (asks : Asked) (made : Made) (question : Option Asked) (asked answered : MakerState) → question ≡ Some asks → is_answer asks made ≡ true → (IsTrue asked.tells → MakerGrew asked answered (Some asks) (Some made))
+    → (made ≡ Refused → MakerFaultsRose asked.faults answered.faults) → IsGiven question (Some made) asked answered
+given_by asks made question asked answered e k t r = record {
+  fits = subst (λ (o : Option Asked). answers_question o (Some made) ≡ true) (sym e) k;
+  grew = λ h. subst (λ (o : Option Asked). MakerGrew asked answered o (Some made)) (sym e) (t h);
+  rose = λ is. r (cc);
+}
 
--- a call that asked the maker this and got that answer
-pub asked_step : (before : List Object) (call : Call) (after : List Object) (answer : Answer) (asked answered : MakerState) (asks : Asked) (made : Made) → question before call ≡ Some asks → is_answer asks made ≡ true → step before call (Some made) ≡ stay after answer
-    → (IsTrue asked.tells → Answered asked answered asks made) → IsStep before call after answer asked answered
-asked_step before call after answer asked answered asks made e k s t = record {
+-- and the maker gave what was asked for
+pub made_step : (before : List Object) (call : Call) (after : List Object) (answer : Answer) (asked answered : MakerState) (asks : Asked) (made : Made) → question before call ≡ Some asks → is_answer asks made ≡ true → (made ≡ Refused → ⊥)
+    → step before call (Some made) ≡ stay after answer → (IsTrue asked.tells → MakerGrew asked answered (Some asks) (Some made)) → IsStep before call after answer asked answered
+made_step before call after answer asked answered asks made e k n s t = record {
   made = Some made;
   step_is = s;
-  asks = subst (λ (o : Option Asked). suits o (Some made) ≡ true) (sym e) k;
-  told = λ h. subst (λ (o : Option Asked). Grew asked answered o (Some made)) (sym e) (t h);
+  given = given_by asks made (question before call) asked answered e k t (λ is. absurd (n is));
 }
+
+-- or it gave nothing
+pub no_step : {T R : Type 0} (answer : R → Answer) (made : T → Made) (objects : List Object) (call : Call) (asked answered : MakerState) (asks : Asked) (error : MakerError) → question objects call ≡ Some asks
+    → step objects call (Some Refused) ≡ stay objects Failed → MakerCall made asks asked answered (Err error) → StepsAsking answer objects call objects asked answered (Err (store_error error))
+no_step answer made objects call asked answered asks Fault e s h =
+    (record { made = Some Refused; step_is = s; given = given_by asks Refused (question objects call) asked answered e refl h.0 (λ is. h.1) }, h.1)
+no_step answer made objects call asked answered asks OutOfMemory e s h = (refl, h)
+
+-- and so a `?` returned
+pub no_result : {T R : Type 0} (answer : R → Answer) (made : T → Made) (objects : List Object) (call : Call) (asked answered : MakerState) (asks : Asked) (error : MakerError) (r : Result R StoreError) → question objects call ≡ Some asks
+    → step objects call (Some Refused) ≡ stay objects Failed → MakerCall made asks asked answered (Err error) → IsErrAnd r (λ e. e ≡ store_error error) → StepsAsking answer objects call objects asked answered r
+no_result answer made objects call asked answered asks error (Ok x) e s h so = absurd so
+no_result answer made objects call asked answered asks error (Err f) e s h so =
+    subst (λ (x : StoreError). StepsAsking answer objects call objects asked answered (Err x)) (sym so) (no_step answer made objects call asked answered asks error e s h)
+
+-- where nothing is asked
+pub nothing_asked : (maker : MakerState) → MakerGrew maker maker None None
+nothing_asked maker = record { asked = sym (append-nil maker.asked); given = sym (append-nil maker.given) }
+
+pub none_given : (maker : MakerState) → IsGiven None None maker maker
+none_given maker = record { fits = refl; grew = λ tells. nothing_asked maker; rose = λ is. absurd (cc) }
 
 -- a signature is asked of the key of the object that is found
 pub sign_asks : (objects : List Object) (id bytes : List ℕ) (place : ℕ) (object : Object) → find_in objects id ≡ Some (place, object) → can_sign object ≡ true → question objects (Sign id bytes) ≡ Some (questions.Sign object.key bytes)
@@ -38,22 +64,6 @@ sign_asks objects id bytes place object f s = rw (f, s) refl
 
 pub sign_step : (objects : List Object) (id bytes : List ℕ) (place : ℕ) (object : Object) (made : Made) → find_in objects id ≡ Some (place, object) → can_sign object ≡ true → step objects (Sign id bytes) (Some made) ≡ stay objects (made_bytes Signed (Some made))
 sign_step objects id bytes place object made f s = rw (f, s) refl
-
--- a call whose result is that of its question to the maker
-asks_of : {T : Type 0} (answer : T → Answer) (made : T → Made) (objects : List Object) (call : Call) (asks : Asked) (asked answered : MakerState) (r : Result T StoreError) → question objects call ≡ Some asks → ((x : T) → is_answer asks (made x) ≡ true)
-    → ((x : T) → step objects call (Some (made x)) ≡ stay objects (answer x)) → step objects call (Some Refused) ≡ stay objects Failed → Gets made asks asked answered r → Asks answer objects call objects asked answered r
-asks_of answer made objects call asks asked answered (Ok x) q k s f h = asked_step objects call objects (answer x) asked answered asks (made x) q (k x) (s x) h
-asks_of answer made objects call asks asked answered (Err ItemNotFound) q k s f h = absurd h
-asks_of answer made objects call asks asked answered (Err PermissionDenied) q k s f h = absurd h
-asks_of answer made objects call asks asked answered (Err CryptographicFailure) q k s f h = (asked_step objects call objects Failed asked answered asks Refused q refl f h.0, h.1)
-asks_of answer made objects call asks asked answered (Err OutOfMemory) q k s f h = (refl, h)
-
--- a signature is asked of the key of the object that is found
-pub signs : (objects : List Object) (id bytes : List ℕ) (place : ℕ) (object : Object) (asked answered : MakerState) (r : Result (List ℕ) StoreError) → Gets (λ (b : List ℕ). Bytes b) (questions.Sign object.key bytes) asked answered r → find_in objects id ≡ Some (place, object) → can_sign object ≡ true
-    → Asks Signed objects (Sign id bytes) objects asked answered r
-signs objects id bytes place object asked answered r h f s =
-    asks_of Signed (λ (b : List ℕ). Bytes b) objects (Sign id bytes) (questions.Sign object.key bytes) asked answered r
-    (sign_asks objects id bytes place object f s) (λ b. refl) (λ b. sign_step objects id bytes place object (Bytes b) f s) (sign_step objects id bytes place object Refused f s) h
 
 -- two keys that were added
 pub create_step : (objects after : List Object) (bits : ℤ) (private public a b first second : List ℕ) → after ≡ objects ++ key_of PrivateKey private bits a ∷ key_of PublicKey public bits b ∷ [] → first ≡ identifier (length objects) → second ≡ identifier (length objects + 1)

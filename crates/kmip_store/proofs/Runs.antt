@@ -11,14 +11,14 @@ use Rattle.kmip_store.specs.declared.call.Call.{Call}
 use Rattle.kmip_store.specs.declared.call.Call.TheVariants.{Query, CreateRsaKeyPair, RngRetrieve, Sign, ActivateKey, RevokeKey, DestroyKey, RenameKey, GetKey}
 use Rattle.kmip_store.specs.Steps.{Answer, Got, Stepped, stay, become, step_where, on_found, step, get, can_sign, made_bytes}
 use Rattle.kmip_enums.specs.declared.state.State.TheVariants.{Active, Deactivated, Destroyed}
-use Rattle.kmip_store.specs.Runs.{Turn, objects_after, new_identifiers, identifiers_given}
-use Rattle.kmip_store.proofs.Places.{other_bytes}
+use Rattle.kmip_store.specs.Runs.{AnsweredCall, objects_after, new_identifiers, identifiers_given}
+use Rattle.kmip_store.proofs.Identifiers.{other_bytes}
 use Rattle.kmip_store.proofs.Kept.{destroyed_kept, never_fewer}
 
-pub run_keeps : (objects : List Object) (turns : List Turn) (place : ℕ) (object : Object) → slice_get objects place ≡ Some object → is_destroyed object.state ≡ true → slice_get (objects_after objects turns) place ≡ Some object
+pub run_keeps : (objects : List Object) (calls : List AnsweredCall) (place : ℕ) (object : Object) → slice_get objects place ≡ Some object → is_destroyed object.state ≡ true → slice_get (objects_after objects calls) place ≡ Some object
 run_keeps objects [] place object h d = h
-run_keeps objects (turn ∷ turns) place object h d =
-    run_keeps (step objects turn.call turn.made).objects turns place object (destroyed_kept objects turn.call turn.made place object h d) d
+run_keeps objects (it ∷ calls) place object h d =
+    run_keeps (step objects it.call it.made).objects calls place object (destroyed_kept objects it.call it.made place object h d) d
 
 -- ---- what one call gives
 
@@ -78,11 +78,11 @@ then_apart objects s end later l (inl e) h = rw e (apart_from (length objects) (
 then_apart objects s end later l (inr e) h =
     rw e.0 (length objects, omega arith, refl, (length objects + 1, omega arith, refl, apart_from ((length objects + 1) + 1) (length s.objects) end later (omega (arith, e.1)) h))
 
-given_apart : (objects : List Object) (turns : List Turn) → Apart (length objects) (length (objects_after objects turns)) (identifiers_given objects turns)
+given_apart : (objects : List Object) (calls : List AnsweredCall) → Apart (length objects) (length (objects_after objects calls)) (identifiers_given objects calls)
 given_apart objects [] = omega arith
-given_apart objects (turn ∷ turns) =
-    let s = step objects turn.call turn.made in
-    then_apart objects s _ _ (never_fewer objects turn.call turn.made) (step_gives objects turn.call turn.made) (given_apart s.objects turns)
+given_apart objects (it ∷ calls) =
+    let s = step objects it.call it.made in
+    then_apart objects s _ _ (never_fewer objects it.call it.made) (step_gives objects it.call it.made) (given_apart s.objects calls)
 
 up_to : (first end : ℕ) (ids : List (List ℕ)) → Apart first end ids → first ≤ end
 up_to first end [] h = h
@@ -102,5 +102,5 @@ unfolding IsDistinct
 distinct first end [] b h = tt
 distinct first end (id ∷ ids) b h = (unlike id h.0 (h.0 + 1) end ids h.2 (omega arith) b h.3, distinct (h.0 + 1) end ids b h.3)
 
-pub given_distinct : (objects : List Object) (turns : List Turn) → length (objects_after objects turns) < 2 ^ 64 → IsDistinct bytes_eq (identifiers_given objects turns)
-given_distinct objects turns b = distinct (length objects) (length (objects_after objects turns)) (identifiers_given objects turns) b (given_apart objects turns)
+pub given_distinct : (objects : List Object) (calls : List AnsweredCall) → length (objects_after objects calls) < 2 ^ 64 → IsDistinct bytes_eq (identifiers_given objects calls)
+given_distinct objects calls b = distinct (length objects) (length (objects_after objects calls)) (identifiers_given objects calls) b (given_apart objects calls)

@@ -5,8 +5,8 @@ use Rattle.kmip_store.specs.declared.error.StoreError.{StoreError}
 use Rattle.kmip_store.specs.declared.error.StoreError.TheVariants.{ItemNotFound, PermissionDenied, CryptographicFailure, OutOfMemory}
 use Rattle.kmip_store.specs.declared.maker.Asked.{Asked}
 use Rattle.kmip_store.specs.declared.maker.Made.{Made}
-use Rattle.kmip_store.specs.declared.maker.MakerError.TheVariants as maker
-use Rattle.kmip_store.specs.Makers.{MakerState, Answered, IsSilent, MakerFaultsRose, Makes, is_answer}
+use Rattle.kmip_store.specs.declared.maker.Made.TheVariants.{Refused}
+use Rattle.kmip_store.specs.Makers.{MakerState, MakerGrew, MakerFaultsRose, is_answer}
 use Rattle.kmip_store.specs.declared.call.Call.{Call}
 use Rattle.kmip_store.specs.Steps.{Answer, NotFound, Denied, Failed, stay, step, question}
 
@@ -19,27 +19,21 @@ Steps answer before call after (Err PermissionDenied) = step before call None �
 Steps answer before call after (Err CryptographicFailure) = ⊥
 Steps answer before call after (Err OutOfMemory) = after ≡ before
 
--- The store's result of one call of a maker with this question.
-abbrev pub Gets :
-    {T : Type 0} → (T → Made) → Asked → MakerState → MakerState → Result T StoreError → Type 0
-Gets made question before after (Ok x) = Makes made question before after (Ok x)
-Gets made question before after (Err CryptographicFailure) =
-    Makes made question before after (Err maker.Fault)
-Gets made question before after (Err OutOfMemory) =
-    Makes made question before after (Err maker.OutOfMemory)
-Gets made question before after (Err _) = ⊥
-
--- The lists of a maker grew by the question of a call and one answer to it, where there is one.
-abbrev pub Grew : MakerState → MakerState → Option Asked → Option Made → Type 0
-Grew before after None None = IsSilent before after
-Grew before after (Some asked) (Some made) = Answered before after asked made
-Grew before after _ _ = ⊥
-
 -- There is an answer exactly where there is a question, of the question's kind or a refusal.
-abbrev pub suits : Option Asked → Option Made → Bool
-suits None None = true
-suits (Some asked) (Some made) = is_answer asked made
-suits _ _ = false
+abbrev pub answers_question : Option Asked → Option Made → Bool
+answers_question None None = true
+answers_question (Some asked) (Some made) = is_answer asked made
+answers_question _ _ = false
+
+-- What a call that has this question, or none, got from the maker.
+pub record IsGiven (question : Option Asked) (made : Option Made) (before after : MakerState) : Type
+    0 where
+  -- an answer exactly where there is a question, of the question's kind or a refusal
+  pub fits : answers_question question made ≡ true
+  -- a maker that tells was asked this question and gave this answer, and nothing else
+  pub grew : IsTrue before.tells → MakerGrew before after question made
+  -- any maker refuses only where its count of faults rose, or stands at its last value
+  pub rose : made ≡ Some Refused → MakerFaultsRose before.faults after.faults
 
 -- A call is its step with the maker's answer, and the maker was asked what the call asks, no more.
 pub record IsStep (before : List Object) (call : Call) (after : List Object) (answer : Answer)
@@ -47,20 +41,19 @@ pub record IsStep (before : List Object) (call : Call) (after : List Object) (an
   -- the maker's answer, where the call asks it
   pub made : Option Made
   pub step_is : step before call made ≡ stay after answer
-  pub asks : suits (question before call) made ≡ true
-  pub told : IsTrue asked.tells → Grew asked answered (question before call) made
+  pub given : IsGiven (question before call) made asked answered
 
 -- A call that asks a maker. Where memory runs out, the objects are as before and nothing was asked.
-abbrev pub Asks :
+abbrev pub StepsAsking :
     {T : Type 0} → (T → Answer) → List Object → Call → List Object → MakerState → MakerState →
     Result T StoreError → Type 0
-Asks answer before call after asked answered (Ok x) =
+StepsAsking answer before call after asked answered (Ok x) =
     IsStep before call after (answer x) asked answered
-Asks answer before call after asked answered (Err ItemNotFound) =
+StepsAsking answer before call after asked answered (Err ItemNotFound) =
     IsStep before call after NotFound asked answered
-Asks answer before call after asked answered (Err PermissionDenied) =
+StepsAsking answer before call after asked answered (Err PermissionDenied) =
     IsStep before call after Denied asked answered
-Asks answer before call after asked answered (Err CryptographicFailure) =
+StepsAsking answer before call after asked answered (Err CryptographicFailure) =
     IsStep before call after Failed asked answered × MakerFaultsRose asked.faults answered.faults
-Asks answer before call after asked answered (Err OutOfMemory) =
-    (after ≡ before) × (IsTrue asked.tells → IsSilent asked answered)
+StepsAsking answer before call after asked answered (Err OutOfMemory) =
+    (after ≡ before) × (IsTrue asked.tells → MakerGrew asked answered None None)

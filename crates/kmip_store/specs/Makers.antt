@@ -1,5 +1,6 @@
 -- A maker as contracts see it, and what one call does to it.
-use Rattle.std.specs.Prelude.{◌≡◌, ℕ, ◌+◌, ◌-◌, ◌^◌, ◌≤◌, min, List, [], ◌∷◌, ◌++◌, Bool, true, false, IsTrue, Result, Ok, Err}
+use Rattle.std.specs.Prelude.{◌≡◌, ℕ, ◌+◌, ◌-◌, ◌^◌, ◌≤◌, min, List, ◌++◌, Bool, true, false, IsTrue, Option, Some, None, Result, Ok, Err}
+use Rattle.std.specs.Option.{option_to_list}
 use Rattle.kmip_store.specs.declared.maker.Asked.{Asked}
 use Rattle.kmip_store.specs.declared.maker.Asked.TheVariants as questions
 use Rattle.kmip_store.specs.declared.maker.Made.{Made}
@@ -37,23 +38,20 @@ pub record MakerKeeps (before after : MakerState) : Type 0 where
   pub tells : after.tells ≡ before.tells
   pub faults : before.faults ≤ after.faults
 
--- one question was asked, and it got this answer
-pub record Answered (before after : MakerState) (question : Asked) (answer : Made) : Type 0 where
-  pub asked : after.asked ≡ before.asked ++ question ∷ []
-  pub given : after.given ≡ before.given ++ answer ∷ []
-
--- nothing was asked
-pub record IsSilent (before after : MakerState) : Type 0 where
-  pub asked : after.asked ≡ before.asked
-  pub given : after.given ≡ before.given
+-- The lists of a maker grew by a question, where there is one, and by the answer to it.
+pub record MakerGrew (before after : MakerState) (question : Option Asked) (made : Option Made) : Type
+    0 where
+  pub asked : after.asked ≡ before.asked ++ option_to_list question
+  pub given : after.given ≡ before.given ++ option_to_list made
 
 -- One call of a maker with this question: it answered; or it refused, and its count of faults says
 -- so; or memory ran out, and nothing was asked.
-abbrev pub Makes :
+abbrev pub MakerCall :
     {T : Type 0} → (T → Made) → Asked → MakerState → MakerState → Result T MakerError → Type 0
-Makes made question before after (Ok x) =
-    IsTrue before.tells → Answered before after question (made x)
-Makes made question before after (Err Fault) =
-    (IsTrue before.tells → Answered before after question answers.Refused)
+MakerCall made question before after (Ok x) =
+    IsTrue before.tells → MakerGrew before after (Some question) (Some (made x))
+MakerCall made question before after (Err Fault) =
+    (IsTrue before.tells → MakerGrew before after (Some question) (Some answers.Refused))
     × MakerFaultsRose before.faults after.faults
-Makes made question before after (Err OutOfMemory) = IsTrue before.tells → IsSilent before after
+MakerCall made question before after (Err OutOfMemory) =
+    IsTrue before.tells → MakerGrew before after None None

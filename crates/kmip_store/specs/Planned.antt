@@ -29,9 +29,9 @@ next_made m =
     cond (list_any (λ n. n == length m.asked) m.failing) None (slice_get m.answers 0)
 
 -- a question is refused where no answer of its kind is next
-abbrev pub answer_to : Asked → Option Made → Made
-answer_to asked None = Refused
-answer_to asked (Some made) = cond (is_of_kind asked made) made Refused
+abbrev pub planned_answer : Asked → Option Made → Made
+planned_answer asked None = Refused
+planned_answer asked (Some made) = cond (is_of_kind asked made) made Refused
 
 -- a count that stops at its last value, 2^64 - 1
 abbrev pub next_count : ℕ → ℕ
@@ -57,13 +57,13 @@ after m asked made = record {
 }
 
 -- the maker answered a question with what was planned, and kept that
-pub record Gave (before now : PlannedMemory) (asked : Asked) (made : Made) : Type 0 where
-  pub planned : answer_to asked (next_made before) ≡ made
+pub record AnsweredAsPlanned (before now : PlannedMemory) (asked : Asked) (made : Made) : Type 0 where
+  pub planned : planned_answer asked (next_made before) ≡ made
   pub kept : now ≡ after before asked made
 
 -- One call of the maker, as it was planned; where memory runs out, nothing changes.
 abbrev pub IsPlanned :
     {T : Type 0} → (T → Made) → Asked → PlannedMemory → PlannedMemory → Result T MakerError → Type 0
-IsPlanned made asked before now (Ok x) = Gave before now asked (made x)
-IsPlanned made asked before now (Err Fault) = Gave before now asked Refused
+IsPlanned made asked before now (Ok x) = AnsweredAsPlanned before now asked (made x)
+IsPlanned made asked before now (Err Fault) = AnsweredAsPlanned before now asked Refused
 IsPlanned made asked before now (Err OutOfMemory) = now ≡ before

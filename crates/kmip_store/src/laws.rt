@@ -5,20 +5,20 @@ ghost use Rattle.std.specs.Prelude.{bytes_eq};
 ghost use Rattle.std.specs.List.{IsDistinct};
 ghost use Rattle.kmip_store.specs.declared.object.Object.{Object};
 ghost use Rattle.kmip_store.specs.Objects.{is_destroyed};
-ghost use Rattle.kmip_store.specs.Runs.{Turn, objects_after, identifiers_given};
+ghost use Rattle.kmip_store.specs.Runs.{AnsweredCall, objects_after, identifiers_given};
 
 /// Whatever calls are made, an object that is destroyed never changes again: it keeps its place,
 /// and with it its identifier.
 pub fn destroyed_stays()
-    ensures { (objects : List Object) (turns : List Turn) (place : ℕ) (object : Object) →
+    ensures { (objects : List Object) (calls : List AnsweredCall) (place : ℕ) (object : Object) →
         slice_get objects place ≡ Some object → is_destroyed object.state ≡ true →
-        slice_get (objects_after objects turns) place ≡ Some object }
+        slice_get (objects_after objects calls) place ≡ Some object }
 {}
 
 /// Whatever calls are made, no identifier is given twice. The premise, fewer than 2^64 objects,
 /// holds of every list in memory.
 pub fn identifiers_differ()
-    ensures { (objects : List Object) (turns : List Turn) →
-        length (objects_after objects turns) < 2 ^ 64 →
-        IsDistinct bytes_eq (identifiers_given objects turns) }
+    ensures { (objects : List Object) (calls : List AnsweredCall) →
+        length (objects_after objects calls) < 2 ^ 64 →
+        IsDistinct bytes_eq (identifiers_given objects calls) }
 {}

@@ -17,7 +17,7 @@ mod laws;
 mod maker;
 mod memory_maker;
 mod object;
-mod objects;
+mod places;
 mod plain_maker;
 mod store;
 

@@ -1,7 +1,7 @@
 //! What makes keys, random bytes and signatures.
 
 ghost use Rattle.std.specs.Prelude.{◌≡◌};
-ghost use Rattle.kmip_store.specs.Makers.{MakerState, MakerKeeps, Makes};
+ghost use Rattle.kmip_store.specs.Makers.{MakerState, MakerKeeps, MakerCall};
 ghost use Rattle.kmip_store.specs.declared.maker.Asked.TheVariants.{KeyPair, Random, Sign};
 ghost use Rattle.kmip_store.specs.declared.maker.Made.TheVariants.{Pair, Bytes};
 
@@ -70,18 +70,18 @@ pub trait Maker {
     /// A private key and its public key, `key_length` bits long.
     fn key_pair(&mut self, alloc: Global, key_length: i32) -> Result<(Blob, Blob), MakerError>
         ensures keeps { MakerKeeps (state self.old) (state self.new) }
-        ensures call { Makes (λ pair. Pair pair.0 pair.1) (KeyPair key_length)
+        ensures call { MakerCall (λ pair. Pair pair.0 pair.1) (KeyPair key_length)
             (state self.old) (state self.new) result };
 
     /// Random bytes, where `num_bytes` are asked for. No clause says that there are as many.
     fn random(&mut self, alloc: Global, num_bytes: i32) -> Result<Blob, MakerError>
         ensures keeps { MakerKeeps (state self.old) (state self.new) }
-        ensures call { Makes (λ bytes. Bytes bytes) (Random num_bytes)
+        ensures call { MakerCall (λ bytes. Bytes bytes) (Random num_bytes)
             (state self.old) (state self.new) result };
 
     /// The signature of the bytes by the key.
     fn sign(&mut self, alloc: Global, key: &Blob, bytes: &[u8]) -> Result<Blob, MakerError>
         ensures keeps { MakerKeeps (state self.old) (state self.new) }
-        ensures call { Makes (λ signature. Bytes signature) (Sign key.now bytes.now)
+        ensures call { MakerCall (λ signature. Bytes signature) (Sign key.now bytes.now)
             (state self.old) (state self.new) result };
 }

@@ -2,7 +2,7 @@
 
 ghost use Rattle.std.specs.Prelude.{◌≡◌, ◌≢◌, ◌<◌, ◌≤◌, [], length, slice_get, Some, IfOk, IfErr};
 ghost use Rattle.std.specs.Prelude.{IfSome, OnErr, OnOk, option_copied};
-ghost use Rattle.kmip_store.specs.Makers.{MakerKeeps, Makes};
+ghost use Rattle.kmip_store.specs.Makers.{MakerKeeps, MakerCall};
 ghost use Rattle.kmip_store.specs.Planned.{planned_state, next_made, after, IsPlanned};
 ghost use Rattle.kmip_store.specs.declared.maker.Asked.TheVariants.{KeyPair, Random, Sign};
 ghost use Rattle.kmip_store.specs.declared.maker.Made.TheVariants.{Pair, Bytes};
@@ -118,7 +118,7 @@ impl Maker for MemoryMaker {
 
     fn key_pair(&mut self, alloc: Global, key_length: i32) -> Result<(Blob, Blob), MakerError>
         ensures keeps { MakerKeeps (planned_state self.old) (planned_state self.new) }
-        ensures call { Makes (λ pair. Pair pair.0 pair.1) (KeyPair key_length)
+        ensures call { MakerCall (λ pair. Pair pair.0 pair.1) (KeyPair key_length)
             (planned_state self.old) (planned_state self.new) result }
         ensures planned { IsPlanned (λ pair. Pair pair.0 pair.1) (KeyPair key_length)
             self.old self.new result }
@@ -134,7 +134,7 @@ impl Maker for MemoryMaker {
 
     fn random(&mut self, alloc: Global, num_bytes: i32) -> Result<Blob, MakerError>
         ensures keeps { MakerKeeps (planned_state self.old) (planned_state self.new) }
-        ensures call { Makes (λ bytes. Bytes bytes) (Random num_bytes)
+        ensures call { MakerCall (λ bytes. Bytes bytes) (Random num_bytes)
             (planned_state self.old) (planned_state self.new) result }
         ensures planned { IsPlanned (λ bytes. Bytes bytes) (Random num_bytes)
             self.old self.new result }
@@ -149,7 +149,7 @@ impl Maker for MemoryMaker {
 
     fn sign(&mut self, alloc: Global, key: &Blob, bytes: &[u8]) -> Result<Blob, MakerError>
         ensures keeps { MakerKeeps (planned_state self.old) (planned_state self.new) }
-        ensures call { Makes (λ signature. Bytes signature) (Sign key.now bytes.now)
+        ensures call { MakerCall (λ signature. Bytes signature) (Sign key.now bytes.now)
             (planned_state self.old) (planned_state self.new) result }
         ensures planned { IsPlanned (λ signature. Bytes signature) (Sign key.now bytes.now)
             self.old self.new result }

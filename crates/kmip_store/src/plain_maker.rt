@@ -1,7 +1,7 @@
 //! A maker whose answers are made from their numbers.
 
 ghost use Rattle.std.specs.Prelude.{◌≡◌, ◌+◌, ◌++◌, ◌∷◌, [], length, IfOk, IfErr, OnOk, OnErr};
-ghost use Rattle.kmip_store.specs.Makers.{MakerKeeps, Makes};
+ghost use Rattle.kmip_store.specs.Makers.{MakerKeeps, MakerCall};
 ghost use Rattle.kmip_store.specs.Plain.{plain_state, plain_answer, plain_answers, count_of};
 ghost use Rattle.kmip_store.specs.declared.maker.Asked.TheVariants.{KeyPair, Random, Sign};
 ghost use Rattle.kmip_store.specs.declared.maker.Made.TheVariants.{Pair, Bytes};
@@ -87,7 +87,7 @@ impl Maker for PlainMaker {
 
     fn key_pair(&mut self, alloc: Global, key_length: i32) -> Result<(Blob, Blob), MakerError>
         ensures keeps { MakerKeeps (plain_state self.old) (plain_state self.new) }
-        ensures call { Makes (λ pair. Pair pair.0 pair.1) (KeyPair key_length)
+        ensures call { MakerCall (λ pair. Pair pair.0 pair.1) (KeyPair key_length)
             (plain_state self.old) (plain_state self.new) result }
         ensures number { IfOk result (λ pair.
             Pair pair.0 pair.1 ≡ plain_answer (length self.old.asked + 1) (KeyPair key_length)) }
@@ -104,7 +104,7 @@ impl Maker for PlainMaker {
 
     fn random(&mut self, alloc: Global, num_bytes: i32) -> Result<Blob, MakerError>
         ensures keeps { MakerKeeps (plain_state self.old) (plain_state self.new) }
-        ensures call { Makes (λ bytes. Bytes bytes) (Random num_bytes)
+        ensures call { MakerCall (λ bytes. Bytes bytes) (Random num_bytes)
             (plain_state self.old) (plain_state self.new) result }
         ensures number { IfOk result (λ bytes.
             Bytes bytes ≡ plain_answer (length self.old.asked + 1) (Random num_bytes)) }
@@ -122,7 +122,7 @@ impl Maker for PlainMaker {
 
     fn sign(&mut self, alloc: Global, key: &Blob, bytes: &[u8]) -> Result<Blob, MakerError>
         ensures keeps { MakerKeeps (plain_state self.old) (plain_state self.new) }
-        ensures call { Makes (λ signature. Bytes signature) (Sign key.now bytes.now)
+        ensures call { MakerCall (λ signature. Bytes signature) (Sign key.now bytes.now)
             (plain_state self.old) (plain_state self.new) result }
         ensures number { IfOk result (λ signature.
             Bytes signature ≡ plain_answer (length self.old.asked + 1) (Sign key.now bytes.now)) }

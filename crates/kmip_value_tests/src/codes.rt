@@ -9,7 +9,7 @@ use std::process::Abort;
 use std::test::Fail;
 
 #[test]
-fn names(rt: HostRuntime) -> Result<(), Fail> {
+fn codes_have_the_names_of_the_table(rt: HostRuntime) -> Result<(), Fail> {
     has_names::<BlockCipherMode>(
         &rt,
         rt.alloc(),
@@ -70,7 +70,7 @@ fn is_flag(rt: &impl Abort, name: &str, bit: u32) -> Result<(), Fail> {
 }
 
 #[test]
-fn usage_mask(rt: HostRuntime) -> Result<(), Fail> {
+fn a_usage_mask_has_the_bits_of_the_table(rt: HostRuntime) -> Result<(), Fail> {
     let both = CryptographicUsageMask::Sign.union(CryptographicUsageMask::Verify);
     assert_eq!(rt; both.bits(), 3);
     assert!(rt; both.contains(CryptographicUsageMask::Verify));

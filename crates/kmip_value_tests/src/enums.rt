@@ -7,7 +7,7 @@ use kmip_tags::tags::{OBJECT_TYPE, OPERATION};
 use std::test::Fail;
 
 #[test]
-fn names(rt: HostRuntime) -> Result<(), Fail> {
+fn enumerations_have_the_names_of_the_table(rt: HostRuntime) -> Result<(), Fail> {
     has_names::<CertificateType>(&rt, rt.alloc(), 1..3, "X509 PGP")?;
     has_names::<CredentialType>(&rt, rt.alloc(), 1..2, "UsernameAndPassword")?;
     has_names::<LinkType>(
@@ -64,7 +64,7 @@ fn names(rt: HostRuntime) -> Result<(), Fail> {
 }
 
 #[test]
-fn numbers(rt: HostRuntime) {
+fn enumerations_have_the_numbers_of_the_table(rt: HostRuntime) {
     assert!(rt; ResultReason::from_number(0x100) == Some(ResultReason::GeneralFailure));
     assert!(rt; ResultReason::from_number(0x12).is_none());
     assert!(rt; ResultStatus::from_number(0) == Some(ResultStatus::Success));
@@ -72,18 +72,16 @@ fn numbers(rt: HostRuntime) {
     assert!(rt; Operation::from_number(0).is_none());
 }
 
-// The items below are 5C i1 and 5C e2A, and the structures 7C{5C e1,5C e18} and 7C{5C e1}.
-const INTEGER: &str = "42005C02000000040000000100000000";
+const INTEGER: &str = "5C i1";
 
-const NO_OPERATION: &str = "42005C05000000040000002A00000000";
+const NO_OPERATION: &str = "5C e2A";
 
-const TWO: &str =
-    "42007C010000002042005C0500000004000000010000000042005C05000000040000001800000000";
+const TWO: &str = "7C{5C e1,5C e18}";
 
-const ONE: &str = "42007C010000001042005C05000000040000000100000000";
+const ONE: &str = "7C{5C e1}";
 
 #[test]
-fn readers(rt: HostRuntime) -> Result<(), Fail> {
+fn reads_numbers_of_the_table_alone(rt: HostRuntime) -> Result<(), Fail> {
     let alloc = rt.alloc();
     is_unread::<Operation>(&rt, alloc, INTEGER)?;
     is_unread::<Operation>(&rt, alloc, NO_OPERATION)?;

@@ -2,17 +2,18 @@ use crate::support::Under::{self, Name, Nothing, Number};
 use kmip_codes::PaddingMethod;
 use kmip_keys::KeyMaterial;
 use kmip_shape::{ReadItem, ShowItem, Timestamp, json_is_json, shown_as_json};
+use kmip_test_messages::message;
 use kmip_types::{AttributeValue, CryptographicParameters};
 use kmip_wire::{Blob, ItemRef, Text};
 use std::alloc::Global;
 use std::process::Abort;
 use std::test::Fail;
 
-/// An item in hex, and the JSON of its value.
+/// An item in the notation, and the JSON of its value.
 #[derive(Clone, Copy)]
 struct Case {
     under: Under,
-    hex: &'static str,
+    notation: &'static str,
     json: &'static str,
 }
 
@@ -23,7 +24,7 @@ fn are_json<T: ReadItem + ShowItem>(
     cases: &[Case],
 ) -> Result<(), Fail> {
     for case in cases {
-        let bytes = hex::decode(alloc, case.hex)?;
+        let bytes = message(alloc, case.notation)?;
         let item = ItemRef::root(bytes.as_slice()).ok_or("no item")?;
         let value = T::read(alloc, case.under.outer(), item)?;
         is_json(rt, alloc, &value, case.json)?;
@@ -32,96 +33,85 @@ fn are_json<T: ReadItem + ShowItem>(
 }
 
 const ATTRIBUTES: [Case; 11] = [
-    // 0B{55 "my key",54 e1}
     Case {
         under: Name("Name"),
-        hex: "42000B010000002042005507000000066D79206B6579000042005405000000040000000100000000",
+        notation: r#"0B{55 "my key",54 e1}"#,
         json: r#"{"Name":{"name_value":"my key","name_type":"UninterpretedTextString"}}"#,
     },
-    // 0B e2
     Case {
         under: Name("State"),
-        hex: "42000B05000000040000000200000000",
+        notation: "0B e2",
         json: r#"{"State":"Active"}"#,
     },
-    // 0B{11 e1,5F e8}
     Case {
         under: Name("Cryptographic Parameters"),
-        hex: "42000B01000000204200110500000004000000010000000042005F05000000040000000800000000",
+        notation: "0B{11 e1,5F e8}",
         json: r#"{"CryptographicParameters":{"block_cipher_mode":"CBC","padding_method":"PKCS1_v1_5"}}"#,
     },
-    // 0B{0B i5,0B "a"}
     Case {
         under: Nothing,
-        hex: "42000B010000002042000B0200000004000000050000000042000B07000000016100000000000000",
+        notation: r#"0B{0B i5,0B "a"}"#,
         json: r#"{"Structure":[{"Integer":5},{"TextString":"a"}]}"#,
     },
-    // 0B{}
     Case {
         under: Name("Digest"),
-        hex: "42000B0100000000",
+        notation: "0B{}",
         json: r#"{"Structure":[]}"#,
     },
-    // 0B l-5
     Case {
         under: Name("x-a"),
-        hex: "42000B0300000008FFFFFFFFFFFFFFFB",
+        notation: "0B l-5",
         json: r#"{"LongInteger":-5}"#,
     },
-    // 0B o1
     Case {
         under: Name("x-a"),
-        hex: "42000B06000000080000000000000001",
+        notation: "0B o1",
         json: r#"{"Boolean":true}"#,
     },
-    // 0B xAABB
     Case {
         under: Name("x-a"),
-        hex: "42000B0800000002AABB000000000000",
+        notation: "0B xAABB",
         json: r#"{"ByteString":"AABB"}"#,
     },
-    // 0B d0
     Case {
         under: Name("x-a"),
-        hex: "42000B09000000080000000000000000",
+        notation: "0B d0",
         json: r#"{"DateTime":0}"#,
     },
     // 0B d-5, five seconds before 1970
     Case {
         under: Name("x-a"),
-        hex: "42000B0900000008FFFFFFFFFFFFFFFB",
+        notation: "0B d18446744073709551611",
         json: r#"{"DateTime":-5}"#,
     },
     // 0B with a line feed, a quote and a backslash
     Case {
         under: Name("x-a"),
-        hex: "42000B0700000004610A225C00000000",
+        notation: r#"0B "a\x0A\"\\""#,
         json: r#"{"TextString":"a\u000A\"\\"}"#,
     },
 ];
 
 #[test]
-fn attributes(rt: HostRuntime) -> Result<(), Fail> {
+fn attribute_values_have_their_json(rt: HostRuntime) -> Result<(), Fail> {
     are_json::<AttributeValue>(&rt, rt.alloc(), &ATTRIBUTES)
 }
 
 const MATERIALS: [Case; 2] = [
-    // 43 xAA
     Case {
         under: Number(1),
-        hex: "4200430800000001AA00000000000000",
+        notation: "43 xAA",
         json: r#"{"Bytes":"AA"}"#,
     },
-    // 43{3F xAABB}
     Case {
         under: Number(7),
-        hex: "420043010000001042003F0800000002AABB000000000000",
+        notation: "43{3F xAABB}",
         json: r#"{"TransparentSymmetricKey":{"key":"AABB"}}"#,
     },
 ];
 
 #[test]
-fn materials(rt: HostRuntime) -> Result<(), Fail> {
+fn key_materials_have_their_json(rt: HostRuntime) -> Result<(), Fail> {
     are_json::<KeyMaterial>(&rt, rt.alloc(), &MATERIALS)
 }
 
@@ -134,7 +124,7 @@ fn is_json<T: ShowItem>(rt: &impl Abort, alloc: Global, value: &T, json: &str) -
 }
 
 #[test]
-fn plain(rt: HostRuntime) -> Result<(), Fail> {
+fn plain_values_have_their_json(rt: HostRuntime) -> Result<(), Fail> {
     let alloc = rt.alloc();
     let none = CryptographicParameters::default();
     is_json(&rt, alloc, &none, "{}")?;
@@ -159,7 +149,7 @@ fn plain(rt: HostRuntime) -> Result<(), Fail> {
 }
 
 #[test]
-fn after_other_text(rt: HostRuntime) -> Result<(), Fail> {
+fn json_is_added_after_other_text(rt: HostRuntime) -> Result<(), Fail> {
     let alloc = rt.alloc();
     let mut out = Text::of(alloc, "{\"answer\":")?;
     Blob::of(alloc, b"")?.show_json(alloc, &mut out)?;
@@ -169,7 +159,7 @@ fn after_other_text(rt: HostRuntime) -> Result<(), Fail> {
 
 /// The laws of JSON hold of any value that is at hand.
 #[test]
-fn of_the_grammar(rt: HostRuntime) -> Result<(), Fail> {
+fn what_is_shown_is_json(rt: HostRuntime) -> Result<(), Fail> {
     let text = Text::of(rt.alloc(), "a\"b")?;
     shown_as_json(&text);
     json_is_json();

@@ -10,85 +10,38 @@ use std::process::Abort;
 use std::test::Fail;
 
 #[test]
-fn items(rt: HostRuntime) -> Result<(), Fail> {
+fn types_of_one_field_are_read_shown_and_written(rt: HostRuntime) -> Result<(), Fail> {
     let alloc = rt.alloc();
-    // 02 "k1"
-    comes_back_copied::<ApplicationData>(&rt, alloc, "42000207000000026B31000000000000", "\"k1\"")?;
-    // 03 "k1"
-    comes_back_copied::<ApplicationNamespace>(
-        &rt,
-        alloc,
-        "42000307000000026B31000000000000",
-        "\"k1\"",
-    )?;
-    // 0A "k1"
-    comes_back_copied::<AttributeName>(&rt, alloc, "42000A07000000026B31000000000000", "\"k1\"")?;
-    // 4C "k1"
-    comes_back_copied::<LinkedObjectIdentifier>(
-        &rt,
-        alloc,
-        "42004C07000000026B31000000000000",
-        "\"k1\"",
-    )?;
-    // 55 "k1"
-    comes_back_copied::<NameValue>(&rt, alloc, "42005507000000026B31000000000000", "\"k1\"")?;
-    // 80 "k1"
-    comes_back_copied::<RevocationMessage>(
-        &rt,
-        alloc,
-        "42008007000000026B31000000000000",
-        "\"k1\"",
-    )?;
-    // 94 "k1"
-    comes_back_copied::<UniqueIdentifier>(
-        &rt,
-        alloc,
-        "42009407000000026B31000000000000",
-        "\"k1\"",
-    )?;
+    comes_back_copied::<ApplicationData>(&rt, alloc, r#"02 "k1""#, "\"k1\"")?;
+    comes_back_copied::<ApplicationNamespace>(&rt, alloc, r#"03 "k1""#, "\"k1\"")?;
+    comes_back_copied::<AttributeName>(&rt, alloc, r#"0A "k1""#, "\"k1\"")?;
+    comes_back_copied::<LinkedObjectIdentifier>(&rt, alloc, r#"4C "k1""#, "\"k1\"")?;
+    comes_back_copied::<NameValue>(&rt, alloc, r#"55 "k1""#, "\"k1\"")?;
+    comes_back_copied::<RevocationMessage>(&rt, alloc, r#"80 "k1""#, "\"k1\"")?;
+    comes_back_copied::<UniqueIdentifier>(&rt, alloc, r#"94 "k1""#, "\"k1\"")?;
     // tag 420009, Integer -5
-    comes_back::<AttributeIndex>(&rt, alloc, "4200090200000004FFFFFFFB00000000", "-5")?;
+    comes_back::<AttributeIndex>(&rt, alloc, "09 i-5", "-5")?;
     // tag 4200D0, Integer -5
-    comes_back::<CounterLength>(&rt, alloc, "4200D00200000004FFFFFFFB00000000", "-5")?;
+    comes_back::<CounterLength>(&rt, alloc, "D0 i-5", "-5")?;
     // tag 42002A, Integer -5
-    comes_back::<CryptographicLength>(&rt, alloc, "42002A0200000004FFFFFFFB00000000", "-5")?;
+    comes_back::<CryptographicLength>(&rt, alloc, "2A i-5", "-5")?;
     // tag 4200C4, Integer -5
-    comes_back::<DataLength>(&rt, alloc, "4200C40200000004FFFFFFFB00000000", "-5")?;
+    comes_back::<DataLength>(&rt, alloc, "C4 i-5", "-5")?;
     // tag 4200CF, Integer -5
-    comes_back::<FixedFieldLength>(&rt, alloc, "4200CF0200000004FFFFFFFB00000000", "-5")?;
+    comes_back::<FixedFieldLength>(&rt, alloc, "CF i-5", "-5")?;
     // tag 4200CD, Integer -5
-    comes_back::<IVLength>(&rt, alloc, "4200CD0200000004FFFFFFFB00000000", "-5")?;
+    comes_back::<IVLength>(&rt, alloc, "CD i-5", "-5")?;
     // tag 4200D1, Integer -5
-    comes_back::<InitialCounterValue>(&rt, alloc, "4200D10200000004FFFFFFFB00000000", "-5")?;
+    comes_back::<InitialCounterValue>(&rt, alloc, "D1 i-5", "-5")?;
     // tag 4200D2, Integer -5
-    comes_back::<InvocationFieldLength>(&rt, alloc, "4200D20200000004FFFFFFFB00000000", "-5")?;
+    comes_back::<InvocationFieldLength>(&rt, alloc, "D2 i-5", "-5")?;
     // tag 4200CE, Integer -5
-    comes_back::<TagLength>(&rt, alloc, "4200CE0200000004FFFFFFFB00000000", "-5")?;
-    // C5 o1
-    comes_back::<RandomIV>(&rt, alloc, "4200C506000000080000000000000001", "true")?;
-    // C2 xDEADBEEF
-    comes_back_copied::<Data>(
-        &rt,
-        alloc,
-        "4200C20800000004DEADBEEF00000000",
-        "x\"DEADBEEF\"",
-    )?;
-    // 93 xDEADBEEF
-    comes_back_copied::<UniqueBatchItemID>(
-        &rt,
-        alloc,
-        "4200930800000004DEADBEEF00000000",
-        "x\"DEADBEEF\"",
-    )?;
-    // 21 d1700000000
-    comes_back::<CompromiseOccurrenceDate>(
-        &rt,
-        alloc,
-        "4200210900000008000000006553F100",
-        "1700000000",
-    )?;
-    // 94 xDEADBEEF
-    is_unread::<UniqueIdentifier>(&rt, alloc, "4200940800000004DEADBEEF00000000")
+    comes_back::<TagLength>(&rt, alloc, "CE i-5", "-5")?;
+    comes_back::<RandomIV>(&rt, alloc, "C5 o1", "true")?;
+    comes_back_copied::<Data>(&rt, alloc, "C2 xDEADBEEF", "x\"DEADBEEF\"")?;
+    comes_back_copied::<UniqueBatchItemID>(&rt, alloc, "93 xDEADBEEF", "x\"DEADBEEF\"")?;
+    comes_back::<CompromiseOccurrenceDate>(&rt, alloc, "21 d1700000000", "1700000000")?;
+    is_unread::<UniqueIdentifier>(&rt, alloc, "94 xDEADBEEF")
 }
 
 fn is_identifier(rt: &impl Abort, identifier: &UniqueIdentifier) {
@@ -109,7 +62,7 @@ fn is_batch_item(rt: &impl Abort, batch_item: &UniqueBatchItemID) {
 }
 
 #[test]
-fn parts(rt: HostRuntime) -> Result<(), Fail> {
+fn types_of_one_field_have_their_parts(rt: HostRuntime) -> Result<(), Fail> {
     let alloc = rt.alloc();
     is_identifier(&rt, &UniqueIdentifier(Text::of(alloc, "k1")?));
     is_name(&rt, &AttributeName(Text::of(alloc, "State")?));

@@ -1,20 +1,18 @@
 use crate::support::{children_are, comes_back_copied, is_shown, is_written};
 use kmip_shape::{BigInteger, Boxed, Item, List, Outer, ReadItem, Timestamp, copy_optional_list};
 use kmip_tags::tags::OPERATION;
+use kmip_test_messages::message;
 use kmip_wire::{Blob, ItemRef, Text};
 use std::test::Fail;
 
-// 5C i1
-const ITEM: &str = "42005C02000000040000000100000000";
+const ITEM: &str = "5C i1";
 
 #[test]
 fn children_of_a_tag(rt: HostRuntime) -> Result<(), Fail> {
     let alloc = rt.alloc();
-    // 7C{5C i1,5C i24}
-    let two = "42007C010000002042005C0200000004000000010000000042005C02000000040000001800000000";
+    let two = "7C{5C i1,5C i24}";
     children_are::<i32>(&rt, alloc, two, OPERATION, None, None, Some(&[1, 24]))?;
-    // 7C{5C i1}
-    let one = "42007C010000001042005C02000000040000000100000000";
+    let one = "7C{5C i1}";
     children_are::<i32>(
         &rt,
         alloc,
@@ -24,17 +22,15 @@ fn children_of_a_tag(rt: HostRuntime) -> Result<(), Fail> {
         Some(Some(1)),
         Some(&[1]),
     )?;
-    // 7C{}
-    let none = "42007C0100000000";
+    let none = "7C{}";
     children_are::<i32>(&rt, alloc, none, OPERATION, None, Some(None), Some(&[]))?;
     children_are::<i32>(&rt, alloc, ITEM, OPERATION, None, None, None)?;
-    // 7C{5C e1}
-    let other = "42007C010000001042005C05000000040000000100000000";
+    let other = "7C{5C e1}";
     children_are::<i32>(&rt, alloc, other, OPERATION, None, None, None)
 }
 
 #[test]
-fn shown_and_written(rt: HostRuntime) -> Result<(), Fail> {
+fn plain_values_are_shown_and_written(rt: HostRuntime) -> Result<(), Fail> {
     let alloc = rt.alloc();
     is_shown(&rt, alloc, &-5i32, "-5")?;
     is_shown(&rt, alloc, &Timestamp(-1), "18446744073709551615")?;
@@ -53,19 +49,16 @@ fn shown_and_written(rt: HostRuntime) -> Result<(), Fail> {
     is_shown(&rt, alloc, &text, "\"a\\\"b\\\\c\\x0A\\x7F\u{e9}\"")
 }
 
-// 5C "a"
-const LETTER: &str = "42005C07000000016100000000000000";
+const LETTER: &str = r#"5C "a""#;
 
 #[test]
 fn items_and_their_copies(rt: HostRuntime) -> Result<(), Fail> {
     let alloc = rt.alloc();
     comes_back_copied::<Boxed<Text>>(&rt, alloc, LETTER, "\"a\"")?;
-    // 5C x0AFF
-    comes_back_copied::<Blob>(&rt, alloc, "42005C08000000020AFF000000000000", "x\"0AFF\"")?;
-    // 5C b0000000000000018
-    let big = "42005C04000000080000000000000018";
+    comes_back_copied::<Blob>(&rt, alloc, "5C x0AFF", "x\"0AFF\"")?;
+    let big = "5C b0000000000000018";
     comes_back_copied::<BigInteger>(&rt, alloc, big, "x\"0000000000000018\"")?;
-    let bytes = hex::decode(alloc, LETTER)?;
+    let bytes = message(alloc, LETTER)?;
     let item = ItemRef::root(bytes.as_slice()).ok_or("no item")?;
     let text = Boxed::<Text>::read(alloc, Outer::none(), item)?;
     text.known();
@@ -75,7 +68,7 @@ fn items_and_their_copies(rt: HostRuntime) -> Result<(), Fail> {
 }
 
 #[test]
-fn lists(rt: HostRuntime) -> Result<(), Fail> {
+fn lists_are_copied(rt: HostRuntime) -> Result<(), Fail> {
     let alloc = rt.alloc();
     let list = Some(List::of_vec(Vec::from_array(alloc, [1i32, 24])?));
     let copy = copy_optional_list(&list, alloc)?;

@@ -5,6 +5,7 @@ use kmip_shape::{
     Enumeration, Outer, ReadError, ReadItem, ShowItem, WriteItem, item_len, read_list, read_one,
     read_opt, to_blob,
 };
+use kmip_test_messages::message;
 use kmip_wire::{ItemRef, Tag, Text, TryClone};
 use std::alloc::Global;
 use std::fmt::Display;
@@ -39,20 +40,20 @@ impl Under {
     }
 }
 
-/// An item in hex, and what it shows as where it is read.
+/// An item in the notation, and what it shows as where it is read.
 #[derive(Clone, Copy)]
 pub struct Case {
     /// The value of the chooser that it is read under.
     pub under: Under,
     /// The bytes of the item.
-    pub hex: &'static str,
+    pub notation: &'static str,
     /// What it shows as, and none where it is not read.
     pub shown: Option<&'static str>,
 }
 
 /// The value of an item, and none where it is not read.
-fn read<T: ReadItem>(alloc: Global, under: Under, hex: &str) -> Result<Option<T>, Fail> {
-    let bytes = hex::decode(alloc, hex)?;
+fn read<T: ReadItem>(alloc: Global, under: Under, notation: &str) -> Result<Option<T>, Fail> {
+    let bytes = message(alloc, notation)?;
     let item = ItemRef::root(bytes.as_slice()).ok_or("no item")?;
     match T::read(alloc, under.outer(), item) {
         Ok(value) => Ok(Some(value)),
@@ -79,9 +80,9 @@ pub fn is_written<T: WriteItem>(
     rt: &impl Abort,
     alloc: Global,
     value: &T,
-    hex: &str,
+    notation: &str,
 ) -> Result<(), Fail> {
-    let bytes = hex::decode(alloc, hex)?;
+    let bytes = message(alloc, notation)?;
     let item = ItemRef::root(bytes.as_slice()).ok_or("no item")?;
     let written = to_blob(alloc, value, item.tag())?;
     assert!(rt; written.as_slice() == bytes.as_slice());
@@ -103,17 +104,17 @@ pub fn is_copied<T: TryClone + PartialEq + Drop>(
 pub fn comes_back<T: ReadItem + WriteItem + ShowItem>(
     rt: &impl Abort,
     alloc: Global,
-    hex: &str,
+    notation: &str,
     shown: &str,
 ) -> Result<(), Fail> {
-    let value: T = read(alloc, Under::Nothing, hex)?.ok_or("not read")?;
+    let value: T = read(alloc, Under::Nothing, notation)?.ok_or("not read")?;
     is_shown(rt, alloc, &value, shown)?;
-    is_written(rt, alloc, &value, hex)
+    is_written(rt, alloc, &value, notation)
 }
 
 /// The item is not read, where no chooser stands above it.
-pub fn is_unread<T: ReadItem>(rt: &impl Abort, alloc: Global, hex: &str) -> Result<(), Fail> {
-    let value: Option<T> = read(alloc, Under::Nothing, hex)?;
+pub fn is_unread<T: ReadItem>(rt: &impl Abort, alloc: Global, notation: &str) -> Result<(), Fail> {
+    let value: Option<T> = read(alloc, Under::Nothing, notation)?;
     assert!(rt; value.is_none());
     Ok(())
 }
@@ -122,10 +123,10 @@ pub fn is_unread<T: ReadItem>(rt: &impl Abort, alloc: Global, hex: &str) -> Resu
 pub fn comes_back_copied<T: ReadItem + WriteItem + ShowItem + TryClone + PartialEq>(
     rt: &impl Abort,
     alloc: Global,
-    hex: &str,
+    notation: &str,
     shown: &str,
 ) -> Result<(), Fail> {
-    is_case::<T>(rt, alloc, Under::Nothing, hex, Some(shown))
+    is_case::<T>(rt, alloc, Under::Nothing, notation, Some(shown))
 }
 
 /// The item is read exactly where it shows something, is written as the same bytes, and has a copy that equals it.
@@ -133,15 +134,15 @@ fn is_case<T: ReadItem + WriteItem + ShowItem + TryClone + PartialEq>(
     rt: &impl Abort,
     alloc: Global,
     under: Under,
-    hex: &str,
+    notation: &str,
     shown: Option<&str>,
 ) -> Result<(), Fail> {
-    let Some(value) = read::<T>(alloc, under, hex)? else {
+    let Some(value) = read::<T>(alloc, under, notation)? else {
         assert!(rt; shown.is_none());
         return Ok(());
     };
     is_shown(rt, alloc, &value, shown.ok_or("read")?)?;
-    is_written(rt, alloc, &value, hex)?;
+    is_written(rt, alloc, &value, notation)?;
     is_copied(rt, alloc, &value)
 }
 
@@ -152,7 +153,7 @@ pub fn are_read<T: ReadItem + WriteItem + ShowItem + TryClone + PartialEq>(
     cases: &[Case],
 ) -> Result<(), Fail> {
     for case in cases {
-        is_case::<T>(rt, alloc, case.under, case.hex, case.shown)?;
+        is_case::<T>(rt, alloc, case.under, case.notation, case.shown)?;
     }
     Ok(())
 }
@@ -162,10 +163,10 @@ pub fn reads_as<T: ReadItem + PartialEq>(
     rt: &impl Abort,
     alloc: Global,
     under: Under,
-    hex: &str,
+    notation: &str,
     expected: T,
 ) -> Result<(), Fail> {
-    let value: T = read(alloc, under, hex)?.ok_or("not read")?;
+    let value: T = read(alloc, under, notation)?.ok_or("not read")?;
     assert!(rt; value == expected);
     Ok(())
 }
@@ -174,14 +175,14 @@ pub fn reads_as<T: ReadItem + PartialEq>(
 pub fn children_are<T: ReadItem + PartialEq>(
     rt: &impl Abort,
     alloc: Global,
-    hex: &str,
+    notation: &str,
     tag: u32,
     one: Option<T>,
     optional: Option<Option<T>>,
     list: Option<&[T]>,
 ) -> Result<(), Fail> {
     let (tag, outer) = (Tag::new(tag).ok_or("no tag")?, Outer::none());
-    let bytes = hex::decode(alloc, hex)?;
+    let bytes = message(alloc, notation)?;
     let parent = ItemRef::root(bytes.as_slice()).ok_or("no item")?;
     assert!(rt; read_one::<T>(alloc, outer, parent, tag) == one.ok_or(ReadError::Unread));
     assert!(rt; read_opt::<T>(alloc, outer, parent, tag) == optional.ok_or(ReadError::Unread));

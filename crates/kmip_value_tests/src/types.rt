@@ -9,162 +9,137 @@ use std::test::Fail;
 
 /// By the name, where it is one of the table's, and else by the type of the item.
 const VALUES: [Case; 26] = [
-    // 0B{55 "my key",54 e1}
     Case {
         under: Name("Name"),
-        hex: "42000B010000002042005507000000066D79206B6579000042005405000000040000000100000000",
+        notation: r#"0B{55 "my key",54 e1}"#,
         shown: Some("Name{name_value=\"my key\",name_type=UninterpretedTextString}"),
     },
-    // 0B e2
     Case {
         under: Name("Object Type"),
-        hex: "42000B05000000040000000200000000",
+        notation: "0B e2",
         shown: Some("ObjectType(SymmetricKey)"),
     },
-    // 0B e3
     Case {
         under: Name("Cryptographic Algorithm"),
-        hex: "42000B05000000040000000300000000",
+        notation: "0B e3",
         shown: Some("CryptographicAlgorithm(AES)"),
     },
-    // 0B{11 e1,5F e8}
     Case {
         under: Name("Cryptographic Parameters"),
-        hex: "42000B01000000204200110500000004000000010000000042005F05000000040000000800000000",
+        notation: "0B{11 e1,5F e8}",
         shown: Some("CryptographicParameters{block_cipher_mode=CBC,padding_method=PKCS1_v1_5}"),
     },
-    // 0B e2
     Case {
         under: Name("State"),
-        hex: "42000B05000000040000000200000000",
+        notation: "0B e2",
         shown: Some("State(Active)"),
     },
-    // 0B i2
     Case {
         under: Name("State"),
-        hex: "42000B02000000040000000200000000",
+        notation: "0B i2",
         shown: None,
     },
-    // 0B e0000000A
     Case {
         under: Name("Object Type"),
-        hex: "42000B05000000040000000A00000000",
+        notation: "0B e0000000A",
         shown: None,
     },
-    // 0B "g"
     Case {
         under: Name("Object Group"),
-        hex: "42000B07000000016700000000000000",
+        notation: r#"0B "g""#,
         shown: Some("ObjectGroup(\"g\")"),
     },
-    // 0B{4B e103,4C "k2"}
     Case {
         under: Name("Link"),
-        hex: "42000B010000002042004B0500000004000001030000000042004C07000000026B32000000000000",
+        notation: r#"0B{4B e103,4C "k2"}"#,
         shown: Some("Link{link_type=PrivateKeyLink,linked_object_identifier=\"k2\"}"),
     },
-    // 0B{4B e103,4C "k2"}
     Case {
         under: Name("Linked Object Identifier"),
-        hex: "42000B010000002042004B0500000004000001030000000042004C07000000026B32000000000000",
+        notation: r#"0B{4B e103,4C "k2"}"#,
         shown: Some("Link{link_type=PrivateKeyLink,linked_object_identifier=\"k2\"}"),
     },
-    // 0B{03 "ssl",02 "www"}
     Case {
         under: Name("Application Specific Information"),
-        hex: "42000B0100000020420003070000000373736C000000000042000207000000037777770000000000",
+        notation: r#"0B{03 "ssl",02 "www"}"#,
         shown: Some(
             "ApplicationSpecificInformation{application_namespace=\"ssl\",application_data=\"www\"}",
         ),
     },
-    // 0B "Joe"
     Case {
         under: Name("Contact Information"),
-        hex: "42000B07000000034A6F650000000000",
+        notation: r#"0B "Joe""#,
         shown: Some("ContactInformation(\"Joe\")"),
     },
-    // 0B{0B i5,0B "a"}
     Case {
         under: Nothing,
-        hex: "42000B010000002042000B0200000004000000050000000042000B07000000016100000000000000",
+        notation: r#"0B{0B i5,0B "a"}"#,
         shown: Some("Structure[Integer(5),TextString(\"a\")]"),
     },
-    // 0B{}
     Case {
         under: Name("Digest"),
-        hex: "42000B0100000000",
+        notation: "0B{}",
         shown: Some("Structure[]"),
     },
-    // 0B{0B{}}
     Case {
         under: Name("Digest"),
-        hex: "42000B010000000842000B0100000000",
+        notation: "0B{0B{}}",
         shown: None,
     },
-    // 0B i-5
     Case {
         under: Name("x-a"),
-        hex: "42000B0200000004FFFFFFFB00000000",
+        notation: "0B i-5",
         shown: Some("Integer(-5)"),
     },
-    // 42000B l-5
     Case {
         under: Name("x-a"),
-        hex: "42000B0300000008FFFFFFFFFFFFFFFB",
+        notation: "42000B l-5",
         shown: Some("LongInteger(-5)"),
     },
-    // 0B b00000000000000FF
     Case {
         under: Name("x-a"),
-        hex: "42000B040000000800000000000000FF",
+        notation: "0B b00000000000000FF",
         shown: Some("BigInteger(x\"00000000000000FF\")"),
     },
-    // 0B e6
     Case {
         under: Name("x-a"),
-        hex: "42000B05000000040000000600000000",
+        notation: "0B e6",
         shown: Some("Enumeration(6)"),
     },
-    // 0B o1
     Case {
         under: Name("x-a"),
-        hex: "42000B06000000080000000000000001",
+        notation: "0B o1",
         shown: Some("Boolean(true)"),
     },
-    // 0B "t"
     Case {
         under: Name("x-a"),
-        hex: "42000B07000000017400000000000000",
+        notation: r#"0B "t""#,
         shown: Some("TextString(\"t\")"),
     },
-    // 0B xAABB
     Case {
         under: Name("x-a"),
-        hex: "42000B0800000002AABB000000000000",
+        notation: "0B xAABB",
         shown: Some("ByteString(x\"AABB\")"),
     },
-    // 0B d5
     Case {
         under: Name("x-a"),
-        hex: "42000B09000000080000000000000005",
+        notation: "0B d5",
         shown: Some("DateTime(5)"),
     },
     // 0B d-5, five seconds before 1970
     Case {
         under: Name("x-a"),
-        hex: "42000B0900000008FFFFFFFFFFFFFFFB",
+        notation: "0B d18446744073709551611",
         shown: Some("DateTime(18446744073709551611)"),
     },
-    // 0B n60
     Case {
         under: Name("x-a"),
-        hex: "42000B0A000000040000003C00000000",
+        notation: "0B n60",
         shown: Some("Interval(60)"),
     },
-    // 0B "State"
     Case {
         under: Nothing,
-        hex: "42000B07000000055374617465000000",
+        notation: r#"0B "State""#,
         shown: Some("TextString(\"State\")"),
     },
 ];
@@ -174,9 +149,7 @@ fn by_name_or_type(rt: HostRuntime) -> Result<(), Fail> {
     are_read::<AttributeValue>(&rt, rt.alloc(), &VALUES)
 }
 
-// 0B{38 e6,35 xAABB}
-const DIGEST: &str =
-    "42000B0100000020420038050000000400000006000000004200350800000002AABB000000000000";
+const DIGEST: &str = "0B{38 e6,35 xAABB}";
 
 /// The custom structure of a digest: an enumeration and bytes.
 fn digest(alloc: Global) -> Result<Values, Fail> {
@@ -230,12 +203,9 @@ fn without_a_form(rt: HostRuntime) -> Result<(), Fail> {
     Ok(())
 }
 
-// 2B{5F e8}
-const PADDED: &str = "42002B010000001042005F05000000040000000800000000";
+const PADDED: &str = "2B{5F e8}";
 
-// 2B{5F e8,38 e6}
-const HASHED: &str =
-    "42002B010000002042005F0500000004000000080000000042003805000000040000000600000000";
+const HASHED: &str = "2B{5F e8,38 e6}";
 
 #[test]
 fn cryptographic_parameters(rt: HostRuntime) -> Result<(), Fail> {

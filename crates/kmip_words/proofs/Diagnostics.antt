@@ -5,13 +5,13 @@ use Rattle.kmip_enums.specs.declared.operation.Operation.{Operation}
 use Rattle.kmip_client.specs.declared.error.Error.TheVariants.{SerializeError, RequestWriteError, OutOfMemory}
 use Rattle.kmip_client.specs.Message.{Message, message_at}
 use Rattle.kmip_client.specs.Outcome.{Answer, outcome_of, answer_of}
-use Rattle.kmip_client.specs.Diagnostics.{diagnostic_of, diagnostic_for, IsRequestText, IsResponseText, is_read}
+use Rattle.kmip_client.specs.Diagnostics.{diagnostic_of, diagnostic_for, IsRequestText, IsResponseText, has_response}
 use Rattle.kmip_client.proofs.Said.{OfMessages, message_says}
 use Rattle.kmip_words.specs.Exchange.{told_lines}
 
 -- what a message answers shows that it was read
 
-shows_reading : OfMessages (λ answer. is_read answer ≡ true)
+shows_reading : OfMessages (λ answer. has_response answer ≡ true)
 shows_reading = record {
   ok = λ payload. refl;
   malformed = λ text. refl;
@@ -20,7 +20,7 @@ shows_reading = record {
   not_found = λ text. refl;
 }
 
-message_read : (operation : Operation) (here : Message) → is_read (answer_of operation here) ≡ true
+message_read : (operation : Operation) (here : Message) → has_response (answer_of operation here) ≡ true
 message_read operation Message.Ended = refl
 message_read operation (Message.Refused error) = refl
 message_read operation (Message.Whole m) = message_says shows_reading operation m
@@ -32,7 +32,7 @@ request_kept buffered request (Ok payload) text some is = is
 request_kept buffered request (Err OutOfMemory) text some is = absurd (some refl)
 request_kept buffered request (Err error) text some is = is
 
-response_kept : (buffered : Bool) (taken : List ℕ) (answer : Answer) (text : Option (List ℕ)) → is_read answer ≡ true → IsResponseText buffered taken answer text → text ≡ diagnostic_for buffered taken
+response_kept : (buffered : Bool) (taken : List ℕ) (answer : Answer) (text : Option (List ℕ)) → has_response answer ≡ true → IsResponseText buffered taken answer text → text ≡ diagnostic_for buffered taken
 response_kept buffered taken (Ok payload) text read is = is
 response_kept buffered taken (Err OutOfMemory) text read is = cc
 response_kept buffered taken (Err (SerializeError reason)) text read is = cc
@@ -59,6 +59,6 @@ told_of true None operation limit rest n answer sent_text taken_text was some co
     rw (sent, taken, no_diagnostic) refl
 told_of true (Some bytes) operation limit rest n answer sent_text taken_text was some count sent_is taken_is =
     let sent : sent_text ≡ Some (diagnostic (Some 0x4200) bytes) = request_kept true (Some bytes) answer sent_text some sent_is in
-    let read : is_read answer ≡ true = ap is_read was ∙ message_read operation (message_at rest limit) in
+    let read : has_response answer ≡ true = ap has_response was ∙ message_read operation (message_at rest limit) in
     let taken : taken_text ≡ Some (diagnostic (Some 0x4200) (take n rest)) = response_kept true (take n rest) answer taken_text read taken_is in
     rw (sent, taken, count) refl

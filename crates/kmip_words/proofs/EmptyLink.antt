@@ -1,5 +1,5 @@
 -- A call over a link that holds all that is to be read.
-use Rattle.std.proofs.Common.{◌≡◌, ℕ, List, [], ◌++◌, drop, refl, ◌∙◌, ap, sym, arith, Option, Some, None, Result, Ok, Err, IfOk, OnOk}
+use Rattle.std.proofs.Common.{◌≡◌, ℕ, List, [], ◌++◌, drop, refl, ◌∙◌, ap, sym, arith, Option, Some, None}
 use Rattle.kmip_shape.specs.declared.style.Style.TheVariants.{Json}
 use Rattle.kmip_link.specs.Plan.{MemoryState}
 use Rattle.kmip_enums.specs.declared.operation.Operation.{Operation}
@@ -7,7 +7,7 @@ use Rattle.kmip_client.specs.Client.{ClientState}
 use Rattle.kmip_client.specs.Message.{Message}
 use Rattle.kmip_client.specs.Outcome.{outcome_of, answer_of}
 use Rattle.kmip_client.proofs.Messages.{message_short}
-use Rattle.kmip_words.specs.Exchange.{Settings, settings_of, request_asked, ending_of, json_line, call_outcome, step_in, Answers}
+use Rattle.kmip_words.specs.Exchange.{Settings, settings_of, request_asked, ending_of, call_outcome, step_in, Answers}
 use Rattle.kmip_words.specs.declared.call.Call.{Call}
 use Rattle.kmip_words.specs.declared.ending.Ending.{Ending}
 use Rattle.kmip_words.specs.declared.ending.Ending.TheVariants.{Lost}
@@ -26,17 +26,6 @@ none_by_kept (Some message) operation limit ending is kept = absurd (kept (is �
 
 left_is : (link : MemoryState) (bytes : List ℕ) → link.ever ≡ bytes → link.pos ≡ 0 → drop link.pos link.ever ≡ bytes
 left_is link bytes ever pos = rw (pos, ever) refl
-
--- the line of the answer
-pub line_of : {E : Type 0} (result : Result Ending E) (before after : ClientState MemoryState) (settings : Settings) (call : Call) (response old new : List ℕ) →
-    settings_of before ≡ settings → before.link.ever ≡ response → before.link.pos ≡ 0 →
-    IfOk result (λ ending. Answers (step_in Json (settings_of before) call (drop before.link.pos before.link.ever)) before after ending old new) →
-    OnOk result (new ≡ old ++ json_line call (call_outcome settings call response).answer)
-line_of (Ok ending) before after settings call response old new same ever pos did =
-    did.shown
-    ∙ ap (λ (l : List ℕ). old ++ json_line call (call_outcome (settings_of before) call l).answer) (left_is before.link response ever pos)
-    ∙ ap (λ (s : Settings). old ++ json_line call (call_outcome s call response).answer) same
-line_of (Err error) before after settings call response old new same ever pos did = tt
 
 -- the request that was sent
 pub sent_is : (before after : ClientState MemoryState) (settings : Settings) (call : Call) (ending : Ending) (old new sent : List ℕ) →

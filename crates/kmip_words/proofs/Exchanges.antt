@@ -1,25 +1,25 @@
 -- What a call of the client did, of its exchange over a link in memory.
-use Rattle.std.proofs.Common.{◌≡◌, ◌≢◌, ℕ, ◌+◌, ◌-◌, Bool, true, false, cond, List, ◌++◌, take, drop, Option, refl, ◌∙◌, ap, sym, subst, arith, Result, Ok, Err, IfOk}
-use Rattle.std.proofs.lemmas.List.{drop-drop}
-use Rattle.kmip_shape.specs.Val.{Val}
+use Rattle.std.proofs.Common.{◌≡◌, ◌≢◌, ℕ, ◌+◌, ◌-◌, zero, suc, length, Bool, true, false, cond, List, [], ◌∷◌, ◌++◌, take, drop, None, refl, ◌∙◌, ap, sym, subst, arith, zero-add, Result, Ok, Err, IfOk}
+use Rattle.std.proofs.lemmas.List.{drop-drop, length-drop}
+use Rattle.kmip_shape.specs.Val.{Val, Number, Text, Bytes, Truth, Record, Case}
 use Rattle.kmip_shape.specs.declared.style.Style.{Style}
 use Rattle.kmip_link.specs.Plan.{MemoryState, memory_state}
-use Rattle.kmip_types.specs.declared.auth.CredentialType.{CredentialType}
+use Rattle.kmip_enums.specs.Operations.{operation_line}
+use Rattle.kmip_enums.specs.declared.operation.Operation.{Operation}
 use Rattle.kmip_request.specs.Message.{request_bytes, operation_of}
 use Rattle.kmip_request.specs.declared.payload.RequestPayload.{RequestPayload}
 use Rattle.kmip_response.specs.Values.{response_payload_val}
 use Rattle.kmip_response.specs.declared.payload.ResponsePayload.{ResponsePayload}
 use Rattle.kmip_client.specs.declared.error.Error.{Error}
 use Rattle.kmip_client.specs.declared.error.Error.TheVariants.{OutOfMemory}
-use Rattle.kmip_client.specs.Outcome.{Answer, Outcome, outcome, outcome_of, answer_with_payload, seen_by, Moves, Exchanged}
-use Rattle.kmip_client.specs.Calls.{IsCall, Helped, called, not_made, part_of}
-use Rattle.kmip_client.specs.Client.{ClientState}
-use Rattle.kmip_words.specs.Exchange.{Asked, request_asked, asked_of, value_in_style, value_line, answer_line, is_error, loses_link, ending_of, fails, settings_of, step_in, step_of, told_lines, Shows, Answers}
+use Rattle.kmip_client.specs.Outcome.{Answer, Outcome, outcome, outcome_of, Moves, Exchanged}
+use Rattle.kmip_client.specs.Calls.{IsCall}
+use Rattle.kmip_client.specs.Client.{ClientState, IsOfOperation}
+use Rattle.kmip_words.specs.Exchange.{Settings, Asked, asked_of, IsRequestOf, operation_asked, value_in_style, answer_line, is_error, loses_link, ending_of, fails, settings_of, call_outcome, step_in, step_of, told_lines, Shows, Answers}
+use Rattle.kmip_words.specs.About.{IsReply}
 use Rattle.kmip_words.specs.declared.ending.Ending.{Ending}
 use Rattle.kmip_words.specs.declared.ending.Ending.TheVariants.{Lost, Refused}
-use Rattle.kmip_request_read.specs.Reading.{Request, request_for, message_bytes}
 use Rattle.kmip_words.specs.declared.call.Call.{Call}
-use Rattle.kmip_words.specs.declared.call.Call.TheVariants.{Raw}
 use Rattle.kmip_words.proofs.Diagnostics.{told_of}
 
 -- over a link in memory each answer but out of memory is the outcome's
@@ -46,7 +46,7 @@ abbrev told_in : Style → Call → Val → List ℕ
 told_in style call payload = value_in_style call payload style
 
 -- so a call that makes this request did what its step says
-answered : {before after : ClientState MemoryState} (style : Style) (call : Call) (payload : RequestPayload) (answer : Answer) (ending : Ending) (old new : List ℕ) → ((c : Option CredentialType) → asked_of payload c ≡ request_asked call c) →
+answered : {before after : ClientState MemoryState} (style : Style) (call : Call) (payload : RequestPayload) (answer : Answer) (ending : Ending) (old new : List ℕ) → IsRequestOf payload call →
     IsCall memory_state payload before after answer → answer ≢ Err OutOfMemory →
     new ≡ old ++ answer_line (told_in style call) style answer → ending ≡ ending_of answer →
     Answers (step_in style (settings_of before) call (drop before.link.pos before.link.ever)) before after ending old new
@@ -78,66 +78,78 @@ answered {before = before} {after = after} style call payload answer ending old 
       left = rw (pos, same) (sym (drop-drop (o left).taken before.link.pos before.link.ever));
     })
 
--- the line of a part of a payload is that of the payload
-same_line : {P R : Type 0} (style : Style) (value : Val → List ℕ) (val : P → Val) (text : R → List ℕ) (part : P → R) (answer : Result P Error) → ((payload : P) → value (val payload) ≡ text (part payload)) →
-    answer_line text style (part_of part answer) ≡ answer_line value style (seen_by val answer)
-same_line style value val text part (Ok payload) same = ap (λ (t : List ℕ). value_line t style) (sym (same payload))
-same_line style value val text part (Err error) same = refl
+-- the payload of an operation is a case of its number
+pub of_case : (operation : Operation) (payload : Val) (P : Val → Type 0) → ((n : ℕ) (v : Val) → n ≡ (operation_line operation).number → P (Case n v)) → IsOfOperation operation payload → P payload
+of_case operation (Case n v) P f own = f n v own
+of_case operation (Number z) P f own = absurd own
+of_case operation (Text s) P f own = absurd own
+of_case operation (Bytes b) P f own = absurd own
+of_case operation (Truth t) P f own = absurd own
+of_case operation (Record fields) P f own = absurd own
 
-same_ending : {P R : Type 0} (val : P → Val) (part : P → R) (answer : Result P Error) → ending_of (part_of part answer) ≡ ending_of (seen_by val answer)
-same_ending val part (Ok payload) = refl
-same_ending val part (Err error) = refl
-
-same_some : {P R : Type 0} (val : P → Val) (part : P → R) (answer : Result P Error) → seen_by val answer ≡ Err OutOfMemory → part_of part answer ≡ Err OutOfMemory
-same_some val part (Ok payload) is = cc
-same_some val part (Err error) is = cc
-
-helped : {P R : Type 0} {before after : ClientState MemoryState} (style : Style) (call : Call) (request : RequestPayload) (variant : P → ResponsePayload) (part : P → R) (text : R → List ℕ) (result : Result R Error) (ending : Ending) (old new : List ℕ) →
-    ((c : Option CredentialType) → asked_of request c ≡ request_asked call c) → ((payload : P) → value_in_style call (response_payload_val (variant payload)) style ≡ text (part payload)) →
-    Helped memory_state request variant part before after result → Shows text style result ending old new →
-    Answers (step_in style (settings_of before) call (drop before.link.pos before.link.ever)) before after ending old new
-helped style call request variant part text result ending old new makes same (called answer is_call is) shows =
-    answered style call request (seen_by (λ payload. response_payload_val (variant payload)) answer) ending old new makes is_call
-    (λ none. shows.some (is ∙ same_some (λ payload. response_payload_val (variant payload)) part answer none))
-    (shows.shown ∙ ap (λ (r : Result _ Error). old ++ answer_line text style r) is ∙ ap (λ (l : List ℕ). old ++ l) (same_line style (told_in style call) (λ payload. response_payload_val (variant payload)) text part answer same))
-    (shows.ending_is ∙ ap ending_of is ∙ same_ending (λ payload. response_payload_val (variant payload)) part answer)
-helped style call request variant part text result ending old new makes same (not_made is kept) shows = absurd (shows.some is)
-
--- a helper's result was shown, unless memory ran out
-pub helper_shown : {P R E : Type 0} {before after : ClientState MemoryState} (style : Style) (call : Call) (request : RequestPayload) (variant : P → ResponsePayload) (part : P → R) (text : R → List ℕ) (result : Result R Error) (shown : Result Ending E) (old new : List ℕ) →
-    ((c : Option CredentialType) → asked_of request c ≡ request_asked call c) → ((payload : P) → value_in_style call (response_payload_val (variant payload)) style ≡ text (part payload)) →
-    Helped memory_state request variant part before after result → IfOk shown (λ ending. Shows text style result ending old new) →
+-- the answer of a call was shown, unless memory ran out
+pub answer_shown : {E : Type 0} {before after : ClientState MemoryState} (style : Style) (call : Call) (payload : RequestPayload) (answer : Answer) (shown : Result Ending E) (old new : List ℕ) →
+    IsRequestOf payload call → IsCall memory_state payload before after answer →
+    IfOk shown (λ ending. Shows (told_in style call) style answer ending old new) →
     IfOk shown (λ ending. Answers (step_in style (settings_of before) call (drop before.link.pos before.link.ever)) before after ending old new)
-helper_shown style call request variant part text result (Ok ending) old new makes same did shows = helped style call request variant part text result ending old new makes same did shows
-helper_shown style call request variant part text result (Err error) old new makes same did shows = tt
+answer_shown style call payload answer (Ok ending) old new makes did shows = answered style call payload answer ending old new makes did shows.some shows.shown shows.ending_is
+answer_shown style call payload answer (Err error) old new makes did shows = tt
 
-same_result : {P : Type 0} (result : Result P Error) → result ≡ part_of (λ payload. payload) result
-same_result (Ok payload) = refl
-same_result (Err error) = refl
+-- what was taken of some bytes, by how many are left
+pub taken_is : (n : ℕ) (bytes : List ℕ) → take (length bytes - length (drop n bytes)) bytes ≡ take n bytes
+taken_is zero bytes =
+    let none : length bytes - length bytes ≡ 0 = omega arith in
+    rw none refl
+taken_is (suc n) [] = refl
+taken_is (suc n) (byte ∷ bytes) =
+    let one : suc (length bytes) - length (drop n bytes) ≡ suc (length bytes - length (drop n bytes)) = omega (arith, length-drop n bytes) in
+    rw one (ap (λ (l : List ℕ). byte ∷ l) (taken_is n bytes))
 
--- a call whose whole payload is the result
-pub all_helped : {P : Type 0} {before after : ClientState MemoryState} (request : RequestPayload) (variant : P → ResponsePayload) (result : Result P Error) →
-    IsCall memory_state request before after (seen_by (λ payload. response_payload_val (variant payload)) result) → Helped memory_state request variant (λ payload. payload) before after result
-all_helped request variant result is_call = called result is_call (same_result result)
+-- the request that was made is that of a call
+pub request_made : {E : Type 0} (result : Result RequestPayload E) (wanted : RequestPayload) (call : Call) → IsRequestOf wanted call → IfOk result (λ made. made ≡ wanted) →
+    IfOk result (λ made. IsRequestOf made call)
+request_made (Ok made) wanted call same is = λ credential. ap (λ p. asked_of p credential) is ∙ same credential
+request_made (Err error) wanted call same is = tt
 
--- a call of any request, whose payload is shown as it is
-pub request_shown : {E : Type 0} {before after : ClientState MemoryState} (style : Style) (request : Request) (payload : RequestPayload) (result : Result ResponsePayload Error) (shown : Result Ending E) (old new : List ℕ) →
-    request_for payload ≡ request → ((p : RequestPayload) (c : Option CredentialType) → request_bytes p c ≡ message_bytes (request_for p) c) →
-    IsCall memory_state payload before after (seen_by response_payload_val result) → IfOk shown (λ ending. Shows (λ p. value_in_style (Raw request) (response_payload_val p) style) style result ending old new) →
-    IfOk shown (λ ending. Answers (step_in style (settings_of before) (Raw request) (drop before.link.pos before.link.ever)) before after ending old new)
-request_shown style request payload result (Err error) old new is same did shows = tt
-request_shown style request payload result (Ok ending) old new is same did shows =
-    let makes : (c : Option CredentialType) → asked_of payload c ≡ request_asked (Raw request) c =
-    λ c. subst (λ (r : Request). asked_of payload c ≡ request_asked (Raw r) c) is (ap (λ (m : Option (List ℕ)). record { message = m; operation = operation_of payload }) (same payload c)) in
-    helped style (Raw request) payload (λ p. p) (λ p. p) (λ p. value_in_style (Raw request) (response_payload_val p) style) result ending old new makes (λ p. refl) (called result did (same_result result)) shows
+-- nothing comes to a link in memory by itself
+pub ever_kept : (o : Outcome) (before after : MemoryState) (answer : Answer) → Exchanged o (memory_state before) (memory_state after) answer → after.ever ≡ before.ever
+ever_kept o before after answer (Exchanged.completed is moves) = moves.still refl
+ever_kept o before after answer (Exchanged.write_failed is rose n below moves) = moves.still refl
+ever_kept o before after answer (Exchanged.read_failed is rose n within moves) = moves.still refl
+ever_kept o before after answer (Exchanged.sending_cut is n within moves) = moves.still refl
+ever_kept o before after answer (Exchanged.reading_cut is n within moves) = moves.still refl
 
--- a call of a request that no helper makes, whose payload was taken out of that of any operation
-pub part_shown : {P E : Type 0} {before after : ClientState MemoryState} (style : Style) (call : Call) (request made : RequestPayload) (variant : P → ResponsePayload) (text : P → List ℕ) (whole : Result ResponsePayload Error) (result : Result P Error) (shown : Result Ending E) (old new : List ℕ) →
-    ((c : Option CredentialType) → asked_of request c ≡ request_asked call c) → ((payload : P) → value_in_style call (response_payload_val (variant payload)) style ≡ text payload) →
-    made ≡ request → IsCall memory_state made before after (seen_by response_payload_val whole) → seen_by (λ payload. response_payload_val (variant payload)) result ≡ answer_with_payload whole →
-    IfOk shown (λ ending. Shows text style result ending old new) →
-    IfOk shown (λ ending. Answers (step_in style (settings_of before) call (drop before.link.pos before.link.ever)) before after ending old new)
-part_shown {before = before} {after = after} style call request made variant text whole result shown old new makes same is did taken shows =
-    let P : RequestPayload → Type 0 = λ r. IsCall memory_state r before after (seen_by response_payload_val whole) in
-    let Q : Answer → Type 0 = λ a. IsCall memory_state request before after a in
-    helper_shown style call request variant (λ payload. payload) text result shown old new makes same (all_helped request variant result (subst Q (sym taken) (subst P is did))) shows
+-- over a link that has these bytes to read, the answer and the bytes taken are the outcome's, unless memory ran out
+pub outcome_given : {before after : ClientState MemoryState} (settings : Settings) (call : Call) (payload : RequestPayload) (response : List ℕ) (answer : Answer) →
+    settings_of before ≡ settings → before.link.ever ≡ response → before.link.pos ≡ 0 → IsRequestOf payload call → IsCall memory_state payload before after answer → answer ≢ Err OutOfMemory →
+    (answer ≡ (call_outcome settings call response).answer) × (after.link.pos ≡ (call_outcome settings call response).taken)
+outcome_given {before = before} {after = after} settings call payload response answer same ever pos makes did some =
+    let o : List ℕ → Outcome = λ rest. outcome payload before.credential before.limit rest in
+    let rest : List ℕ = drop before.link.pos after.link.ever in
+    let done : (answer ≡ (o rest).answer) × Moves (memory_state before.link) (memory_state after.link) (o rest).sent (o rest).taken =
+    finished (o rest) before.link after.link answer (did.exchange refl) some in
+    let moves : Moves (memory_state before.link) (memory_state after.link) (o rest).sent (o rest).taken = done.1 in
+    let all : after.link.ever ≡ response = moves.still refl ∙ ever in
+    let here : rest ≡ response = rw (pos, all) refl in
+    let is : o rest ≡ call_outcome settings call response =
+    ap o here
+    ∙ ap (λ (it : Asked). outcome_of it.message it.operation before.limit response) (makes before.credential)
+    ∙ ap (λ (s : Settings). call_outcome s call response) same in
+    (done.0 ∙ ap (λ (it : Outcome). it.answer) is, moves.pos ∙ ap (λ n. n + (o rest).taken) pos ∙ zero-add (o rest).taken ∙ ap (λ (it : Outcome). it.taken) is)
+
+-- and its payload is of the call's operation
+pub of_call : {E : Type 0} (payload : RequestPayload) (call : Call) (result : Result ResponsePayload E) → IsRequestOf payload call →
+    IfOk result (λ answer. IsOfOperation (operation_of payload) (response_payload_val answer)) → IfOk result (λ answer. IsOfOperation (operation_asked call) (response_payload_val answer))
+of_call {E} payload call result makes own =
+    let P : Operation → Type 0 = λ operation. IfOk {E = E} result (λ answer. IsOfOperation operation (response_payload_val answer)) in
+    subst P (ap (λ (it : Asked). it.operation) (makes None)) own
+
+-- so the answer, and the bytes that were taken, are those of the outcome
+pub reply_given : {before after : ClientState MemoryState} (settings : Settings) (call : Call) (payload : RequestPayload) (response : List ℕ) (answer : Answer) (left : ℕ) →
+    settings_of before ≡ settings → before.link.ever ≡ response → before.link.pos ≡ 0 → IsRequestOf payload call → IsCall memory_state payload before after answer →
+    left ≡ length (drop after.link.pos after.link.ever) → IsReply answer (take (length response - left) response) (call_outcome settings call response) response
+reply_given {before = before} {after = after} settings call payload response answer left same ever pos makes did left_is = λ some.
+    let all : after.link.ever ≡ response = ever_kept (outcome payload before.credential before.limit (drop before.link.pos after.link.ever)) before.link after.link answer (did.exchange refl) ∙ ever in
+    let given = outcome_given settings call payload response answer same ever pos makes did some in
+    let there : left ≡ length (drop after.link.pos response) = rw all at left_is in
+    (given.0, ap (λ (n : ℕ). take (length response - n) response) there ∙ taken_is after.link.pos response ∙ ap (λ (n : ℕ). take n response) given.1)

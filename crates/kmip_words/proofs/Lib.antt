@@ -1,8 +1,9 @@
+pub mod OtherObjects
+pub mod Added
 pub mod Calls
 pub mod Diagnostics
 pub mod Exchanges
-pub mod NamedValues
 pub mod Moves
-pub mod Numbers
 pub mod EmptyLink
-pub mod Texts
+pub mod JsonLines
+pub use Rattle.kmip_request_words.proofs.NamedValues

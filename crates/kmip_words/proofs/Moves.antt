@@ -1,8 +1,9 @@
 -- Several calls of a source or a sink, one after the other.
 use Rattle.std.proofs.Common.{◌≡◌, ℕ, ◌+◌, ◌-◌, ◌≤◌, List, [], ◌++◌, length, take, drop, ◌∙◌, ap, sym, arith, append_assoc}
 use Rattle.std.proofs.lemmas.List.{drop-drop, length-drop, length-take, take-take}
-use Rattle.std.proofs.Math.Seq.{take-add, take-length}
+use Rattle.std.proofs.Math.Seq.{take-add}
 use Rattle.kmip_link.specs.State.{SourceState, SinkState, SourceKeeps, SinkKeeps, source_left}
+use Rattle.kmip_request_words.proofs.Rests.{rest_is}
 use Rattle.kmip_words.specs.Streams.{Gives, GivesPart}
 
 pub sink_keeps_on : {a b c : SinkState} → SinkKeeps a b → SinkKeeps b c → SinkKeeps a c
@@ -10,9 +11,6 @@ sink_keeps_on ab bc = record { tells = bc.tells ∙ ab.tells; faults = omega ari
 
 pub source_keeps_on : {a b c : SourceState} → SourceKeeps a b → SourceKeeps b c → SourceKeeps a c
 source_keeps_on ab bc = record { tells = bc.tells ∙ ab.tells; faults = omega arith }
-
-pub rest_is : {A : Type 0} (n : ℕ) (xs : List A) → take (length xs - n) (drop n xs) ≡ drop n xs
-rest_is n xs = rw (← length-drop n xs) (take-length (drop n xs))
 
 -- the text so far and what is written next
 pub text_on : (old : List ℕ) (n m : ℕ) (xs : List ℕ) → (old ++ take n xs) ++ take m (take (length xs - n) (drop n xs)) ≡ old ++ take (n + m) xs

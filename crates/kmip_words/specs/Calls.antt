@@ -2,11 +2,13 @@
 use Rattle.std.specs.Prelude.{ℕ, ℤ, List, [], ◌∷◌, Option, Some, None, if◌then◌else◌, codes, bytes_eq}
 use Rattle.std.specs.Option.{option_map, option_and_then}
 use Rattle.std.specs.Str.{is_utf8}
+use Rattle.kmip_request.specs.declared.payload.RequestPayload.{RequestPayload}
 use Rattle.kmip_request_read.specs.Reading.{request_read}
-use Rattle.kmip_words.specs.Words.{words_of}
-use Rattle.kmip_words.specs.Values.{int_of, bytes_of, word_text}
+use Rattle.kmip_request_words.specs.Asked.{asked_in}
+use Rattle.kmip_request_words.specs.Words.{parts_between, words_of}
+use Rattle.kmip_request_words.specs.Values.{int_of, bytes_of, word_text}
 use Rattle.kmip_words.specs.declared.call.Call.{Call}
-use Rattle.kmip_words.specs.declared.call.Call.TheVariants.{Query, CreateRsa, Rng, Sign, Activate, Revoke, Destroy, Rename, Get, Raw, Locate, Attributes, CreateAes, Discover}
+use Rattle.kmip_words.specs.declared.call.Call.TheVariants.{Query, CreateRsa, Rng, Sign, Activate, Revoke, Destroy, Rename, Get, Raw, Locate, Attributes, CreateAes, Discover, Request}
 use Rattle.kmip_words.specs.declared.call.Recorded.{Recorded}
 
 -- the call of one word: `query`
@@ -105,7 +107,7 @@ call_in words = None
 unfoldable pub call_alone : List ℕ → Option Call
 call_alone line = if is_utf8 line then option_and_then call_in (words_of line) else None
 
--- ---- the calls that are typed, with no response: those above, and four more
+-- ---- the calls that are typed, with no response: those above, four more, and those with options
 
 abbrev pub typed_of_one : List ℕ → Option Call
 typed_of_one name = if bytes_eq name (codes "discover") then Some Discover else call_of_one name
@@ -118,10 +120,15 @@ abbrev pub attributes_of : Option (List ℕ) → Option Call
 attributes_of (Some id) = Some (Attributes id)
 attributes_of None = None
 
+-- `locate TEXT`; a word with `=` is no TEXT of this call, but an option
+abbrev pub locate_parts : List (List ℕ) → Option Call
+locate_parts (name ∷ []) = locate_of (word_text name)
+locate_parts parts = None
+
 -- `locate TEXT` and `attributes TEXT`
 abbrev pub typed_of_two : List ℕ → List ℕ → Option Call
 typed_of_two name word =
-    if bytes_eq name (codes "locate") then locate_of (word_text word)
+    if bytes_eq name (codes "locate") then locate_parts (parts_between 61 word)
     else if bytes_eq name (codes "attributes") then attributes_of (word_text word)
     else call_of_two name word
 
@@ -135,10 +142,19 @@ typed_of_three name first second =
     if bytes_eq name (codes "create-aes") then create_aes_of (int_of first) (word_text second)
     else call_of_three name first second
 
--- the call of words that are typed
-abbrev pub typed_call : List (List ℕ) → Option Call
-typed_call (name ∷ []) = typed_of_one name
-typed_call (name ∷ first ∷ []) = typed_of_two name first
-typed_call (name ∷ first ∷ second ∷ []) = typed_of_three name first second
-typed_call (name ∷ first ∷ second ∷ third ∷ []) = call_of_four name first second third
-typed_call words = None
+-- the call of words that are typed and have no options, by how many there are
+abbrev pub plain_call : List (List ℕ) → Option Call
+plain_call (name ∷ []) = typed_of_one name
+plain_call (name ∷ first ∷ []) = typed_of_two name first
+plain_call (name ∷ first ∷ second ∷ []) = typed_of_three name first second
+plain_call (name ∷ first ∷ second ∷ third ∷ []) = call_of_four name first second third
+plain_call words = None
+
+abbrev pub or_request : Option Call → Option RequestPayload → Option Call
+or_request (Some call) request = Some call
+or_request None request = option_map Request request
+
+-- the call of words that are typed: one with no options, or else the request that words with
+-- options ask for
+unfoldable pub typed_call : List (List ℕ) → Option Call
+typed_call words = or_request (plain_call words) (asked_in words)

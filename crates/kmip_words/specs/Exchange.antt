@@ -3,7 +3,7 @@ use Rattle.std.specs.Prelude.{◌≡◌, ◌≢◌, ℕ, ◌+◌, List, [], ◌+
 use Rattle.hex.specs.Hex.{encode_upper}
 use Rattle.kmip_link.specs.Plan.{MemoryState}
 use Rattle.kmip_shape.specs.Val.{Val, Text, Record, Case, AndField, NoField, One}
-use Rattle.kmip_shape.specs.Shape.{Shape}
+use Rattle.kmip_shape.specs.Shape.{Shape, case_at}
 use Rattle.kmip_shape.specs.Shown.{shown_in_style, text_in_style}
 use Rattle.kmip_shape.specs.declared.style.Style.{Style}
 use Rattle.kmip_shape.specs.declared.style.Style.TheVariants.{Bare, Json}
@@ -12,17 +12,17 @@ use Rattle.kmip_enums.specs.declared.operation.Operation.{Operation}
 use Rattle.kmip_types.specs.declared.auth.CredentialType.{CredentialType}
 use Rattle.kmip_request.specs.Message.{request_bytes, operation_of}
 use Rattle.kmip_request.specs.declared.payload.RequestPayload.{RequestPayload}
-use Rattle.kmip_request_read.specs.Reading.{Request, message_bytes}
-use Rattle.kmip_response.specs.Tables.{response_payload, query_payload, rng_retrieve_payload, sign_payload, attribute_edit_payload, get_payload, locate_payload, get_attributes_payload, create_payload, discover_versions_payload}
+use Rattle.kmip_request_read.specs.Reading.{Request as RequestRead, message_bytes}
+use Rattle.kmip_response.specs.Tables.{response_payload, response_payloads, query_payload, rng_retrieve_payload, sign_payload, attribute_edit_payload, get_payload, locate_payload, get_attributes_payload, create_payload, discover_versions_payload}
 use Rattle.kmip_client.specs.Client.{ClientState}
 use Rattle.kmip_client.specs.Errors.{error_shown, error_text}
 use Rattle.kmip_client.specs.Outcome.{Answer, Outcome, outcome_of}
 use Rattle.kmip_client.specs.Requests.{query_request, key_pair_request, rng_request, sign_request, activate_request, revoke_request, destroy_request, rename_request, get_request}
 use Rattle.kmip_client.specs.declared.error.Error.{Error}
 use Rattle.kmip_client.specs.declared.error.Error.TheVariants.{ConfigurationError, SerializeError, RequestWriteError, ResponseReadError, DeserializeError, ServerError, InternalError, ItemNotFound, Unknown, OutOfMemory}
-use Rattle.kmip_words.specs.Requests.{locate_request, attributes_request, create_aes_request, discover_request}
+use Rattle.kmip_request_words.specs.Requests.{locate_request, attributes_request, create_aes_request, discover_request}
 use Rattle.kmip_words.specs.declared.call.Call.{Call}
-use Rattle.kmip_words.specs.declared.call.Call.TheVariants.{Query, CreateRsa, Rng, Sign, Activate, Revoke, Destroy, Rename, Get, Raw, Locate, Attributes, CreateAes, Discover}
+use Rattle.kmip_words.specs.declared.call.Call.TheVariants.{Query, CreateRsa, Rng, Sign, Activate, Revoke, Destroy, Rename, Get, Raw, Locate, Attributes, CreateAes, Discover, Request}
 use Rattle.kmip_words.specs.declared.ending.Ending.{Ending}
 use Rattle.kmip_words.specs.declared.ending.Ending.TheVariants.{Answered, Refused, Lost}
 
@@ -48,7 +48,7 @@ asked_of payload credential =
     record { message = request_bytes payload credential; operation = operation_of payload }
 
 -- what `raw` asks for; the credential is the client's, not that in the bytes
-abbrev pub raw_asked : Request → Option CredentialType → Asked
+abbrev pub raw_asked : RequestRead → Option CredentialType → Asked
 raw_asked request credential =
     record { message = message_bytes request credential; operation = request.operation }
 
@@ -68,6 +68,17 @@ request_asked (Locate name) = asked_of (locate_request name)
 request_asked (Attributes id) = asked_of (attributes_request id)
 request_asked (CreateAes key_length name) = asked_of (create_aes_request key_length name)
 request_asked Discover = asked_of discover_request
+request_asked (Request payload) = asked_of payload
+
+-- the request is that of the call, with whatever credential
+abbrev pub IsRequestOf : RequestPayload → Call → Type 0
+IsRequestOf payload call =
+    (credential : Option CredentialType) → asked_of payload credential ≡ request_asked call
+    credential
+
+-- the operation of a call's request
+abbrev pub operation_asked : Call → Operation
+operation_asked call = (request_asked call None).operation
 
 -- the identifiers of the two keys of a pair, in round brackets or as a JSON object
 abbrev pub pair_in_style : List ℕ → List ℕ → Style → List ℕ
@@ -94,6 +105,20 @@ abbrev pub record_in_style : Shape → Val → Style → List ℕ
 record_in_style shape (Case n payload) style = shown_in_style shape payload style
 record_in_style shape payload style = shown_in_style shape payload style
 
+-- the same, by the number of the payload's operation
+abbrev pub payload_in_style : Val → Style → List ℕ
+payload_in_style (Case n payload) style =
+    elim (case_at response_payloads n) [ None ↦ [] | Some c ↦ shown_in_style c.shape payload style ]
+payload_in_style payload style = []
+
+-- the answer to a request with options, as that of the same call without them
+abbrev pub request_in_style : RequestPayload → Val → Style → List ℕ
+request_in_style (RequestPayload.CreateKeyPair common private public) payload = texts_in_style payload
+request_in_style (RequestPayload.Activate id) payload = done_in_style
+request_in_style (RequestPayload.Revoke id reason date) payload = done_in_style
+request_in_style (RequestPayload.Destroy id) payload = done_in_style
+request_in_style request payload = payload_in_style payload
+
 -- what is shown of the payload that a call returns
 abbrev pub value_in_style : Call → Val → Style → List ℕ
 value_in_style Query payload = record_in_style query_payload payload
@@ -110,6 +135,7 @@ value_in_style (Locate name) payload = record_in_style locate_payload payload
 value_in_style (Attributes id) payload = record_in_style get_attributes_payload payload
 value_in_style (CreateAes key_length name) payload = record_in_style create_payload payload
 value_in_style Discover payload = record_in_style discover_versions_payload payload
+value_in_style (Request request) payload = request_in_style request payload
 
 -- the name of an error's variant
 abbrev pub error_name : Error → List ℕ

@@ -1,9 +1,13 @@
-pub mod Words
-pub mod Values
 pub mod Calls
 pub mod Raw
-pub mod Requests
-pub mod Options
 pub mod Streams
 pub mod Exchange
+pub mod Refusal
+pub mod About
 pub mod Lookup
+pub mod JsonLines
+pub use Rattle.kmip_request_words.specs.Words
+pub use Rattle.kmip_request_words.specs.Values
+pub use Rattle.kmip_request_words.specs.Options
+pub use Rattle.kmip_request_words.specs.Requests
+pub use Rattle.kmip_request_words.specs.Asked

@@ -7,8 +7,8 @@ use Rattle.hex.specs.Hex.{decode_of}
 use Rattle.json.specs.Json.{Json, boolean, number, string, array, object, document}
 use Rattle.json.specs.Find.{get_member, get_item}
 use Rattle.kmip_shape.specs.Shown.{truth_shown}
-use Rattle.kmip_words.specs.Values.{number_of}
-use Rattle.kmip_words.specs.Words.{parts_between}
+use Rattle.kmip_request_words.specs.Values.{number_of}
+use Rattle.kmip_request_words.specs.Words.{parts_between}
 
 -- a member of an object by its name, or an item of an array by its index in decimal digits
 abbrev pub part_named : List ℕ → Json → Option Json

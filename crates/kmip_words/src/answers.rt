@@ -1,194 +1,187 @@
-//! The calls of the client, each with the line of its answer.
-ghost use Rattle.std.specs.Prelude.{◌≡◌, drop, IfOk};
-ghost use Rattle.kmip_link.specs.Plan.{memory_state};
+//! A call that is made on a client, and the line of its answer.
+ghost use Rattle.std.specs.Prelude.{◌≡◌, ◌++◌, drop, IfOk, OnOk};
+ghost use Rattle.kmip_enums.specs.declared.operation.Operation.{Operation as TheOperation};
 ghost use Rattle.kmip_request.specs.Message.{operation_of};
 ghost use Rattle.kmip_response.specs.Values.{response_payload_val};
-ghost use Rattle.kmip_client.specs.Calls.{IsCall};
 ghost use Rattle.kmip_client.specs.Client.{IsOfOperation};
-ghost use Rattle.kmip_client.specs.Outcome.{seen_by};
-ghost use Rattle.kmip_words.specs.Exchange.{settings_of, step_in, Answers};
-ghost use Rattle.kmip_words.specs.declared.call.Call.TheVariants.{CreateRsa, Rng, Get, Raw, Locate};
-ghost use Rattle.kmip_words.specs.declared.call.Call.TheVariants.{Attributes, CreateAes, Discover};
-ghost use Rattle.kmip_request_read.specs.Reading.{Request};
+ghost use Rattle.kmip_client.specs.Outcome.{answer_with_payload};
+ghost use Rattle.kmip_words.specs.Exchange.{settings_of, operation_asked, payload_in_style};
+ghost use Rattle.kmip_words.specs.Exchange.{texts_in_style, request_in_style, value_in_style, value_line};
+ghost use Rattle.kmip_words.specs.Exchange.{step_in, json_line, Answers, Shows};
+ghost use Rattle.kmip_words.specs.JsonLines.{IsJsonLine};
 
 use crate::call::Call;
 use crate::ending::Ending;
-use crate::payloads::{attributes, create_payload, discover_payload, locate_payload};
-use crate::raw::RawRequest;
-use crate::requests::{attributes_request, create_aes_request, discover_request, locate_request};
-use crate::show::{show, show_done, show_pair};
+use crate::laws::lines_are_json;
+use crate::requests::request_for;
+use crate::show::{done_line, push_pair, push_payload, show_error};
 use kmip_client::{Client, Error};
 use kmip_link::MemoryLink;
 use kmip_request::RequestPayload;
-use kmip_request_read::same_message;
 use kmip_response::ResponsePayload;
-use kmip_shape::Style;
+use kmip_shape::{Item, Style};
+use kmip_types::UniqueIdentifier;
 use kmip_wire::{OutOfMemory, Text};
 use std::alloc::Global;
 
-/// Asks for an RSA pair, and adds the line of the answer.
-fn create_rsa(
+/// Adds a payload as a line, as its record, without the name of its operation.
+fn push_record(
     alloc: Global,
-    client: &mut Client<MemoryLink>,
     style: Style,
-    key_length: i32,
-    private_key_name: Text,
-    public_key_name: Text,
+    payload: &ResponsePayload,
     line: &mut Text,
-) -> Result<Ending, OutOfMemory>
-    ensures { IfOk result
-        (λ ending. Answers (step_in style (settings_of client.old)
-        (CreateRsa key_length private_key_name public_key_name)
-        (drop client.old.link.pos client.old.link.ever))
-        client.old client.new ending line.old line.new) }
+) -> Result<(), OutOfMemory>
+    ensures { OnOk result (line.new ≡ line.old
+        ++ value_line (payload_in_style (response_payload_val payload.now) style) style) }
 {
-    let pair = client.create_rsa_key_pair(alloc, key_length, private_key_name, public_key_name);
-    show_pair(alloc, style, pair, line)
-}
-
-/// Asks for random bytes, and adds the line of the answer.
-fn rng(
-    alloc: Global,
-    client: &mut Client<MemoryLink>,
-    style: Style,
-    num_bytes: i32,
-    line: &mut Text,
-) -> Result<Ending, OutOfMemory>
-    ensures { IfOk result
-        (λ ending. Answers (step_in style (settings_of client.old) (Rng num_bytes)
-        (drop client.old.link.pos client.old.link.ever))
-        client.old client.new ending line.old line.new) }
-{
-    show(alloc, style, client.rng_retrieve(alloc, num_bytes), line)
-}
-
-/// Asks for an object, and adds the line of the answer. It is not inlined, since this payload is
-/// large.
-#[inline(never)]
-fn get(
-    alloc: Global,
-    client: &mut Client<MemoryLink>,
-    style: Style,
-    id: Text,
-    line: &mut Text,
-) -> Result<Ending, OutOfMemory>
-    ensures { IfOk result
-        (λ ending. Answers (step_in style (settings_of client.old) (Get id)
-        (drop client.old.link.pos client.old.link.ever))
-        client.old client.new ending line.old line.new) }
-{
-    show(alloc, style, client.get_key(alloc, id.as_str()), line)
-}
-
-/// Sends the request of `raw`, and adds the line of the answer, which names the operation of its
-/// payload.
-#[inline(never)]
-fn raw(
-    alloc: Global,
-    client: &mut Client<MemoryLink>,
-    style: Style,
-    request: RawRequest,
-    line: &mut Text,
-) -> Result<Ending, OutOfMemory>
-    ensures { IfOk result
-        (λ ending. Answers (step_in style (settings_of client.old) (Raw request)
-        (drop client.old.link.pos client.old.link.ever))
-        client.old client.new ending line.old line.new) }
-{
-    same_message();
-    match request.payload(alloc) {
-        Ok(payload) => {
-            let answer = client.do_request(alloc, payload);
-            show(alloc, style, answer, line)
-        }
-        Err(error) => Err(error),
+    match payload {
+        ResponsePayload::Create(payload) => push_payload(alloc, style, payload, line),
+        ResponsePayload::CreateKeyPair(payload) => push_payload(alloc, style, payload, line),
+        ResponsePayload::Register(payload) => push_payload(alloc, style, payload, line),
+        ResponsePayload::Locate(payload) => push_payload(alloc, style, payload, line),
+        ResponsePayload::Get(payload) => push_payload(alloc, style, payload, line),
+        ResponsePayload::GetAttributes(payload) => push_payload(alloc, style, payload, line),
+        ResponsePayload::GetAttributeList(payload) => push_payload(alloc, style, payload, line),
+        ResponsePayload::AddAttribute(payload) => push_payload(alloc, style, payload, line),
+        ResponsePayload::ModifyAttribute(payload) => push_payload(alloc, style, payload, line),
+        ResponsePayload::DeleteAttribute(payload) => push_payload(alloc, style, payload, line),
+        ResponsePayload::Activate(payload) => push_payload(alloc, style, payload, line),
+        ResponsePayload::Revoke(payload) => push_payload(alloc, style, payload, line),
+        ResponsePayload::Destroy(payload) => push_payload(alloc, style, payload, line),
+        ResponsePayload::Query(payload) => push_payload(alloc, style, payload, line),
+        ResponsePayload::DiscoverVersions(payload) => push_payload(alloc, style, payload, line),
+        ResponsePayload::Sign(payload) => push_payload(alloc, style, payload, line),
+        ResponsePayload::RNGRetrieve(payload) => push_payload(alloc, style, payload, line),
     }
 }
 
-/// Sends a request that no helper of the client makes, and returns the payload of its response.
-fn request_payload(
+/// Adds the identifiers of a key pair as a line.
+fn push_identifiers(
     alloc: Global,
-    client: &mut Client<MemoryLink>,
-    payload: RequestPayload,
-) -> Result<ResponsePayload, Error>
-    ensures call { IsCall memory_state payload client.old client.new
-        (seen_by response_payload_val result) }
-    ensures variant { IfOk result
-        (λ answer. IsOfOperation (operation_of payload) (response_payload_val answer)) }
+    style: Style,
+    payload: &ResponsePayload,
+    line: &mut Text,
+) -> Result<(), OutOfMemory>
+    requires { IsOfOperation TheOperation.CreateKeyPair (response_payload_val payload.now) }
+    ensures { OnOk result (line.new ≡ line.old
+        ++ value_line (texts_in_style (response_payload_val payload.now) style) style) }
 {
-    client.do_request(alloc, payload)
+    match payload {
+        ResponsePayload::CreateKeyPair(pair) => {
+            let UniqueIdentifier(private_key) = &pair.private_key_unique_identifier;
+            let UniqueIdentifier(public_key) = &pair.public_key_unique_identifier;
+            push_pair(alloc, style, private_key, public_key, line)
+        }
+        _ => unreachable!(),
+    }
 }
 
-/// Asks which objects have a name, and adds the line of the answer.
-fn locate(
+/// Adds the payload that a request with options is answered with as a line.
+fn push_answer_to(
     alloc: Global,
-    client: &mut Client<MemoryLink>,
     style: Style,
-    name: Text,
+    request: &RequestPayload,
+    payload: &ResponsePayload,
     line: &mut Text,
-) -> Result<Ending, OutOfMemory>
-    ensures { IfOk result
-        (λ ending. Answers (step_in style (settings_of client.old) (Locate name)
-        (drop client.old.link.pos client.old.link.ever))
-        client.old client.new ending line.old line.new) }
+) -> Result<(), OutOfMemory>
+    requires { IsOfOperation (operation_of request.now) (response_payload_val payload.now) }
+    ensures { OnOk result (line.new ≡ line.old
+        ++ value_line (request_in_style request.now (response_payload_val payload.now) style) style) }
 {
-    let request = locate_request(alloc, name)?;
-    let answer = locate_payload(request_payload(alloc, client, request));
-    show(alloc, style, answer, line)
+    match request {
+        RequestPayload::CreateKeyPair(..) => push_identifiers(alloc, style, payload, line),
+        RequestPayload::Activate(_) => line.push_str(done_line(style)),
+        RequestPayload::Revoke(..) => line.push_str(done_line(style)),
+        RequestPayload::Destroy(_) => line.push_str(done_line(style)),
+        RequestPayload::Create(..)
+        | RequestPayload::Register(..)
+        | RequestPayload::Locate(_)
+        | RequestPayload::Get(..)
+        | RequestPayload::GetAttributes(..)
+        | RequestPayload::GetAttributeList(_)
+        | RequestPayload::AddAttribute(..)
+        | RequestPayload::ModifyAttribute(..)
+        | RequestPayload::DeleteAttribute(..)
+        | RequestPayload::Query(_)
+        | RequestPayload::DiscoverVersions(_)
+        | RequestPayload::Sign(..)
+        | RequestPayload::RNGRetrieve(_) => push_record(alloc, style, payload, line),
+    }
 }
 
-/// Asks for the attributes of an object, and adds the line of the answer.
-fn get_attributes(
+/// Adds the payload that a call is answered with as a line.
+fn push_answer(
     alloc: Global,
-    client: &mut Client<MemoryLink>,
     style: Style,
-    id: Text,
+    call: &Call,
+    payload: &ResponsePayload,
     line: &mut Text,
-) -> Result<Ending, OutOfMemory>
-    ensures { IfOk result
-        (λ ending. Answers (step_in style (settings_of client.old) (Attributes id)
-        (drop client.old.link.pos client.old.link.ever))
-        client.old client.new ending line.old line.new) }
+) -> Result<(), OutOfMemory>
+    requires { IsOfOperation (operation_asked call.now) (response_payload_val payload.now) }
+    ensures { OnOk result (line.new ≡ line.old
+        ++ value_line (value_in_style call.now (response_payload_val payload.now) style) style) }
 {
-    let request = attributes_request(id);
-    let answer = attributes(request_payload(alloc, client, request));
-    show(alloc, style, answer, line)
+    match call {
+        Call::Raw { .. } => push_payload(alloc, style, payload, line),
+        Call::Request { payload: request } => {
+            push_answer_to(alloc, style, request.get(), payload, line)
+        }
+        Call::CreateRsa { .. } => push_identifiers(alloc, style, payload, line),
+        Call::Activate { .. } => line.push_str(done_line(style)),
+        Call::Revoke { .. } => line.push_str(done_line(style)),
+        Call::Destroy { .. } => line.push_str(done_line(style)),
+        Call::Query => push_record(alloc, style, payload, line),
+        Call::Rng { .. } => push_record(alloc, style, payload, line),
+        Call::Sign { .. } => push_record(alloc, style, payload, line),
+        Call::Rename { .. } => push_record(alloc, style, payload, line),
+        Call::Get { .. } => push_record(alloc, style, payload, line),
+        Call::Locate { .. } => push_record(alloc, style, payload, line),
+        Call::Attributes { .. } => push_record(alloc, style, payload, line),
+        Call::CreateAes { .. } => push_record(alloc, style, payload, line),
+        Call::Discover => push_record(alloc, style, payload, line),
+    }
 }
 
-/// Asks for an AES key, and adds the line of the answer.
-fn create_aes(
+/// Adds the payload or the error that a call is answered with as a line, and returns how the call
+/// ended. Its only error is `OutOfMemory`.
+pub fn show_result(
     alloc: Global,
-    client: &mut Client<MemoryLink>,
     style: Style,
-    key_length: i32,
-    name: Text,
+    call: &Call,
+    answer: &Result<ResponsePayload, Error>,
     line: &mut Text,
 ) -> Result<Ending, OutOfMemory>
-    ensures { IfOk result
-        (λ ending. Answers (step_in style (settings_of client.old) (CreateAes key_length name)
-        (drop client.old.link.pos client.old.link.ever))
-        client.old client.new ending line.old line.new) }
+    requires { IfOk answer.now
+        (λ payload. IsOfOperation (operation_asked call.now) (response_payload_val payload)) }
+    ensures shown { IfOk result (λ ending. Shows (λ payload. value_in_style call.now payload style)
+        style (answer_with_payload answer.now) ending line.old line.new) }
+    ensures json { IsJsonLine (json_line call.now (answer_with_payload answer.now)) }
 {
-    let request = create_aes_request(alloc, key_length, name)?;
-    let answer = create_payload(request_payload(alloc, client, request));
-    show(alloc, style, answer, line)
+    lines_are_json();
+    match answer {
+        Ok(payload) => {
+            payload.known();
+            push_answer(alloc, style, call, payload, line)?;
+            Ok(Ending::Answered)
+        }
+        Err(error) => show_error(alloc, style, error, line),
+    }
 }
 
-/// Asks which versions of KMIP the server supports, and adds the line of the answer.
-fn discover(
+/// The same, and lets the answer go.
+fn show_answer(
     alloc: Global,
-    client: &mut Client<MemoryLink>,
     style: Style,
+    call: &Call,
+    answer: Result<ResponsePayload, Error>,
     line: &mut Text,
 ) -> Result<Ending, OutOfMemory>
-    ensures { IfOk result
-        (λ ending. Answers (step_in style (settings_of client.old) Discover
-        (drop client.old.link.pos client.old.link.ever))
-        client.old client.new ending line.old line.new) }
+    requires { IfOk answer
+        (λ payload. IsOfOperation (operation_asked call.now) (response_payload_val payload)) }
+    ensures shown { IfOk result (λ ending. Shows (λ payload. value_in_style call.now payload style)
+        style (answer_with_payload answer) ending line.old line.new) }
 {
-    let request = discover_request(alloc);
-    let answer = discover_payload(request_payload(alloc, client, request));
-    show(alloc, style, answer, line)
+    show_result(alloc, style, call, &answer, line)
 }
 
 /// Makes a call on the client, adds the line of its answer in this style, and returns how it ended.
@@ -207,49 +200,7 @@ pub fn answer(
         (drop client.old.link.pos client.old.link.ever))
         client.old client.new ending line.old line.new) }
 {
-    match call {
-        Call::Query => show(alloc, style, client.query(alloc), line),
-        Call::CreateRsa {
-            key_length,
-            private_key_name,
-            public_key_name,
-        } => create_rsa(
-            alloc,
-            client,
-            style,
-            key_length,
-            private_key_name,
-            public_key_name,
-            line,
-        ),
-        Call::Rng { num_bytes } => rng(alloc, client, style, num_bytes, line),
-        Call::Sign { id, bytes } => {
-            let signed = client.sign(alloc, id.as_str(), bytes.as_slice());
-            show(alloc, style, signed, line)
-        }
-        Call::Activate { id } => {
-            let done = client.activate_key(alloc, id.as_str());
-            show_done(alloc, style, done, line)
-        }
-        Call::Revoke { id } => {
-            let done = client.revoke_key(alloc, id.as_str());
-            show_done(alloc, style, done, line)
-        }
-        Call::Destroy { id } => {
-            let done = client.destroy_key(alloc, id.as_str());
-            show_done(alloc, style, done, line)
-        }
-        Call::Rename { id, new_name } => {
-            let renamed = client.rename_key(alloc, id.as_str(), new_name);
-            show(alloc, style, renamed, line)
-        }
-        Call::Get { id } => get(alloc, client, style, id, line),
-        Call::Raw { request } => raw(alloc, client, style, request, line),
-        Call::Locate { name } => locate(alloc, client, style, name, line),
-        Call::Attributes { id } => get_attributes(alloc, client, style, id, line),
-        Call::CreateAes { key_length, name } => {
-            create_aes(alloc, client, style, key_length, name, line)
-        }
-        Call::Discover => discover(alloc, client, style, line),
-    }
+    let request = request_for(alloc, &call)?;
+    let answer = client.do_request(alloc, request);
+    show_answer(alloc, style, &call, answer, line)
 }

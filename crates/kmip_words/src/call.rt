@@ -1,16 +1,18 @@
 //! Which call words ask for: words of a line of a script, and words that are typed.
 ghost use Rattle.std.specs.Prelude.{◌≡◌, map, option_map, IfOk};
-ghost use Rattle.kmip_words.specs.Values.{int_of, bytes_of, word_text};
+ghost use Rattle.kmip_request_words.specs.Values.{int_of, bytes_of, word_text};
 ghost use Rattle.kmip_words.specs.Calls.{typed_of_one, locate_of, attributes_of, typed_of_two};
-ghost use Rattle.kmip_words.specs.Calls.{create_aes_of, typed_of_three, typed_call, rng_of, raw_of};
+ghost use Rattle.kmip_words.specs.Calls.{create_aes_of, typed_of_three, plain_call, typed_call};
+ghost use Rattle.kmip_words.specs.Calls.{rng_of, raw_of, locate_parts};
+ghost use Rattle.kmip_request_words.specs.Asked.{asked_in};
 ghost use Rattle.kmip_words.specs.Calls.{key_call, call_of_one, call_of_two, sign_of, rename_of};
 ghost use Rattle.kmip_words.specs.Calls.{call_of_three, create_rsa_of, call_of_four, with_response};
 ghost use Rattle.kmip_words.specs.Calls.{call_of_words, call_of, call_in, call_alone};
 
 use crate::raw::RawRequest;
-use crate::values::{bytes_of, int_of, word_text};
-use crate::words::words_of;
-use kmip_wire::{Blob, OutOfMemory, Text};
+use kmip_request::RequestPayload;
+use kmip_request_words::{asked_in, bytes_of, int_of, parts_between, word_text, words_of};
+use kmip_wire::{Blob, Boxed, OutOfMemory, Text};
 use std::alloc::Global;
 use std::str;
 
@@ -78,6 +80,10 @@ pub enum Call {
     },
     /// `discover`: which versions of KMIP the server supports (KMIP 1.1, 4.26).
     Discover,
+    /// A call with options, as `sign TEXT HEX hash=SHA384`: the request that they ask for.
+    Request {
+        payload: Boxed<RequestPayload>,
+    },
 }
 
 /// A call, and the response that was recorded for it.
@@ -336,6 +342,16 @@ fn locate_of(alloc: Global, name: &str) -> Result<Option<Call>, OutOfMemory>
     }
 }
 
+/// `locate TEXT`, by the parts of the word; none where there is a `=`.
+fn locate_parts(alloc: Global, parts: &[&str]) -> Result<Option<Call>, OutOfMemory>
+    ensures { IfOk result (λ call. call ≡ locate_parts (map (λ part. part.now) parts.now)) }
+{
+    match parts {
+        [name] => locate_of(alloc, name),
+        _ => Ok(None),
+    }
+}
+
 /// `attributes TEXT`.
 fn attributes_of(alloc: Global, id: &str) -> Result<Option<Call>, OutOfMemory>
     ensures { IfOk result (λ call. call ≡ attributes_of (word_text id.now)) }
@@ -351,7 +367,10 @@ fn typed_of_two(alloc: Global, name: &str, word: &str) -> Result<Option<Call>, O
     ensures { IfOk result (λ call. call ≡ typed_of_two name.now word.now) }
 {
     match name {
-        "locate" => locate_of(alloc, word),
+        "locate" => {
+            let parts = parts_between(alloc, '=', word)?;
+            locate_parts(alloc, &parts)
+        }
         "attributes" => attributes_of(alloc, word),
         _ => call_of_two(alloc, name, word),
     }
@@ -386,11 +405,9 @@ fn typed_of_three(
     }
 }
 
-/// The call of words that are typed, without a response: a call that a script may have, or
-/// `locate TEXT`, `attributes TEXT`, `create-aes INT TEXT` or `discover`. `None` where the words
-/// are not of this grammar.
-pub fn typed_call(alloc: Global, words: &[Text]) -> Result<Option<Call>, OutOfMemory>
-    ensures { IfOk result (λ call. call ≡ typed_call words.now) }
+/// The call of words that are typed and have no options.
+fn plain_call(alloc: Global, words: &[Text]) -> Result<Option<Call>, OutOfMemory>
+    ensures { IfOk result (λ call. call ≡ plain_call words.now) }
 {
     match words {
         [name] => Ok(typed_of_one(name.as_str())),
@@ -407,4 +424,21 @@ pub fn typed_call(alloc: Global, words: &[Text]) -> Result<Option<Call>, OutOfMe
         ),
         _ => Ok(None),
     }
+}
+
+/// The call of words that are typed, without a response: a call that a script may have; or
+/// `locate TEXT`, `attributes TEXT`, `create-aes INT TEXT` or `discover`; or a call with options.
+/// `None` where the words are not of this grammar.
+#[tactic(auto, unfolding(crate::specs::Calls::typed_call))]
+pub fn typed_call(alloc: Global, words: &[Text]) -> Result<Option<Call>, OutOfMemory>
+    ensures { IfOk result (λ call. call ≡ typed_call words.now) }
+{
+    if let Some(call) = plain_call(alloc, words)? {
+        return Ok(Some(call));
+    }
+    let Some(payload) = asked_in(alloc, words)? else {
+        return Ok(None);
+    };
+    let payload = Boxed::new(alloc, payload)?;
+    Ok(Some(Call::Request { payload }))
 }

@@ -8,32 +8,30 @@
 //! to its end or to a count.
 #![tactic(auto)]
 
+mod about;
 mod answers;
 mod call;
 mod ending;
+mod laws;
 mod lines;
 mod lookup;
 mod offline;
-mod options;
-mod payloads;
 mod raw;
+mod refusal;
 mod requests;
 mod setup;
 mod show;
 mod streams;
-mod values;
-mod words;
 
 pub use answers::answer;
 pub use call::{Call, Recorded, call_alone, call_of, typed_call};
 pub use ending::Ending;
+pub use kmip_request_words::{bytes_of, copy_text, given_after, number_of, option_given, words_of};
+pub use laws::lines_are_json;
 pub use lines::{show_diagnostics, show_sent};
 pub use lookup::value_at;
 pub use offline::{Settings, answer_of, request_of};
-pub use options::{copy_text, given_after, option_given};
 pub use raw::RawRequest;
 pub use setup::{client_of, config_of_limit};
 pub use show::{push_pair, push_payload, show_done, show_error};
 pub use streams::{read_up_to, write_out};
-pub use values::{bytes_of, number_of};
-pub use words::words_of;

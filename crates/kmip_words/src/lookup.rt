@@ -6,10 +6,9 @@ ghost use Rattle.json.specs.Json.{document};
 ghost use Rattle.json.specs.Value.{value_view};
 ghost use Rattle.kmip_words.specs.Lookup.{part_named, part_at, bytes_in, value_at};
 
-use crate::values::number_of;
-use crate::words::parts_between;
 use hex::FromHexError;
 use json::{Error, Scratch, Value};
+use kmip_request_words::{number_of, parts_between};
 use kmip_wire::OutOfMemory;
 use std::alloc::Global;
 

@@ -140,28 +140,8 @@ pub fn push_payload<P: ShowItem>(
     }
 }
 
-/// Adds the payload or the error as a line, and returns how the call ended.
-pub fn show<P: ShowItem + Drop>(
-    alloc: Global,
-    style: Style,
-    answer: Result<P, Error>,
-    line: &mut Text,
-) -> Result<Ending, OutOfMemory>
-    ensures { IfOk result
-        (λ ending. Shows (λ payload. shown_in_style P.shape (P.val payload) style) style answer ending
-        line.old line.new) }
-{
-    match answer {
-        Ok(payload) => {
-            push_payload(alloc, style, &payload, line)?;
-            Ok(Ending::Answered)
-        }
-        Err(error) => show_error(alloc, style, &error, line),
-    }
-}
-
 /// The line of a call that returns nothing but that it was done.
-fn done_line(style: Style) -> &'static str
+pub fn done_line(style: Style) -> &'static str
     ensures { result.now ≡ value_line (done_in_style style) style }
 {
     match style {
@@ -241,26 +221,5 @@ pub fn push_pair(
     match style {
         Style::Bare => push_bare_pair(alloc, first, second, line),
         Style::Json => push_json_pair(alloc, first, second, line),
-    }
-}
-
-/// Adds the identifiers of a private and a public key, or the error, as a line, and returns how the
-/// call ended.
-pub fn show_pair(
-    alloc: Global,
-    style: Style,
-    answer: Result<(Text, Text), Error>,
-    line: &mut Text,
-) -> Result<Ending, OutOfMemory>
-    ensures { IfOk result
-        (λ ending. Shows (λ pair. pair_in_style pair.0 pair.1 style) style answer ending line.old
-        line.new) }
-{
-    match answer {
-        Ok((first, second)) => {
-            push_pair(alloc, style, &first, &second, line)?;
-            Ok(Ending::Answered)
-        }
-        Err(error) => show_error(alloc, style, &error, line),
     }
 }

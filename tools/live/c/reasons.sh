@@ -18,9 +18,9 @@ reason 'an end' 3 'ResponseReadError.*end of input' query
 fake reset
 reason 'a reset' 3 'ResponseReadError.*[Rr]eset by peer' query
 fake silent
-KMIP_TIMEOUT=1 reason 'a deadline' 3 'ResponseReadError.*no answer within 1 seconds' query
+KMIP_TIMEOUT=4 reason 'a deadline' 3 'ResponseReadError.*no answer within 4 seconds' query
 fake unanswered
-KMIP_TIMEOUT=1 reason 'one in the handshake' 3 'ConnectError.*no answer within 1 seconds' query
+KMIP_TIMEOUT=4 reason 'one in the handshake' 3 'ConnectError.*no answer within 4 seconds' query
 fake over_limit
 reason 'a limit' 3 'DeserializeError.*limit of 1048576 bytes' query
 fake expired_server
@@ -34,7 +34,7 @@ certificate=$certs/none.pem reason 'no certificate' 3 'none\.pem: No such file' 
 certificate=$certs reason 'a folder as a certificate' 3 'ConnectError' query
 key=$certs/plain.key reason 'another key' 3 '[Kk]ey values mismatch|KEY_VALUES_MISMATCH' query
 port=$(free_port) reason 'nobody' 3 'Connection refused' query
-host=no.such.invalid reason 'no such host' 3 'ConnectError' query
+RES_OPTIONS='timeout:1 attempts:1' host=no.such.invalid reason 'no such host' 3 'ConnectError' query
 refusals='ConnectError.*(refused|unreachable|Cannot assign)'
 host='[::1]' port=$(free_port) reason 'nobody at an address of IPv6' 3 "$refusals" query
 KMIP_USER=alice reason 'a user without a password' 2 'a credential is a user and a password' query

@@ -10,7 +10,7 @@ call_is 'an encrypted key and no passphrase' 3 query
 says 'which is said' 'encrypted, and no passphrase is given'
 # At a terminal, too: nothing is asked.
 client_program call
-timeout 20 "$python" -c 'import pty, sys; pty.spawn(sys.argv[1:])' "${program[@]}" "$host" "$port" "$certificate" "$key" \
+timeout $((20 * slack)) "$python" -c 'import pty, sys; pty.spawn(sys.argv[1:])' "${program[@]}" "$host" "$port" "$certificate" "$key" \
     "$authority" query >"$said" 2>&1 </dev/null
 says 'at a terminal: it fails' 'no passphrase is given'
 says_not 'at a terminal: no question' 'Enter'

@@ -5,6 +5,7 @@ client_needs() {
     command -v openssl >/dev/null || echo openssl
     command -v jq >/dev/null || echo jq
     command -v flock >/dev/null || echo util-linux
+    command -v pgrep >/dev/null || echo procps
     [[ -x $built/kmip_call ]] || echo 'kmip_call (clients/build.sh)'
 }
 
@@ -16,12 +17,25 @@ client_program() { # NAME
 
 export top here built run work certs python host port certificate key authority
 
-# A bash script: kmip.sh is sourced, `open` opens a connection to the server that is set, and `ended PROCESS` says whether
-# a process has ended. Its output is in $said. Where `apart` is set, it is in a process group of its own.
+# A bash script: kmip.sh is sourced, and there are
+#   open             opens a connection to the server that is set
+#   until_true COMMAND..    its status is 0 where this command is true within 15 seconds
+#   ended PROCESS    waits so for the end of a process, and `arrived` for bytes from the server
+#   calling WORD     waits so for a kmip_call that has this word, and leaves its process in CALLING
+# and $slow is an identifier that no other script has, for the server `slow`. What it writes is in $said. Where `apart` is set,
+# it is in a process group of its own.
 script() { # TEXT
-    timeout -k 2 "${patience:-20}" ${apart:+setsid -w} bash -c '. "$top/clients/shell/kmip.sh"
+    slow=slow$BASHPID.$RANDOM
+    export slow
+    timeout -k 2 $((${patience:-20} * slack)) ${apart:+setsid -w} bash -c '. "$top/clients/shell/kmip.sh"
         open() { kmip_open "$host:$port" "$certificate" "$key" "$authority"; }
-        ended() { ! grep -qs "^State:[[:space:]]*[^Z[:space:]]" "/proc/$1/status"; }
+        until_true() { local try; for ((try = 0; try < 150; try++)); do "$@" && return; sleep 0.1; done; return 1; }
+        is_gone() { ! grep -qs "^State:[[:space:]]*[^Z[:space:]]" "/proc/$1/status"; }
+        ended() { until_true is_gone "$1"; }
+        has_bytes() { read -r -t 0 -u "$KMIP_IN"; }
+        arrived() { until_true has_bytes; }
+        calls() { CALLING=$(pgrep -f "^[^ ]*kmip_call .* $1( |$)"); }
+        calling() { until_true calls "$1"; }
         '"$1" >"$said" 2>&1 </dev/null
 }
 

@@ -27,11 +27,11 @@ completes() { # LINE WORD..
     return $status
 }
 touch 'a record' another
-completes 'kmip_call cr' create-rsa create-aes && completes 'kmip_call user=a p' password= &&
+completes 'kmip_call cr' create create-rsa create-aes && completes 'kmip_call user=a p' password= &&
     completes 'kmip_call limit=1 s' sign && completes 'kmip_call record=a' 'a record' another &&
     completes 'kmip_call user=a get x' && completes 'kmip_call --v' --version
 verdict 'completion of kmip_call'
-completes 'kmip de' destroy && completes 'kmip destroy d' && completes 'kmip_field sig' signature_data &&
+completes 'kmip de' destroy && completes 'kmip p' pem && completes 'kmip destroy d' && completes 'kmip_field sig' signature_data &&
     completes 'kmip_field signature_data si' sign && completes 'kmip_open localhost:5696 ano' another && completes 'kmip_open a'
 verdict 'completion of the functions'
 if type -P mandoc >/dev/null; then

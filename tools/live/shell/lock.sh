@@ -5,7 +5,7 @@ hex() { # TEXT
     printf '%s' "$1" | od -An -tx1 | tr -d ' \n' | tr a-f A-F
 }
 patience=60 script 'open
-    for ((i = 0; i < 30; i++)); do
+    for ((i = 0; i < 12; i++)); do
         kmip_field signature_data sign "a$i" 41 >"$work/a$i" &
         first=$!
         kmip_field signature_data sign "b$i" 42 >"$work/b$i" &
@@ -13,20 +13,20 @@ patience=60 script 'open
     done
     kmip_close'
 wrong=0
-for ((i = 0; i < 30; i++)); do
+for ((i = 0; i < 12; i++)); do
     [[ $(<"$work/a$i") == $(hex "signature by a$i") ]] || wrong=$((wrong + 1))
     [[ $(<"$work/b$i") == $(hex "signature by b$i") ]] || wrong=$((wrong + 1))
 done
 printf '%d answers are wrong\n' "$wrong" >>"$said"
 ((wrong == 0))
-verdict 'thirty times two calls at once: each has its own answer'
+verdict 'twelve times two calls at once: each has its own answer'
 
 # The deadline of a call counts from its beginning, also where it waits for another.
 fake slow
-script 'KMIP_TIMEOUT=1; open; (KMIP_TIMEOUT=10; kmip sign slow 41 >/dev/null) & sleep 0.3
-    from=$EPOCHREALTIME; kmip query; echo "status: $?"
-    ((${EPOCHREALTIME/[^0-9]/} - ${from/[^0-9]/} < 2000000)) && echo in time
-    wait; KMIP_TIMEOUT=10; kmip query; kmip_close'
+script 'open; kmip sign "slower$slow" 41 >/dev/null & calling "slower$slow"
+    KMIP_TIMEOUT=1 kmip query; echo "status: $?"
+    [[ -n $(jobs -r) ]] && echo in time
+    wait; kmip query; kmip_close'
 says 'a call that waits for another ends with its deadline' '^in time$'
 says 'it has status 3' '^status: 3$'
 says 'the call that it waited for is not disturbed' '^\{"answer":'

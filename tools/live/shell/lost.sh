@@ -3,7 +3,7 @@
 
 fake slow
 # shellcheck disable=SC2016 # the script's own variables
-after='kmip sign slow 4141 >/dev/null; echo "first: $?"
+after='kmip sign "$slow" 4141 >/dev/null; echo "first: $?"; unset KMIP_TIMEOUT
     sleep 3.5; kmip sign other 4242; echo "second: $?"
     kmip query; echo "third: $?"
     open || echo no open
@@ -22,38 +22,38 @@ says 'each failure is a line of JSON' '^\{"error":"RequestWriteError","text":".*
 
 for signal in INT TERM KILL; do
     # kmip_call alone is ended by a signal.
-    script 'open; (sleep 1; pkill -'"$signal"' -f "^[^ ]*kmip_call .*sign slow 4141") & '"$after"
+    script 'open; (calling "$slow" && kill -'"$signal"' "$CALLING") & '"$after"
     says "SIG$signal to kmip_call: status 3" '^first: 3$'
     says "SIG$signal to kmip_call: the next call does not take the late answer" '^second: 3$'
     says "SIG$signal to kmip_call: after kmip_open all is well" '^fourth: 0$'
 done
 
 # Ctrl-C in a script that goes on after it: all processes of the call get the signal.
-apart=1 script 'trap "echo caught >&2" INT; (sleep 1; kill -INT 0) & '"open; $after"
+apart=1 script 'trap "echo caught >&2" INT; (calling "$slow"; kill -INT 0) & '"open; $after"
 says 'Ctrl-C: a script that catches it goes on' '^caught$'
 says 'Ctrl-C: status 3' '^first: 3$'
 says 'Ctrl-C: the next call does not take the late answer' '^second: 3$'
 says 'Ctrl-C: after kmip_open all is well' '^fourth: 0$'
 
 # The whole of the call is ended, as by `kill -9`: the next call finds that one was begun.
-script 'open; kmip sign slow 4141 >/dev/null & sleep 1; kill -KILL $!; wait
-    pkill -KILL -f "^[^ ]*kmip_call .*sign slow 4141"; sleep 3; kmip sign other 4242; echo "second: $?"; kmip_close'
+script 'open; kmip sign "$slow" 4141 >/dev/null & calling "$slow"; kill -KILL $!; wait
+    kill -KILL "$CALLING"; sleep 3; kmip sign other 4242; echo "second: $?"; kmip_close'
 says 'a call that was killed leaves the connection lost' '^second: 3$'
 
 for answer in half rubbish end reset; do
     fake "$answer"
-    script 'open; kmip query; echo "first: $?"; kmip query; echo "second: $?"; sleep 0.3; ended "$KMIP_PID"; echo "ended: $?"'
+    script 'open; kmip query; echo "first: $?"; kmip query; echo "second: $?"; ended "$KMIP_PID"; echo "ended: $?"'
     says "$answer: the next call has status 3" '^second: 3$'
     says "$answer: openssl has ended" '^ended: 0$'
 done
 
 fake silent
-script_is 'after a deadline openssl has ended' 0 'KMIP_TIMEOUT=1; open; kmip query; sleep 0.3; ended "$KMIP_PID"'
-script_is 'kmip_close ends it' 0 'open; process=$KMIP_PID; kmip_close; sleep 0.3; ended "$process"'
-script_is 'kmip_close ends it, where nothing listens' 0 'port=1; open; process=$KMIP_PID; kmip_close; sleep 0.3; ended "$process"'
+script_is 'after a deadline openssl has ended' 0 'KMIP_TIMEOUT=1; open; kmip query; ended "$KMIP_PID"'
+script_is 'kmip_close ends it' 0 'open; process=$KMIP_PID; kmip_close; ended "$process"'
+script_is 'kmip_close ends it, where nothing listens' 0 'port=1; open; process=$KMIP_PID; kmip_close; ended "$process"'
 script_is 'the end of the script ends it' 0 '
     process=$(bash -c ". \"$top/clients/shell/kmip.sh\"; kmip_open \"\$@\"; echo \$KMIP_PID" - "$host:$port" "$certificate" "$key" "$authority")
-    sleep 1; ended "$process"'
+    ended "$process"'
 
 # An interactive shell and Ctrl-C.
 fake slow
@@ -62,11 +62,11 @@ verdict 'Ctrl-C at a terminal: the shell goes on, and the next call has status 3
 
 # Bytes that no call asked for are no answer.
 fake two
-script 'open; kmip sign one 41; sleep 0.5; kmip sign two 42; echo "second: $?"; kmip_close'
+script 'open; kmip sign one 41; arrived; kmip sign two 42; echo "second: $?"; kmip_close'
 says 'a second answer is taken by no call' '^second: 3$'
 fake trailing
-script 'open; kmip query; sleep 0.5; kmip query; echo "second: $?"; kmip_close'
+script 'open; kmip query; arrived; kmip query; echo "second: $?"; kmip_close'
 says 'bytes behind an answer are taken by no call' '^second: 3$'
 fake early
-script 'open; sleep 0.7; kmip query; echo "first: $?"; kmip_close'
+script 'open; arrived; kmip query; echo "first: $?"; kmip_close'
 says 'an answer that comes before its request is taken by no call' '^first: 3$'

@@ -26,8 +26,8 @@ script_is 'set -e: a server for another host' 3 "$strict"' open; kmip query'
 says 'the reason is said' 'certificate: hostname mismatch'
 fake good
 script_is 'set -x: no passphrase and no password is traced' 0 \
-    'set -x; KMIP_USER=alice; set +x; KMIP_PASSPHRASE=geheim1 KMIP_PASSWORD=geheim2; set -x; open; kmip query >/dev/null; kmip_close; set +x'
-says_not 'neither' geheim
+    'set -x; KMIP_USER=alice; set +x; KMIP_PASSPHRASE=verborgen1 KMIP_PASSWORD=verborgen2; set -x; open; kmip query >/dev/null; kmip_close; set +x'
+says_not 'neither' verborgen
 script_is 'bash --posix' 0 'set -o posix; open; kmip query; kmip_close'
 script_is 'a trap of the script on EXIT and ERR is its own' 0 'set -E; trap "echo leaving" EXIT; trap "echo wrong" ERR; open; kmip query >/dev/null; kmip_close; trap - ERR'
 (($(grep -c '^leaving$' "$said") == 1)) && ! grep -q wrong "$said"

@@ -20,17 +20,17 @@ script_is 'a passphrase for a key that has none' 0 'KMIP_PASSPHRASE=geheim; open
 # With a terminal at hand: it is not asked.
 printf '. "%s"\nkmip_open "%s" "%s" "%s" "%s"; kmip query; echo "status $?"\n' "$top/clients/shell/kmip.sh" "$host:$port" \
     "$certs/encrypted.pem" "$certs/encrypted.key" "$authority" >"$work/ask.sh"
-timeout 20 "$python" -c 'import pty, sys; pty.spawn(["bash", sys.argv[1]])' "$work/ask.sh" >"$said" 2>&1 </dev/null
+timeout $((20 * slack)) "$python" -c 'import pty, sys; pty.spawn(["bash", sys.argv[1]])' "$work/ask.sh" >"$said" 2>&1 </dev/null
 says 'at a terminal: status 3' '^status 3'
 says_not 'at a terminal: no question' 'Enter pass'
 
 # While a call waits, the words of all processes, and the environment of openssl and kmip_call.
 fake slow
 export here_pid=$$
-script 'KMIP_USER=alice; export KMIP_PASSWORD=geheim2 KMIP_PASSPHRASE=geheim1; open; kmip sign slow 41 & sleep 1.5
+script 'KMIP_USER=alice; export KMIP_PASSWORD=geheim2 KMIP_PASSPHRASE=geheim1; open; kmip sign "$slow" 41 & calling "$slow"
     ps -eo args | grep -v grep | grep -c "geheim[12]" | sed "s/^/words /"
     tr "\0" "\n" <"/proc/$KMIP_PID/environ" | grep -c "geheim" | sed "s/^/openssl /"
-    for it in $(pgrep -f "kmip_call .*sign slow 41"); do tr "\0" "\n" <"/proc/$it/environ"; done | grep -c geheim1 | sed "s/^/passphrase /"
+    for it in $CALLING; do tr "\0" "\n" <"/proc/$it/environ"; done | grep -c geheim1 | sed "s/^/passphrase /"
     wait; kmip_close'
 says 'no secret in the words of a process' '^words 0$'
 says 'no secret in the environment of openssl' '^openssl 0$'

@@ -8,6 +8,7 @@ Its status is 0 where the shell went on, the second call had status 3, and bash 
 import os
 import pty
 import select
+import subprocess
 import sys
 import time
 
@@ -21,7 +22,7 @@ def main() -> int:
         os.execvp('bash', ['bash', '--norc', '--noprofile', '-i'])
     seen = ''
 
-    def wait_for(word, seconds=15.0):
+    def wait_for(word, seconds=30.0):
         nonlocal seen
         until = time.monotonic() + seconds
         while word not in seen:
@@ -43,10 +44,14 @@ def main() -> int:
     enter('kmip_open %s "%s" "%s" "%s"; echo op""ened $?' % (server, *files))
     opened = wait_for('opened 0')
     wait_for('ready> ')
-    enter('kmip sign slow 4141')
-    time.sleep(1)
+    slow = 'slow%d' % os.getpid()
+    enter('kmip sign %s 4141' % slow)
+    for _ in range(150):
+        if subprocess.call(['pgrep', '-f', '^[^ ]*kmip_call .* %s ' % slow], stdout=subprocess.DEVNULL) == 0:
+            break
+        time.sleep(0.1)
     os.write(terminal, b'\3')
-    wait_for('ready> ', 5)
+    wait_for('ready> ')
     time.sleep(3)
     enter('kmip sign other 4242; echo sta""tus $?')
     answer = wait_for('status ')

@@ -7,7 +7,8 @@ ghost use Rattle.kmip_response.specs.Skipped.{IsSkipped, IsSkipped-prop};
 use kmip_enums::{ObjectType, Operation};
 use kmip_wire::{List, Text};
 
-/// The Server Information of a response (KMIP 1.0, 4.24), which is skipped.
+/// The Server Information of a response (KMIP 1.0, 4.24), which is skipped in reading and not
+/// written.
 #[derive(Clone, Copy, PartialEq, Eq, Default, Drop)]
 pub struct ServerInformation;
 
@@ -20,7 +21,7 @@ pub struct QueryResponsePayload {
     pub object_types: Option<List<ObjectType>>,
     /// A text that identifies the server's vendor, where Server Information was asked for.
     pub vendor_identification: Option<Text>,
-    /// Always `None`: Server Information is skipped.
+    /// Always `None`.
     pub server_information: Option<ServerInformation>,
     ghost skipped: { IsSkipped server_information } by { IsSkipped-prop server_information },
 }

@@ -1,13 +1,13 @@
 use Rattle.std.specs.Prelude.{option_map}
 use Rattle.std.proofs.lemmas.Result.{err_from_is_err_and}
-use Rattle.kmip_request.specs.Message.{request_bytes, credential_of, operation_of}
-use Rattle.kmip_client.specs.Outcome.{read_answer, seen_by}
+use Rattle.kmip_request.specs.Message.{credential_of}
+use Rattle.kmip_client.specs.Outcome.{seen_by}
 use Rattle.kmip_client.proofs.Exchanges.{serialize_stopped, serialize_not_reading, short_at_start, of_request, caused_by, reading_of, kept_is, kept_exchanged, kept_caused, kept_reading}
 use Rattle.kmip_client.proofs.call.call.Goals as goal
 
 pub returns-in-Err-clause-exchange : goal.returns-in-Err-clause-exchange
 returns-in-Err-clause-exchange g c = λ tells.
-    serialize_stopped (request_bytes c.args.payload.now (option_map credential_of c.args.settings.now.authentication)) (read_answer (operation_of c.args.payload.now)) c.args.settings.now.config.max_bytes _ _ c.in-Err.error c.in-Err.ensures.err
+    serialize_stopped (g.R.CallRequest.kind.bytes_of (g.R.CallRequest.request c.args.request.now) (option_map credential_of c.args.settings.now.authentication)) (g.R.CallRequest.kind.reads (g.R.CallRequest.request c.args.request.now)) c.args.settings.now.config.max_bytes _ _ c.in-Err.error c.in-Err.ensures.err
 
 pub returns-in_err-diagnostics-clause-exchange : goal.returns-in_err-diagnostics-clause-exchange
 returns-in_err-diagnostics-clause-exchange g c = λ tells.
@@ -19,41 +19,38 @@ returns-in_err-reserve-clause-exchange g c = λ tells.
     let p = err_from_is_err_and c.from_residual-in_err-reserve.result c.from_residual-in_err-reserve.ensures.1 in
     rw (p.1, p.2) (short_at_start _ _)
 
-pub returns-then-not-is_read-clause-exchange : goal.returns-then-not-is_read-clause-exchange
-returns-then-not-is_read-clause-exchange g c = λ tells.
-    of_request read_answer (λ operation. seen_by (g.P.Answered.val operation) c.exchange-answer.result) (request_bytes c.args.payload.now (option_map credential_of c.args.settings.now.authentication)) c.serialize.new.out.bytes c.as_slice-2.result.now (operation_of c.args.payload.now) c.operation-operation.result c.args.settings.now.config.max_bytes _
-    c.in-Ok.ensures.ok c.as_slice-2.ensures c.operation-operation.ensures (c.exchange-answer.ensures.exchange tells)
+pub returns-then-not-has_response-clause-exchange : goal.returns-then-not-has_response-clause-exchange
+returns-then-not-has_response-clause-exchange g c = λ tells.
+    of_request (g.R.CallRequest.kind.reads (g.R.CallRequest.request c.args.request.now)) (seen_by (g.R.CallRequest.seen c.args.request.now) c.exchange-answer.result) (g.R.CallRequest.kind.bytes_of (g.R.CallRequest.request c.args.request.now) (option_map credential_of c.args.settings.now.authentication)) c.serialize.new.out.bytes c.as_slice-2.result.now c.args.settings.now.config.max_bytes _
+    c.in-Ok.ensures.ok c.as_slice-2.ensures (c.exchange-answer.ensures.exchange tells)
 
-pub returns-then-not-is_read-clause-caused : goal.returns-then-not-is_read-clause-caused
-returns-then-not-is_read-clause-caused g c =
-    caused_by read_answer (λ operation. seen_by (g.P.Answered.val operation) c.exchange-answer.result) (request_bytes c.args.payload.now (option_map credential_of c.args.settings.now.authentication)) c.serialize.new.out.bytes c.as_slice-2.result.now (operation_of c.args.payload.now) c.operation-operation.result c.args.settings.now.config.max_bytes
-    c.in-Ok.ensures.ok c.as_slice-2.ensures c.operation-operation.ensures c.exchange-answer.ensures.caused
+pub returns-then-not-has_response-clause-caused : goal.returns-then-not-has_response-clause-caused
+returns-then-not-has_response-clause-caused g c =
+    caused_by (g.R.CallRequest.kind.reads (g.R.CallRequest.request c.args.request.now)) (seen_by (g.R.CallRequest.seen c.args.request.now) c.exchange-answer.result) (g.R.CallRequest.kind.bytes_of (g.R.CallRequest.request c.args.request.now) (option_map credential_of c.args.settings.now.authentication)) c.serialize.new.out.bytes c.as_slice-2.result.now c.args.settings.now.config.max_bytes
+    c.in-Ok.ensures.ok c.as_slice-2.ensures c.exchange-answer.ensures.caused
 
 pub returns-clause-exchange : goal.returns-clause-exchange
 returns-clause-exchange g c = λ tells.
-    kept_exchanged (seen_by (g.P.Answered.val (operation_of c.args.payload.now)) c.exchange-answer.result) (seen_by (g.P.Answered.val (operation_of c.args.payload.now)) c.keep.result)
-    (kept_is (g.P.Answered.val (operation_of c.args.payload.now)) _ _ c.keep.ensures)
-    (of_request read_answer (λ operation. seen_by (g.P.Answered.val operation) c.exchange-answer.result) (request_bytes c.args.payload.now (option_map credential_of c.args.settings.now.authentication)) c.serialize.new.out.bytes c.as_slice-2.result.now (operation_of c.args.payload.now) c.operation-operation.result c.args.settings.now.config.max_bytes _
-    c.in-Ok.ensures.ok c.as_slice-2.ensures c.operation-operation.ensures (c.exchange-answer.ensures.exchange tells))
+    kept_exchanged (seen_by (g.R.CallRequest.seen c.args.request.now) c.exchange-answer.result) (seen_by (g.R.CallRequest.seen c.args.request.now) c.keep.result) (kept_is (g.R.CallRequest.seen c.args.request.now) _ _ c.keep.ensures)
+    (of_request (g.R.CallRequest.kind.reads (g.R.CallRequest.request c.args.request.now)) (seen_by (g.R.CallRequest.seen c.args.request.now) c.exchange-answer.result) (g.R.CallRequest.kind.bytes_of (g.R.CallRequest.request c.args.request.now) (option_map credential_of c.args.settings.now.authentication)) c.serialize.new.out.bytes c.as_slice-2.result.now c.args.settings.now.config.max_bytes _
+    c.in-Ok.ensures.ok c.as_slice-2.ensures (c.exchange-answer.ensures.exchange tells))
 
 pub returns-clause-caused : goal.returns-clause-caused
 returns-clause-caused g c =
-    kept_caused (seen_by (g.P.Answered.val (operation_of c.args.payload.now)) c.exchange-answer.result) (seen_by (g.P.Answered.val (operation_of c.args.payload.now)) c.keep.result)
-    (kept_is (g.P.Answered.val (operation_of c.args.payload.now)) _ _ c.keep.ensures)
-    (caused_by read_answer (λ operation. seen_by (g.P.Answered.val operation) c.exchange-answer.result) (request_bytes c.args.payload.now (option_map credential_of c.args.settings.now.authentication)) c.serialize.new.out.bytes c.as_slice-2.result.now (operation_of c.args.payload.now) c.operation-operation.result c.args.settings.now.config.max_bytes
-    c.in-Ok.ensures.ok c.as_slice-2.ensures c.operation-operation.ensures c.exchange-answer.ensures.caused)
+    kept_caused (seen_by (g.R.CallRequest.seen c.args.request.now) c.exchange-answer.result) (seen_by (g.R.CallRequest.seen c.args.request.now) c.keep.result) (kept_is (g.R.CallRequest.seen c.args.request.now) _ _ c.keep.ensures)
+    (caused_by (g.R.CallRequest.kind.reads (g.R.CallRequest.request c.args.request.now)) (seen_by (g.R.CallRequest.seen c.args.request.now) c.exchange-answer.result) (g.R.CallRequest.kind.bytes_of (g.R.CallRequest.request c.args.request.now) (option_map credential_of c.args.settings.now.authentication)) c.serialize.new.out.bytes c.as_slice-2.result.now c.args.settings.now.config.max_bytes
+    c.in-Ok.ensures.ok c.as_slice-2.ensures c.exchange-answer.ensures.caused)
 
 pub returns-in-Err-clause-reading : goal.returns-in-Err-clause-reading
 returns-in-Err-clause-reading g c = λ tells is. absurd (serialize_not_reading c.in-Err.error c.in-Err.ensures.err is)
 
-pub returns-then-not-is_read-clause-reading : goal.returns-then-not-is_read-clause-reading
-returns-then-not-is_read-clause-reading g c = λ tells.
-    reading_of g.L.Link.state c.args.link.now c.exchange-answer.new.link read_answer (λ operation. seen_by (g.P.Answered.val operation) c.exchange-answer.result) (request_bytes c.args.payload.now (option_map credential_of c.args.settings.now.authentication)) c.serialize.new.out.bytes c.as_slice-2.result.now (operation_of c.args.payload.now) c.operation-operation.result c.args.settings.now.config.max_bytes _
-    c.in-Ok.ensures.ok c.as_slice-2.ensures c.operation-operation.ensures (c.exchange-answer.ensures.reading tells)
+pub returns-then-not-has_response-clause-reading : goal.returns-then-not-has_response-clause-reading
+returns-then-not-has_response-clause-reading g c = λ tells.
+    reading_of g.L.Link.state c.args.link.now c.exchange-answer.new.link (g.R.CallRequest.kind.reads (g.R.CallRequest.request c.args.request.now)) (seen_by (g.R.CallRequest.seen c.args.request.now) c.exchange-answer.result) (g.R.CallRequest.kind.bytes_of (g.R.CallRequest.request c.args.request.now) (option_map credential_of c.args.settings.now.authentication)) c.serialize.new.out.bytes c.as_slice-2.result.now c.args.settings.now.config.max_bytes _
+    c.in-Ok.ensures.ok c.as_slice-2.ensures (c.exchange-answer.ensures.reading tells)
 
 pub returns-clause-reading : goal.returns-clause-reading
 returns-clause-reading g c = λ tells.
-    kept_reading (seen_by (g.P.Answered.val (operation_of c.args.payload.now)) c.exchange-answer.result) (seen_by (g.P.Answered.val (operation_of c.args.payload.now)) c.keep.result)
-    (kept_is (g.P.Answered.val (operation_of c.args.payload.now)) _ _ c.keep.ensures)
-    (reading_of g.L.Link.state c.args.link.now c.exchange-answer.new.link read_answer (λ operation. seen_by (g.P.Answered.val operation) c.exchange-answer.result) (request_bytes c.args.payload.now (option_map credential_of c.args.settings.now.authentication)) c.serialize.new.out.bytes c.as_slice-2.result.now (operation_of c.args.payload.now) c.operation-operation.result c.args.settings.now.config.max_bytes _
-    c.in-Ok.ensures.ok c.as_slice-2.ensures c.operation-operation.ensures (c.exchange-answer.ensures.reading tells))
+    kept_reading (seen_by (g.R.CallRequest.seen c.args.request.now) c.exchange-answer.result) (seen_by (g.R.CallRequest.seen c.args.request.now) c.keep.result) (kept_is (g.R.CallRequest.seen c.args.request.now) _ _ c.keep.ensures)
+    (reading_of g.L.Link.state c.args.link.now c.exchange-answer.new.link (g.R.CallRequest.kind.reads (g.R.CallRequest.request c.args.request.now)) (seen_by (g.R.CallRequest.seen c.args.request.now) c.exchange-answer.result) (g.R.CallRequest.kind.bytes_of (g.R.CallRequest.request c.args.request.now) (option_map credential_of c.args.settings.now.authentication)) c.serialize.new.out.bytes c.as_slice-2.result.now c.args.settings.now.config.max_bytes _
+    c.in-Ok.ensures.ok c.as_slice-2.ensures (c.exchange-answer.ensures.reading tells))

@@ -15,13 +15,13 @@ returns-then-reads_script-clause-part g c =
     rw (transcript_command c.args.words.now (source_left (g.S.Source.state c.args.source.now)) c.in-Ok-Some.command is) c.run_script.ensures.part
 
 pub returns-then-reads_script-clause-complete : goal.returns-then-reads_script-clause-complete
-returns-then-reads_script-clause-complete g c = λ source sink sound steady good.
+returns-then-reads_script-clause-complete g c = λ source sound steady good.
     let left = source_left (g.S.Source.state c.args.source.now) in
     let is = rw (c.in-Ok-Some.field-0-is, c.as_slice.ensures) at c.in-Ok-Some.ensures in
     let no3 = λ (e : c.run_script.result ≡ 3). sound (c.run_script.ensures.read_fault e) in
     let no4 = λ (e : c.run_script.result ≡ 4). steady (c.run_script.ensures.write_fault e) in
     completes c.run_script.result (transcript c.args.words.now left).status no3 no4
-    (λ no5. rw (transcript_command c.args.words.now left c.in-Ok-Some.command is) (c.run_script.ensures.replays source sink no3 no4 no5).status_is)
+    (λ no5. rw (transcript_command c.args.words.now left c.in-Ok-Some.command is) (c.run_script.ensures.status source no3 no4 no5))
     (grammar_status c.args.words.now left c.in-Ok-Some.command is good)
 
 pub returns-else-reads_script-clause-transcript : goal.returns-else-reads_script-clause-transcript
@@ -55,14 +55,15 @@ returns-else-reads_script-clause-scriptless_status g c = λ none.
     rw (transcript_unread c.args.words.now [] c.in-Ok-Some.command is unread) c.run_alone.ensures.status
 
 pub returns-else-reads_script-clause-complete : goal.returns-else-reads_script-clause-complete
-returns-else-reads_script-clause-complete g c = λ source sink sound steady good.
+returns-else-reads_script-clause-complete g c = λ source sound steady good.
     let left = source_left (g.S.Source.state c.args.source.now) in
     let is = rw (c.in-Ok-Some.field-0-is, c.as_slice.ensures) at c.in-Ok-Some.ensures in
     let unread : reads_script (Some c.in-Ok-Some.command) ≡ false = sym c.reads_script.ensures ∙ c.if-reads_script.false in
     let no3 = not_read_fault c.run_alone.result c.run_alone.ensures.bound in
     let no4 = λ (e : c.run_alone.result ≡ 4). steady (c.run_alone.ensures.fault e) in
     completes c.run_alone.result (transcript c.args.words.now left).status no3 no4
-    (λ no5. rw (transcript_unread c.args.words.now left c.in-Ok-Some.command is unread) (c.run_alone.ensures.replays sink no4 no5).status_is)
+    (λ no5. rw (transcript_unread c.args.words.now left c.in-Ok-Some.command is unread)
+    (status_left c.run_alone.result _ c.run_alone.ensures.status no4 no5))
     (grammar_status c.args.words.now left c.in-Ok-Some.command is good)
 
 pub returns-in-Ok-None-clause-transcript : goal.returns-in-Ok-None-clause-transcript

@@ -1,0 +1,108 @@
+//! What a call sends, and how its response is read.
+ghost use Rattle.std.specs.Prelude.{◌≡◌, ◌≢◌, ℕ, List, Option, None, Some, OnOk, IfErr, IsErrOf};
+ghost use Rattle.std.specs.Option.{option_map};
+ghost use Rattle.kmip_shape.specs.Val.{Val};
+ghost use Rattle.kmip_request.specs.Message.{credential_of, operation_of};
+ghost use Rattle.kmip_request.specs.declared.payload.RequestPayload.{RequestPayload as ThePayload};
+ghost use Rattle.kmip_client.specs.Calls.{CallKind, typed_calls};
+ghost use Rattle.kmip_client.specs.Headline.{IsReadBy};
+ghost use Rattle.kmip_client.specs.Outcome.{Gives, seen_by, reading_failed};
+
+use crate::answered::Answered;
+use crate::check::decode_response;
+use crate::error::Error;
+use kmip_request::{Authentication, RequestPayload, write_request_into};
+use kmip_wire::{Buffer, WireError};
+use std::alloc::Global;
+use std::marker::PhantomData;
+
+/// A request: how it is written, and how its responses are read. A call is over any of them, so
+/// that what it promises is proved once.
+pub trait CallRequest {
+    /// What a call of it returns.
+    type Payload: Drop;
+
+    /// What contracts see of a request, and of a payload.
+    ghost Request: { Type 0 };
+
+    ghost Seen: { Type 0 };
+
+    /// How the calls of its kind are written and read.
+    ghost kind: { CallKind Request Seen };
+
+    ghost request: { Self → Request };
+
+    ghost seen: { Self → Self.Payload → Seen };
+
+    /// Its responses can be read as such a payload.
+    ghost IsRead: { Self → Type 0 };
+
+    /// Writes its one canonical message in place of what was in the buffer. `Malformed` never
+    /// comes.
+    fn write(
+        &self,
+        alloc: Global,
+        authentication: &Option<Authentication>,
+        out: &mut Buffer,
+    ) -> Result<(), WireError>
+        ensures ok { OnOk result (kind.bytes_of (request self.now)
+            (option_map credential_of authentication.now) ≡ Some out.new.bytes) }
+        ensures no_form { IsErrOf result WireError.NoForm → kind.bytes_of (request self.now)
+            (option_map credential_of authentication.now) ≡ None }
+        ensures never { IfErr result (λ e. e ≢ WireError.Malformed) };
+
+    /// What the bytes of a whole message answer to it.
+    fn read(&self, alloc: Global, m: &[u8]) -> Result<Self::Payload, Error>
+        requires { IsRead self.now }
+        ensures { Gives (kind.reads (request self.now) m.now) (seen_by (seen self.now) result) };
+
+    /// No message answers that the link failed, and a message is valid exactly where it answers a
+    /// payload. It does nothing.
+    fn readings_hold()
+        ensures never_fails { (r : Request) (m : List ℕ) → kind.reads r m ≡ reading_failed → ⊥ }
+        ensures valid { (r : Request) (limit : Option ℕ) →
+            IsReadBy (kind.reads r) limit (kind.IsValid r limit) };
+}
+
+/// A request of KMIP's tables, whose response is read as this payload.
+#[derive(Drop)]
+pub struct TypedRequest<'a, P> {
+    pub payload: &'a RequestPayload,
+    pub returns: PhantomData<P>,
+}
+
+impl<'a, P: Answered> CallRequest for TypedRequest<'a, P> {
+    type Payload = P;
+
+    ghost Request = { ThePayload };
+
+    ghost Seen = { Val };
+
+    ghost kind = { typed_calls };
+
+    ghost request = { λ r. r.payload.now };
+
+    ghost seen = { λ r. P.val (operation_of r.payload.now) };
+
+    ghost IsRead = { λ r. P.Answers (operation_of r.payload.now) };
+
+    fn write(
+        &self,
+        _alloc: Global,
+        authentication: &Option<Authentication>,
+        out: &mut Buffer,
+    ) -> Result<(), WireError> {
+        write_request_into(self.payload, authentication, out)
+    }
+
+    fn read(&self, alloc: Global, m: &[u8]) -> Result<P, Error> {
+        decode_response(alloc, self.payload.operation(), m)
+    }
+
+    fn readings_hold()
+        ensures never_fails { (r : ThePayload) (m : List ℕ) →
+            typed_calls.reads r m ≡ reading_failed → ⊥ }
+        ensures valid { (r : ThePayload) (limit : Option ℕ) →
+            IsReadBy (typed_calls.reads r) limit (typed_calls.IsValid r limit) }
+    {}
+}

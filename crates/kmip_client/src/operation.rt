@@ -1,0 +1,233 @@
+//! A request of any operation, whose payload is a tree.
+ghost use Rattle.std.specs.Prelude.{◌≡◌, ◌≢◌, ◌+◌, ◌%◌, ◌<◌, ◌≤◌, ◌^◌, ◌++◌, length, pos, None, Some};
+ghost use Rattle.std.specs.Prelude.{OnOk, IfErr, IfSome, IsErrOf, MatchOption, ℕ, List, Option};
+ghost use Rattle.std.specs.Option.{option_map};
+ghost use Rattle.kmip_wire.specs.Tree.{Tree as TheTree, enumeration};
+ghost use Rattle.kmip_wire.specs.Room.{Appends};
+ghost use Rattle.kmip_shape.specs.Writes.{HasForm, size_of, text_of, wire_len_of, bytes_of};
+ghost use Rattle.kmip_shape.specs.Writes.{structure_head, leaf_text};
+ghost use Rattle.kmip_enums.specs.Operations.{operation_line};
+ghost use Rattle.kmip_request.specs.Tables.{request_header};
+ghost use Rattle.kmip_request.specs.Values.{lent_header_val};
+ghost use Rattle.kmip_client.specs.Headline.{IsReadBy};
+ghost use Rattle.kmip_client.specs.Outcome.{reading_failed};
+ghost use Rattle.kmip_client.specs.Operation.{TreeRequest, operation_calls, minor_number};
+ghost use Rattle.kmip_client.specs.Operation.{message_bytes};
+
+use crate::call_request::CallRequest;
+use crate::error::Error;
+use crate::untyped::untyped_answer;
+use kmip_enums::Operation;
+use kmip_request::{
+    Authentication, BatchCount, MaximumResponseSize, ProtocolVersion, ProtocolVersionMajor,
+    ProtocolVersionMinor,
+};
+use kmip_shape::record::{End, Row};
+use kmip_shape::row_readers::{One, Opt};
+use kmip_shape::scalars::{put_enumeration, put_structure};
+use kmip_shape::{Enumeration, fields, record_len, write_record};
+use kmip_tags::tags::{
+    AUTHENTICATION, BATCH_COUNT, BATCH_ITEM, MAXIMUM_RESPONSE_SIZE, OPERATION, PROTOCOL_VERSION,
+    REQUEST_HEADER, REQUEST_MESSAGE,
+};
+use kmip_wire::{Buffer, Tag, Tree, WireError, write_tree};
+use std::alloc::Global;
+
+/// A version of KMIP, which a request's header names: KMIP 1.0, 6.1.
+#[derive(Clone, Copy, Debug, PartialEq, Eq, Drop)]
+pub enum Version {
+    /// KMIP 1.0.
+    V1_0,
+    /// KMIP 1.1.
+    V1_1,
+    /// KMIP 1.2.
+    V1_2,
+}
+
+impl Version {
+    /// The version as a header has it.
+    fn number(self) -> ProtocolVersion
+        ensures { result ≡
+            record { 0 = record { 0 = pos 1 }; 1 = record { 0 = pos (minor_number self) } } }
+    {
+        let minor = match self {
+            Version::V1_0 => 0,
+            Version::V1_1 => 1,
+            Version::V1_2 => 2,
+        };
+        ProtocolVersion(ProtocolVersionMajor(1), ProtocolVersionMinor(minor))
+    }
+}
+
+/// The rows of the header of a request.
+type HeaderRows = Row<
+    One<ProtocolVersion, PROTOCOL_VERSION>,
+    Row<
+        Opt<MaximumResponseSize, MAXIMUM_RESPONSE_SIZE>,
+        Row<Opt<Authentication, AUTHENTICATION>, Row<One<BatchCount, BATCH_COUNT>, End>>,
+    >,
+>;
+
+/// The length in bytes of the header. The credential is borrowed.
+fn header_len(version: &ProtocolVersion, authentication: &Option<Authentication>) -> Option<u64>
+    ensures { result ≡ wire_len_of request_header (lent_header_val version.now authentication.now) }
+{
+    record_len::<HeaderRows>(fields![version, &None, authentication, &BatchCount(1)])
+}
+
+/// The same length, in terms of the canonical bytes, the form and the size of the header.
+fn header_size(version: &ProtocolVersion, authentication: &Option<Authentication>) -> Option<u64>
+    ensures none { result ≡ None → bytes_of request_header REQUEST_HEADER
+        (lent_header_val version.now authentication.now) ≡ None }
+    ensures form { IfSome result (λ _.
+        HasForm request_header (lent_header_val version.now authentication.now)) }
+    ensures size { IfSome result (λ len.
+        len ≡ size_of request_header (lent_header_val version.now authentication.now)) }
+{
+    header_len(version, authentication)
+}
+
+/// Appends the header.
+fn write_header(
+    version: &ProtocolVersion,
+    authentication: &Option<Authentication>,
+    out: &mut Buffer,
+)
+    requires form { HasForm request_header (lent_header_val version.now authentication.now) }
+    requires room { size_of request_header (lent_header_val version.now authentication.now)
+        ≤ out.old.spare }
+    ensures { Appends out.old out.new
+        (text_of request_header REQUEST_HEADER (lent_header_val version.now authentication.now))
+        (size_of request_header (lent_header_val version.now authentication.now)) }
+{
+    write_record::<HeaderRows>(
+        fields![version, &None, authentication, &BatchCount(1)],
+        Tag::of(REQUEST_HEADER),
+        out,
+    );
+}
+
+/// How many bytes the contents of the message have, of a header and a payload of so many bytes, and
+/// how many those of its batch item. `None` where they reach 2^32 bytes.
+fn contents_lens(header: u64, payload: usize) -> Option<(u32, u32)>
+    ensures { MatchOption result (2 ^ 32 ≤ header + (8 + (16 + payload))) (λ lens.
+        (lens.0 ≡ header + (8 + (16 + payload))) × (lens.0 < 2 ^ 32) × (lens.1 ≡ 16 + payload)) }
+{
+    let item = (payload as u64).checked_add(16)?;
+    let message = item.checked_add(8)?.checked_add(header)?;
+    if message < 1 << 32 {
+        Some((message as u32, item as u32))
+    } else {
+        None
+    }
+}
+
+/// Appends the message of these parts.
+#[tactic(auto, using(std::proofs::lemmas::List::append_assoc))]
+fn write_parts(
+    version: &ProtocolVersion,
+    authentication: &Option<Authentication>,
+    operation: Operation,
+    payload: &[u8],
+    lens: (u32, u32),
+    out: &mut Buffer,
+)
+    requires form { HasForm request_header (lent_header_val version.now authentication.now) }
+    requires room { 8 + (size_of request_header (lent_header_val version.now authentication.now) +
+        (8 + (16 + length payload.now))) ≤ out.old.spare }
+    ensures { Appends out.old out.new
+        (structure_head REQUEST_MESSAGE lens.0 ++
+        (text_of request_header REQUEST_HEADER (lent_header_val version.now authentication.now) ++
+        (structure_head BATCH_ITEM lens.1 ++
+        (leaf_text OPERATION (enumeration (operation_line operation).number) ++ payload.now))))
+        (8 + (size_of request_header (lent_header_val version.now authentication.now) +
+        (8 + (16 + length payload.now)))) }
+{
+    put_structure(Tag::of(REQUEST_MESSAGE), lens.0, out);
+    write_header(version, authentication, out);
+    put_structure(Tag::of(BATCH_ITEM), lens.1, out);
+    put_enumeration(Tag::of(OPERATION), operation.number(), out);
+    out.put(payload);
+}
+
+/// Writes the message of a header and of the bytes of a payload, in place of what was in the
+/// buffer.
+fn write_message(
+    version: &ProtocolVersion,
+    authentication: &Option<Authentication>,
+    operation: Operation,
+    payload: &[u8],
+    out: &mut Buffer,
+) -> Result<(), WireError>
+    requires { length payload.now % 8 ≡ 0 }
+    ensures ok { OnOk result (message_bytes (bytes_of request_header REQUEST_HEADER
+        (lent_header_val version.now authentication.now)) (operation_line operation).number
+        (Some payload.now) ≡ Some out.new.bytes) }
+    ensures no_form { IsErrOf result WireError.NoForm → message_bytes (bytes_of request_header
+        REQUEST_HEADER (lent_header_val version.now authentication.now))
+        (operation_line operation).number (Some payload.now) ≡ None }
+    ensures never { IfErr result (λ e. e ≢ WireError.Malformed) }
+{
+    let Some(header) = header_size(version, authentication) else {
+        return Err(WireError::NoForm);
+    };
+    let Some(lens) = contents_lens(header, payload.len()) else {
+        return Err(WireError::NoForm);
+    };
+    out.reset(8 + lens.0 as usize)?;
+    write_parts(version, authentication, operation, payload, lens, out);
+    Ok(())
+}
+
+/// A request of an operation, whose payload is a tree.
+#[derive(Clone, Copy)]
+pub struct OperationRequest<'a> {
+    pub operation: Operation,
+    pub version: Version,
+    pub payload: &'a Tree,
+}
+
+impl<'a> CallRequest for OperationRequest<'a> {
+    type Payload = Tree;
+
+    ghost Request = { TreeRequest };
+
+    ghost Seen = { TheTree };
+
+    ghost kind = { operation_calls };
+
+    ghost request = { λ r.
+        record { operation = r.operation; version = r.version; payload = r.payload.now } };
+
+    ghost seen = { λ r tree. tree };
+
+    ghost IsRead = { λ r. Unit {0} };
+
+    fn write(
+        &self,
+        alloc: Global,
+        authentication: &Option<Authentication>,
+        out: &mut Buffer,
+    ) -> Result<(), WireError> {
+        let payload = write_tree(alloc, self.payload)?;
+        let version = self.version.number();
+        write_message(
+            &version,
+            authentication,
+            self.operation,
+            payload.as_slice(),
+            out,
+        )
+    }
+
+    fn read(&self, alloc: Global, m: &[u8]) -> Result<Tree, Error> {
+        untyped_answer(alloc, self.operation, m)
+    }
+
+    fn readings_hold()
+        ensures never_fails { (r : TreeRequest) (m : List ℕ) →
+            operation_calls.reads r m ≡ reading_failed → ⊥ }
+        ensures valid { (r : TreeRequest) (limit : Option ℕ) →
+            IsReadBy (operation_calls.reads r) limit (operation_calls.IsValid r limit) }
+    {}
+}

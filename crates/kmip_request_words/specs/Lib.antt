@@ -1,0 +1,9 @@
+pub mod Words
+pub mod Values
+pub mod Options
+pub mod Coded
+pub mod Requests
+pub mod Attributes
+pub mod Given
+pub mod Keys
+pub mod Asked

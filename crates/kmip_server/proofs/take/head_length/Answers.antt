@@ -1,7 +1,0 @@
-use Rattle.std.proofs.Common.{rules}
-use Rattle.kmip_wire.specs.Head.{head_length}
-use Rattle.kmip_server.proofs.take.head_length.Goals as goal
-
-pub returns : goal.returns
-unfolding head_length
-returns c = c.from_be_bytes.ensures

@@ -1,0 +1,165 @@
+//! The responses of a server to requests, as the tests expect them.
+use crate::common::{TestCall, call_of, text};
+use kmip_enums::{Operation, ResultReason, ResultStatus};
+use kmip_request::{RequestPayload, to_vec};
+use kmip_response::{BatchItem, ResponseMessage, ResponsePayload, from_slice};
+use kmip_server_core::{Server, request_of};
+use kmip_shape::ShowItem;
+use kmip_store::Maker;
+use kmip_types::auth::{CredentialType, UsernameAndPasswordCredential};
+use kmip_wire::{Blob, Text};
+use std::alloc::Global;
+use std::process::Abort;
+use std::test::Fail;
+
+/// The one item of a response.
+#[derive(Clone, Copy)]
+pub enum Item {
+    /// A success, with a payload that is shown so.
+    Payload(&'static str),
+    /// A failure of this operation, for this reason, in these words.
+    Failure(Option<Operation>, ResultReason, &'static str),
+}
+
+/// A call, and the minor version and the item of the response to its request.
+pub type Row = (TestCall<'static>, i32, Item);
+
+/// The time stamp of the servers.
+const TIME: i64 = 7;
+
+/// A server with no objects.
+pub fn server<M: Maker>(alloc: Global, maker: M) -> Server<M> {
+    Server::new(alloc, maker, TIME)
+}
+
+/// The credential of alice.
+pub fn alice(alloc: Global, password: Option<&str>) -> Result<CredentialType, Fail> {
+    let username = text(alloc, "alice")?;
+    let password = match password {
+        Some(password) => Some(text(alloc, password)?),
+        None => None,
+    };
+    Ok(CredentialType::UsernameAndPassword(UsernameAndPasswordCredential { username, password }))
+}
+
+/// The payload as the bytes of a request.
+pub fn written(
+    alloc: Global,
+    payload: RequestPayload,
+    credential: Option<CredentialType>,
+) -> Result<Blob, Fail> {
+    Ok(to_vec(alloc, payload, credential)?)
+}
+
+/// The bytes of the request of a helper's call.
+pub fn request(
+    alloc: Global,
+    call: TestCall<'_>,
+    credential: Option<CredentialType>,
+) -> Result<Blob, Fail> {
+    let call = call_of(alloc, call)?;
+    let payload = request_of(alloc, &call);
+    drop(call);
+    written(alloc, payload?, credential)
+}
+
+fn check_shown(
+    rt: &impl Abort,
+    alloc: Global,
+    payload: &ResponsePayload,
+    expected: &str,
+) -> Result<(), Fail> {
+    let mut shown = Text::new(alloc);
+    payload.show(alloc, &mut shown)?;
+    assert_eq!(rt; shown.as_str(), expected, "the payload");
+    Ok(())
+}
+
+fn check_item(
+    rt: &impl Abort,
+    alloc: Global,
+    item: &BatchItem,
+    expected: Item,
+) -> Result<(), Fail> {
+    match (expected, &item.payload, &item.result_message) {
+        (Item::Payload(shown), Some(payload), None) => {
+            assert!(rt;
+                item.result_status == ResultStatus::Success,
+                "success of {shown}"
+            );
+            assert!(rt; item.result_reason.is_none(), "no reason with {shown}");
+            check_shown(rt, alloc, payload, shown)
+        }
+        (Item::Failure(operation, reason, words), None, Some(message)) => {
+            assert!(rt; item.operation == operation, "the operation of: {words}");
+            assert!(rt;
+                item.result_status == ResultStatus::OperationFailed,
+                "failure: {words}"
+            );
+            assert!(rt;
+                item.result_reason == Some(reason),
+                "the reason of: {words}"
+            );
+            assert_eq!(rt; message.as_str(), words, "the message");
+            Ok(())
+        }
+        (Item::Payload(_), ..) => Err(Fail::from("a failure in place of a payload")),
+        (Item::Failure(..), ..) => Err(Fail::from("a payload in place of a failure")),
+    }
+}
+
+/// The response has this minor version, the server's time stamp, and this one item.
+fn check_message(
+    rt: &impl Abort,
+    alloc: Global,
+    response: &ResponseMessage,
+    minor: i32,
+    expected: Item,
+) -> Result<(), Fail> {
+    let header = &response.header;
+    assert_eq!(rt; header.protocol_version.major, 1, "the major version");
+    assert_eq!(rt; header.protocol_version.minor, minor, "the minor version");
+    assert_eq!(rt; header.timestamp, TIME, "the time stamp");
+    assert_eq!(rt; header.batch_count, 1, "the batch count");
+    match response.batch_items.as_slice() {
+        [item] => check_item(rt, alloc, item, expected),
+        _ => Err(Fail::from("not one item")),
+    }
+}
+
+fn read(alloc: Global, bytes: &[u8]) -> Result<ResponseMessage, Fail> {
+    Ok(from_slice(alloc, bytes)?)
+}
+
+/// The server's response to these bytes is as expected.
+pub fn check_response<M: Maker>(
+    rt: &impl Abort,
+    alloc: Global,
+    server: &mut Server<M>,
+    request: &[u8],
+    minor: i32,
+    expected: Item,
+) -> Result<(), Fail> {
+    let response = server.answer(request)?;
+    check_message(
+        rt,
+        alloc,
+        &read(alloc, response.as_slice())?,
+        minor,
+        expected,
+    )
+}
+
+/// The server's responses to the requests of these calls are those of the rows.
+pub fn check_responses<M: Maker>(
+    rt: &impl Abort,
+    alloc: Global,
+    server: &mut Server<M>,
+    rows: &[Row],
+) -> Result<(), Fail> {
+    for (call, minor, expected) in rows {
+        let bytes = request(alloc, *call, None)?;
+        check_response(rt, alloc, server, bytes.as_slice(), *minor, *expected)?;
+    }
+    Ok(())
+}

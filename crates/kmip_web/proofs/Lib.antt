@@ -1,0 +1,6 @@
+mod Parsed
+mod Showing
+mod Listed
+mod Front
+mod Lines
+mod Faultless

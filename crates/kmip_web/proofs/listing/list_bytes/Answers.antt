@@ -1,0 +1,8 @@
+use Rattle.std.proofs.Common.{arith, sym, ap, ◌++◌}
+use Rattle.kmip_diag.specs.Diagnostic.{shown_within}
+use Rattle.kmip_web.specs.Listing.{listing, shown_listed}
+use Rattle.kmip_web.proofs.listing.list_bytes.Goals as goal
+
+pub shown-init : goal.shown-init
+unfolding listing
+shown-init c = (omega arith, omega arith, ap (λ x. x ++ shown_listed 0 (shown_within 1 c.args.bytes.now)) (sym c.new-text.ensures))

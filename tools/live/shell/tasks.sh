@@ -1,0 +1,14 @@
+# shellcheck shell=bash
+# needs: server
+# The tasks of docs/CALL.md, as they stand there.
+lines=$(lines_of_tasks sh)
+patience=200 script_is 'all tasks' 0 "set -euo pipefail; open; $lines
+kmip_close; echo 'the end'"
+says 'to their end' '^the end$'
+says 'the state of the key is told' '^Active$'
+printf %b "$(sed 's/../\\x&/g' signature.hex)" >signature
+openssl rsa -RSAPublicKey_in -in public.pem -pubout -out verifying.pem 2>"$said"
+printf hello | openssl dgst -sha256 -verify verifying.pem -signature signature >"$said" 2>&1
+verdict 'openssl reads the public key, and verifies the signature with it'
+[[ $(<key.hex) =~ ^[0-9A-F]{64}$ ]]
+verdict 'the AES key has 256 bits'
