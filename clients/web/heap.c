@@ -16,8 +16,10 @@ static int room(size_t size) { // whether so many bytes are there after `top`
         end = (unsigned char *)(__builtin_wasm_memory_size(0) * 65536ul);
     }
     if ((size_t)(end - top) >= size) return 1;
-    size_t pages = (size - (size_t)(end - top) + 65535) / 65536;
-    if (__builtin_wasm_memory_grow(0, pages) == (size_t)-1) return 0;
+    // A quarter more at a time, since a browser may copy all memory when it grows; what is needed, where that is refused.
+    size_t pages = (size - (size_t)(end - top) + 65535) / 65536, more = __builtin_wasm_memory_size(0) / 4;
+    if (more > pages && __builtin_wasm_memory_grow(0, more) != (size_t)-1) pages = more;
+    else if (__builtin_wasm_memory_grow(0, pages) == (size_t)-1) return 0;
     end += pages * 65536;
     return 1;
 }

@@ -100,12 +100,23 @@ async function byHand(page, sent, received) {
   await page.evaluate("document.querySelector('tr.exchange button').focus()");
   await page.press('Enter', 'Enter', 13);
   verdict('an exchange is opened by the keyboard', await until(page, "document.querySelectorAll('tr.opened .message').length === 2", 10));
+  await page.evaluate("document.querySelector('tr.opened .copy').focus()");
+  await page.press('Enter', 'Enter', 13);
+  const copied = await until(page, "document.querySelector('tr.opened .copy').textContent === 'copied'", 10);
+  await page.evaluate("(() => { const it = document.createElement('textarea'); it.id = 'scratch'; document.body.append(it); })()");
+  await page.pasteInto('scratch');
+  const got = await page.evaluate("(() => { const it = document.getElementById('scratch'); it.remove(); return it.value; })()");
+  verdict('the skeleton is copied', copied && got === native('web_skeleton', file('first', messages.exchange(1, 32)[0])), got);
   const hidden = await page.evaluate("[...document.querySelectorAll('tr.opened .secret')].length"), before = await page.evaluate(OUT);
   verdict('key material is hidden', hidden === 1 && !before.includes('01010101'), hidden);
   await page.evaluate("document.querySelector('tr.opened .secret').click()");
   verdict('and shown where it is asked for', (await page.evaluate(OUT)).includes('01010101'));
   await page.evaluate("document.querySelector('tr.exchange').click()");
   verdict('a click closes it', (await page.evaluate("document.querySelectorAll('tr.opened').length")) === 0);
+  await clear(page);
+  await page.evaluate(`(raw.sent = ${b64(messages.structure(0x420025, messages.text(0x420099, 'user'), messages.text(0x4200A1, 'hunter2')))}, show())`);
+  const credential = await page.evaluate(OUT);
+  verdict('a password is hidden', credential.includes('"user"') && credential.includes('Password') && !credential.includes('hunter2'), credential);
   await clear(page);
   await page.drop('out', [file('sent.bin', sent), file('received.bin', received)]);
   verdict('two files dropped at once are both sides', await until(page, "document.querySelectorAll('tr.exchange').length === 40", 10));
@@ -144,20 +155,21 @@ async function large(page) {
 }
 async function screens(page, sent, received) {
   const at = name => path.join(shots, name);
-  await page.view(1180, 760, false);
+  await page.view(1000, 480, false);
   await clear(page);
   await page.evaluate(`(raw.sent = ${b64(sent)}, raw.received = ${b64(received)}, show())`);
   await page.shot(at('page-exchanges.png'));
+  await page.view(1000, 700, false);
   await page.evaluate("(document.querySelectorAll('tr.exchange')[0].click(), document.querySelector('tr.opened').scrollIntoView())");
   await page.shot(at('page-exchange.png'));
-  await page.view(1180, 560, true);
+  await page.view(1000, 520, true);
   await clear(page);
   await page.evaluate(`(raw.sent = ${b64(messages.allTypes.subarray(0, -24))}, show(), scrollTo(0, 0))`);
   await page.shot(at('page-fault.png'));
-  await page.view(400, 800, true);
+  await page.view(400, 640, true);
   await page.evaluate(`(raw.sent = ${b64(sent)}, raw.received = ${b64(received)}, show(), document.getElementById('out').scrollIntoView())`);
   await page.shot(at('page-small.png'));
-  await page.view(1180, 760, false);
+  await page.view(1280, 1000, false);
 }
 // The module with other limits of its memory: one that may not grow past 4 MiB, or of a kind that no browser knows.
 function limited(module, isKnown) {

@@ -41,6 +41,7 @@ async function launch(program, options = {}) {
   };
   const placeOf = id => evaluate(`(() => { const it = document.getElementById('${id}'); it.scrollIntoView({ block: 'center' }); const r = it.getBoundingClientRect(); return [r.x + r.width / 2, r.y + r.height / 2]; })()`);
   const keyed = commands => to('Input.dispatchKeyEvent', { type: 'keyDown', modifiers: 2, key: 'v', code: 'KeyV', commands });
+  const pasteInto = async id => { await evaluate(`document.getElementById('${id}').focus()`); await keyed(['paste']); };
   return {
     name: 'Chromium', requests, said, evaluate,
     view: (width, height, dark) => Promise.all([to('Emulation.setDeviceMetricsOverride', { width, height, deviceScaleFactor: 1, mobile: false }),
@@ -55,9 +56,10 @@ async function launch(program, options = {}) {
     paste: async (id, text) => {
       await evaluate(`(() => { const it = document.createElement('textarea'); it.id = 'from'; it.value = ${JSON.stringify(text)}; document.body.append(it); it.focus(); it.select(); })()`);
       await keyed(['copy']);
-      await evaluate(`document.getElementById('from').remove(), document.getElementById('${id}').focus()`);
-      await keyed(['paste']);
+      await evaluate("document.getElementById('from').remove()");
+      await pasteInto(id);
     },
+    pasteInto,
     choose: async (id, file) => {
       const { root } = await to('DOM.getDocument'), { nodeId } = await to('DOM.querySelector', { nodeId: root.nodeId, selector: '#' + id });
       await to('DOM.setFileInputFiles', { nodeId, files: [path.resolve(file)] });

@@ -46,6 +46,7 @@ async function launch(program, options = {}) {
   const keys = actions => send('input.performActions', { context, actions: [{ type: 'key', id: 'keyboard', actions }] });
   const CONTROL = '\uE009';
   const withControl = key => keys([{ type: 'keyDown', value: CONTROL }, { type: 'keyDown', value: key }, { type: 'keyUp', value: key }, { type: 'keyUp', value: CONTROL }]);
+  const pasteInto = async id => { await evaluate(`document.getElementById('${id}').focus()`); await withControl('v'); };
   return {
     name: 'Firefox', requests, said, evaluate,
     view: (width, height) => send('browsingContext.setViewport', { context, viewport: { width, height } }),
@@ -59,9 +60,10 @@ async function launch(program, options = {}) {
     paste: async (id, text) => {
       await evaluate(`(() => { const it = document.createElement('textarea'); it.id = 'from'; it.value = ${JSON.stringify(text)}; document.body.append(it); it.focus(); it.select(); })()`);
       await withControl('c');
-      await evaluate(`(document.getElementById('from').remove(), document.getElementById('${id}').focus())`);
-      await withControl('v');
+      await evaluate("document.getElementById('from').remove()");
+      await pasteInto(id);
     },
+    pasteInto,
     choose: async (id, file) => send('input.setFiles', { context, element: { sharedId: await nodeOf(id) }, files: [path.resolve(file)] }),
     press: async key => keys([{ type: 'keyDown', value: { Enter: '\uE007', Tab: '\uE004' }[key] || key }, { type: 'keyUp', value: { Enter: '\uE007', Tab: '\uE004' }[key] || key }]),
     shot: async file => fs.writeFileSync(file, Buffer.from((await send('browsingContext.captureScreenshot', { context })).data, 'base64')),
