@@ -130,8 +130,22 @@ cases() {
         for it in "${all[@]}"; do [[ $it == shell ]] || clients+=("$it"); done
     fi
     export KMIP_CALL=$built/kmip_call
+    rest_of_cases
+}
+
+# The client in Rust takes longest to build: that is done while the cases of the others run.
+rest_of_cases() {
+    local builder='' others=() it
+    for it in "${clients[@]}"; do [[ $it == rust ]] || others+=("$it"); done
+    if ((${#others[@]} < ${#clients[@]})); then
+        (clients=(rust) && build_clients && ((${#clients[@]} > 0))) &
+        builder=$!
+        started+=("$builder")
+    fi
+    clients=(${others[@]+"${others[@]}"})
     build_clients
     run_cases fakes 8 "${clients[@]}"
+    if [[ -n $builder ]] && wait "$builder"; then run_cases fakes 8 rust; fi
 }
 
 check() {
