@@ -251,16 +251,24 @@ fn other_options_are_refused(rt: HostRuntime) {
     assert!(rt; into == [7u8; 8]);
 }
 
+/// These bytes of a message that has so many.
+fn part(bytes: &[u8], from: usize, to: usize) -> &[u8] {
+    match bytes.get(from..to) {
+        Some(part) => part,
+        None => bytes,
+    }
+}
+
 #[test]
 fn a_head_says_how_many_bytes_follow(rt: HostRuntime) -> Result<(), Fail> {
     let response = message(rt.alloc(), RANDOM)?;
-    assert!(rt; contents_len(&response[..8], 0) == 144);
-    assert!(rt; contents_len(&response[..8], 152) == 144);
-    assert!(rt; contents_len(&response[..8], 151) == -4);
-    assert!(rt; contents_len(&response[16..24], 0) == 32);
-    assert!(rt; contents_len(&response[24..32], 0) == -3);
-    assert!(rt; contents_len(&response[..7], 0) == -2);
-    assert!(rt; contents_len(&response[..9], 0) == -2);
+    assert!(rt; contents_len(part(&response, 0, 8), 0) == 144);
+    assert!(rt; contents_len(part(&response, 0, 8), 152) == 144);
+    assert!(rt; contents_len(part(&response, 0, 8), 151) == -4);
+    assert!(rt; contents_len(part(&response, 16, 24), 0) == 32);
+    assert!(rt; contents_len(part(&response, 24, 32), 0) == -3);
+    assert!(rt; contents_len(part(&response, 0, 7), 0) == -2);
+    assert!(rt; contents_len(part(&response, 0, 9), 0) == -2);
     Ok(())
 }
 
@@ -421,31 +429,22 @@ const ANSWERS: &[AnswerRow] = &[
     },
 ];
 
-/// That the call and the response of a row come to its status and its line.
-fn is_answered(rt: &impl Abort, alloc: Global, row: AnswerRow) -> Result<(), Fail> {
-    let response = message(alloc, row.response)?;
-    let mut line = [7u8; 400];
-    let mut length = 0;
-    let status = answer(
-        alloc,
-        row.call.as_bytes(),
-        &response,
-        &mut line,
-        &mut length,
-    );
-    assert_eq!(rt; status, row.status, "{}", row.shows);
-    assert!(rt;
-        line.as_slice().starts_with(row.line.as_bytes()),
-        "{}",
-        row.shows
-    );
-    Ok(())
-}
-
 #[test]
 fn responses_are_answered(rt: HostRuntime) -> Result<(), Fail> {
+    let alloc: Global = rt.alloc();
     for row in ANSWERS {
-        is_answered(&rt, rt.alloc(), *row)?;
+        let response = message(alloc, row.response)?;
+        let mut line = [7u8; 400];
+        let mut length = 0;
+        let status = answer(
+            alloc,
+            row.call.as_bytes(),
+            &response,
+            &mut line,
+            &mut length,
+        );
+        assert!(rt; status == row.status, "{}", row.shows);
+        assert!(rt; line.starts_with(row.line.as_bytes()), "{}", row.shows);
     }
     Ok(())
 }
@@ -645,9 +644,8 @@ fn is_value(rt: &impl Abort, alloc: Global, row: ValueRow) -> Result<(), Fail> {
     let call = row.call.as_bytes();
     let returned = value(alloc, call, &response, row.path, row.hex, &mut into);
     assert_eq!(rt; returned, row.returned);
-    let (written, rest) = into.split_at(row.written.len());
-    assert_eq!(rt; written, row.written);
-    assert!(rt; rest.iter().all(|byte| *byte == 7));
+    assert!(rt; into.starts_with(row.written));
+    assert!(rt; into.iter().skip(row.written.len()).all(|byte| *byte == 7));
     Ok(())
 }
 

@@ -29,7 +29,8 @@ fn helper_of(call: LineCall) -> Option<Call>
         | LineCall::Locate { .. }
         | LineCall::Attributes { .. }
         | LineCall::CreateAes { .. }
-        | LineCall::Discover => None,
+        | LineCall::Discover
+        | LineCall::Request { .. } => None,
     }
 }
 

@@ -1,5 +1,5 @@
 -- Bytes have no fault exactly where they are items.
-use Rattle.std.proofs.Common.{◌≡◌, refl, sym, ◌∙◌, ap, subst, arith, ℕ, zero, suc, ◌+◌, ◌≤◌, ◌<◌, ◌↔◌, Bool, true, false, List, [], ◌∷◌, ◌++◌, ℤ, pos, negsuc, length, take, drop, Option, Some, None, MatchOption}
+use Rattle.std.proofs.Common.{◌≡◌, refl, sym, ◌∙◌, ap, subst, arith, ℕ, zero, suc, ◌+◌, ◌≤◌, ◌<◌, ◌↔◌, true, false, List, [], ◌∷◌, ◌++◌, ℤ, pos, negsuc, length, take, drop, Option, Some, None, MatchOption}
 use Rattle.std.specs.Prelude.{codes}
 use Rattle.std.specs.Fmt.{decimal}
 use Rattle.std.proofs.lemmas.Option.{none-some}
@@ -9,7 +9,7 @@ use Rattle.kmip_wire.specs.Head.{size_at, value_of}
 use Rattle.kmip_wire.specs.Parses.{Parses, ParseAll, NoFront}
 use Rattle.kmip_wire.specs.Reading.{front_at}
 use Rattle.kmip_wire.proofs.Computed as computed
-use Rattle.kmip_diag.specs.Diagnostic.{Shown, ended, stopped, item, cut_off, Shows, opening_tag, OpensAt, shown_by, shown_at, shown_within}
+use Rattle.kmip_diag.specs.Diagnostic.{Shown, ended, stopped, item, cut_off, Shows, opening_tag, shown_by, shown_at, shown_within}
 use Rattle.kmip_diag.proofs.Wire.{front_rule, value_shorter}
 use Rattle.kmip_diag.proofs.Showing.{opened_says, opened_where}
 use Rattle.kmip_web.specs.declared.fault.Fault.{Fault}

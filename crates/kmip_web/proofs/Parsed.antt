@@ -1,6 +1,5 @@
 -- How many bytes an item has, by its tree and by its head.
-use Rattle.std.proofs.Common.{◌≡◌, refl, sym, ◌∙◌, ap, arith, ℕ, ◌+◌, ◌*◌, ◌%◌, ◌≤◌, List, length, take, drop}
-use Rattle.std.specs.Prelude.{IsUtf8}
+use Rattle.std.proofs.Common.{◌≡◌, sym, ◌∙◌, ap, arith, ℕ, ◌+◌, ◌%◌, List, length, take, drop}
 use Rattle.std.proofs.lemmas.List.{length-take, length-drop}
 use Rattle.kmip_wire.specs.Tree.{Tree, Trees, Scalar, scalar, structure, none, more, integer, long_integer, big_integer, enumeration, boolean, text_string, byte_string, date_time, interval}
 use Rattle.kmip_wire.specs.Head.{head_length, pads, size_at, value_of}

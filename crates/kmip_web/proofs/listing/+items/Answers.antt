@@ -1,4 +1,4 @@
-use Rattle.std.proofs.Common.{sym, arith, ◌∙◌}
+use Rattle.std.proofs.Common.{sym, arith}
 use Rattle.kmip_wire.specs.Items.{item_tree, trees_left}
 use Rattle.kmip_web.proofs.Listed.{children_smaller, children_sized, structure_listed}
 use Rattle.kmip_web.proofs.listing.+items.Goals as goal

@@ -1,0 +1,54 @@
+-- What the program writes for its input.
+use Rattle.std.specs.Prelude.{◌≡◌, ℕ, ◌==◌, ◌||◌, not, Bool, List, [], ◌∷◌, ◌++◌, Some, None, filter, IsUtf8, Ok, Err}
+use Rattle.std.specs.Option.{unwrap_or}
+use Rattle.std.specs.Result.{result_ok}
+use Rattle.hex.specs.Hex.{decode_of, encode_upper}
+use Rattle.kmip_wire.specs.Tree.{Tree}
+use Rattle.kmip_wire.specs.Bytes.{bytes}
+use Rattle.kmip_wire.specs.Parses.{Parses}
+use Rattle.kmip_encodings.specs.Encoding.{json_text}
+use Rattle.kmip_encodings.specs.Reading.{ReadsText}
+use Rattle.kmip_encodings.specs.Xml.{xml_of}
+use Rattle.kmip_ttlv.specs.declared.program.Command.{Command}
+use Rattle.kmip_ttlv.specs.declared.program.Command.TheVariants as commands
+use Rattle.kmip_ttlv.specs.declared.program.Failure.{Failure}
+use Rattle.kmip_ttlv.specs.declared.program.Failure.TheVariants as failures
+
+abbrev pub is_mark : ℕ → Bool
+is_mark c = not ((c == 32) || ((c == 9) || ((c == 10) || (c == 13))))
+
+-- the bytes that the input spells in hex, with white space anywhere; or else the input itself
+abbrev pub bytes_in : List ℕ → List ℕ
+bytes_in input = unwrap_or (result_ok (decode_of (filter is_mark input))) input
+
+-- why the bytes are not read as one item
+abbrev pub WholeFails : List ℕ → Failure → Type 0
+WholeFails b failures.NotItem = (t : Tree) → Parses t 1 b → ⊥
+WholeFails b failures.NotText = ⊥
+WholeFails b (failures.Unread error) = ⊥
+WholeFails b failures.NoForm = ⊥
+WholeFails b failures.OutOfMemory = Unit {0}
+
+-- the whole of the input is one item, and the output is its text and a line feed
+abbrev pub Decodes : (Tree → List ℕ) → List ℕ → List ℕ → Type 0
+Decodes text input output =
+    (t : Tree) × Parses t 1 (bytes_in input) × (output ≡ text t ++ 10 ∷ [])
+
+-- the input is JSON that means a tree, and the output is its canonical bytes in hex and a line feed
+abbrev pub Encodes : List ℕ → List ℕ → Type 0
+Encodes input output =
+    (t : Tree) × ReadsText (Ok t) input
+    × ((b : List ℕ) × (bytes t ≡ Some b) × (output ≡ encode_upper b ++ 10 ∷ []))
+
+abbrev pub Writes : Command → List ℕ → List ℕ → Type 0
+Writes commands.DecodeJson input output = Decodes json_text input output
+Writes commands.DecodeXml input output = Decodes xml_of input output
+Writes commands.Encode input output = Encodes input output
+
+-- why there is no output; memory may run out
+abbrev pub Fails : List ℕ → Failure → Type 0
+Fails input failures.NotItem = (t : Tree) → Parses t 1 (bytes_in input) → ⊥
+Fails input failures.NotText = ¬ IsUtf8 input
+Fails input (failures.Unread error) = ReadsText (Err error) input
+Fails input failures.NoForm = (t : Tree) × ReadsText (Ok t) input × (bytes t ≡ None)
+Fails input failures.OutOfMemory = Unit {0}
