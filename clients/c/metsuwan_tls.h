@@ -78,6 +78,10 @@ kmip_client *kmip_open(const kmip_settings *settings, char *error, size_t room);
 
        kmip_call(client, "rename", "4", "issuing key", NULL)
 
+   Options stand after the other words, each as NAME=TEXT:
+
+       kmip_call(client, "sign", "4", "68656C6C6F", "hash=SHA384", "padding=PSS", NULL)
+
    An empty identifier is KMIP_CALL_GRAMMAR: a server may take it for the last object that was made
    on the connection. So is a call's name with a space. */
 int kmip_call(kmip_client *client, const char *call, ...) KMIP_ENDS_WITH_NULL;

@@ -7,21 +7,65 @@
 #include <stdlib.h>
 #include <string.h>
 
-/* The calls, with a letter for each word: identifier, text, number, hex digits. The library alone
+#define ATTRIBUTES " name group contact type state algorithm length activation "
+
+/* The calls, with a letter for each word: identifier, text, number, hex digits, name of KMIP; and
+   the options that may stand after them, as `hash` for the word "hash=SHA384". The library alone
    says what is of the grammar; this says which first words may not be empty, and what is wrong. */
 static const struct {
-    const char *name, *words;
+    const char *name, *words, *options;
 } calls[] = {
-    {"query", ""},     {"create-rsa", "ntt"}, {"create-aes", "nt"}, {"rng", "n"},
-    {"activate", "i"}, {"revoke", "i"},       {"destroy", "i"},     {"sign", "ih"},
-    {"rename", "it"},  {"get", "i"},          {"locate", "t"},      {"attributes", "i"},
-    {"discover", ""},  {"raw", "h"},
+    {"query", "", ""},
+    {"create", "cnt", " usage "},
+    {"create-rsa", "ntt", " private-usage public-usage "},
+    {"create-aes", "nt", ""},
+    {"register", "ch", " format algorithm length usage name "},
+    {"rng", "n", ""},
+    {"activate", "i", ""},
+    {"revoke", "i", " reason message since "},
+    {"destroy", "i", ""},
+    {"sign", "ih", " hash padding algorithm prehashed "},
+    {"rename", "it", ""},
+    {"get", "i", " format wrap "},
+    {"locate", "t", ATTRIBUTES},
+    {"attributes", "i", ""},
+    {"attribute-add", "i", ATTRIBUTES},
+    {"attribute-modify", "i", ATTRIBUTES "index "},
+    {"attribute-delete", "it", " index "},
+    {"discover", "", ""},
+    {"raw", "h", ""},
 };
+enum { CALLS = sizeof calls / sizeof *calls };
 
-static const char *words_of(const char *call) {
-    for (size_t i = 0; i < sizeof calls / sizeof *calls; i++)
-        if (strcmp(calls[i].name, call) == 0) return calls[i].words;
-    return NULL;
+/* Where a call stands in the table; CALLS: it is none. */
+static size_t place_of(const char *call) {
+    size_t at = 0;
+    while (at < CALLS && strcmp(calls[at].name, call) != 0)
+        at++;
+    return at;
+}
+
+/* Whether a word is one of these options, as "hash=SHA384" or "prehashed". */
+static bool is_option(const char *options, const char *word) {
+    size_t length = strcspn(word, "=");
+    char name[24];
+    if (strspn(word, "abcdefghijklmnopqrstuvwxyz-") != length || length + 3 > sizeof name)
+        return false;
+    if (!word[length] && strcmp(word, "prehashed") != 0) return false;
+    snprintf(name, sizeof name, " %.*s ", (int)length, word);
+    return strstr(options, name) != NULL;
+}
+
+/* How many words of a call stand before its options. */
+static size_t plain_count(const char *call, const char *const *words) {
+    size_t at = place_of(call), count = 0, own;
+    while (words[count])
+        count++;
+    if (at == CALLS) return count;
+    own = strcmp(call, "locate") == 0 ? 0 : strlen(calls[at].words);
+    for (size_t i = own; i < count; i++)
+        if (!is_option(calls[at].options, words[i])) return count;
+    return own < count ? own : count;
 }
 
 bool kmip_room_has(kmip_room *it, size_t room) {
@@ -79,24 +123,41 @@ int kmip_word(const char *text, char *into, size_t room) {
     return 0;
 }
 
+/* Writes an option: its name and `=` as they are, and its value as a word, in which the names of
+   several uses are kept apart by `,`. */
+static int write_option(const char *word, char *into, size_t room) {
+    static const char names[] = "ABCDEFGHIJKLMNOPQRSTUVWXYZabcdefghijklmnopqrstuvwxyz0123456789_,";
+    size_t name = strcspn(word, "=");
+    if (!word[name]) return kmip_word(word, into, room);
+    name++;
+    if (room <= name) return -1;
+    memcpy(into, word, name);
+    bool of_names = strstr(word, "usage=") && strstr(word, "usage=") < word + name;
+    if (!of_names || word[name + strspn(word + name, names)])
+        return kmip_word(word + name, into + name, room - name);
+    return snprintf(into + name, room - name, "%s", word + name) < (int)(room - name) ? 0 : -1;
+}
+
 bool kmip_write_words(kmip_room *into, const char *call, const char *const *words) {
-    size_t done = strlen(call);
+    size_t done = strlen(call), plain = plain_count(call, words);
     if (!kmip_room_has(into, done + 1)) return false;
     memcpy(into->bytes, call, done + 1);
-    for (; *words; words++) {
-        size_t most = 3 * strlen(*words) + 2;
+    for (size_t i = 0; words[i]; i++) {
+        size_t most = 3 * strlen(words[i]) + 2;
         if (!kmip_room_has(into, done + most + 1)) return false;
         into->bytes[done] = ' ';
-        if (kmip_word(*words, (char *)into->bytes + done + 1, most) != 0) return false;
+        char *word = (char *)into->bytes + done + 1;
+        int made = i < plain ? kmip_word(words[i], word, most) : write_option(words[i], word, most);
+        if (made != 0) return false;
         done += strlen((char *)into->bytes + done);
     }
     return true;
 }
 
 bool kmip_may_ask(const char *call, const char *const *words) {
-    const char *wanted = words_of(call);
+    size_t at = place_of(call);
     if (!*call || strpbrk(call, " \n")) return false;
-    if (wanted && *wanted != 'i') return true;
+    if (at < CALLS && calls[at].words[0] != 'i') return true;
     return words[0] && *words[0];
 }
 
@@ -182,23 +243,27 @@ static const char *wrong_with(char kind, const char *text) {
     if (kind == 'n') return is_number(text) ? NULL : "is no number of 32 bits";
     if (kind == 'h') return is_hex(text) ? NULL : "is not of hex digits, two for each byte";
     if (kind == 'i' && !*text) return "is empty, and has to be an identifier";
+    if (kind == 'c' && !*text) return "is empty, and has to be a name of KMIP";
     return kmip_is_utf8(text) ? NULL : "is not UTF-8";
 }
 
 void kmip_say_wrong_word(char *into, size_t room, const char *call, const char *const *words) {
-    const char *wanted = words_of(call), *wrong = NULL;
+    const char *wrong = NULL;
+    size_t place = place_of(call), at = 0, plain = plain_count(call, words);
     if (!*call || strpbrk(call, " \n")) {
         snprintf(into, room, "the name of a call is one word, and this is none: %.60s", call);
         return;
     }
-    if (!wanted) {
+    if (place == CALLS) {
         snprintf(into, room, "there is no call %.60s", call);
         return;
     }
-    size_t at = 0;
-    for (; wanted[at] && words[at] && !wrong; at++)
+    const char *wanted = calls[place].words;
+    for (; at < plain && wanted[at] && !wrong; at++)
         wrong = wrong_with(wanted[at], words[at]);
-    if (!wrong && (words[at] || wanted[at])) wrong = words[at++] ? "is one too many" : "is missing";
+    bool whole = words[at] && at == plain; /* what follows is options */
+    if (!wrong && !whole && (words[at] || wanted[at]))
+        wrong = words[at++] ? "is one too many" : "is missing";
     if (wrong)
         snprintf(into, room, "%s: word %zu after it %s", call, at, wrong);
     else

@@ -48,11 +48,11 @@ def client_of(settings: List[str]) -> Client:
 
 
 def answer_of(settings: List[str], name: str, texts: List[str]) -> str:
-    words = words_of(name, texts)
+    words, options = words_of(name, texts)
     with client_of(settings) as kmip:
         if name == 'get' and os.environ.get('KMIP_PEM'):
             return kmip.get(texts[0]).pem()
-        return json.dumps({'answer': kmip.call(name, *words)}) + '\n'
+        return json.dumps({'answer': kmip.call(name, *words, **options)}) + '\n'
 
 
 def main() -> int:

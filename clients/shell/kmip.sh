@@ -15,7 +15,8 @@
 # could be the answer to the call that was given up.
 #
 # Arguments are plain texts: `kmip rename 4 'issuing key'`. Those of them that the grammar writes with an escape, as a
-# space, are written so here; the empty argument is the empty text, or no bytes. An empty identifier is refused (status 2):
+# space, are written so here; the empty argument is the empty text, or no bytes. Options stand after the others, as in
+# `kmip sign 4 00 hash=SHA384 padding=PSS`. An empty identifier is refused (status 2):
 # a server may take it for the last object that was made on the connection.
 #
 # Settings, all optional:
@@ -62,6 +63,46 @@ kmip_escape() { # TEXT
         done
         ;;
     esac
+}
+
+# Leaves in KMIP_OPTIONS the options that a call may have, with a space round each, and in KMIP_PLAIN how many words stand
+# before them.
+kmip_options() { # CALL
+    local attributes=' name group contact type state algorithm length activation '
+    KMIP_PLAIN=1 KMIP_OPTIONS=''
+    case $1 in
+    create) KMIP_PLAIN=3 KMIP_OPTIONS=' usage ' ;;
+    create-rsa) KMIP_PLAIN=3 KMIP_OPTIONS=' private-usage public-usage ' ;;
+    register) KMIP_PLAIN=2 KMIP_OPTIONS=' format algorithm length usage name ' ;;
+    sign) KMIP_PLAIN=2 KMIP_OPTIONS=' hash padding algorithm prehashed ' ;;
+    get) KMIP_OPTIONS=' format wrap ' ;;
+    locate) KMIP_PLAIN=0 KMIP_OPTIONS=$attributes ;;
+    attribute-add) KMIP_OPTIONS=$attributes ;;
+    attribute-modify) KMIP_OPTIONS=$attributes' index ' ;;
+    attribute-delete) KMIP_PLAIN=2 KMIP_OPTIONS=' index ' ;;
+    revoke) KMIP_OPTIONS=' reason message since ' ;;
+    esac
+}
+
+# Whether all these words are options, as NAME=TEXT.
+kmip_are_options() { # WORD..
+    local word
+    for word in "$@"; do
+        [[ $word == prehashed || $word =~ ^[a-z-]+= ]] && [[ $KMIP_OPTIONS == *" ${word%%=*} "* ]] || return 1
+    done
+}
+
+# Leaves in KMIP_WORD the word that an option is: its value is escaped, but for the `,` between the names of uses.
+kmip_escape_option() { # NAME=TEXT
+    local name=${1%%=*}
+    if [[ $1 != *=* ]]; then
+        KMIP_WORD=$1
+    elif [[ $name == *usage && ${1#*=} =~ ^[A-Za-z0-9_,]+$ ]]; then
+        KMIP_WORD=$1
+    else
+        kmip_escape "${1#*=}"
+        KMIP_WORD=$name=$KMIP_WORD
+    fi
 }
 
 # The same on standard output.
@@ -272,7 +313,7 @@ kmip_deadline() {
 
 # Makes a call, and writes its answer. `pem` is a call of this file's own.
 kmip() { # CALL WORD..
-    local words=() word status=0 KMIP_WORD KMIP_WORDS KMIP_DEADLINE
+    local words=() word status=0 KMIP_WORD KMIP_WORDS KMIP_DEADLINE KMIP_OPTIONS KMIP_PLAIN
     if [[ ${1-} == pem ]]; then
         kmip_pem "${@:2}"
         return
@@ -282,7 +323,7 @@ kmip() { # CALL WORD..
         return 3
     fi
     case ${1-} in
-    '' | query | create-rsa | create-aes | rng | locate | discover | raw) ;;
+    '' | query | create | create-rsa | create-aes | register | rng | locate | discover | raw) ;;
     *)
         if [[ -z ${2-} ]]; then
             kmip_fails GrammarError 'the call has no identifier'
@@ -298,8 +339,14 @@ kmip() { # CALL WORD..
     words+=("limit=${KMIP_LIMIT:-1048576}")
     if [[ -n ${KMIP_RECORD-} ]]; then words+=("record=$KMIP_RECORD"); fi
     words+=("${1-}")
-    for word in "${@:2}"; do
+    kmip_options "${1-}"
+    kmip_are_options "${@:2+KMIP_PLAIN}" || KMIP_PLAIN=$#
+    for word in "${@:2:KMIP_PLAIN}"; do
         kmip_escape "$word"
+        words+=("$KMIP_WORD")
+    done
+    for word in "${@:2+KMIP_PLAIN}"; do
+        kmip_escape_option "$word"
         words+=("$KMIP_WORD")
     done
     kmip_program

@@ -34,7 +34,8 @@
 # CLIENT/client.sh says how a client is built and run: it has the functions
 #
 #   client_needs             prints what is missing to build it, as the names of Debian packages
-#   client_build             builds it in $run/$client, from $built; where it fails, what it wrote is shown
+#   client_build             builds it in $run/$client, from $built; where it fails, what it wrote is shown. A compiler is
+#                            begun by the words ${limit[@]}, which end it where its time is over
 #   client_program NAME      sets the array `program`, which runs the client's program call, life or rotate
 
 here=$top/tools/live
@@ -288,7 +289,7 @@ run_again() { # "CLIENT FILE"
 
 # The clients that can be built here are built, and `clients` are those; the others are said.
 build_clients() {
-    local client missing able=()
+    local client missing able=() limit=() status
     for client in "${clients[@]}"; do
         missing=$(. "$here/$client/client.sh" && client_needs)
         if [[ -n $missing ]]; then
@@ -296,8 +297,13 @@ build_clients() {
             continue
         fi
         mkdir -p "$run/$client"
-        if (. "$here/$client/client.sh" && client_build) >"$run/$client/build.log" 2>&1; then
+        if [[ -n ${until-} ]]; then limit=(timeout $((until + 20 > SECONDS ? until + 20 - SECONDS : 1))); fi
+        (. "$here/$client/client.sh" && client_build) >"$run/$client/build.log" 2>&1
+        status=$?
+        if ((status == 0)); then
             able+=("$client")
+        elif ((status == 124)); then
+            printf 'skipped %s: no time is left to build it\n' "$client"
         else
             printf 'FAILED  %s: its build\n' "$client"
             tail -20 "$run/$client/build.log" | sed 's/^/        /'

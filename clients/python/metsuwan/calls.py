@@ -6,13 +6,15 @@ bytes are not taken for a text, or a number for bytes.
 from __future__ import annotations
 
 import re
-from typing import Callable, Dict, List, NamedTuple, Sequence, Tuple, Union
+from typing import (Any, Callable, Dict, Iterator, List, Mapping, NamedTuple, Sequence, Tuple,
+                    Union)
 from urllib.parse import quote
 
 from .errors import GrammarError
 
 Bytes = Union[bytes, bytearray, memoryview]
 Word = Union[str, Bytes, int]
+Option = Union[Word, bool, Sequence[str], None]
 EMPTY = '-'
 
 
@@ -23,7 +25,7 @@ class Kind(NamedTuple):
     name: str
     types: Tuple[type, ...]
     write: Callable[..., str]
-    read: Callable[[str], Word]
+    read: Callable[[str], Any]
 
 
 def _write_text(text: str) -> str:
@@ -52,15 +54,49 @@ def _read_number(text: str) -> int:
     return int(text)
 
 
+def _write_date(seconds: int) -> str:
+    if not 0 <= seconds < 1 << 32:
+        raise ValueError('it is not 0 to 4294967295')
+    return str(seconds)
+
+
+def _write_name(name: str) -> str:
+    if not re.fullmatch('[A-Za-z0-9_]+', name):
+        raise ValueError('it is not of letters, digits and _')
+    return name
+
+
+def _write_names(names: Union[str, Sequence[str]]) -> str:
+    return ','.join(map(_write_name, names.split(',') if isinstance(names, str) else names))
+
+
+def _write_flag(_: bool) -> str:
+    return ''
+
+
+def _read_flag(text: str) -> bool:
+    if text:
+        raise ValueError('it has no value')
+    return True
+
+
 IDENTIFIER = Kind('an identifier', (str,), _write_text, str)
 TEXT = Kind('a text', (str,), _write_text, str)
 BYTES = Kind('bytes', (bytes, bytearray, memoryview), _write_bytes, _read_bytes)
 NUMBER = Kind('a number', (int,), _write_number, _read_number)
+# KMIP's name of a value, as SHA256, or of several.
+NAME = Kind('a name of KMIP', (str,), _write_name, str)
+NAMES = Kind('names of KMIP', (str, list, tuple), _write_names, str)
+# Seconds since 1970-01-01 UTC.
+DATE = Kind('a date', (int,), _write_date, _read_number)
+FLAG = Kind('True', (bool,), _write_flag, _read_flag)
 
 CALLS: Dict[str, Tuple[Kind, ...]] = {
     'query': (),
+    'create': (NAME, NUMBER, TEXT),
     'create-rsa': (NUMBER, TEXT, TEXT),
     'create-aes': (NUMBER, TEXT),
+    'register': (NAME, BYTES),
     'rng': (NUMBER,),
     'activate': (IDENTIFIER,),
     'sign': (IDENTIFIER, BYTES),
@@ -68,10 +104,29 @@ CALLS: Dict[str, Tuple[Kind, ...]] = {
     'get': (IDENTIFIER,),
     'locate': (TEXT,),
     'attributes': (IDENTIFIER,),
+    'attribute-add': (IDENTIFIER,),
+    'attribute-modify': (IDENTIFIER,),
+    'attribute-delete': (IDENTIFIER, TEXT),
     'revoke': (IDENTIFIER,),
     'destroy': (IDENTIFIER,),
     'discover': (),
     'raw': (BYTES,),
+}
+
+ATTRIBUTES = {'name': TEXT, 'group': TEXT, 'contact': TEXT, 'type': NAME, 'state': NAME,
+              'algorithm': NAME, 'length': NUMBER, 'activation': DATE}
+# The options of a call, each a word `NAME=VALUE` after the others; `prehashed` is a word alone.
+OPTIONS: Dict[str, Dict[str, Kind]] = {
+    'create': {'usage': NAMES},
+    'create-rsa': {'private-usage': NAMES, 'public-usage': NAMES},
+    'register': {'format': NAME, 'algorithm': NAME, 'length': NUMBER, 'usage': NAMES, 'name': TEXT},
+    'sign': {'hash': NAME, 'padding': NAME, 'algorithm': NAME, 'prehashed': FLAG},
+    'get': {'format': NAME, 'wrap': TEXT},
+    'locate': ATTRIBUTES,
+    'attribute-add': ATTRIBUTES,
+    'attribute-modify': {**ATTRIBUTES, 'index': NUMBER},
+    'attribute-delete': {'index': NUMBER},
+    'revoke': {'reason': NAME, 'message': TEXT, 'since': DATE},
 }
 
 
@@ -80,6 +135,10 @@ def _kinds_of(name: str, count: int) -> Tuple[Kind, ...]:
     if name not in CALLS:
         raise GrammarError('there is no call %s' % name)
     kinds = CALLS[name]
+    if name == 'attributes':
+        kinds += (TEXT,) * max(0, count - 1)
+    if name == 'locate' and count == 0:
+        return ()
     if count > len(kinds):
         raise GrammarError('%s: word %d after it is one too many' % (name, len(kinds) + 1))
     if count < len(kinds):
@@ -88,9 +147,8 @@ def _kinds_of(name: str, count: int) -> Tuple[Kind, ...]:
     return kinds
 
 
-def _write(name: str, at: int, kind: Kind, value: Word) -> str:
-    where = '%s: word %d after it' % (name, at)
-    if not isinstance(value, kind.types) or isinstance(value, bool):
+def _write(where: str, kind: Kind, value: Option) -> str:
+    if not isinstance(value, kind.types) or isinstance(value, bool) != (kind is FLAG):
         raise TypeError('%s is %s, and %s was given' % (where, kind.name, type(value).__name__))
     try:
         word = kind.write(value)
@@ -102,28 +160,54 @@ def _write(name: str, at: int, kind: Kind, value: Word) -> str:
     return word
 
 
-def line_of(name: str, words: Sequence[Word]) -> bytes:
+def _options_of(name: str, options: Mapping[str, Option]) -> Iterator[str]:
+    """The words of the options that are given."""
+    for given, value in options.items():
+        option = given.replace('_', '-')
+        kind = OPTIONS.get(name, {}).get(option)
+        if kind is None:
+            raise GrammarError('%s: there is no option %s' % (name, option))
+        if value is None or value is False:
+            continue
+        word = _write('%s: %s' % (name, option), kind, value)
+        yield option if kind is FLAG else '%s=%s' % (option, word)
+
+
+def line_of(name: str, words: Sequence[Word], options: Mapping[str, Option] = {}) -> bytes:
     """A call as a line of the grammar: the one place in which arguments become words.
 
-    :raises GrammarError: there is no such call, or a word is none for it
+    :raises GrammarError: there is no such call or option, or a word is none for it
     :raises TypeError: a word is of another type
     """
     written: List[str] = [name]
     for at, (kind, value) in enumerate(zip(_kinds_of(name, len(words)), words), 1):
-        written.append(_write(name, at, kind, value))
-    return ' '.join(written).encode()
+        written.append(_write('%s: word %d after it' % (name, at), kind, value))
+    return ' '.join([*written, *_options_of(name, options)]).encode()
 
 
-def words_of(name: str, texts: Sequence[str]) -> List[Word]:
-    """The words of a call whose arguments were typed: numbers in decimal, bytes in hex.
+def words_of(name: str, texts: Sequence[str]) -> Tuple[List[Word], Dict[str, Option]]:
+    """The words and the options of a call whose arguments were typed: numbers in decimal, bytes
+    in hex, options as ``NAME=VALUE``.
 
     :raises GrammarError: there is no such call, or a text is none of its words
     """
-    read: List[Word] = []
-    for at, (kind, text) in enumerate(zip(_kinds_of(name, len(texts)), texts), 1):
-        try:
-            read.append(kind.read(text))
-        except ValueError as error:
-            raise GrammarError('%s: word %d after it is not %s: %s'
-                               % (name, at, kind.name, error)) from None
-    return read
+    known, least = OPTIONS.get(name, {}), len(CALLS.get(name, ())) if name != 'locate' else 0
+    texts, rest = list(texts), list(texts[least:])
+    given: Dict[str, Option] = {}
+    if all('=' in it and it.partition('=')[0] in known or known.get(it) is FLAG for it in rest):
+        texts = texts[:least]
+        for it in rest:
+            option, _, value = it.partition('=')
+            if option in given:
+                raise GrammarError('%s: %s is given twice' % (name, option))
+            given[option] = _read('%s: %s' % (name, option), known[option], value)
+    kinds = _kinds_of(name, len(texts))
+    return [_read('%s: word %d after it' % (name, at), kind, text)
+            for at, (kind, text) in enumerate(zip(kinds, texts), 1)], given
+
+
+def _read(where: str, kind: Kind, text: str) -> Any:
+    try:
+        return kind.read(text)
+    except ValueError as error:
+        raise GrammarError('%s is not %s: %s' % (where, kind.name, error)) from None

@@ -3,9 +3,9 @@ from __future__ import annotations
 
 import json
 import threading
-from typing import Any, Dict, List, Optional, Tuple
+from typing import Any, Dict, List, Optional, Sequence, Tuple, Union
 
-from .calls import Bytes, Word, line_of
+from .calls import Bytes, Option, Word, line_of
 from .errors import (ConnectError, ConnectionLost, DeserializeError, GrammarError, MissingValue,
                      RequestWriteError, ResponseReadError, SerializeError, error_of)
 from .library import (ANSWERED, CALL_GRAMMAR, GRAMMAR, LOST, NO_FORM, NO_MEMORY, TOO_LONG,
@@ -14,6 +14,7 @@ from .objects import KeyPair, ManagedObject, Signed, bytes_at, text_at, value_at
 from .wire import Passphrase, Port, Wire, context_of
 
 HEAD = 8
+Names = Union[str, Sequence[str], None]
 
 
 def _credential(user: Optional[str], password: Optional[str]) -> Credential:
@@ -82,16 +83,17 @@ class Client:
         with self._lock:
             self._end(True)
 
-    def call(self, name: str, *words: Word) -> Dict[str, Any]:
+    def call(self, name: str, /, *words: Word, **options: Option) -> Dict[str, Any]:
         """Makes a call, and returns its answer as JSON has it.
 
         ``name`` is the first word, as ``sign``; the others are texts, bytes or numbers, and are
-        written as the grammar wants them.
+        written as the grammar wants them. ``options`` are those of the grammar, with ``_`` in the
+        place of ``-``; one that is None is not given.
 
         :raises KmipError: by kind, as ``ItemNotFound``
         :raises TypeError: a word is of another type than the call wants
         """
-        line = line_of(name, words)
+        line = line_of(name, words, options)
         with self._lock:
             status, told = self._exchange(line)
         if status == NO_MEMORY:
@@ -110,15 +112,29 @@ class Client:
         """What the server can do: ``operations`` and more."""
         return self.call('query')
 
-    def create_rsa_key_pair(self, bits: int, private_key_name: str,
-                            public_key_name: str) -> KeyPair:
-        """Makes a pair under these names."""
-        pair = self.call('create-rsa', bits, private_key_name, public_key_name)
+    def create_rsa_key_pair(self, bits: int, private_key_name: str, public_key_name: str, *,
+                            private_usage: Names = None, public_usage: Names = None) -> KeyPair:
+        """Makes a pair under these names, to sign and to verify with, or for these uses."""
+        pair = self.call('create-rsa', bits, private_key_name, public_key_name,
+                         private_usage=private_usage, public_usage=public_usage)
         return KeyPair(text_at(pair, 'private_key'), text_at(pair, 'public_key'))
 
     def create_aes(self, bits: int, name: str) -> str:
         """Makes an AES key to encrypt and decrypt with, under this name."""
         return text_at(self.call('create-aes', bits, name), 'unique_identifier')
+
+    def create(self, algorithm: str, bits: int, name: str, *, usage: Names = None) -> str:
+        """Makes a symmetric key of this algorithm, as ``AES``, to encrypt and decrypt with, or for
+        these uses."""
+        return text_at(self.call('create', algorithm, bits, name, usage=usage), 'unique_identifier')
+
+    def register(self, kind: str, material: Bytes, *, format: str, algorithm: str, length: int,
+                 usage: Names = None, name: Optional[str] = None) -> str:
+        """Has the server keep a key that was made elsewhere. ``kind`` is ``public``, ``private``
+        or ``symmetric``, ``format`` as ``PKCS_8`` says what the bytes are."""
+        answer = self.call('register', kind, material, format=format, algorithm=algorithm,
+                           length=length, usage=usage, name=name)
+        return text_at(answer, 'unique_identifier')
 
     def rng_retrieve(self, count: int) -> bytes:
         """So many random bytes."""
@@ -128,36 +144,59 @@ class Client:
         """Makes a key active."""
         self.call('activate', identifier)
 
-    def sign(self, identifier: str, message: Bytes) -> Signed:
-        """Signs these bytes with this private key."""
-        answer = self.call('sign', identifier, message)
+    def sign(self, identifier: str, message: Bytes, *, hash: Optional[str] = None,
+             padding: Optional[str] = None, algorithm: Optional[str] = None,
+             prehashed: bool = False) -> Signed:
+        """Signs these bytes with this private key: where no option is given, by RSA with SHA256
+        and the padding PKCS1_v1_5. With ``prehashed`` they are a digest."""
+        answer = self.call('sign', identifier, message, hash=hash, padding=padding,
+                           algorithm=algorithm, prehashed=prehashed)
         return Signed(text_at(answer, 'unique_identifier'), bytes_at(answer, 'signature_data'))
 
     def rename(self, identifier: str, new_name: str) -> None:
         """Gives a key another name."""
         self.call('rename', identifier, new_name)
 
-    def get(self, identifier: str) -> ManagedObject:
-        """An object itself."""
-        answer = self.call('get', identifier)
+    def add_attribute(self, identifier: str, /, **attribute: Option) -> None:
+        """Gives an object one more attribute, as ``group='issuing'``."""
+        self.call('attribute-add', identifier, **attribute)
+
+    def modify_attribute(self, identifier: str, /, *, index: Optional[int] = None,
+                         **attribute: Option) -> None:
+        """Gives an attribute of an object another value, as ``name='retired'``."""
+        self.call('attribute-modify', identifier, **attribute, index=index)
+
+    def delete_attribute(self, identifier: str, name: str, *, index: Optional[int] = None) -> None:
+        """Takes an attribute with this name, as ``Object Group``, from an object."""
+        self.call('attribute-delete', identifier, name, index=index)
+
+    def get(self, identifier: str, *, format: Optional[str] = None,
+            wrap: Optional[str] = None) -> ManagedObject:
+        """An object itself: in the format that it has or in this one, and wrapped under the key
+        with the identifier ``wrap``."""
+        answer = self.call('get', identifier, format=format, wrap=wrap)
         return ManagedObject(text_at(answer, 'unique_identifier'), text_at(answer, 'object_type'),
                              answer)
 
-    def attributes(self, identifier: str) -> List[Dict[str, Any]]:
-        """All attributes of an object, each with its name and its value."""
-        return list(value_at(self.call('attributes', identifier), 'attributes'))
+    def attributes(self, identifier: str, *names: str) -> List[Dict[str, Any]]:
+        """The attributes of an object, each with its name and its value: all, or those with these
+        names."""
+        return list(value_at(self.call('attributes', identifier, *names), 'attributes'))
 
-    def locate(self, name: str) -> List[str]:
-        """The identifiers of the objects with this name; none, where there are no such objects."""
-        return list(value_at(self.call('locate', name), 'unique_identifiers'))
+    def locate(self, *name: str, **attributes: Option) -> List[str]:
+        """The identifiers of the objects with this name, or with all of these attributes, as
+        ``locate(name='issuing', state='Active')``; none, where there are no such objects."""
+        return list(value_at(self.call('locate', *name, **attributes), 'unique_identifiers'))
 
     def discover(self) -> List[Dict[str, int]]:
         """The versions of KMIP that the server speaks."""
         return list(value_at(self.call('discover'), 'supported_versions'))
 
-    def revoke(self, identifier: str) -> None:
-        """Takes a key out of use."""
-        self.call('revoke', identifier)
+    def revoke(self, identifier: str, *, reason: Optional[str] = None,
+               message: Optional[str] = None, since: Optional[int] = None) -> None:
+        """Takes a key out of use: as CessationOfOperation, or for this reason. ``since`` is the
+        date of a compromise, in seconds since 1970-01-01 UTC."""
+        self.call('revoke', identifier, reason=reason, message=message, since=since)
 
     def destroy(self, identifier: str) -> None:
         """Destroys a key that is not active."""

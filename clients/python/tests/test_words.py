@@ -3,10 +3,18 @@ import unittest
 from typing import Any, Dict, List, Tuple
 
 from metsuwan import GrammarError
-from metsuwan.calls import BYTES, CALLS, IDENTIFIER, NUMBER, TEXT, Word, line_of, words_of
+from metsuwan.calls import (BYTES, CALLS, IDENTIFIER, NAME, NUMBER, TEXT, Option, Word, line_of,
+                            words_of)
 from metsuwan.library import GRAMMAR, Library
 
-SAMPLES: Dict[Any, Word] = {IDENTIFIER: '1', TEXT: 'a name', BYTES: b'\x01', NUMBER: 16}
+SAMPLES: Dict[Any, Word] = {IDENTIFIER: '1', TEXT: 'a name', BYTES: b'\x01', NUMBER: 16,
+                           NAME: 'AES'}
+# What a call needs beside its words, and first words that it takes alone.
+NEEDED: Dict[str, Dict[str, Option]] = {
+    'register': {'format': 'Raw', 'algorithm': 'AES', 'length': 8},
+    'attribute-add': {'name': 'n'}, 'attribute-modify': {'name': 'n'},
+}
+FIRST = {'register': 'symmetric'}
 
 
 class Written(unittest.TestCase):
@@ -30,14 +38,59 @@ class Written(unittest.TestCase):
                 self.assertEqual(line_of(name, words), line)
 
     def test_typed_texts_are_the_same_words(self) -> None:
-        self.assertEqual(words_of('sign', ['k', '0aBC']), ['k', b'\x0a\xbc'])
-        self.assertEqual(words_of('create-rsa', ['2048', '7', '']), [2048, '7', ''])
+        rows: List[Tuple[str, List[str], Tuple[List[Word], Dict[str, Option]]]] = [
+            ('sign', ['k', '0aBC'], (['k', b'\x0a\xbc'], {})),
+            ('sign', ['k', '00', 'hash=SHA384', 'prehashed'],
+             (['k', b'\0'], {'hash': 'SHA384', 'prehashed': True})),
+            ('create-rsa', ['2048', '7', ''], ([2048, '7', ''], {})),
+            ('create-rsa', ['2048', 'usage=1', 'hash=2'], ([2048, 'usage=1', 'hash=2'], {})),
+            ('locate', ['a=b'], (['a=b'], {})),
+            ('locate', ['name'], (['name'], {})),
+            ('locate', ['name=a=b', 'length=256'], ([], {'name': 'a=b', 'length': 256})),
+            ('attributes', ['1', 'State', 'x-y z'], (['1', 'State', 'x-y z'], {})),
+            ('get', ['format=1'], (['format=1'], {})),
+        ]
+        for name, texts, wanted in rows:
+            with self.subTest((name, texts)):
+                self.assertEqual(words_of(name, texts), wanted)
+
+    def test_options_are_words_of_their_own(self) -> None:
+        rows: List[Tuple[str, List[Word], Dict[str, Option], bytes]] = [
+            ('sign', ['k', b''], {'hash': 'SHA384', 'padding': 'PSS'}, b'sign k - hash=SHA384 padding=PSS'),
+            ('sign', ['k', b''], {'hash': None, 'prehashed': True}, b'sign k - prehashed'),
+            ('sign', ['k', b''], {'prehashed': False}, b'sign k -'),
+            ('revoke', ['k'], {'reason': 'KeyCompromise', 'message': 'a b, c', 'since': 5},
+             b'revoke k reason=KeyCompromise message=a%20b%2C%20c since=5'),
+            ('locate', [], {'name': 'a=b', 'state': 'Active'}, b'locate name=a%3Db state=Active'),
+            ('create', ['AES', 256, 'n'], {'usage': 'Encrypt,Decrypt'}, b'create AES 256 n usage=Encrypt,Decrypt'),
+            ('create-rsa', [2048, 'a', 'b'], {'private_usage': ['Sign', 'Decrypt']},
+             b'create-rsa 2048 a b private-usage=Sign,Decrypt'),
+            ('attribute-modify', ['k'], {'name': '', 'index': 0}, b'attribute-modify k name=- index=0'),
+        ]
+        for name, words, options, line in rows:
+            with self.subTest(line):
+                self.assertEqual(line_of(name, words, options), line)
+
+    def test_options_that_are_none(self) -> None:
+        rows: List[Tuple[str, List[Word], Dict[str, Option]]] = [
+            ('sign', ['k', b''], {'reason': 'x'}), ('query', [], {'hash': 'SHA256'}),
+            ('sign', ['k', b''], {'hash': 'SHA 256'}), ('sign', ['k', b''], {'hash': ''}),
+            ('revoke', ['k'], {'since': -1}), ('create', ['AES', 1, 'n'], {'usage': 'Sign, Verify'}),
+        ]
+        for name, words, options in rows:
+            with self.subTest((name, options)), self.assertRaises(GrammarError):
+                line_of(name, words, options)
+        wrong: List[Dict[str, Any]] = [{'hash': 5}, {'prehashed': 'yes'}, {'hash': True}]
+        for options in wrong:
+            with self.subTest(options), self.assertRaises(TypeError):
+                line_of('sign', ['k', b''], options)
 
     def test_typed_texts_that_are_none(self) -> None:
         rows: List[Tuple[str, List[str]]] = [
             ('sign', ['k', 'XY']), ('sign', ['k', 'A']), ('sign', ['k', 'AA BB']),
             ('rng', ['1_0']), ('rng', [' 1']), ('rng', ['007']), ('rng', ['-0']), ('rng', ['']),
             ('sing', []), ('rename', ['1']), ('query', ['1']),
+            ('get', ['1', 'format=Raw', 'format=Raw']), ('sign', ['k', '00', 'prehashed=1']),
         ]
         for name, texts in rows:
             with self.subTest((name, texts)), self.assertRaises(GrammarError):
@@ -49,9 +102,12 @@ class Written(unittest.TestCase):
             if name == 'raw':  # its bytes have to be a request
                 continue
             with self.subTest(name):
-                line = line_of(name, [SAMPLES[kind] for kind in kinds])
+                words = [SAMPLES[kind] for kind in kinds]
+                words[:1] = [FIRST[name]] if name in FIRST else words[:1]
+                line = line_of(name, words, NEEDED.get(name, {}))
                 self.assertIsInstance(library.request(line), bytes)
-                self.assertEqual(library.request(line + b' x'), GRAMMAR)
+                if name != 'attributes':  # which takes any number of names
+                    self.assertEqual(library.request(line + b' x=y'), GRAMMAR)
 
     def test_raw_takes_the_bytes_of_a_request(self) -> None:
         library = Library()
@@ -90,9 +146,10 @@ class Refused(unittest.TestCase):
     def test_words_too_many_and_too_few(self) -> None:
         for name, kinds in CALLS.items():
             words = [SAMPLES[kind] for kind in kinds]
-            with self.subTest(name), self.assertRaises(GrammarError):
-                line_of(name, words + ['x'])
-            if words:
+            if name != 'attributes':
+                with self.subTest(name), self.assertRaises(GrammarError):
+                    line_of(name, words + ['x'])
+            if words and name != 'locate':
                 with self.subTest(name), self.assertRaises(GrammarError):
                     line_of(name, words[:-1])
 

@@ -100,6 +100,9 @@ pub struct Client<T> {
     before_call: BeforeCall<T>,
 }
 
+/// Options of a call: each with its name and its value, which for `prehashed` is empty.
+pub type Options<'a> = &'a [(&'a str, &'a str)];
+
 impl<T> Debug for Client<T> {
     fn fmt(&self, f: &mut Formatter<'_>) -> fmt::Result {
         f.debug_struct("Client")
@@ -150,6 +153,21 @@ impl<T: Read + Write> Client<T> {
         })
     }
 
+    /// The same with options, as `&[("hash", "SHA384"), ("padding", "PSS")]`.
+    pub fn sign_with(
+        &self,
+        private_key_id: &str,
+        in_bytes: &[u8],
+        options: Options<'_>,
+    ) -> Result<SignResponsePayload> {
+        let words = [Word::Text(private_key_id), Word::Bytes(in_bytes)];
+        let answer = self.call_with("sign", &words, options)?;
+        Ok(SignResponsePayload {
+            unique_identifier: answer.text_at("unique_identifier")?.into(),
+            signature_data: answer.bytes_at("signature_data")?,
+        })
+    }
+
     /// Makes a key active.
     pub fn activate_key(&self, private_key_id: &str) -> Result<()> {
         self.call("activate", &[Word::Text(private_key_id)]).map(drop)
@@ -158,6 +176,11 @@ impl<T: Read + Write> Client<T> {
     /// Takes a key out of use.
     pub fn revoke_key(&self, private_key_id: &str) -> Result<()> {
         self.call("revoke", &[Word::Text(private_key_id)]).map(drop)
+    }
+
+    /// The same with options, as `&[("reason", "KeyCompromise"), ("message", "stolen")]`.
+    pub fn revoke_key_with(&self, private_key_id: &str, options: Options<'_>) -> Result<()> {
+        self.call_with("revoke", &[Word::Text(private_key_id)], options).map(drop)
     }
 
     /// Destroys a key that is not active.
@@ -183,9 +206,20 @@ impl<T: Read + Write> Client<T> {
         GetResponsePayload::of(self.call("get", &[Word::Text(key_id)])?)
     }
 
+    /// The same with options, as `&[("format", "PKCS8")]`.
+    pub fn get_key_with(&self, key_id: &str, options: Options<'_>) -> Result<GetResponsePayload> {
+        GetResponsePayload::of(self.call_with("get", &[Word::Text(key_id)], options)?)
+    }
+
     /// The identifiers of the objects with this name; none, where there are no such objects.
     pub fn locate(&self, name: &str) -> Result<Vec<String>> {
         self.call("locate", &[Word::Text(name)])?.texts_at("unique_identifiers")
+    }
+
+    /// The identifiers of the objects with all of these attributes, as
+    /// `&[("name", "issuing"), ("state", "Active")]`.
+    pub fn locate_with(&self, attributes: Options<'_>) -> Result<Vec<String>> {
+        self.call_with("locate", &[], attributes)?.texts_at("unique_identifiers")
     }
 
     /// All attributes of an object.
@@ -209,6 +243,17 @@ impl<T: Read + Write> Client<T> {
     /// Makes any call of the grammar: its name, and the words after it.
     pub fn call(&self, name: &str, words: &[Word<'_>]) -> Result<Answer> {
         self.call_line(&word::line(name, words)?)
+    }
+
+    /// The same with options, which stand after the other words.
+    pub fn call_with(
+        &self,
+        name: &str,
+        words: &[Word<'_>],
+        options: Options<'_>,
+    ) -> Result<Answer> {
+        let options = options.iter().map(|(option, value)| Word::Option(option, value));
+        self.call(name, &words.iter().copied().chain(options).collect::<Vec<_>>())
     }
 
     /// The same with words that were typed: numbers in decimal digits, bytes in hex digits.

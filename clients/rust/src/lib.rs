@@ -34,7 +34,7 @@ mod tls;
 mod word;
 
 pub use answer::Answer;
-pub use client::{Client, ClientBuilder, DEFAULT_LIMIT};
+pub use client::{Client, ClientBuilder, Options, DEFAULT_LIMIT};
 pub use error::{Details, Error, Result};
 pub use json::Json;
 pub use payload::{

@@ -14,6 +14,9 @@ pub enum Word<'a> {
     Bytes(&'a [u8]),
     /// A number, as that of the bits of a key.
     Number(i32),
+    /// An option, which stands after the other words: its name and its value, as
+    /// `("hash", "SHA384")`. The value of `prehashed` is empty.
+    Option(&'a str, &'a str),
 }
 
 impl Debug for Word<'_> {
@@ -22,6 +25,7 @@ impl Debug for Word<'_> {
             Word::Text(text) => f.debug_tuple("Text").field(text).finish(),
             Word::Bytes(bytes) => write!(f, "Bytes(of length {})", bytes.len()),
             Word::Number(number) => f.debug_tuple("Number").field(number).finish(),
+            Word::Option(name, value) => f.debug_tuple("Option").field(name).field(value).finish(),
         }
     }
 }
@@ -37,22 +41,71 @@ enum Kind {
     Number,
 }
 
-const CALLS: [(&str, &[Kind]); 14] = [
-    ("query", &[]),
-    ("create-rsa", &[Kind::Number, Kind::Text, Kind::Text]),
-    ("create-aes", &[Kind::Number, Kind::Text]),
-    ("rng", &[Kind::Number]),
-    ("activate", &[Kind::Identifier]),
-    ("sign", &[Kind::Identifier, Kind::Bytes]),
-    ("rename", &[Kind::Identifier, Kind::Text]),
-    ("get", &[Kind::Identifier]),
-    ("locate", &[Kind::Text]),
-    ("attributes", &[Kind::Identifier]),
-    ("revoke", &[Kind::Identifier]),
-    ("destroy", &[Kind::Identifier]),
-    ("discover", &[]),
-    ("raw", &[Kind::Bytes]),
+const ATTRIBUTES: &[&str] =
+    &["name", "group", "contact", "type", "state", "algorithm", "length", "activation"];
+const CHANGES: &[&str] =
+    &["name", "group", "contact", "type", "state", "algorithm", "length", "activation", "index"];
+
+/// Each call, the kinds of its words, and the names of its options.
+type Call = (&'static str, &'static [Kind], &'static [&'static str]);
+const CALLS: [Call; 19] = [
+    ("query", &[], &[]),
+    ("create", &[Kind::Text, Kind::Number, Kind::Text], &["usage"]),
+    ("create-rsa", &[Kind::Number, Kind::Text, Kind::Text], &["private-usage", "public-usage"]),
+    ("create-aes", &[Kind::Number, Kind::Text], &[]),
+    ("register", &[Kind::Text, Kind::Bytes], &["format", "algorithm", "length", "usage", "name"]),
+    ("rng", &[Kind::Number], &[]),
+    ("activate", &[Kind::Identifier], &[]),
+    ("sign", &[Kind::Identifier, Kind::Bytes], &["hash", "padding", "algorithm", "prehashed"]),
+    ("rename", &[Kind::Identifier, Kind::Text], &[]),
+    ("get", &[Kind::Identifier], &["format", "wrap"]),
+    ("locate", &[Kind::Text], ATTRIBUTES),
+    ("attributes", &[Kind::Identifier], &[]),
+    ("attribute-add", &[Kind::Identifier], ATTRIBUTES),
+    ("attribute-modify", &[Kind::Identifier], CHANGES),
+    ("attribute-delete", &[Kind::Identifier, Kind::Text], &["index"]),
+    ("revoke", &[Kind::Identifier], &["reason", "message", "since"]),
+    ("destroy", &[Kind::Identifier], &[]),
+    ("discover", &[], &[]),
+    ("raw", &[Kind::Bytes], &[]),
 ];
+
+/// An option as a word: its name, `=`, and its value, in which the names of several uses are kept
+/// apart by `,`.
+fn option_word(name: &str, value: &str) -> String {
+    let is_name = |it: &str| it.bytes().all(|byte| byte.is_ascii_alphanumeric() || byte == b'_');
+    if name == "prehashed" && value.is_empty() {
+        return name.into();
+    }
+    if name.ends_with("usage") && !value.is_empty() && value.split(',').all(is_name) {
+        return format!("{name}={value}");
+    }
+    format!("{name}={}", text_word(value))
+}
+
+/// A typed word as an option of this call, where it is one.
+fn option_of<'a>(name: &str, text: &'a str) -> Option<(&'a str, &'a str)> {
+    let (_, _, options) = CALLS.iter().find(|(it, _, _)| *it == name)?;
+    let (option, value) = match text.split_once('=') {
+        None if text == "prehashed" => (text, ""),
+        parted => parted?,
+    };
+    options.contains(&option).then_some((option, value))
+}
+
+/// How many of a call's typed words stand before its options.
+fn plain_count(name: &str, texts: &[&str]) -> usize {
+    let own = match CALLS.iter().find(|(it, _, _)| *it == name) {
+        Some((_, kinds, _)) if name != "locate" => kinds.len(),
+        _ => 0,
+    };
+    let rest = texts.get(own..).unwrap_or(&[]);
+    if rest.iter().all(|text| option_of(name, text).is_some()) {
+        own.min(texts.len())
+    } else {
+        texts.len()
+    }
+}
 
 impl Kind {
     fn name(self) -> &'static str {
@@ -73,6 +126,7 @@ impl Kind {
             (_, Word::Text(_)) => Err("a text was given".into()),
             (_, Word::Bytes(_)) => Err("bytes were given".into()),
             (_, Word::Number(_)) => Err("a number was given".into()),
+            (_, Word::Option(..)) => Err("an option was given".into()),
         }
     }
 
@@ -126,10 +180,16 @@ fn bytes_word(bytes: &[u8]) -> String {
 }
 
 /// The kinds of a call's words, which are so many.
-fn kinds_of(name: &str, count: usize) -> Result<&'static [Kind]> {
-    let Some((_, kinds)) = CALLS.iter().find(|(it, _)| *it == name) else {
+fn kinds_of(name: &str, count: usize) -> Result<Vec<Kind>> {
+    let Some((_, kinds, _)) = CALLS.iter().find(|(it, _, _)| *it == name) else {
         return Err(Error::grammar(format!("there is no call {name}")));
     };
+    let mut kinds = kinds.to_vec();
+    match name {
+        "locate" => kinds.truncate(count),
+        "attributes" if count > 1 => kinds.resize(count, Kind::Text),
+        _ => {}
+    }
     if count > kinds.len() {
         let extra = kinds.len() + 1;
         return Err(Error::grammar(format!("{name}: word {extra} after it is one too many")));
@@ -165,14 +225,34 @@ fn line_by<W: Copy>(
     Ok(line)
 }
 
-/// The line of a call with these words.
+/// The line of a call with these words, of which options stand after the others.
 pub(crate) fn line(name: &str, words: &[Word<'_>]) -> Result<String> {
-    line_by(name, words, Kind::write)
+    let is_option = |word: &Word<'_>| matches!(word, Word::Option(..));
+    let plain = words.iter().position(is_option).unwrap_or(words.len());
+    let mut line = line_by(name, &words[..plain], Kind::write)?;
+    for (at, word) in words.iter().enumerate().skip(plain) {
+        let Word::Option(option, value) = word else {
+            let place = at + 1;
+            return Err(Error::grammar(format!("{name}: word {place} after it is no option")));
+        };
+        if !CALLS.iter().any(|(it, _, options)| *it == name && options.contains(option)) {
+            return Err(Error::grammar(format!("{name}: there is no option {option}")));
+        }
+        line.push(' ');
+        line.push_str(&option_word(option, value));
+    }
+    Ok(line)
 }
 
 /// The line of a call whose words were typed.
 pub(crate) fn line_of_texts(name: &str, texts: &[&str]) -> Result<String> {
-    line_by(name, texts, Kind::read)
+    let (plain, options) = texts.split_at(plain_count(name, texts));
+    let mut line = line_by(name, plain, Kind::read)?;
+    for (option, value) in options.iter().filter_map(|text| option_of(name, text)) {
+        line.push(' ');
+        line.push_str(&option_word(option, value));
+    }
+    Ok(line)
 }
 
 #[cfg(test)]
@@ -255,6 +335,38 @@ mod tests {
         for wrong in ["", "+1", "01", "-0", "1 ", "0x1", "2147483648", "1.0"] {
             assert!(line_of_texts("rng", &[wrong]).is_err(), "{wrong}");
         }
+    }
+
+    #[test]
+    fn options_are_words_of_their_own() {
+        let rows: [(&str, &[&str], &str); 7] = [
+            ("sign", &["k", "00", "hash=SHA384", "prehashed"], "sign k 00 hash=SHA384 prehashed"),
+            (
+                "revoke",
+                &["k", "message=a b, c", "since=5"],
+                "revoke k message=a%20b%2C%20c since=5",
+            ),
+            (
+                "create",
+                &["AES", "256", "n", "usage=Encrypt,Decrypt"],
+                "create AES 256 n usage=Encrypt,Decrypt",
+            ),
+            ("locate", &["name=a=b", "state=Active"], "locate name=a%3Db state=Active"),
+            ("locate", &["a=b"], "locate a%3Db"),
+            ("locate", &["name"], "locate name"),
+            ("attributes", &["1", "State", "x-y z"], "attributes 1 State x-y%20z"),
+        ];
+        for (name, texts, wanted) in rows {
+            assert_eq!(line_of_texts(name, texts).unwrap(), wanted);
+        }
+        let key = Word::Text("k");
+        let signed = line("sign", &[key, Word::Bytes(b"\0"), Word::Option("padding", "PSS")]);
+        assert_eq!(signed.unwrap(), "sign k 00 padding=PSS");
+        refused(line("get", &[key, Word::Option("hash", "x")]), "get: there is no option hash");
+        refused(
+            line("get", &[key, Word::Option("wrap", "1"), key]),
+            "get: word 3 after it is no option",
+        );
     }
 
     #[test]

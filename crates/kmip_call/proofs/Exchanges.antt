@@ -1,5 +1,5 @@
 -- What a call answers, by what was sent and read.
-use Rattle.std.proofs.Common.{◌≡◌, ℕ, ◌+◌, ◌<◌, ◌≤◌, List, [], ◌++◌, length, take, refl, ◌∙◌, ap, sym, arith, subst, Bool, true, false, Option, Some, None, Result, Ok, Err, IfOk, OnOk, OnErr, IsTrue, cond, codes, nat_lt}
+use Rattle.std.proofs.Common.{◌≡◌, ℕ, ◌+◌, ◌≤◌, List, [], ◌++◌, length, take, refl, ◌∙◌, ap, sym, arith, subst, Bool, true, false, Option, Some, None, Result, Ok, Err, IfOk, OnOk, OnErr, IsTrue, cond, codes, nat_lt}
 use Rattle.std.proofs.lemmas.Grind.{common_steps}
 use Rattle.std.proofs.lemmas.Bool.Decides.{nat_tests}
 use Rattle.std.proofs.lemmas.List.{length-take-le, take-take}
@@ -8,8 +8,7 @@ use Rattle.kmip_wire.specs.Heads.{head_says}
 use Rattle.kmip_wire.specs.declared.error.HeadError.{HeadError}
 use Rattle.kmip_link.specs.State.{SourceState, SinkState, FaultCountRose, source_left}
 use Rattle.kmip_client.specs.Message.{Message, message_at, taken_for}
-use Rattle.kmip_client.specs.Outcome.{Answer, Outcome, outcome_of, answer_of}
-use Rattle.kmip_client.specs.declared.error.Error.{Error}
+use Rattle.kmip_client.specs.Outcome.{Outcome, outcome_of, answer_of}
 use Rattle.kmip_client.specs.declared.error.Error.TheVariants.{RequestWriteError, ResponseReadError}
 use Rattle.kmip_client.proofs.Messages.{message_short, message_refused, message_cut, message_whole}
 use Rattle.kmip_words.specs.Streams.{Gives, GivesPart, WrotePart, WroteProperPart}
@@ -20,7 +19,7 @@ use Rattle.kmip_words.specs.declared.call.Call.{Call}
 use Rattle.kmip_words.specs.declared.ending.Ending.{Ending}
 use Rattle.kmip_words.specs.declared.ending.Ending.TheVariants.{Lost, Refused}
 use Rattle.kmip_call.specs.Wire.{taken_at, IsOneAtMost}
-use Rattle.kmip_call.specs.Exchange.{answer_err, response_if, request_bytes, taken_by, line_of, ending_by, CarriedPart, Carried, answered, write_failed, read_failed, Requests, Exchanges}
+use Rattle.kmip_call.specs.Exchange.{answer_err, response_if, request_bytes, taken_by, line_of, ending_by, CarriedPart, answered, write_failed, read_failed, Requests, Exchanges}
 use Rattle.kmip_call.specs.declared.exchange.CallEnd.{CallEnd}
 
 pub append_none : (xs : List ℕ) → xs ≡ xs ++ []

@@ -1,16 +1,16 @@
 -- One message, by the length in its head.
-use Rattle.std.proofs.Common.{◌≡◌, OnOk, ℕ, ◌+◌, ◌-◌, ◌<◌, ◌≤◌, min, List, [], ◌++◌, length, take, drop, refl, ◌∙◌, ap, sym, arith, subst, Option, Some, None, Result, Ok, Err, cond, nat_lt, Bool, true, false}
+use Rattle.std.proofs.Common.{◌≡◌, OnOk, ℕ, ◌+◌, ◌-◌, ◌<◌, ◌≤◌, min, List, [], ◌++◌, length, take, refl, ◌∙◌, ap, sym, arith, subst, Option, Some, None, Result, Ok, Err, cond, nat_lt, true, false}
 use Rattle.std.specs.Result.{result_ok}
 use Rattle.std.proofs.lemmas.Bool.Decides.{nat_tests}
-use Rattle.std.proofs.lemmas.List.{length-take, length-take-le, length-drop, take-take, take_min}
+use Rattle.std.proofs.lemmas.List.{length-take, length-take-le, length-drop, take_min}
 use Rattle.std.proofs.Math.Seq.{take-length}
 use Rattle.kmip_wire.specs.Heads.{head_says}
 use Rattle.kmip_wire.specs.declared.error.HeadError.{HeadError}
 use Rattle.kmip_link.specs.State.{SourceState, source_left}
-use Rattle.kmip_client.specs.Message.{Message, message_at, taken_for}
+use Rattle.kmip_client.specs.Message.{taken_for}
 use Rattle.kmip_client.proofs.Messages.{message_short, message_refused, message_cut, message_whole}
 use Rattle.kmip_words.specs.Streams.{Gives, GivesPart}
-use Rattle.kmip_words.proofs.Moves.{gives_on, gives_part_on, bytes_on, left_after}
+use Rattle.kmip_words.proofs.Moves.{gives_on, bytes_on, left_after}
 use Rattle.kmip_call.specs.Wire.{taken_at, contents_of, IsOneAtMost}
 
 short_front : (n : ℕ) (xs : List ℕ) → length xs ≤ n → take n xs ≡ xs

@@ -1,12 +1,10 @@
 -- The options of a call, one after the other.
-use Rattle.std.proofs.Common.{◌≡◌, ◌≢◌, ℕ, List, [], ◌∷◌, length, get_or, Option, Some, None, codes, refl, ap, sym, ◌∙◌, arith}
-use Rattle.std.specs.Option.{option_map}
+use Rattle.std.proofs.Common.{◌≡◌, ℕ, List, Option, Some, None, codes, refl, sym}
 use Rattle.kmip_client.specs.Client.{credential_for}
 use Rattle.kmip_types.specs.declared.auth.CredentialType.{CredentialType}
 use Rattle.kmip_words.specs.Values.{number_of}
 use Rattle.kmip_words.specs.Options.{option_given, given_after}
-use Rattle.kmip_call.specs.Commands.{first_of, limit_of, default_limit, order_with, order_limited, order_of, one_word, command_of}
-use Rattle.kmip_call.specs.declared.command.Command.TheVariants.{Make}
+use Rattle.kmip_call.specs.Commands.{first_of, limit_of, default_limit, order_with, order_limited, order_of}
 
 pub order_of_is : (environment : Option (List ℕ)) (words : List (List ℕ)) (user password limit file first : Option (List ℕ)) (after_user after_password after_limit rest : List (List ℕ)) →
     user ≡ (option_given (codes "user=") words).value → after_user ≡ (option_given (codes "user=") words).rest →

@@ -1,5 +1,5 @@
 -- A record reads back as the call of its words and its response.
-use Rattle.std.proofs.Common.{◌≡◌, ℕ, ◌*◌, ◌/◌, ◌%◌, ◌<◌, ◌==◌, ℤ, List, [], ◌∷◌, ◌++◌, length, slice_index, refl, ◌∙◌, ap, sym, subst, arith, append_assoc, Bool, true, false, not, ◌&&◌, ◌||◌, cond, nat_eq, Option, Some, None, Result, Ok, IsTrue, codes, bytes_eq}
+use Rattle.std.proofs.Common.{◌≡◌, ℕ, ◌/◌, ◌==◌, ℤ, List, [], ◌∷◌, ◌++◌, length, slice_index, refl, ◌∙◌, ap, sym, subst, arith, append_assoc, Bool, true, false, not, ◌&&◌, ◌||◌, cond, nat_eq, Option, Some, None, IsTrue, codes, bytes_eq}
 use Rattle.std.proofs.lemmas.Bool.{and_parts, eqb-true}
 use Rattle.std.proofs.lemmas.Bool.Decides.{nat_tests}
 use Rattle.std.proofs.lemmas.List.Elements.{All-cons, All-nil}
@@ -10,16 +10,15 @@ use Rattle.std.proofs.lemmas.Str.Ascii.{IsAscii-nil, IsAscii-cons}
 use Rattle.std.proofs.Math.Seq.{take-append_seam}
 use Rattle.std.specs.List.{All, AllPass, list_any, slice_split}
 use Rattle.std.specs.Str.{IsAscii, IsUtf8, is_utf8}
-use Rattle.hex.specs.Hex.{IsBytes, encode_with, encode_upper, upper_digits, is_hex_digit, decode_of}
+use Rattle.hex.specs.Hex.{IsBytes, encode_with, encode_upper, upper_digits, is_hex_digit}
 use Rattle.hex.proofs.HexLemmas.{IsAscii-encode_with, decode_of-encode_upper, decode_of-ok}
 use Rattle.kmip_request.specs.declared.payload.RequestPayload.{RequestPayload}
 use Rattle.kmip_words.specs.Words.{parts_between, has_empty_part, words_of}
 use Rattle.kmip_words.specs.Values.{int_of, bytes_of, word_text}
 use Rattle.kmip_words.specs.Asked.{asked_in}
-use Rattle.kmip_words.specs.Calls.{with_response, call_of_one, call_of_two, call_of_three, call_of_four, call_of_words, call_from, call_of, call_in, locate_of, locate_parts, attributes_of, create_aes_of, plain_call, or_request, typed_call}
+use Rattle.kmip_words.specs.Calls.{with_response, call_of_one, call_of_two, call_of_three, call_of_words, call_from, call_of, call_in, locate_of, locate_parts, attributes_of, create_aes_of, plain_call, or_request, typed_call}
 use Rattle.kmip_words.specs.declared.call.Call.{Call}
-use Rattle.kmip_words.specs.declared.call.Call.TheVariants.{Locate, Attributes, CreateAes, Discover, Request}
-use Rattle.kmip_words.specs.declared.call.Recorded.{Recorded}
+use Rattle.kmip_words.specs.declared.call.Call.TheVariants.{Discover}
 use Rattle.kmip_call.specs.Record.{with_spaces, response_word, record_line, is_call, has_byte, is_script_word, are_script_words, is_recordable, is_unscripted, ReadsBack}
 
 -- ---- tests
@@ -115,7 +114,8 @@ utf8_of line h = elim (is_utf8 line) as (λ b. is_call (cond b (call_from (words
 -- ---- a response as a word
 
 digits_ascii : IsAscii upper_digits
-digits_ascii = (IsAscii-cons 48 _ (omega arith) (IsAscii-cons 49 _ (omega arith) (IsAscii-cons 50 _ (omega arith) (IsAscii-cons 51 _ (omega arith) (IsAscii-cons 52 _ (omega arith) (IsAscii-cons 53 _ (omega arith) (IsAscii-cons 54 _ (omega arith) (IsAscii-cons 55 _ (omega arith) (IsAscii-cons 56 _ (omega arith) (IsAscii-cons 57 _ (omega arith) (IsAscii-cons 65 _ (omega arith) (IsAscii-cons 66 _ (omega arith) (IsAscii-cons 67 _ (omega arith) (IsAscii-cons 68 _ (omega arith) (IsAscii-cons 69 _ (omega arith) (IsAscii-cons 70 _ (omega arith) IsAscii-nil))))))))))))))))
+digits_ascii =
+    IsAscii-cons 48 (codes "123456789ABCDEF") (omega arith) (IsAscii-cons 49 (codes "23456789ABCDEF") (omega arith) (IsAscii-cons 50 (codes "3456789ABCDEF") (omega arith) (IsAscii-cons 51 (codes "456789ABCDEF") (omega arith) (IsAscii-cons 52 (codes "56789ABCDEF") (omega arith) (IsAscii-cons 53 (codes "6789ABCDEF") (omega arith) (IsAscii-cons 54 (codes "789ABCDEF") (omega arith) (IsAscii-cons 55 (codes "89ABCDEF") (omega arith) (IsAscii-cons 56 (codes "9ABCDEF") (omega arith) (IsAscii-cons 57 (codes "ABCDEF") (omega arith) (IsAscii-cons 65 (codes "BCDEF") (omega arith) (IsAscii-cons 66 (codes "CDEF") (omega arith) (IsAscii-cons 67 (codes "DEF") (omega arith) (IsAscii-cons 68 (codes "EF") (omega arith) (IsAscii-cons 69 (codes "F") (omega arith) (IsAscii-cons 70 [] (omega arith) IsAscii-nil)))))))))))))))
 
 word_ascii : (response : List ℕ) → IsAscii (response_word response)
 word_ascii [] = IsAscii-cons 45 [] (omega arith) IsAscii-nil
@@ -156,11 +156,18 @@ bytes_back [] bytes = refl
 bytes_back (byte ∷ response) bytes =
     rw (not_dash byte response, (word_last (byte ∷ response) bytes).some, decode_of-encode_upper (byte ∷ response) bytes) refl
 
+dash_back : bytes_of (codes "-") ≡ Some []
+unfolding bytes_of
+dash_back = refl
+
 -- ---- a record
 
 some_call : (call : Option Call) → is_call (with_response call (Some [])) ≡ true → (it : Call) × (call ≡ Some it)
 some_call (Some call) h = (call, refl)
 some_call None h = absurd (cc)
+
+with_both : (call : Option Call) (response : Option (List ℕ)) (it : Call) (bytes : List ℕ) → call ≡ Some it → response ≡ Some bytes → with_response call response ≡ Some (record { call = it; response = bytes })
+with_both call response it bytes is back = rw (is, back) refl
 
 front_utf8 : (words : List (List ℕ)) → is_utf8 (with_spaces words ++ codes "-") ≡ true → IsUtf8 (with_spaces words)
 front_utf8 words h =
@@ -180,15 +187,14 @@ back words response recordable bytes =
     let dash : IsLast (codes "-") = record { some = refl; no_space = refl } in
     let utf8 : is_utf8 (with_spaces words ++ codes "-") ≡ true = utf8_of (record_line words []) both.1 in
     let first : call_of (record_line words []) ≡ with_response (call_in words) (bytes_of (codes "-")) = reads words (codes "-") both.0 dash utf8 in
-    let none_back : bytes_of (codes "-") ≡ Some [] = bytes_back [] (λ i. omega arith) in
-    let it = some_call (call_in words) (sym (ap is_call (first ∙ ap (with_response (call_in words)) none_back)) ∙ both.1) in
+    let it = some_call (call_in words) (sym (ap is_call (first ∙ ap (with_response (call_in words)) dash_back)) ∙ both.1) in
     let line_utf8 : is_utf8 (record_line words response) ≡ true =
     is_utf8-from_IsUtf8 (record_line words response) (IsUtf8-append (with_spaces words) (response_word response) (front_utf8 words utf8) (IsUtf8-from_ascii (response_word response) (word_ascii response))) in
     record {
       one_line = any_append (λ c. c == 10) (with_spaces words) (response_word response) (spaces_have_none words both.0) (word_has_not response 10 refl refl bytes);
       call = it.0;
       call_is = it.1;
-      back = reads words (response_word response) both.0 (word_last response bytes) line_utf8 ∙ rw (it.1, bytes_back response bytes) refl;
+      back = reads words (response_word response) both.0 (word_last response bytes) line_utf8 ∙ with_both (call_in words) (bytes_of (response_word response)) it.0 response it.1 (bytes_back response bytes);
     }
 
 -- ---- the call of words that a script has

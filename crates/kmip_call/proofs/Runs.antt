@@ -1,12 +1,12 @@
 -- What the parts of the program did, put together.
-use Rattle.std.proofs.Common.{◌≡◌, ◌⊎◌, inl, inr, ℕ, List, ◌++◌, take, refl, subst, arith, Bool, true, false, cond, Option, Some, None, IsTrue}
+use Rattle.std.proofs.Common.{◌≡◌, inl, inr, ℕ, List, refl, subst, arith, true, false, cond, Option, Some, None}
 use Rattle.kmip_link.specs.State.{SourceState, SinkState}
 use Rattle.kmip_words.specs.Streams.{WrotePart}
 use Rattle.kmip_words.specs.declared.call.Call.{Call}
 use Rattle.kmip_words.specs.declared.ending.Ending.{Ending}
 use Rattle.kmip_words.specs.Calls.{typed_call}
 use Rattle.kmip_call.specs.Exchange.{Carried, CarriedPart, line_of, ending_by}
-use Rattle.kmip_call.specs.Program.{is_allowed, call_for, Makes, Streams, streams, Refuses, Reports, Made, BrokenOff, Runs}
+use Rattle.kmip_call.specs.Program.{is_allowed, call_for, Makes, Streams, streams, Refuses, Reports, Made, Runs}
 use Rattle.kmip_call.specs.declared.command.Order.{Order}
 use Rattle.kmip_call.specs.declared.status.Status.{Status}
 use Rattle.kmip_call.specs.declared.status.Status.TheVariants.{OutOfMemory}

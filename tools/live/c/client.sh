@@ -9,7 +9,7 @@ client_needs() {
 }
 
 client_build() {
-    make -C "$top/clients/c" BUILT="$built" OUT="$run/c" CFLAGS='-O1 -g -Werror' all
+    ${limit[@]+"${limit[@]}"} make -C "$top/clients/c" BUILT="$built" OUT="$run/c" CFLAGS='-O1 -g -Werror' all
 }
 
 client_program() { # NAME

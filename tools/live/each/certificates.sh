@@ -12,7 +12,9 @@ key=$certs/plain.key call_is 'the key of another certificate' 3 query
 port=$(free_port) call_is 'nobody listens' 3 query
 fake other/server
 call_is "a server's certificate of another authority" 3 query
-SSL_CERT_FILE=$certs/other/ca.pem call_is 'the same where the system trusts that authority' 3 query
+mkdir system
+cp "$certs/other/ca.pem" system && openssl rehash system >"$said" 2>&1
+SSL_CERT_FILE=$certs/other/ca.pem SSL_CERT_DIR=$work/system call_is 'the same where the system trusts that authority' 3 query
 fake wrong_host
 call_is "a server's certificate for another host" 3 query
 fake expired_server

@@ -12,7 +12,7 @@ client_needs() {
 
 # cargo WORD.. in a copy of the crate, since it writes a Cargo.lock; with Debian's crates, so that no network is needed.
 cargo_of_copy() { # COMMAND WORD..
-    (cd "$run/rust/source" && LIBMETSUWAN_DIR=$built CARGO_TARGET_DIR=$run/rust/target cargo "$1" --offline \
+    (cd "$run/rust/source" && LIBMETSUWAN_DIR=$built CARGO_TARGET_DIR=$run/rust/target ${limit[@]+"${limit[@]}"} cargo "$1" --offline \
         --config 'source.crates-io.replace-with="debian"' --config "source.debian.directory=\"$crates\"" "${@:2}")
 }
 

@@ -1,6 +1,4 @@
-use Rattle.std.proofs.Common.{◌≡◌, ◌≤◌, length, min, take, arith, ◌∙◌, ap, sym, IsTrue, None, Some, vec_len}
-use Rattle.kmip_link.specs.State.{source_left}
-use Rattle.kmip_words.specs.Streams.{Gives}
+use Rattle.std.proofs.Common.{◌≡◌, ◌≤◌, length, arith, ◌∙◌, ap, sym, IsTrue, None, Some, vec_len}
 use Rattle.kmip_call.specs.Wire.{contents_of}
 use Rattle.kmip_call.proofs.Messages.{one_head, one_message_or, head_taken, message_taken_or, head_part, contents_part}
 use Rattle.kmip_call.proofs.wire.read_message.Goals as goal

@@ -1,4 +1,3 @@
-use Rattle.std.proofs.Common.{arith}
 use Rattle.kmip_call.proofs.Exchanges.{none_taken}
 use Rattle.kmip_call.proofs.wire.transfer.Goals as goal
 
