@@ -3,7 +3,6 @@
 use crate::{kmip_operation_answer, kmip_operation_request};
 use kmip_test_messages::message;
 use std::alloc::Global;
-use std::process::Abort;
 use std::test::Fail;
 
 /// What a caller gives for a call.
@@ -69,7 +68,7 @@ fn a_request_is_written_where_it_fits(rt: HostRuntime) -> Result<(), Fail> {
     let length = request(alloc, DECRYPT, false, &[255], &[255], &mut into);
     assert!(rt; length == expected.len() as i64);
     assert!(rt; into.starts_with(&expected));
-    assert!(rt; into[expected.len()] == 7);
+    assert!(rt; into.iter().skip(expected.len()).all(|byte| *byte == 7));
     let mut short = [7u8; 8];
     assert!(rt; request(alloc, DECRYPT, false, b"", b"", &mut short) == length);
     assert!(rt; short == [7u8; 8]);
@@ -186,13 +185,9 @@ fn responses_are_answered(rt: HostRuntime) -> Result<(), Fail> {
         let mut line = [7u8; 300];
         let mut length = 0;
         let status = answer_to(alloc, DECRYPT, &response, &mut line, &mut length);
-        assert_eq!(rt; status, row.status, "{}", row.response);
+        assert!(rt; status == row.status, "{}", row.response);
         assert!(rt; length == row.line.len() as i64, "{}", row.response);
-        assert!(rt;
-            line.as_slice().starts_with(row.line.as_bytes()),
-            "{}",
-            row.response
-        );
+        assert!(rt; line.starts_with(row.line.as_bytes()), "{}", row.response);
     }
     Ok(())
 }
