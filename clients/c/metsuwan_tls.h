@@ -96,8 +96,7 @@ int kmip_call_words(kmip_client *client, const char *call, const char *const *wo
 
    The answer is the line, {"answer":TREE}; kmip_text, kmip_bytes and kmip_pem have none of its
    values. Whether it is about the object that was asked about is the caller's to look at. */
-int kmip_operation(kmip_client *client, const char *name, const char *version,
-                   const char *payload);
+int kmip_operation(kmip_client *client, const char *name, const char *version, const char *payload);
 
 /* The line of JSON of the last call, without its line feed: {"answer":..} after KMIP_ANSWERED, and
    {"error":..,"text":..} after KMIP_REFUSED, KMIP_CALL_GRAMMAR and KMIP_LOST; "" where memory ran
