@@ -150,6 +150,38 @@ int64_t kmip_value(const uint8_t *call, size_t call_len, const uint8_t *response
                    size_t response_len, const uint8_t *path, size_t path_len, bool hex,
                    uint8_t *into, size_t room);
 
+/* Any operation, past the calls of words: its request, as kmip_request writes one. Returns its
+   length in bytes.
+
+   name, name_len           the operation's name in KMIP's table: as Encrypt, MACVerify, Rekey
+   version, version_len     the version that the request names: 1.0, 1.1 or 1.2
+   payload, payload_len     the request's payload, in the JSON of KMIP's Additional Message
+                            Encodings: {"tag":"RequestPayload","value":[{"tag":"Data",
+                            "type":"ByteString","value":"00FF"}]}
+   has_credential .. room   as for kmip_request
+   KMIP_GRAMMAR             the name or the version is none of these, the payload is no JSON of a
+                            structure with the tag RequestPayload, or a text is not UTF-8
+   KMIP_NO_FORM             the request has no wire form: a text is too long for it, or the bytes
+                            of a Big Integer are no multiple of eight
+   KMIP_MEMORY              out of memory */
+int64_t kmip_operation_request(const uint8_t *name, size_t name_len, const uint8_t *version,
+                               size_t version_len, const uint8_t *payload, size_t payload_len,
+                               bool has_credential, const uint8_t *user, size_t user_len,
+                               const uint8_t *password, size_t password_len, uint8_t *into,
+                               size_t room);
+
+/* Says what a response answers to such a call, as kmip_answer does. The line is {"answer":TREE}
+   with the response's payload in the same JSON, or {"error":..,"text":..} with the server's
+   message; no unknown item or number makes a response unreadable. Whether the answer is about the
+   object that the payload names is not looked at.
+
+   name .. payload_len      the call whose request was sent, as above
+   response .. length       as for kmip_answer */
+int32_t kmip_operation_answer(const uint8_t *name, size_t name_len, const uint8_t *version,
+                              size_t version_len, const uint8_t *payload, size_t payload_len,
+                              const uint8_t *response, size_t response_len, uint8_t *into,
+                              size_t room, int64_t *length);
+
 #ifdef __cplusplus
 }
 #endif

@@ -18,7 +18,13 @@ struct kmip_client {
     int status;
     kmip_room call, request, response, line, value, pem;
     size_t response_len;
+    /* of any operation, while its call is made; else null pointers */
+    const char *name, *version, *payload;
 };
+
+static const uint8_t *bytes_of(const char *text) {
+    return (const uint8_t *)text;
+}
 
 /* What is wrong with settings, or a null pointer. */
 static const char *wrong_with(const kmip_settings *settings) {
@@ -118,8 +124,16 @@ static int64_t make_request(kmip_client *client, size_t call_len) {
     size_t password_len = has ? strlen(client->password) : 0;
     if (!kmip_room_has(&client->request, 4096)) return KMIP_MEMORY;
     for (;;) {
-        int64_t length = kmip_request(call, call_len, has, user, user_len, password, password_len,
-                                      client->request.bytes, client->request.room);
+        uint8_t *into = client->request.bytes;
+        size_t room = client->request.room;
+        int64_t length =
+            client->name
+                ? kmip_operation_request(bytes_of(client->name), strlen(client->name),
+                                         bytes_of(client->version), strlen(client->version),
+                                         bytes_of(client->payload), strlen(client->payload), has,
+                                         user, user_len, password, password_len, into, room)
+                : kmip_request(call, call_len, has, user, user_len, password, password_len, into,
+                               room);
         if (length < 0 || (uint64_t)length <= client->request.room) return length;
         if (!kmip_room_has(&client->request, (size_t)length)) return KMIP_MEMORY;
     }
@@ -130,9 +144,17 @@ static int answer(kmip_client *client, size_t call_len) {
     for (;;) {
         int64_t length = 0;
         char *line = (char *)client->line.bytes;
+        const uint8_t *response = client->response.bytes;
+        uint8_t *into = client->line.bytes;
+        size_t room = client->line.room - 1;
         int32_t status =
-            kmip_answer(client->call.bytes, call_len, client->response.bytes, client->response_len,
-                        client->line.bytes, client->line.room - 1, &length);
+            client->name
+                ? kmip_operation_answer(bytes_of(client->name), strlen(client->name),
+                                        bytes_of(client->version), strlen(client->version),
+                                        bytes_of(client->payload), strlen(client->payload),
+                                        response, client->response_len, into, room, &length)
+                : kmip_answer(client->call.bytes, call_len, response, client->response_len, into,
+                              room, &length);
         if (length >= 0 && (uint64_t)length < client->line.room) {
             if (length > 0 && line[length - 1] == '\n') length--;
             line[length] = 0;
@@ -178,8 +200,8 @@ static int exchange(kmip_client *client, size_t call_len, size_t request_len) {
     return status == KMIP_ANSWERED ? answer(client, call_len) : status;
 }
 
-int kmip_call_words(kmip_client *client, const char *call, const char *const *words) {
-    if (!client) return KMIP_LOST;
+/* Begins a call: KMIP_ANSWERED, or the status of what went wrong. */
+static int begin(kmip_client *client) {
     client->response_len = 0;
     client->status = KMIP_LOST;
     if (!kmip_room_has(&client->line, 4096) || !kmip_room_has(&client->response, 4096))
@@ -187,15 +209,52 @@ int kmip_call_words(kmip_client *client, const char *call, const char *const *wo
     if (!client->wire)
         return fails_as(client, KMIP_LOST, "RequestWriteError",
                         "the connection is closed; nothing was sent");
+    return KMIP_ANSWERED;
+}
+
+/* Makes the exchange of a request of this length, which may be a negative number. */
+static int exchange_of(kmip_client *client, size_t call_len, int64_t length) {
+    if (length == KMIP_NO_FORM)
+        return fails_as(client, KMIP_REFUSED, "SerializeError", "request has no wire form");
+    if (length < 0) return out_of_memory(client);
+    return exchange(client, call_len, (size_t)length);
+}
+
+int kmip_call_words(kmip_client *client, const char *call, const char *const *words) {
+    if (!client) return KMIP_LOST;
+    int status = begin(client);
+    if (status != KMIP_ANSWERED) return status;
     if (!kmip_may_ask(call, words)) return wrong_words(client, call, words);
     if (!kmip_write_words(&client->call, call, words)) return out_of_memory(client);
     size_t call_len = strlen((const char *)client->call.bytes);
     int64_t length = make_request(client, call_len);
     if (length == KMIP_GRAMMAR) return wrong_words(client, call, words);
-    if (length == KMIP_NO_FORM)
-        return fails_as(client, KMIP_REFUSED, "SerializeError", "request has no wire form");
-    if (length < 0) return out_of_memory(client);
-    return exchange(client, call_len, (size_t)length);
+    return exchange_of(client, call_len, length);
+}
+
+/* The same for any operation, whose three texts stand in the client. */
+static int call_operation(kmip_client *client) {
+    int64_t length = make_request(client, 0);
+    if (length == KMIP_GRAMMAR)
+        return fails_as(client, KMIP_CALL_GRAMMAR, "GrammarError",
+                        "the name, the version and the payload are no call of an operation");
+    return exchange_of(client, 0, length);
+}
+
+int kmip_operation(kmip_client *client, const char *name, const char *version,
+                   const char *payload) {
+    if (!client) return KMIP_LOST;
+    int status = begin(client);
+    if (status != KMIP_ANSWERED) return status;
+    /* No words are a call that has no value at any path. */
+    if (!kmip_room_has(&client->call, 1)) return out_of_memory(client);
+    client->call.bytes[0] = 0;
+    client->name = name;
+    client->version = version;
+    client->payload = payload;
+    status = call_operation(client);
+    client->name = client->version = client->payload = NULL;
+    return status;
 }
 
 int kmip_call(kmip_client *client, const char *call, ...) {

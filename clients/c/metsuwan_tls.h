@@ -89,6 +89,15 @@ int kmip_call(kmip_client *client, const char *call, ...) KMIP_ENDS_WITH_NULL;
 /* The same, with the words in an array that ends with a null pointer. */
 int kmip_call_words(kmip_client *client, const char *call, const char *const *words);
 
+/* Makes a call of any operation of KMIP 1.0 to 1.2, and returns its status, as kmip_call does. Its
+   name, its version and its payload are those of kmip_operation_request, each a text:
+
+       kmip_operation(client, "Encrypt", "1.2", "{\"tag\":\"RequestPayload\",\"value\":[..]}")
+
+   The answer is the line, {"answer":TREE}; kmip_text, kmip_bytes and kmip_pem have none of its
+   values. Whether it is about the object that was asked about is the caller's to look at. */
+int kmip_operation(kmip_client *client, const char *name, const char *version, const char *payload);
+
 /* The line of JSON of the last call, without its line feed: {"answer":..} after KMIP_ANSWERED, and
    {"error":..,"text":..} after KMIP_REFUSED, KMIP_CALL_GRAMMAR and KMIP_LOST; "" where memory ran
    out, or no call was made. It stays until the next call. */

@@ -3,13 +3,13 @@ from __future__ import annotations
 
 import json
 import threading
-from typing import Any, Dict, List, Optional, Sequence, Tuple, Union
+from typing import Any, Dict, List, Mapping, Optional, Sequence, Tuple, Union
 
 from .calls import Bytes, Option, Word, line_of
 from .errors import (ConnectError, ConnectionLost, DeserializeError, GrammarError, MissingValue,
                      RequestWriteError, ResponseReadError, SerializeError, error_of)
 from .library import (ANSWERED, CALL_GRAMMAR, GRAMMAR, LOST, NO_FORM, NO_MEMORY, TOO_LONG,
-                      Credential, Library)
+                      Call, Credential, Library, Operation)
 from .objects import KeyPair, ManagedObject, Signed, bytes_at, text_at, value_at
 from .wire import Passphrase, Port, Wire, context_of
 
@@ -93,13 +93,37 @@ class Client:
         :raises KmipError: by kind, as ``ItemNotFound``
         :raises TypeError: a word is of another type than the call wants
         """
-        line = line_of(name, words, options)
+        return self._answer_to(line_of(name, words, options),
+                               '%s and its words are not of the grammar' % name)
+
+    def operation(self, name: str, payload: Union[str, Mapping[str, Any]], *,
+                  version: str = '1.2') -> Dict[str, Any]:
+        """Makes a call of any operation of KMIP 1.0 to 1.2, by its name, as ``Encrypt``.
+
+        ``payload`` is the request's payload in the JSON of KMIP's Additional Message Encodings, as
+        a text or as a dict: ``{'tag': 'RequestPayload', 'value': [{'tag': 'Data', 'type':
+        'ByteString', 'value': '00FF'}]}``. What is returned is the response's payload as such a
+        dict. Whether it is about the object that was asked about is the caller's to look at.
+
+        :raises KmipError: by kind, as ``ItemNotFound``, with the server's message
+        :raises GrammarError: the operation or the version has another name, or the payload is none
+        """
+        text = payload if isinstance(payload, str) else json.dumps(payload)
+        wrong = '%s, %s and the payload are no call of an operation' % (name, version)
+        try:
+            call = Operation(name.encode(), version.encode(), text.encode())
+        except UnicodeEncodeError:
+            raise GrammarError(wrong) from None
+        return self._answer_to(call, wrong)
+
+    def _answer_to(self, call: Call, wrong: str) -> Dict[str, Any]:
+        """The answer to a call; ``wrong`` is what is said of one that the library does not take."""
         with self._lock:
-            status, told = self._exchange(line)
+            status, told = self._exchange(call)
         if status == NO_MEMORY:
             raise MemoryError
         if status == CALL_GRAMMAR:
-            raise GrammarError('%s and its words are not of the grammar' % name)
+            raise GrammarError(wrong)
         answer = json.loads(told)
         if status != ANSWERED:
             raise error_of(status, answer)
@@ -207,7 +231,7 @@ class Client:
         if wire is not None:
             wire.close(in_order)
 
-    def _exchange(self, call: bytes) -> Tuple[int, str]:
+    def _exchange(self, call: Call) -> Tuple[int, str]:
         """The status of a call and its line of JSON. Whatever goes wrong, a connection of which it
         is not known what comes next is closed."""
         if self._wire is None:

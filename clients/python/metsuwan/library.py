@@ -3,9 +3,22 @@ from __future__ import annotations
 
 import ctypes
 import os
-from typing import Optional, Tuple, Union
+from typing import List, NamedTuple, Optional, Tuple, Union
 
 Credential = Optional[Tuple[bytes, bytes]]
+
+
+class Operation(NamedTuple):
+    """A call of any operation: its name, the version of KMIP, and its payload in JSON."""
+
+    name: bytes
+    version: bytes
+    payload: bytes
+
+
+# A line of words, or any operation.
+Call = Union[bytes, Operation]
+
 
 # What the library returns in place of a length.
 GRAMMAR, NOT_A_MESSAGE, TOO_LONG, MEMORY, NO_FORM = -2, -3, -4, -5, -6
@@ -19,6 +32,14 @@ def _path() -> str:
     return os.environ.get('LIBMETSUWAN') or (own if os.path.exists(own) else 'libmetsuwan.so.1')
 
 
+def _parts(call: Call) -> List[bytes]:
+    return list(call) if isinstance(call, Operation) else [call]
+
+
+def _with_lengths(parts: List[bytes]) -> List[Union[bytes, int]]:
+    return [it for part in parts for it in (part, len(part))]
+
+
 class Library:
     """The calls of ``libmetsuwan.so``."""
 
@@ -28,21 +49,29 @@ class Library:
         self._request = library.kmip_request
         self._request.restype = signed
         self._request.argtypes = [text, size, ctypes.c_bool, text, size, text, size, text, size]
+        self._operation_request = library.kmip_operation_request
+        self._operation_request.restype = signed
+        self._operation_request.argtypes = [text, size, text, size, *self._request.argtypes]
         self._contents_len = library.kmip_contents_len
         self._contents_len.restype = signed
         self._contents_len.argtypes = [text, size, ctypes.c_uint32]
         self._answer = library.kmip_answer
         self._answer.restype = ctypes.c_int32
         self._answer.argtypes = [text, size, text, size, text, size, ctypes.POINTER(signed)]
+        self._operation_answer = library.kmip_operation_answer
+        self._operation_answer.restype = ctypes.c_int32
+        self._operation_answer.argtypes = [text, size, text, size, *self._answer.argtypes]
 
-    def request(self, call: bytes, credential: Credential = None) -> Union[bytes, int]:
+    def request(self, call: Call, credential: Credential = None) -> Union[bytes, int]:
         """The request of a call, or a negative number."""
+        make = self._operation_request if isinstance(call, Operation) else self._request
         user, password = credential or (b'', b'')
-        room = 4096 + 2 * (len(call) + len(user) + len(password))
+        parts = _parts(call)
+        room = 4096 + 2 * (sum(map(len, parts)) + len(user) + len(password))
         while True:
             into = ctypes.create_string_buffer(room)
-            length: int = self._request(call, len(call), credential is not None, user, len(user),
-                                        password, len(password), into, room)
+            length: int = make(*_with_lengths(parts), credential is not None, user, len(user),
+                               password, len(password), into, room)
             if length < 0:
                 return length
             if length <= room:
@@ -54,12 +83,14 @@ class Library:
         length: int = self._contents_len(head, len(head), limit)
         return length
 
-    def answer(self, call: bytes, response: bytes) -> Tuple[int, str]:
+    def answer(self, call: Call, response: bytes) -> Tuple[int, str]:
         """The status of a response, and its line of JSON."""
+        read = self._operation_answer if isinstance(call, Operation) else self._answer
+        parts = [*_parts(call), response]
         room = 4096 + 8 * len(response)
         while True:
             into, length = ctypes.create_string_buffer(room), ctypes.c_int64()
-            status: int = self._answer(call, len(call), response, len(response), into, room, length)
+            status: int = read(*_with_lengths(parts), into, room, length)
             if length.value <= room:
                 return status, into.raw[:length.value].decode()
             room = length.value

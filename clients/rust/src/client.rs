@@ -2,7 +2,7 @@
 use crate::answer::Answer;
 use crate::error::{Error, Result};
 use crate::json::Json;
-use crate::library::{self, BadHead, NoRequest, Status};
+use crate::library::{self, BadHead, NoRequest, Operation, Status};
 use crate::payload::{
     Attribute, GetResponsePayload, ModifyAttributeResponsePayload, ProtocolVersion,
     QueryResponsePayload, RNGRetrieveResponsePayload, SignResponsePayload,
@@ -261,25 +261,38 @@ impl<T: Read + Write> Client<T> {
         self.call_line(&word::line_of_texts(name, texts)?)
     }
 
+    /// Makes a call of any operation of KMIP 1.0 to 1.2 by its name, as `Encrypt`, with this version,
+    /// as `1.2`. The request's payload is given in the JSON of KMIP's Additional Message Encodings,
+    /// and the answer is the response's payload in the same JSON:
+    /// `{"tag":"RequestPayload","value":[{"tag":"Data","type":"ByteString","value":"00FF"}]}`.
+    /// Whether it is about the object that was asked about is the caller's to look at.
+    pub fn operation(&self, name: &str, version: &str, payload: &str) -> Result<Answer> {
+        self.make(Asked::Operation(Operation { name, version, payload }))
+    }
+
     /// The stream, where no call has lost it.
     pub fn into_inner(self) -> Option<T> {
         self.stream.into_inner().ok().flatten()
     }
 
     fn call_line(&self, line: &str) -> Result<Answer> {
+        self.make(Asked::Line(line))
+    }
+
+    fn make(&self, asked: Asked<'_>) -> Result<Answer> {
         let mut guard = self.stream();
         let stream = guard.as_mut().ok_or_else(Error::closed)?;
         let credential = self.credential.as_ref();
-        let request =
-            library::request(line, credential.map(|it| (it.user.as_str(), it.password.as_str())))
-                .map_err(|reason| match reason {
-                    NoRequest::Grammar => grammar(line),
-                    NoRequest::NoForm => Error::no_form(),
-                    NoRequest::Memory => Error::memory(),
-                });
+        let request = asked
+            .request(credential.map(|it| (it.user.as_str(), it.password.as_str())))
+            .map_err(|reason| match reason {
+                NoRequest::Grammar => asked.grammar(),
+                NoRequest::NoForm => Error::no_form(),
+                NoRequest::Memory => Error::memory(),
+            });
         let answer = request.and_then(|request| {
             (self.before_call)(stream).map_err(|error| Error::not_sent(&error))?;
-            exchange(stream, line, &request, self.limit)
+            exchange(stream, asked, &request, self.limit)
         });
         if matches!(&answer, Err(error) if error.is_lost()) {
             *guard = None;
@@ -298,15 +311,48 @@ impl<T: Read + Write> Client<T> {
     }
 }
 
-fn grammar(line: &str) -> Error {
-    let name = line.split(' ').next().unwrap_or(line);
-    Error::grammar(format!("{name} and its words are not of the grammar"))
+/// A call, as the library takes it.
+#[derive(Clone, Copy)]
+enum Asked<'a> {
+    /// A line of words.
+    Line(&'a str),
+    /// Any operation.
+    Operation(Operation<'a>),
+}
+
+impl Asked<'_> {
+    fn request(&self, credential: Option<(&str, &str)>) -> std::result::Result<Vec<u8>, NoRequest> {
+        match self {
+            Asked::Line(line) => library::request(line, credential),
+            Asked::Operation(call) => library::operation_request(call, credential),
+        }
+    }
+
+    fn answer(&self, response: &[u8]) -> (Status, String) {
+        match self {
+            Asked::Line(line) => library::answer(line, response),
+            Asked::Operation(call) => library::operation_answer(call, response),
+        }
+    }
+
+    /// The error of a call that is none.
+    fn grammar(&self) -> Error {
+        match self {
+            Asked::Line(line) => {
+                let name = line.split(' ').next().unwrap_or(line);
+                Error::grammar(format!("{name} and its words are not of the grammar"))
+            }
+            Asked::Operation(Operation { name, version, .. }) => Error::grammar(format!(
+                "{name}, {version} and the payload are no call of an operation"
+            )),
+        }
+    }
 }
 
 /// The three steps that nothing checks: these bytes are sent, 8 are read, and then so many.
 fn exchange<T: Read + Write>(
     stream: &mut T,
-    line: &str,
+    asked: Asked<'_>,
     request: &[u8],
     limit: u32,
 ) -> Result<Answer> {
@@ -330,14 +376,14 @@ fn exchange<T: Read + Write>(
         read(stream, &mut response[from..])?;
         left -= piece;
     }
-    let (status, told) = library::answer(line, &response);
+    let (status, told) = asked.answer(&response);
     match status {
         Status::Answered => {
             Answer::of_line(&told, response).ok_or_else(|| Error::of_line(&told, true))
         }
         Status::Refused => Err(Error::of_line(&told, false)),
         Status::Lost => Err(Error::of_line(&told, true)),
-        Status::Grammar => Err(grammar(line)),
+        Status::Grammar => Err(asked.grammar()),
         Status::Memory => Err(Error::memory()),
     }
 }

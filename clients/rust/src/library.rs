@@ -23,6 +23,34 @@ extern "C" {
         room: usize,
         length: *mut i64,
     ) -> i32;
+    fn kmip_operation_request(
+        name: *const u8,
+        name_len: usize,
+        version: *const u8,
+        version_len: usize,
+        payload: *const u8,
+        payload_len: usize,
+        has_credential: bool,
+        user: *const u8,
+        user_len: usize,
+        password: *const u8,
+        password_len: usize,
+        into: *mut u8,
+        room: usize,
+    ) -> i64;
+    fn kmip_operation_answer(
+        name: *const u8,
+        name_len: usize,
+        version: *const u8,
+        version_len: usize,
+        payload: *const u8,
+        payload_len: usize,
+        response: *const u8,
+        response_len: usize,
+        into: *mut u8,
+        room: usize,
+        length: *mut i64,
+    ) -> i32;
     fn kmip_value(
         call: *const u8,
         call_len: usize,
@@ -122,11 +150,54 @@ pub fn request(call: &str, credential: Option<(&str, &str)>) -> Result<Vec<u8>, 
             into.len(),
         )
     });
-    made.map_err(|code| match code {
+    made.map_err(no_request)
+}
+
+fn no_request(code: i64) -> NoRequest {
+    match code {
         -2 => NoRequest::Grammar,
         -6 => NoRequest::NoForm,
         _ => NoRequest::Memory,
-    })
+    }
+}
+
+/// A call of any operation.
+#[derive(Clone, Copy, Debug, PartialEq, Eq)]
+pub struct Operation<'a> {
+    /// Its name, as `Encrypt`.
+    pub name: &'a str,
+    /// The version of KMIP: `1.0`, `1.1` or `1.2`.
+    pub version: &'a str,
+    /// The request's payload, as JSON.
+    pub payload: &'a str,
+}
+
+/// The request of a call of any operation, with a user and a password as its credential.
+pub fn operation_request(
+    call: &Operation<'_>,
+    credential: Option<(&str, &str)>,
+) -> Result<Vec<u8>, NoRequest> {
+    let (user, password) = credential.unwrap_or(("", ""));
+    let room = 4096 + 2 * (call.payload.len() + user.len() + password.len());
+    // SAFETY: each pointer is of a slice of the length beside it, and none is null.
+    let made = with_room(room, |into| unsafe {
+        kmip_operation_request(
+            call.name.as_ptr(),
+            call.name.len(),
+            call.version.as_ptr(),
+            call.version.len(),
+            call.payload.as_ptr(),
+            call.payload.len(),
+            credential.is_some(),
+            user.as_ptr(),
+            user.len(),
+            password.as_ptr(),
+            password.len(),
+            into.as_mut_ptr(),
+            into.len(),
+        )
+    });
+    made.map_err(no_request)
 }
 
 /// How many bytes follow a head. The response may have at most `limit` bytes, the head counted; 0
@@ -141,20 +212,47 @@ pub fn contents_len(head: &[u8; 8], limit: u32) -> Result<usize, BadHead> {
 
 /// What a response answers to a call, and its line of JSON.
 pub fn answer(call: &str, response: &[u8]) -> (Status, String) {
-    let mut status = 5;
-    let room = response.len().saturating_mul(8).saturating_add(4096);
     // SAFETY: each pointer is of a slice of the length beside it, or of `length`, and none is null.
-    let line = with_room(room, |into| unsafe {
-        let mut length = 0;
-        status = kmip_answer(
+    line_of(response, |into, length| unsafe {
+        kmip_answer(
             call.as_ptr(),
             call.len(),
             response.as_ptr(),
             response.len(),
             into.as_mut_ptr(),
             into.len(),
-            &mut length,
-        );
+            length,
+        )
+    })
+}
+
+/// What a response answers to a call of any operation, and its line of JSON.
+pub fn operation_answer(call: &Operation<'_>, response: &[u8]) -> (Status, String) {
+    // SAFETY: each pointer is of a slice of the length beside it, or of `length`, and none is null.
+    line_of(response, |into, length| unsafe {
+        kmip_operation_answer(
+            call.name.as_ptr(),
+            call.name.len(),
+            call.version.as_ptr(),
+            call.version.len(),
+            call.payload.as_ptr(),
+            call.payload.len(),
+            response.as_ptr(),
+            response.len(),
+            into.as_mut_ptr(),
+            into.len(),
+            length,
+        )
+    })
+}
+
+/// The status that `read` returns, and the line that it writes.
+fn line_of(response: &[u8], mut read: impl FnMut(&mut [u8], &mut i64) -> i32) -> (Status, String) {
+    let mut status = 5;
+    let room = response.len().saturating_mul(8).saturating_add(4096);
+    let line = with_room(room, |into| {
+        let mut length = 0;
+        status = read(into, &mut length);
         length
     });
     let Ok(line) = line else {

@@ -18,6 +18,8 @@ mod call;
 mod copy;
 mod operation;
 #[cfg(test)]
+mod operation_tests;
+#[cfg(test)]
 mod tests;
 
 use answer::{answer_line, status_of};

@@ -22,10 +22,11 @@ for it in libmetsuwan libmetsuwan_tls; do
     [[ $soname == "$it.so.1" && -e $lib/$soname && -e $lib/$it.a ]]
     verdict "$it has a SONAME, and is there by it"
 done
-[[ $(names_of libmetsuwan.so) == 'kmip_answer kmip_contents_len kmip_request kmip_value' ]]
-verdict 'libmetsuwan.so has its four calls, and no other names'
+[[ $(names_of libmetsuwan.so | sed 's/kmip_//g') == \
+    'answer contents_len operation_answer operation_request request value' ]]
+verdict 'libmetsuwan.so has its six calls, and no other names'
 [[ $(names_of libmetsuwan_tls.so | sed 's/kmip_//g') == \
-    'bytes call call_words close line open pem text word' ]]
+    'bytes call call_words close line open operation pem text word' ]]
 verdict 'libmetsuwan_tls.so has the calls of its header, and no other names'
 version=$(sed -n 's/^VERSION := //p' "$top/clients/c/Makefile")
 [[ $(pkg-config --modversion metsuwan metsuwan_tls | sort -u) == "$version" ]]

@@ -1,0 +1,193 @@
+//! Calls of any operation as a caller makes them. Messages stand in the notation of
+//! kmip_test_messages, and JSON is written by hand.
+use crate::{kmip_operation_answer, kmip_operation_request};
+use kmip_test_messages::message;
+use std::alloc::Global;
+use std::test::Fail;
+
+/// What a caller gives for a call.
+#[derive(Clone, Copy)]
+struct Words {
+    name: &'static [u8],
+    version: &'static [u8],
+    payload: &'static [u8],
+}
+
+/// `kmip_operation_request` without its clauses, so that the proof of a test looks into no
+/// definition; so is the function below.
+fn request(
+    alloc: Global,
+    words: Words,
+    has_credential: bool,
+    user: &[u8],
+    password: &[u8],
+    into: &mut [u8],
+) -> i64 {
+    kmip_operation_request(
+        alloc,
+        words.name,
+        words.version,
+        words.payload,
+        has_credential,
+        user,
+        password,
+        into,
+    )
+}
+
+fn answer_to(
+    alloc: Global,
+    words: Words,
+    response: &[u8],
+    into: &mut [u8],
+    length: &mut i64,
+) -> i32 {
+    kmip_operation_answer(
+        alloc,
+        words.name,
+        words.version,
+        words.payload,
+        response,
+        into,
+        length,
+    )
+}
+
+/// Decrypt with a key that is named.
+const DECRYPT: Words = Words {
+    name: b"Decrypt",
+    version: b"1.2",
+    payload: b"{\"tag\":\"RequestPayload\",\"value\":[{\"tag\":\"UniqueIdentifier\",\"type\":\"TextString\",\"value\":\"k1\"},{\"tag\":\"Data\",\"type\":\"ByteString\",\"value\":\"00FF\"}]}",
+};
+
+#[test]
+fn a_request_is_written_where_it_fits(rt: HostRuntime) -> Result<(), Fail> {
+    let alloc: Global = rt.alloc();
+    let expected = message(alloc, "REQ2(20, 94 \"k1\",C2 x00FF)")?;
+    let mut into = [7u8; 300];
+    let length = request(alloc, DECRYPT, false, &[255], &[255], &mut into);
+    assert!(rt; length == expected.len() as i64);
+    assert!(rt; into.starts_with(&expected));
+    assert!(rt; into.iter().skip(expected.len()).all(|byte| *byte == 7));
+    let mut short = [7u8; 8];
+    assert!(rt; request(alloc, DECRYPT, false, b"", b"", &mut short) == length);
+    assert!(rt; short == [7u8; 8]);
+    Ok(())
+}
+
+#[test]
+fn a_credential_is_sent_where_one_is_given(rt: HostRuntime) -> Result<(), Fail> {
+    let alloc: Global = rt.alloc();
+    let expected = message(
+        alloc,
+        "78{77{69{6A i1,6B i2},0C{23{24 e1,25{99 \"u\",A1 \"p\"}}},0D i1},0F{5C e20,79{94 \"k1\",C2 x00FF}}}",
+    )?;
+    let mut into = [7u8; 300];
+    let length = request(alloc, DECRYPT, true, b"u", b"p", &mut into);
+    assert!(rt; length == expected.len() as i64);
+    assert!(rt; into.starts_with(&expected));
+    assert!(rt; request(alloc, DECRYPT, true, &[255], b"p", &mut into) == -2);
+    assert!(rt; request(alloc, DECRYPT, true, b"u", &[255], &mut into) == -2);
+    Ok(())
+}
+
+/// A Big Integer of one byte, which has no wire form.
+const NO_FORM: Words = Words {
+    name: b"Encrypt",
+    version: b"1.2",
+    payload: b"{\"tag\":\"RequestPayload\",\"value\":[{\"tag\":\"Modulus\",\"type\":\"BigInteger\",\"value\":\"0x01\"}]}",
+};
+
+/// Words that ask for no call.
+const NO_CALLS: &[Words] = &[
+    Words {
+        name: b"decrypt",
+        version: b"1.2",
+        payload: b"{\"tag\":\"RequestPayload\",\"value\":[]}",
+    },
+    Words {
+        name: b"Decrypt",
+        version: b"1.4",
+        payload: b"{\"tag\":\"RequestPayload\",\"value\":[]}",
+    },
+    Words {
+        name: b"Decrypt",
+        version: b"1.2",
+        payload: b"{\"tag\":\"ResponsePayload\",\"value\":[]}",
+    },
+    Words {
+        name: b"Decrypt\xFF",
+        version: b"1.2",
+        payload: b"{\"tag\":\"RequestPayload\",\"value\":[]}",
+    },
+    Words {
+        name: b"Decrypt",
+        version: b"1.2\xFF",
+        payload: b"{\"tag\":\"RequestPayload\",\"value\":[]}",
+    },
+    Words {
+        name: b"Decrypt",
+        version: b"1.2",
+        payload: b"{\"tag\":\"RequestPayload\",\"value\":[{\"tag\":\"UniqueIdentifier\",\"type\":\"TextString\",\"value\":\"\xFF\"}]}",
+    },
+];
+
+#[test]
+fn what_is_no_call_has_a_code(rt: HostRuntime) {
+    let alloc: Global = rt.alloc();
+    let mut into = [7u8; 8];
+    let mut length = 7;
+    for words in NO_CALLS {
+        assert!(rt; request(alloc, *words, false, b"", b"", &mut into) == -2);
+        assert!(rt; answer_to(alloc, *words, &[], &mut into, &mut length) == 2);
+        assert!(rt; length == 0);
+    }
+    assert!(rt; request(alloc, NO_FORM, false, b"", b"", &mut into) == -6);
+    assert!(rt; into == [7u8; 8]);
+}
+
+/// A response to Decrypt, and the status and the line that it comes to.
+#[derive(Clone, Copy)]
+struct AnswerRow {
+    response: &'static str,
+    status: i32,
+    line: &'static str,
+}
+
+const ANSWERS: &[AnswerRow] = &[
+    AnswerRow {
+        response: "OK2(20, 94 \"k1\",C2 xDEADBEEF),!FF",
+        status: 0,
+        line: "{\"answer\":{\"tag\":\"ResponsePayload\",\"value\":[{\"tag\":\"UniqueIdentifier\",\"type\":\"TextString\",\"value\":\"k1\"},{\"tag\":\"Data\",\"type\":\"ByteString\",\"value\":\"DEADBEEF\"}]}}\n",
+    },
+    AnswerRow {
+        response: "RES2(5C e20,7F e1,7E e12,7D \"no such mechanism\")",
+        status: 1,
+        line: "{\"error\":\"ServerError\",\"text\":\"Operation Decrypt failed for reason 18: no such mechanism\"}\n",
+    },
+    AnswerRow {
+        response: "OK2(1F, C2 xDEADBEEF)",
+        status: 1,
+        line: "{\"error\":\"InternalError\",\"text\":\"Response does not match request operation Decrypt\"}\n",
+    },
+    AnswerRow {
+        response: "!42007B010000009042007A01",
+        status: 3,
+        line: "{\"error\":\"ResponseReadError\",\"text\":\"end of input\"}\n",
+    },
+];
+
+#[test]
+fn responses_are_answered(rt: HostRuntime) -> Result<(), Fail> {
+    let alloc: Global = rt.alloc();
+    for row in ANSWERS {
+        let response = message(alloc, row.response)?;
+        let mut line = [7u8; 300];
+        let mut length = 0;
+        let status = answer_to(alloc, DECRYPT, &response, &mut line, &mut length);
+        assert!(rt; status == row.status, "{}", row.response);
+        assert!(rt; length == row.line.len() as i64, "{}", row.response);
+        assert!(rt; line.starts_with(row.line.as_bytes()), "{}", row.response);
+    }
+    Ok(())
+}
