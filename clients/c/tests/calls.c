@@ -153,6 +153,30 @@ static void close_waits(kmip_client *client) {
     check(seconds_now() - from < 10, "kmip_close does not wait for a server that says nothing");
 }
 
+/* Any operation, by its name and a payload in JSON. */
+static void operation(kmip_client *client) {
+    static const char encrypt[] =
+        "{\"tag\":\"RequestPayload\",\"value\":[{\"tag\":"
+        "\"UniqueIdentifier\",\"type\":\"TextString\",\"value\":\"k1\"}]}";
+    check(kmip_operation(client, "Encrypt", "1.2", encrypt) == KMIP_ANSWERED, "Encrypt");
+    check_text(kmip_line(client),
+               "{\"answer\":{\"tag\":\"ResponsePayload\",\"value\":[{\"tag\":"
+               "\"UniqueIdentifier\",\"type\":\"TextString\",\"value\":\"k1\"}]}}",
+               "its answer is the payload of the response");
+    check(kmip_text(client, "tag", NULL) == NULL, "which has no value at a path");
+    check(kmip_operation(client, "encrypt", "1.2", encrypt) == KMIP_CALL_GRAMMAR,
+          "another name is no call");
+    check(kmip_operation(client, "Encrypt", "1.2", "{}") == KMIP_CALL_GRAMMAR,
+          "nor is another payload");
+    check_text(kmip_line(client),
+               "{\"error\":\"GrammarError\",\"text\":\"the name, the version and the payload are "
+               "no call of an operation\"}",
+               "the reason is said");
+    check(kmip_call(client, "query", NULL) == KMIP_ANSWERED, "the next call is one of words");
+    check(kmip_text(client, "vendor_identification", NULL) != NULL, "and has its values");
+    check(kmip_operation(NULL, "Encrypt", "1.2", encrypt) == KMIP_LOST, "a null client is lost");
+}
+
 int main(int argc, char **argv) {
     if (argc < 7) return 2;
     const char *mode = argv[1];
@@ -167,6 +191,7 @@ int main(int argc, char **argv) {
     if (strcmp(mode, "another_object") == 0) another_object(client);
     if (strcmp(mode, "ended") == 0) ended(client);
     if (strcmp(mode, "values") == 0) values(client);
+    if (strcmp(mode, "operation") == 0) operation(client);
     if (strcmp(mode, "refused") == 0) refused(client);
     kmip_close(client);
     return 0;

@@ -47,6 +47,25 @@ fn an_answer_about_another_object() {
 
 #[test]
 #[ignore = "it needs the fake servers"]
+fn any_operation() {
+    let client = client("good");
+    let payload = r#"{"tag":"RequestPayload","value":[{"tag":"UniqueIdentifier","type":"TextString","value":"k1"}]}"#;
+    let answer = client.operation("Encrypt", "1.2", payload).unwrap();
+    assert_eq!(answer.text_at("tag").unwrap(), "ResponsePayload");
+    assert_eq!(answer.text_at("value.0.value").unwrap(), "k1");
+    for (name, version, payload) in
+        [("encrypt", "1.2", payload), ("Encrypt", "1.3", payload), ("Encrypt", "1.2", "{}")]
+    {
+        let error = client.operation(name, version, payload).unwrap_err();
+        let wanted =
+            format!("GrammarError: {name}, {version} and the payload are no call of an operation");
+        assert_eq!(error.to_string(), wanted);
+    }
+    client.query().unwrap();
+}
+
+#[test]
+#[ignore = "it needs the fake servers"]
 fn bytes_that_no_call_asked_for() {
     let text = "the server sent bytes that no call had asked for; nothing was sent";
     for fake in ["two", "trailing"] {

@@ -20,4 +20,5 @@ fake ends
 test_run calls in_order
 fake good
 test_run calls values
+test_run calls operation
 test_run calls refused

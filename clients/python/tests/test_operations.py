@@ -1,0 +1,39 @@
+"""Calls of any operation, by its name and a payload in JSON."""
+import unittest
+from typing import Any, Dict, List
+
+from metsuwan import GrammarError, SerializeError
+
+from .servers import client_of
+
+ITEM: Dict[str, Any] = {'tag': 'UniqueIdentifier', 'type': 'TextString', 'value': 'ké'}
+
+
+def payload(*items: Dict[str, Any], tag: str = 'RequestPayload') -> Dict[str, Any]:
+    value: List[Dict[str, Any]] = list(items)
+    return {'tag': tag, 'value': value}
+
+
+class Operations(unittest.TestCase):
+    def test_an_answer_is_the_responses_payload(self) -> None:
+        with client_of('good') as kmip:
+            answer = kmip.operation('Encrypt', payload(ITEM))
+            self.assertEqual(answer, payload(ITEM, tag='ResponsePayload'))
+            answer = kmip.operation('Query', '{"value":[],"tag":"RequestPayload"}', version='1.0')
+            self.assertEqual(answer, payload(
+                {'tag': 'Operation', 'type': 'Enumeration', 'value': 'Create'},
+                {'tag': 'VendorIdentification', 'type': 'TextString', 'value': 'fake'},
+                tag='ResponsePayload'))
+
+    def test_what_is_no_call_is_an_error_and_nothing_is_sent(self) -> None:
+        with client_of('good') as kmip:
+            for name, version, given in (
+                    ('encrypt', '1.2', payload()), ('Encrypt', '1.3', payload()),
+                    ('Encrypt', '1.2', payload(tag='ResponsePayload')), ('Encrypt', '1.2', ''),
+                    ('Encrypt', '1.2', payload({'tag': 'Data'})), ('\ud800', '1.2', payload())):
+                with self.subTest(name=name, version=version), self.assertRaises(GrammarError):
+                    kmip.operation(name, given, version=version)
+            with self.assertRaises(SerializeError):
+                kmip.operation('Encrypt', payload(
+                    {'tag': 'Modulus', 'type': 'BigInteger', 'value': '0x01'}))
+            self.assertEqual(kmip.query()['vendor_identification'], 'fake')
