@@ -35,7 +35,9 @@ pub fn call_of(alloc: Global, line: &[u8]) -> Result<Option<Call>, OutOfMemory>
 /// A user name and a password, where a request is to carry them.
 #[derive(Drop)]
 pub struct Credential {
+    /// The user name; a request carries a credential only where there are both.
     pub user: Option<Text>,
+    /// The password.
     pub password: Option<Text>,
 }
 

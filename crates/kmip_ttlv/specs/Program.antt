@@ -1,5 +1,5 @@
 -- What the program writes for its input.
-use Rattle.std.specs.Prelude.{◌≡◌, ℕ, ◌==◌, ◌||◌, not, Bool, List, [], ◌∷◌, ◌++◌, Some, None, filter, IsUtf8, Ok, Err}
+use Rattle.std.specs.Prelude.{◌≡◌, ℕ, ◌==◌, ◌||◌, ◌&&◌, not, Bool, List, [], ◌∷◌, ◌++◌, Option, Some, None, filter, IsUtf8, Ok, Err, if◌then◌else◌, codes, bytes_eq}
 use Rattle.std.specs.Option.{unwrap_or}
 use Rattle.std.specs.Result.{result_ok}
 use Rattle.hex.specs.Hex.{decode_of, encode_upper}
@@ -13,6 +13,17 @@ use Rattle.kmip_ttlv.specs.declared.program.Command.{Command}
 use Rattle.kmip_ttlv.specs.declared.program.Command.TheVariants as commands
 use Rattle.kmip_ttlv.specs.declared.program.Failure.{Failure}
 use Rattle.kmip_ttlv.specs.declared.program.Failure.TheVariants as failures
+
+-- what the words ask for: `decode`, `decode xml` or `encode`
+abbrev pub command_of : List (List ℕ) → Option Command
+command_of (word ∷ []) =
+    if bytes_eq word (codes "decode") then Some commands.DecodeJson
+    else if bytes_eq word (codes "encode") then Some commands.Encode
+    else None
+command_of (word ∷ form ∷ []) =
+    if bytes_eq word (codes "decode") && bytes_eq form (codes "xml") then Some commands.DecodeXml
+    else None
+command_of words = None
 
 abbrev pub is_mark : ℕ → Bool
 is_mark c = not ((c == 32) || ((c == 9) || ((c == 10) || (c == 13))))

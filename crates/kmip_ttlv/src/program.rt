@@ -2,7 +2,7 @@
 ghost use Rattle.std.specs.Prelude.{◌≡◌, ◌++◌, [], ◌∷◌, IfOk, MatchResult, filter, IsErrOf};
 ghost use Rattle.kmip_wire.specs.Parses.{Parses};
 ghost use Rattle.kmip_ttlv.specs.Program.{is_mark, bytes_in, WholeFails, Decodes};
-ghost use Rattle.kmip_ttlv.specs.Program.{Encodes, Writes, Fails};
+ghost use Rattle.kmip_ttlv.specs.Program.{Encodes, Writes, Fails, command_of};
 ghost use Rattle.hex.specs.Hex.{encode_upper};
 ghost use Rattle.kmip_encodings.specs.Encoding.{json_text};
 ghost use Rattle.kmip_encodings.specs.Xml.{xml_of};
@@ -54,16 +54,19 @@ impl From<NoMemory> for Failure {
 }
 
 /// What the words ask for; `None` where they are none of the program's.
-pub fn command_of(words: &[Text]) -> Option<Command> {
+pub fn command_of(words: &[Text]) -> Option<Command>
+    ensures { result ≡ command_of words.now }
+{
     match words {
         [word] => match word.as_str() {
             "decode" => Some(Command::DecodeJson),
             "encode" => Some(Command::Encode),
             _ => None,
         },
-        [word, form] if word.as_str() == "decode" && form.as_str() == "xml" => {
-            Some(Command::DecodeXml)
-        }
+        [word, form] => match (word.as_str(), form.as_str()) {
+            ("decode", "xml") => Some(Command::DecodeXml),
+            _ => None,
+        },
         _ => None,
     }
 }

@@ -19,24 +19,15 @@ fn types_of_one_field_are_read_shown_and_written(rt: HostRuntime) -> Result<(), 
     comes_back_copied::<NameValue>(&rt, alloc, r#"55 "k1""#, "\"k1\"")?;
     comes_back_copied::<RevocationMessage>(&rt, alloc, r#"80 "k1""#, "\"k1\"")?;
     comes_back_copied::<UniqueIdentifier>(&rt, alloc, r#"94 "k1""#, "\"k1\"")?;
-    // tag 420009, Integer -5
-    comes_back::<AttributeIndex>(&rt, alloc, "09 i-5", "-5")?;
-    // tag 4200D0, Integer -5
-    comes_back::<CounterLength>(&rt, alloc, "D0 i-5", "-5")?;
-    // tag 42002A, Integer -5
-    comes_back::<CryptographicLength>(&rt, alloc, "2A i-5", "-5")?;
-    // tag 4200C4, Integer -5
-    comes_back::<DataLength>(&rt, alloc, "C4 i-5", "-5")?;
-    // tag 4200CF, Integer -5
-    comes_back::<FixedFieldLength>(&rt, alloc, "CF i-5", "-5")?;
-    // tag 4200CD, Integer -5
-    comes_back::<IVLength>(&rt, alloc, "CD i-5", "-5")?;
-    // tag 4200D1, Integer -5
-    comes_back::<InitialCounterValue>(&rt, alloc, "D1 i-5", "-5")?;
-    // tag 4200D2, Integer -5
-    comes_back::<InvocationFieldLength>(&rt, alloc, "D2 i-5", "-5")?;
-    // tag 4200CE, Integer -5
-    comes_back::<TagLength>(&rt, alloc, "CE i-5", "-5")?;
+    comes_back::<AttributeIndex>(&rt, alloc, "420009 i-5", "-5")?;
+    comes_back::<CounterLength>(&rt, alloc, "4200D0 i-5", "-5")?;
+    comes_back::<CryptographicLength>(&rt, alloc, "42002A i-5", "-5")?;
+    comes_back::<DataLength>(&rt, alloc, "4200C4 i-5", "-5")?;
+    comes_back::<FixedFieldLength>(&rt, alloc, "4200CF i-5", "-5")?;
+    comes_back::<IVLength>(&rt, alloc, "4200CD i-5", "-5")?;
+    comes_back::<InitialCounterValue>(&rt, alloc, "4200D1 i-5", "-5")?;
+    comes_back::<InvocationFieldLength>(&rt, alloc, "4200D2 i-5", "-5")?;
+    comes_back::<TagLength>(&rt, alloc, "4200CE i-5", "-5")?;
     comes_back::<RandomIV>(&rt, alloc, "C5 o1", "true")?;
     comes_back_copied::<Data>(&rt, alloc, "C2 xDEADBEEF", "x\"DEADBEEF\"")?;
     comes_back_copied::<UniqueBatchItemID>(&rt, alloc, "93 xDEADBEEF", "x\"DEADBEEF\"")?;
