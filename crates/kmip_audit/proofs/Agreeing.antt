@@ -22,19 +22,32 @@ payloads o None = (λ h. absurd (cc), λ h. absurd (let e = h.1 in cc))
 payloads o (Some val) = (λ h. (val, refl), λ h. refl)
 
 -- by the tests, in order
-tested : (o : Operation) (failed missing pending undone same : Bool) (payload : Option Val) (reason : Option ResultReason) (other : Option Operation) (e f p u m : Error) →
-    Agree o (cond failed (Failed reason) (cond pending Pending (cond undone Undone (cond (not same) (OtherOperation other) (payload_outcome o payload)))))
-    (cond failed (cond missing (Err e) (Err f)) (cond pending (Err p) (cond undone (Err u) (cond (not same) (Err m) (payload_answer payload)))))
-tested o true true pending undone same payload reason other e f p u m = (λ h. absurd (cc), λ h. absurd (let k = h.1 in cc))
-tested o true false pending undone same payload reason other e f p u m = (λ h. absurd (cc), λ h. absurd (let k = h.1 in cc))
-tested o false missing true undone same payload reason other e f p u m = (λ h. absurd (cc), λ h. absurd (let k = h.1 in cc))
-tested o false missing false true same payload reason other e f p u m = (λ h. absurd (cc), λ h. absurd (let k = h.1 in cc))
+tested : (o : Operation) (failed missing pending undone same : Bool) (payload : Option Val)
+    (reason : Option ResultReason) (other : Option Operation) (e f p u m : Error) →
+    Agree o (cond failed (Failed reason)
+    (cond pending Pending (cond undone Undone
+    (cond (not same) (OtherOperation other) (payload_outcome o payload)))))
+    (cond failed (cond missing (Err e) (Err f))
+    (cond pending (Err p) (cond undone (Err u)
+    (cond (not same) (Err m) (payload_answer payload)))))
+tested o true true pending undone same payload reason other e f p u m =
+    (λ h. absurd (cc), λ h. absurd (let k = h.1 in cc))
+tested o true false pending undone same payload reason other e f p u m =
+    (λ h. absurd (cc), λ h. absurd (let k = h.1 in cc))
+tested o false missing true undone same payload reason other e f p u m =
+    (λ h. absurd (cc), λ h. absurd (let k = h.1 in cc))
+tested o false missing false true same payload reason other e f p u m =
+    (λ h. absurd (cc), λ h. absurd (let k = h.1 in cc))
 tested o false missing false false true payload reason other e f p u m = payloads o payload
-tested o false missing false false false payload reason other e f p u m = (λ h. absurd (cc), λ h. absurd (let k = h.1 in cc))
+tested o false missing false false false payload reason other e f p u m =
+    (λ h. absurd (cc), λ h. absurd (let k = h.1 in cc))
 
 items : (o : Operation) (item : Val) → Agree o (item_outcome o item) (check_item o item)
 unfolding check_item
-items o item = tested o (has_status OperationFailed item) (is_number (pos (result_reason_line reasons.ItemNotFound).number) (one_of (field_at 3 item))) (has_status OperationPending item) (has_status OperationUndone item) (has_operation o item) (one_of (field_at 5 item)) _ _ _ _ _ _ _
+items o item = tested o (has_status OperationFailed item)
+    (is_number (pos (result_reason_line reasons.ItemNotFound).number) (one_of (field_at 3 item)))
+    (has_status OperationPending item) (has_status OperationUndone item) (has_operation o item)
+    (one_of (field_at 5 item)) _ _ _ _ _ _ _
 
 all_items : (o : Operation) (b : Bool) (vals : Vals) → Agree o (items_outcome o b vals) (check_items o b vals)
 all_items o true NoVal = (λ h. absurd (cc), λ h. absurd (let k = h.1 in cc))

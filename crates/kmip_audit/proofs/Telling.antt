@@ -21,7 +21,8 @@ use Rattle.kmip_audit.proofs.Pairing.{same_report}
 -- ---- the laws that this stands on
 
 abbrev Tell : Type 0
-Tell = (prefix : Option ℕ) (t u : Tree) (b c : List ℕ) → AreBytes b → AreBytes c → Parses t 1 b → Parses u 1 c → (diagnostic prefix b ≡ diagnostic prefix c) ↔ (skeleton t ≡ skeleton u)
+Tell = (prefix : Option ℕ) (t u : Tree) (b c : List ℕ) → AreBytes b → AreBytes c → Parses t 1 b
+    → Parses u 1 c → (diagnostic prefix b ≡ diagnostic prefix c) ↔ (skeleton t ≡ skeleton u)
 
 abbrev Computed : Type 0
 Computed = (t : Tree) (level : ℕ) (b : List ℕ) → IsLevel level → (item_of (65 - level) b ≡ Some t) ↔ Parses t level b
@@ -39,7 +40,8 @@ frame_bytes : (n : ℕ) (b : List ℕ) → length b ≤ n → AreBytes b → All
 frame_bytes zero b h are = rw (frames_none b (front_short b (omega arith))) tt
 frame_bytes (suc k) b h are = go (λ c p q. frame_bytes k c p q) (front_frame b) refl
   where
-    go : ((c : List ℕ) → length c ≤ k → AreBytes c → AllBytes (frames c).all) → (f : Option (List ℕ)) → front_frame b ≡ f → AllBytes (frames b).all
+    go : ((c : List ℕ) → length c ≤ k → AreBytes c → AllBytes (frames c).all)
+        → (f : Option (List ℕ)) → front_frame b ≡ f → AllBytes (frames b).all
     go hypothesis None e = rw (frames_none b e) tt
     go hypothesis (Some m) e =
         let f = falls b m e in
@@ -68,7 +70,8 @@ cons_is h = (cc, cc)
 cons : {A : Type 0} {x y : A} {xs ys : List A} → x ≡ y → xs ≡ ys → x ∷ xs ≡ y ∷ ys
 cons p q = λ i. p i ∷ q i
 
-frames_tell : Tell → Computed → (ms ns : List (List ℕ)) → AllBytes ms → AllBytes ns → AreTexts 1 ms → AreTexts 1 ns → (texts ms ≡ texts ns) ↔ (skeletons_of ms ≡ skeletons_of ns)
+frames_tell : Tell → Computed → (ms ns : List (List ℕ)) → AllBytes ms → AllBytes ns → AreTexts 1 ms
+    → AreTexts 1 ns → (texts ms ≡ texts ns) ↔ (skeletons_of ms ≡ skeletons_of ns)
 frames_tell tell computed [] [] bm bn pm pn = (λ h. refl, λ h. refl)
 frames_tell tell computed [] (n ∷ ns) bm bn pm pn = (λ h. absurd (cc), λ h. absurd (cc))
 frames_tell tell computed (m ∷ ms) [] bm bn pm pn = (λ h. absurd (cc), λ h. absurd (cc))
@@ -110,7 +113,8 @@ rest_of (x ∷ xs) = xs
 
 abbrev built : List (List ℕ) → List (List ℕ) → List Outcome → List Entry
 built qs rs [] = []
-built qs rs (o ∷ os) = record { request = first_of qs; response = first_of rs; outcome = o } ∷ built (rest_of qs) (rest_of rs) os
+built qs rs (o ∷ os) = record { request = first_of qs; response = first_of rs; outcome = o }
+    ∷ built (rest_of qs) (rest_of rs) os
 
 abbrev outcomes : List Entry → List Outcome
 outcomes es = map (λ (e : Entry). e.outcome) es
@@ -126,16 +130,28 @@ same_built a a' b b' c c' p q r = rw (p, q, r) refl
 
 -- ---- reports
 
-pub reports_tell : Tell → Computed → (sent received other_sent other_received : List ℕ) → AllParse sent → AllParse received → AllParse other_sent → AllParse other_received →
+pub reports_tell : Tell → Computed → (sent received other_sent other_received : List ℕ)
+    → AllParse sent → AllParse received → AllParse other_sent → AllParse other_received →
     AreAlike (report_of sent received) (report_of other_sent other_received) →
-    (report_of sent received ≡ report_of other_sent other_received) ↔ ((frame_skeletons sent ≡ frame_skeletons other_sent) × (frame_skeletons received ≡ frame_skeletons other_received))
+    (report_of sent received ≡ report_of other_sent other_received) ↔
+    ((frame_skeletons sent ≡ frame_skeletons other_sent)
+    × (frame_skeletons received ≡ frame_skeletons other_received))
 reports_tell tell computed s r s' r' ps pr ps' pr' alike =
-    let asked = frames_tell tell computed (frames s).all (frames s').all (frame_bytes (length s) s (omega arith) ps.bytes) (frame_bytes (length s') s' (omega arith) ps'.bytes) ps.parse ps'.parse in
-    let told = frames_tell tell computed (frames r).all (frames r').all (frame_bytes (length r) r (omega arith) pr.bytes) (frame_bytes (length r') r' (omega arith) pr'.bytes) pr.parse pr'.parse in (
+    let asked = frames_tell tell computed (frames s).all (frames s').all
+    (frame_bytes (length s) s (omega arith) ps.bytes)
+    (frame_bytes (length s') s' (omega arith) ps'.bytes) ps.parse ps'.parse in
+    let told = frames_tell tell computed (frames r).all (frames r').all
+    (frame_bytes (length r) r (omega arith) pr.bytes)
+    (frame_bytes (length r') r' (omega arith) pr'.bytes) pr.parse pr'.parse in (
       λ h.
-          let e : entries_of (frames s).all (frames r).all ≡ entries_of (frames s').all (frames r').all = ap (λ (x : Report). x.entries) h in (
-            asked.0 (sym (requests_in (frames s).all (frames r).all) ∙ ap (λ (l : List Entry). somes (map (λ (e : Entry). e.request) l)) e ∙ requests_in (frames s').all (frames r').all),
-            told.0 (sym (responses_in (frames s).all (frames r).all) ∙ ap (λ (l : List Entry). somes (map (λ (e : Entry). e.response) l)) e ∙ responses_in (frames s').all (frames r').all),
+          let e : entries_of (frames s).all (frames r).all
+          ≡ entries_of (frames s').all (frames r').all = ap (λ (x : Report). x.entries) h in (
+            asked.0 (sym (requests_in (frames s).all (frames r).all)
+                ∙ ap (λ (l : List Entry). somes (map (λ (e : Entry). e.request) l)) e
+                ∙ requests_in (frames s').all (frames r').all),
+            told.0 (sym (responses_in (frames s).all (frames r).all)
+                ∙ ap (λ (l : List Entry). somes (map (λ (e : Entry). e.response) l)) e
+                ∙ responses_in (frames s').all (frames r').all),
           ),
       λ h.
           let e : entries_of (frames s).all (frames r).all ≡ entries_of (frames s').all (frames r').all =

@@ -18,12 +18,20 @@ call_of_utf8 line utf8 = rw (is_utf8-from_IsUtf8 line utf8) refl
 pub call_of_other : (line : List ℕ) → (IsUtf8 line → ⊥) → call_of line ≡ None
 call_of_other line not = rw (not_utf8 line not) refl
 
-pub no_user : (has : Bool) (user password : List ℕ) → has ≡ true → (IsUtf8 user → ⊥) → settings_of has user password ≡ None
+pub no_user : (has : Bool) (user password : List ℕ) → has ≡ true → (IsUtf8 user → ⊥)
+    → settings_of has user password ≡ None
 no_user has user password e not = rw (e, not_utf8 user not) refl
 
-pub no_password : (has : Bool) (user password : List ℕ) → has ≡ true → IsUtf8 user → (IsUtf8 password → ⊥) → settings_of has user password ≡ None
+pub no_password : (has : Bool) (user password : List ℕ) → has ≡ true → IsUtf8 user
+    → (IsUtf8 password → ⊥) → settings_of has user password ≡ None
 no_password has user password e utf8 not = rw (e, is_utf8-from_IsUtf8 user utf8, not_utf8 password not) refl
 
 pub both : (has : Bool) (user password : List ℕ) → has ≡ true → IsUtf8 user → IsUtf8 password
-    → settings_of has user password ≡ Some (record { credential = credential_for (Some user) (Some password); limit = None; buffered = false })
+    → settings_of has user password ≡ Some
+    (record {
+      credential = credential_for (Some user) (Some password);
+      limit = None;
+      buffered =
+          false;
+    })
 both has user password e utf8 also = rw (e, is_utf8-from_IsUtf8 user utf8, is_utf8-from_IsUtf8 password also) refl

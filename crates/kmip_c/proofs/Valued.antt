@@ -19,11 +19,13 @@ pub unasked : (o p : Option Call) → p ≡ o → ((c : Call) → o ≡ Some c �
 unasked None p is none = is
 unasked (Some c) p is none = absurd (none c refl)
 
-pub not_asked : (o : Option Call) (response path before : List ℕ) (hex : Bool) → o ≡ None → IsValueReported o response path hex before grammar before
+pub not_asked : (o : Option Call) (response path before : List ℕ) (hex : Bool) → o ≡ None
+    → IsValueReported o response path hex before grammar before
 not_asked None response path before hex is = (refl, refl)
 not_asked (Some c) response path before hex is = absurd (cc)
 
-pub value_reported : (o : Option Call) (line : List ℕ) (v : Option (List ℕ)) (response path before after : List ℕ) (hex : Bool) (result : ℤ) →
+pub value_reported : (o : Option Call) (line : List ℕ) (v : Option (List ℕ))
+    (response path before after : List ℕ) (hex : Bool) (result : ℤ) →
     (o ≡ None → ⊥) → ((c : Call) → o ≡ Some c → line ≡ response_line plain c response) → v ≡ value_at path hex line →
     IsReported v no_value before result after → IsValueReported o response path hex before result after
 value_reported None line v response path before after hex result some says is r = absurd (some refl)

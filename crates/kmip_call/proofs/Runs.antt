@@ -16,7 +16,8 @@ use Rattle.kmip_call.proofs.Exchanges.{append_none}
 pub none_written : (sink : SinkState) (text : List ℕ) → WrotePart sink sink text
 none_written sink text = (0, omega arith, append_none sink.sent)
 
-made_as : (order : Order) (w0 w1 : SinkState) (s0 s1 : SourceState) (f0 f1 k0 k1 : SinkState) (response : Option (List ℕ)) (line : List ℕ) (ending : Ending) (status : Status) →
+made_as : (order : Order) (w0 w1 : SinkState) (s0 s1 : SourceState) (f0 f1 k0 k1 : SinkState)
+    (response : Option (List ℕ)) (line : List ℕ) (ending : Ending) (status : Status) →
     Makes order w0 w1 s0 s1 response line ending → Reports order response line ending f0 f1 k0 k1 status →
     (call : Call) → call_for order ≡ Some call → Made order call (streams w0 s0 f0 k0) (streams w1 s1 f1 k1) status
 made_as order w0 w1 s0 s1 f0 f1 k0 k1 response line ending status it reports call is =
@@ -25,11 +26,15 @@ made_as order w0 w1 s0 s1 f0 f1 k0 k1 response line ending status it reports cal
       answer = it.answer;
       response = response;
       carried = subst (λ (k : Call). Carried order.settings k w0 w1 s0 s1 response it.answer) same it.carried;
-      reports = subst (λ (k : Call). Reports order response (line_of order.settings k response it.answer) (ending_by order.settings k response it.answer) f0 f1 k0 k1 status) same (rw (it.line_is, it.ending_is) at reports);
+      reports = subst (λ (k : Call). Reports order response
+          (line_of order.settings k response it.answer)
+          (ending_by order.settings k response it.answer) f0 f1 k0 k1 status) same
+          (rw (it.line_is, it.ending_is) at reports);
     }
 
 -- a call was made and reported
-pub made : (order : Order) (w0 w1 : SinkState) (s0 s1 : SourceState) (f0 f1 k0 k1 : SinkState) (response : Option (List ℕ)) (line : List ℕ) (ending : Ending) (status : Status) →
+pub made : (order : Order) (w0 w1 : SinkState) (s0 s1 : SourceState) (f0 f1 k0 k1 : SinkState)
+    (response : Option (List ℕ)) (line : List ℕ) (ending : Ending) (status : Status) →
     Makes order w0 w1 s0 s1 response line ending → Reports order response line ending f0 f1 k0 k1 status →
     Runs order (streams w0 s0 f0 k0) (streams w1 s1 f1 k1) status
 made order w0 w1 s0 s1 f0 f1 k0 k1 response line ending status it reports = record {
@@ -38,19 +43,22 @@ made order w0 w1 s0 s1 f0 f1 k0 k1 response line ending status it reports = reco
 }
 
 -- no call was made
-pub refused : (order : Order) (before after : Streams) (status : Status) → call_for order ≡ None → Refuses order before after status → Runs order before after status
+pub refused : (order : Order) (before after : Streams) (status : Status) → call_for order ≡ None
+    → Refuses order before after status → Runs order before after status
 refused order before after status none it = record { refuses = λ same. it; makes = λ call is. absurd (cc) }
 
 -- the call that is to be made is that of the words
 pub call_typed : (order : Order) (call : Call) → call_for order ≡ Some call → typed_call order.words ≡ Some call
 call_typed order call is =
-    elim (is_allowed order.file order.words) as (λ b. cond b (typed_call order.words) None ≡ Some call → typed_call order.words ≡ Some call) [
+    elim (is_allowed order.file order.words) as
+    (λ b. cond b (typed_call order.words) None ≡ Some call → typed_call order.words ≡ Some call) [
       | true ↦ λ e. e
       | false ↦ λ e. absurd (cc)
     ] is
 
 -- memory ran out before there was an answer
-pub broken_off : (order : Order) (w0 w1 : SinkState) (s0 s1 : SourceState) (f k : SinkState) → (call_for order ≡ None → w1 ≡ w0) → (call_for order ≡ None → s1 ≡ s0) →
+pub broken_off : (order : Order) (w0 w1 : SinkState) (s0 s1 : SourceState) (f k : SinkState)
+    → (call_for order ≡ None → w1 ≡ w0) → (call_for order ≡ None → s1 ≡ s0) →
     ((call : Call) → call_for order ≡ Some call → CarriedPart order.settings call w0 w1 s0 s1) →
     Runs order (streams w0 s0 f k) (streams w1 s1 f k) OutOfMemory
 broken_off order w0 w1 s0 s1 f k unsent unread part = record {

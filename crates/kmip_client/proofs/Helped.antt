@@ -12,7 +12,8 @@ use Rattle.kmip_client.specs.Client.{ClientState}
 use Rattle.kmip_client.specs.Outcome.{seen_by}
 use Rattle.kmip_client.specs.Calls.{IsCall, Helped, called, not_made, Asked, asked, not_asked, part_of}
 
-pub seen_same : {P : Type 0} (f g : P → Val) (answer : Result P Error) → ((payload : P) → f payload ≡ g payload) → seen_by f answer ≡ seen_by g answer
+pub seen_same : {P : Type 0} (f g : P → Val) (answer : Result P Error)
+    → ((payload : P) → f payload ≡ g payload) → seen_by f answer ≡ seen_by g answer
 seen_same f g (Ok payload) same = ap (λ val. Ok val) (same payload)
 seen_same f g (Err error) same = refl
 
@@ -21,12 +22,21 @@ pub itself : {P : Type 0} (answer : Result P Error) → answer ≡ part_of (λ p
 itself (Ok payload) = refl
 itself (Err error) = refl
 
-pub helped : {T P R E : Type 0} {state : T → LinkState} {before after : ClientState T} (request : Result RequestPayload E) (expected : RequestPayload) (val : Operation → P → Val) (variant : P → ResponsePayload) (part : P → R)
-    (answer : Result P Error) (result : Result R Error) → IfOk request (λ made. made ≡ expected) → ((payload : P) → val (operation_of expected) payload ≡ response_payload_val (variant payload)) → result ≡ part_of part answer →
+pub helped : {T P R E : Type 0} {state : T → LinkState} {before after : ClientState T}
+    (request : Result RequestPayload E) (expected : RequestPayload) (val : Operation → P → Val)
+    (variant : P → ResponsePayload) (part : P → R)
+    (answer : Result P Error) (result : Result R Error) → IfOk request (λ made. made ≡ expected)
+    → ((payload : P) → val (operation_of expected) payload
+    ≡ response_payload_val (variant payload)) → result ≡ part_of part answer →
     Asked state request val before after answer → Helped state expected variant part before after result
-helped {state = state} {before = before} {after = after} request expected val variant part answer result makes same is (asked payload was call) =
+helped {state = state} {before = before}
+    {after = after} request expected val variant part answer result makes same is
+    (asked payload was call) =
     let made : payload ≡ expected = subst (λ r. IfOk r (λ made. made ≡ expected)) was makes in
     let here : IsCall state expected before after (seen_by (val (operation_of expected)) answer) =
     subst (λ q. IsCall state q before after (seen_by (val (operation_of q)) answer)) made call in
-    called answer (subst (λ seen. IsCall state expected before after seen) (seen_same (val (operation_of expected)) (λ payload. response_payload_val (variant payload)) answer same) here) is
-helped request expected val variant part answer result makes same is (not_asked was kept) = not_made (is ∙ ap (part_of part) was) kept
+    called answer (subst (λ seen. IsCall state expected before after seen)
+    (seen_same (val (operation_of expected))
+    (λ payload. response_payload_val (variant payload)) answer same) here) is
+helped request expected val variant part answer result makes same is (not_asked was kept) =
+    not_made (is ∙ ap (part_of part) was) kept

@@ -33,7 +33,8 @@ use Rattle.kmip_client.specs.Operation.{minor_number, operation_bytes, message_b
 -- ---- the bytes of a message
 
 -- the contents of a structure, where they are short enough
-framed : (tag : ℕ) (c : List ℕ) → length c % 8 ≡ 0 → length c < 2 ^ 32 → structure_bytes tag (Some c) ≡ Some (structure_head tag (length c) ++ c)
+framed : (tag : ℕ) (c : List ℕ) → length c % 8 ≡ 0 → length c < 2 ^ 32
+    → structure_bytes tag (Some c) ≡ Some (structure_head tag (length c) ++ c)
 framed tag c even small =
     let whole : structure_bytes tag (Some c) ≡ Some (item_bytes tag 1 c) = grind (arith, nat_tests) in
     whole ∙ ap Some (flat tag c even)
@@ -42,7 +43,8 @@ too_long : (tag : ℕ) (c : List ℕ) → 2 ^ 32 ≤ length c → structure_byte
 too_long tag c long = grind (arith, nat_tests)
 
 -- the item of an operation
-operation_item : (n : ℕ) → (bytes (scalar OPERATION (enumeration n)) ≡ Some (leaf_text OPERATION (enumeration n))) × (length (leaf_text OPERATION (enumeration n)) ≡ 16)
+operation_item : (n : ℕ) → (bytes (scalar OPERATION (enumeration n)) ≡ Some
+    (leaf_text OPERATION (enumeration n))) × (length (leaf_text OPERATION (enumeration n)) ≡ 16)
 operation_item n = written (Number (pos n)) NoCase (OneOf []) OPERATION (lit< tt)
 
 -- canonical bytes come in eights
@@ -53,49 +55,86 @@ aligned tree b is =
     subst (λ c. length c % 8 ≡ 0) (append-nil b) even
 
 -- the contents of the batch item of a payload
-contents : (payload : List ℕ) (n : ℕ) → in_order (bytes (scalar OPERATION (enumeration n))) (in_order (Some payload) (Some [])) ≡ Some (leaf_text OPERATION (enumeration n) ++ payload)
+contents : (payload : List ℕ) (n : ℕ)
+    → in_order (bytes (scalar OPERATION (enumeration n))) (in_order (Some payload) (Some []))
+    ≡ Some (leaf_text OPERATION (enumeration n) ++ payload)
 contents payload n =
-    ap (λ o. in_order o (Some (payload ++ []))) (operation_item n).0 ∙ ap (λ p. Some (leaf_text OPERATION (enumeration n) ++ p)) (append-nil payload)
+    ap (λ o. in_order o (Some (payload ++ []))) (operation_item n).0
+    ∙ ap (λ p. Some (leaf_text OPERATION (enumeration n) ++ p)) (append-nil payload)
 
 -- the message of a header and of the contents of a batch item
-around : (header item : List ℕ) (framed : Option (List ℕ)) → framed ≡ Some item → in_order (Some header) (in_order framed (Some [])) ≡ Some (header ++ item)
-around header item framed is = ap (λ o. in_order (Some header) (in_order o (Some []))) is ∙ ap (λ i. Some (header ++ i)) (append-nil item)
+around : (header item : List ℕ) (framed : Option (List ℕ)) → framed ≡ Some item
+    → in_order (Some header) (in_order framed (Some [])) ≡ Some (header ++ item)
+around header item framed is = ap (λ o. in_order (Some header) (in_order o (Some []))) is
+    ∙ ap (λ i. Some (header ++ i)) (append-nil item)
 
 item_written : (payload : List ℕ) (n item : ℕ) → length payload % 8 ≡ 0 → item ≡ 16 + length payload → item < 2 ^ 32 →
-    structure_bytes BATCH_ITEM (in_order (bytes (scalar OPERATION (enumeration n))) (in_order (Some payload) (Some []))) ≡ Some (structure_head BATCH_ITEM item ++ (leaf_text OPERATION (enumeration n) ++ payload))
+    structure_bytes BATCH_ITEM (in_order (bytes (scalar OPERATION (enumeration n)))
+    (in_order (Some payload) (Some [])))
+    ≡ Some (structure_head BATCH_ITEM item ++ (leaf_text OPERATION (enumeration n) ++ payload))
 item_written payload n item p i small =
     let c : List ℕ = leaf_text OPERATION (enumeration n) ++ payload in
-    let long : length c ≡ 16 + length payload = length-append (leaf_text OPERATION (enumeration n)) payload ∙ ap (λ k. k + length payload) (operation_item n).1 in
+    let long : length c ≡ 16 + length payload =
+    length-append (leaf_text OPERATION (enumeration n)) payload
+    ∙ ap (λ k. k + length payload) (operation_item n).1 in
     ap (structure_bytes BATCH_ITEM) (contents payload n)
-    ∙ (framed BATCH_ITEM c (omega (arith, long, p)) (omega (arith, long)) ∙ ap (λ k. Some (structure_head BATCH_ITEM k ++ c)) (long ∙ sym i))
+    ∙ (framed BATCH_ITEM c (omega (arith, long, p)) (omega (arith, long))
+    ∙ ap (λ k. Some (structure_head BATCH_ITEM k ++ c)) (long ∙ sym i))
 
-item_len : (payload : List ℕ) (n item : ℕ) → length (structure_head BATCH_ITEM item ++ (leaf_text OPERATION (enumeration n) ++ payload)) ≡ 8 + (16 + length payload)
+item_len : (payload : List ℕ) (n item : ℕ)
+    → length (structure_head BATCH_ITEM item ++ (leaf_text OPERATION (enumeration n) ++ payload))
+    ≡ 8 + (16 + length payload)
 item_len payload n item =
-    omega (arith, length-append (structure_head BATCH_ITEM item) (leaf_text OPERATION (enumeration n) ++ payload), length-append (leaf_text OPERATION (enumeration n)) payload, head_len BATCH_ITEM item, (operation_item n).1)
+    omega (
+      arith,
+      length-append (structure_head BATCH_ITEM item)
+          (leaf_text OPERATION (enumeration n) ++ payload),
+      length-append (leaf_text OPERATION (enumeration n)) payload,
+      head_len BATCH_ITEM item,
+      (operation_item n).1,
+    )
 
 -- what is written round a header and a payload
-pub message_written : (header payload : List ℕ) (n message item : ℕ) → length header % 8 ≡ 0 → length payload % 8 ≡ 0 → message ≡ length header + (8 + (16 + length payload)) → item ≡ 16 + length payload → message < 2 ^ 32 →
-    message_bytes (Some header) n (Some payload) ≡ Some (structure_head REQUEST_MESSAGE message ++ (header ++ (structure_head BATCH_ITEM item ++ (leaf_text OPERATION (enumeration n) ++ payload))))
+pub message_written : (header payload : List ℕ) (n message item : ℕ) → length header % 8 ≡ 0
+    → length payload % 8 ≡ 0 → message ≡ length header + (8 + (16 + length payload))
+    → item ≡ 16 + length payload → message < 2 ^ 32 →
+    message_bytes (Some header) n (Some payload)
+    ≡ Some (structure_head REQUEST_MESSAGE message
+    ++ (header ++ (structure_head BATCH_ITEM item
+    ++ (leaf_text OPERATION (enumeration n) ++ payload))))
 message_written header payload n message item h p m i small =
     let one : List ℕ = structure_head BATCH_ITEM item ++ (leaf_text OPERATION (enumeration n) ++ payload) in
-    let long : length (header ++ one) ≡ length header + (8 + (16 + length payload)) = length-append header one ∙ ap (λ k. length header + k) (item_len payload n item) in
+    let long : length (header ++ one) ≡ length header + (8 + (16 + length payload)) =
+    length-append header one ∙ ap (λ k. length header + k) (item_len payload n item) in
     ap (structure_bytes REQUEST_MESSAGE) (around header one _ (item_written payload n item p i (omega arith)))
-    ∙ (framed REQUEST_MESSAGE (header ++ one) (omega (arith, long, h, p)) (omega (arith, long)) ∙ ap (λ k. Some (structure_head REQUEST_MESSAGE k ++ (header ++ one))) (long ∙ sym m))
+    ∙ (framed REQUEST_MESSAGE (header ++ one) (omega (arith, long, h, p)) (omega (arith, long))
+    ∙ ap (λ k. Some (structure_head REQUEST_MESSAGE k ++ (header ++ one))) (long ∙ sym m))
 
-no_item : (header : List ℕ) (framed : Option (List ℕ)) → framed ≡ None → structure_bytes REQUEST_MESSAGE (in_order (Some header) (in_order framed (Some []))) ≡ None
+no_item : (header : List ℕ) (framed : Option (List ℕ)) → framed ≡ None
+    → structure_bytes REQUEST_MESSAGE (in_order (Some header) (in_order framed (Some []))) ≡ None
 no_item header framed is = ap (λ o. structure_bytes REQUEST_MESSAGE (in_order (Some header) (in_order o (Some [])))) is
 
-pub message_too_long : (header payload : List ℕ) (n : ℕ) → length payload % 8 ≡ 0 → 2 ^ 32 ≤ length header + (8 + (16 + length payload)) → message_bytes (Some header) n (Some payload) ≡ None
+pub message_too_long : (header payload : List ℕ) (n : ℕ) → length payload % 8 ≡ 0
+    → 2 ^ 32 ≤ length header + (8 + (16 + length payload))
+    → message_bytes (Some header) n (Some payload) ≡ None
 message_too_long header payload n p long =
     elim (cases_lt (16 + length payload) (2 ^ 32)) [
       | inr over ↦
           let c : List ℕ = leaf_text OPERATION (enumeration n) ++ payload in
-          let size : length c ≡ 16 + length payload = length-append (leaf_text OPERATION (enumeration n)) payload ∙ ap (λ k. k + length payload) (operation_item n).1 in
-          no_item header _ (ap (structure_bytes BATCH_ITEM) (contents payload n) ∙ too_long BATCH_ITEM c (omega (arith, size)))
+          let size : length c ≡ 16 + length payload =
+          length-append (leaf_text OPERATION (enumeration n)) payload
+          ∙ ap (λ k. k + length payload) (operation_item n).1 in
+          no_item header _ (ap (structure_bytes BATCH_ITEM) (contents payload n)
+          ∙ too_long BATCH_ITEM c (omega (arith, size)))
       | inl within ↦
-          let one : List ℕ = structure_head BATCH_ITEM (16 + length payload) ++ (leaf_text OPERATION (enumeration n) ++ payload) in
-          let size : length (header ++ one) ≡ length header + (8 + (16 + length payload)) = length-append header one ∙ ap (λ k. length header + k) (item_len payload n (16 + length payload)) in
-          ap (structure_bytes REQUEST_MESSAGE) (around header one _ (item_written payload n (16 + length payload) p refl within)) ∙ too_long REQUEST_MESSAGE (header ++ one) (omega (arith, size))
+          let one : List ℕ = structure_head BATCH_ITEM (16 + length payload)
+          ++ (leaf_text OPERATION (enumeration n) ++ payload) in
+          let size : length (header ++ one) ≡ length header + (8 + (16 + length payload)) =
+          length-append header one ∙ ap (λ k. length header + k)
+          (item_len payload n (16 + length payload)) in
+          ap (structure_bytes REQUEST_MESSAGE)
+          (around header one _ (item_written payload n (16 + length payload) p refl within))
+          ∙ too_long REQUEST_MESSAGE (header ++ one) (omega (arith, size))
     ]
 
 -- ---- the header
@@ -104,19 +143,24 @@ abbrev version_number : ℕ → ProtocolVersion
 version_number minor = record { 0 = record { 0 = pos 1 }; 1 = record { 0 = pos minor } }
 
 for_values : (minor : ℕ) (type : CredentialType) (value : CredentialValue) →
-    tree_of request_header REQUEST_HEADER (lent_header_val (version_number minor) (Some (record { 0 = record { 0 = type; 1 = value } })))
-    ≡ Some (header_tree minor (authentication_trees (Some (credential_of (record { 0 = record { 0 = type; 1 = value } })))))
+    tree_of request_header REQUEST_HEADER
+    (lent_header_val (version_number minor)
+    (Some (record { 0 = record { 0 = type; 1 = value } })))
+    ≡ Some (header_tree minor (authentication_trees (Some
+    (credential_of (record { 0 = record { 0 = type; 1 = value } })))))
 for_values minor types.UsernameAndPassword (values.UsernameAndPassword username None) = refl
 for_values minor types.UsernameAndPassword (values.UsernameAndPassword username (Some password)) = refl
 
 header_is : (minor : ℕ) (credential : Option Authentication) →
-    tree_of request_header REQUEST_HEADER (lent_header_val (version_number minor) credential) ≡ Some (header_tree minor (authentication_trees (option_map credential_of credential)))
+    tree_of request_header REQUEST_HEADER (lent_header_val (version_number minor) credential)
+    ≡ Some (header_tree minor (authentication_trees (option_map credential_of credential)))
 header_is minor None = refl
 header_is minor (Some a) = for_values minor (a.0).0 (a.0).1
 
 -- the bytes of the header are those of its tree
 pub header_bytes : (minor : ℕ) (credential : Option Authentication) →
-    bytes_of request_header REQUEST_HEADER (lent_header_val (version_number minor) credential) ≡ bytes (header_tree minor (authentication_trees (option_map credential_of credential)))
+    bytes_of request_header REQUEST_HEADER (lent_header_val (version_number minor) credential)
+    ≡ bytes (header_tree minor (authentication_trees (option_map credential_of credential)))
 header_bytes minor credential = ap (λ tree. option_and_then bytes tree) (header_is minor credential)
 
 -- what the length of the header says: that it has no bytes, or that it has a form and of which size
@@ -124,14 +168,18 @@ no_bytes : (o : Option (List ℕ)) → None ≡ option_map length o → o ≡ No
 no_bytes None h = refl
 no_bytes (Some b) h = absurd (cc)
 
-pub no_length : (shape : Shape) (tag : ℕ) (val : Val) (len : Option ℕ) → len ≡ wire_len_of shape val → len ≡ None → bytes_of shape tag val ≡ None
-no_length shape tag val len h missing = no_bytes (bytes_of shape tag val) (sym missing ∙ (h ∙ wire_len_law shape tag val))
+pub no_length : (shape : Shape) (tag : ℕ) (val : Val) (len : Option ℕ) → len ≡ wire_len_of shape val
+    → len ≡ None → bytes_of shape tag val ≡ None
+no_length shape tag val len h missing =
+    no_bytes (bytes_of shape tag val) (sym missing ∙ (h ∙ wire_len_law shape tag val))
 
-pub form_of_length : (shape : Shape) (val : Val) (len : Option ℕ) → len ≡ wire_len_of shape val → IfSome len (λ _. HasForm shape val)
+pub form_of_length : (shape : Shape) (val : Val) (len : Option ℕ) → len ≡ wire_len_of shape val
+    → IfSome len (λ _. HasForm shape val)
 form_of_length shape val None h = tt
 form_of_length shape val (Some n) h = (value_known val NoCase shape n (sym h)).0
 
-pub size_of_length : (shape : Shape) (val : Val) (len : Option ℕ) → len ≡ wire_len_of shape val → IfSome len (λ n. n ≡ size_of shape val)
+pub size_of_length : (shape : Shape) (val : Val) (len : Option ℕ) → len ≡ wire_len_of shape val
+    → IfSome len (λ n. n ≡ size_of shape val)
 size_of_length shape val None h = tt
 size_of_length shape val (Some n) h = sym ((value_known val NoCase shape n (sym h)).1)
 
@@ -141,39 +189,66 @@ bytes_aligned : (o : Option Tree) (b : List ℕ) → option_and_then bytes o ≡
 bytes_aligned None b is = absurd (cc)
 bytes_aligned (Some tree) b is = aligned tree b is
 
-pub message_ok : (val : Val) (n : ℕ) (payload : List ℕ) (message item size : ℕ) (a b : Room) → HasForm request_header val → length payload % 8 ≡ 0 →
-    message ≡ size_of request_header val + (8 + (16 + length payload)) → item ≡ 16 + length payload → message < 2 ^ 32 → a.bytes ≡ [] →
-    Appends a b (structure_head REQUEST_MESSAGE message ++ (text_of request_header REQUEST_HEADER val ++ (structure_head BATCH_ITEM item ++ (leaf_text OPERATION (enumeration n) ++ payload)))) size →
+pub message_ok : (val : Val) (n : ℕ) (payload : List ℕ) (message item size : ℕ) (a b : Room)
+    → HasForm request_header val → length payload % 8 ≡ 0 →
+    message ≡ size_of request_header val + (8 + (16 + length payload)) → item ≡ 16 + length payload
+    → message < 2 ^ 32 → a.bytes ≡ [] →
+    Appends a b (structure_head REQUEST_MESSAGE message
+    ++ (text_of request_header REQUEST_HEADER val
+    ++ (structure_head BATCH_ITEM item ++ (leaf_text OPERATION (enumeration n) ++ payload))))
+    size →
     message_bytes (bytes_of request_header REQUEST_HEADER val) n (Some payload) ≡ Some b.bytes
 message_ok val n payload message item size a b form even long short small empty appends =
     let header : List ℕ = text_of request_header REQUEST_HEADER val in
     let has = written val NoCase request_header REQUEST_HEADER form in
-    let whole : List ℕ = structure_head REQUEST_MESSAGE message ++ (header ++ (structure_head BATCH_ITEM item ++ (leaf_text OPERATION (enumeration n) ++ payload))) in
+    let whole : List ℕ = structure_head REQUEST_MESSAGE message
+    ++ (header ++ (structure_head BATCH_ITEM item
+    ++ (leaf_text OPERATION (enumeration n) ++ payload))) in
     let is : b.bytes ≡ whole = appends.bytes ∙ ap (λ l. l ++ whole) empty in
     ap (λ o. message_bytes o n (Some payload)) has.0
-    ∙ (message_written header payload n message item (bytes_aligned (tree_of request_header REQUEST_HEADER val) header has.0) even (long ∙ ap (λ k. k + (8 + (16 + length payload))) (sym has.1)) short small ∙ ap Some (sym is))
+    ∙ (message_written header payload n message item
+    (bytes_aligned (tree_of request_header REQUEST_HEADER val) header has.0) even
+    (long ∙ ap (λ k. k + (8 + (16 + length payload))) (sym has.1)) short small
+    ∙ ap Some (sym is))
 
 pub no_header : (o : Option (List ℕ)) (n : ℕ) (payload : Option (List ℕ)) → o ≡ None → message_bytes o n payload ≡ None
 no_header o n payload missing = ap (λ o. message_bytes o n payload) missing
 
-pub message_no_form : (val : Val) (n : ℕ) (payload : List ℕ) (header : ℕ) → HasForm request_header val → length payload % 8 ≡ 0 → header ≡ size_of request_header val → 2 ^ 32 ≤ header + (8 + (16 + length payload)) →
+pub message_no_form : (val : Val) (n : ℕ) (payload : List ℕ) (header : ℕ)
+    → HasForm request_header val → length payload % 8 ≡ 0 → header ≡ size_of request_header val
+    → 2 ^ 32 ≤ header + (8 + (16 + length payload)) →
     message_bytes (bytes_of request_header REQUEST_HEADER val) n (Some payload) ≡ None
 message_no_form val n payload header form even size long =
     let has = written val NoCase request_header REQUEST_HEADER form in
-    ap (λ o. message_bytes o n (Some payload)) has.0 ∙ message_too_long (text_of request_header REQUEST_HEADER val) payload n even (omega (arith, has.1, size))
+    ap (λ o. message_bytes o n (Some payload)) has.0
+    ∙ message_too_long (text_of request_header REQUEST_HEADER val) payload n even
+    (omega (arith, has.1, size))
 
 -- ---- the request
 
 -- the request is the message round its payload's bytes
 request_is : (operation : Operation) (version : Version) (credential : Option Authentication) (payload : Tree) →
-    message_bytes (bytes_of request_header REQUEST_HEADER (lent_header_val (version_number (minor_number version)) credential)) (operation_line operation).number (bytes payload)
-    ≡ operation_bytes (record { operation = operation; version = version; payload = payload }) (option_map credential_of credential)
-request_is operation version credential payload = ap (λ o. message_bytes o (operation_line operation).number (bytes payload)) (header_bytes (minor_number version) credential)
+    message_bytes (bytes_of request_header REQUEST_HEADER
+    (lent_header_val (version_number (minor_number version)) credential))
+    (operation_line operation).number (bytes payload)
+    ≡ operation_bytes (record { operation = operation; version = version; payload = payload })
+    (option_map credential_of credential)
+request_is operation version credential payload =
+    ap (λ o. message_bytes o (operation_line operation).number (bytes payload))
+    (header_bytes (minor_number version) credential)
 
-pub sent_is : (operation : Operation) (version : Version) (credential : Option Authentication) (payload : Tree) (made : ProtocolVersion) (blob sent : List ℕ) → made ≡ version_number (minor_number version) → bytes payload ≡ Some blob → sent ≡ blob →
-    message_bytes (bytes_of request_header REQUEST_HEADER (lent_header_val made credential)) (operation_line operation).number (Some sent)
-    ≡ operation_bytes (record { operation = operation; version = version; payload = payload }) (option_map credential_of credential)
+pub sent_is : (operation : Operation) (version : Version) (credential : Option Authentication)
+    (payload : Tree) (made : ProtocolVersion) (blob sent : List ℕ)
+    → made ≡ version_number (minor_number version) → bytes payload ≡ Some blob → sent ≡ blob →
+    message_bytes (bytes_of request_header REQUEST_HEADER (lent_header_val made credential))
+    (operation_line operation).number (Some sent)
+    ≡ operation_bytes (record { operation = operation; version = version; payload = payload })
+    (option_map credential_of credential)
 sent_is operation version credential payload made blob sent in_version written same =
-    ap (λ (v : ProtocolVersion). message_bytes (bytes_of request_header REQUEST_HEADER (lent_header_val v credential)) (operation_line operation).number (Some sent)) in_version
-    ∙ (ap (λ o. message_bytes (bytes_of request_header REQUEST_HEADER (lent_header_val (version_number (minor_number version)) credential)) (operation_line operation).number o) (ap Some same ∙ sym written)
+    ap (λ (v : ProtocolVersion). message_bytes
+    (bytes_of request_header REQUEST_HEADER (lent_header_val v credential))
+    (operation_line operation).number (Some sent)) in_version
+    ∙ (ap (λ o. message_bytes (bytes_of request_header REQUEST_HEADER
+    (lent_header_val (version_number (minor_number version)) credential))
+    (operation_line operation).number o) (ap Some same ∙ sym written)
     ∙ request_is operation version credential payload)

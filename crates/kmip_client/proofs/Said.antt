@@ -25,9 +25,11 @@ either : (P : Answer → Type 0) (b : Bool) (x y : Answer) → P x → P y → P
 either P true x y p q = p
 either P false x y p q = q
 
-failure_says : {P : Answer → Type 0} → OfMessages P → (operation : Operation) (reason message : Option Val) → P (failure operation reason message)
+failure_says : {P : Answer → Type 0} → OfMessages P
+    → (operation : Operation) (reason message : Option Val) → P (failure operation reason message)
 failure_says {P} all operation reason message =
-    either P (is_number (pos (result_reason_line ItemNotFoundReason).number) reason) _ _ (all.not_found _) (all.server _)
+    either P (is_number (pos (result_reason_line ItemNotFoundReason).number) reason) _ _
+    (all.not_found _) (all.server _)
 
 payload_says : {P : Answer → Type 0} → OfMessages P → (payload : Option Val) → P (payload_answer payload)
 payload_says all None = all.internal _
@@ -36,24 +38,30 @@ payload_says all (Some payload) = all.ok payload
 item_says : {P : Answer → Type 0} → OfMessages P → (operation : Operation) (item : Val) → P (check_item operation item)
 unfolding check_item
 item_says {P} all operation item =
-    either P (has_status OperationFailed item) _ _ (failure_says all operation (one_of (field_at 3 item)) (one_of (field_at 4 item)))
+    either P (has_status OperationFailed item) _ _
+    (failure_says all operation (one_of (field_at 3 item)) (one_of (field_at 4 item)))
     (either P (has_status OperationPending item) _ _ (all.internal _)
     (either P (has_status OperationUndone item) _ _ (all.internal _)
     (either P (not (has_operation operation item)) _ _ (all.internal _) (payload_says all (one_of (field_at 5 item))))))
 
-items_say : {P : Answer → Type 0} → OfMessages P → (operation : Operation) (told : Bool) (items : Vals) → P (check_items operation told items)
+items_say : {P : Answer → Type 0} → OfMessages P
+    → (operation : Operation) (told : Bool) (items : Vals) → P (check_items operation told items)
 items_say all operation true NoVal = all.server _
 items_say all operation true (AndVal item NoVal) = item_says all operation item
 items_say all operation true (AndVal item (AndVal next items)) = all.server _
 items_say all operation false items = all.server _
 
-value_says : {P : Answer → Type 0} → OfMessages P → (operation : Operation) (value : Option Val) → P (value_answer operation value)
+value_says : {P : Answer → Type 0} → OfMessages P → (operation : Operation) (value : Option Val)
+    → P (value_answer operation value)
 value_says all operation None = all.internal _
-value_says all operation (Some message) = items_say all operation (is_number (pos 1) (batch_count message)) (batch_items message)
+value_says all operation (Some message) =
+    items_say all operation (is_number (pos 1) (batch_count message)) (batch_items message)
 
-tree_says : {P : Answer → Type 0} → OfMessages P → (operation : Operation) (tree : Option Tree) → P (tree_answer operation tree)
+tree_says : {P : Answer → Type 0} → OfMessages P → (operation : Operation) (tree : Option Tree)
+    → P (tree_answer operation tree)
 tree_says all operation None = all.malformed _
 tree_says all operation (Some tree) = value_says all operation (root_read response_message response_tag tree)
 
-pub message_says : {P : Answer → Type 0} → OfMessages P → (operation : Operation) (m : List ℕ) → P (read_answer operation m)
+pub message_says : {P : Answer → Type 0} → OfMessages P → (operation : Operation) (m : List ℕ)
+    → P (read_answer operation m)
 message_says all operation m = tree_says all operation (item_of 64 m)

@@ -37,43 +37,68 @@ either : (P : Result Tree Error → Type 0) (b : Bool) (x y : Result Tree Error)
 either P true x y p q = p
 either P false x y p q = q
 
-listed_says : {P : Result Tree Error → Type 0} → OfTrees P → (operation : Operation) (message : List ℕ) (reason : ResultReason) → P (Err (listed_failure operation message reason))
+listed_says : {P : Result Tree Error → Type 0} → OfTrees P
+    → (operation : Operation) (message : List ℕ) (reason : ResultReason)
+    → P (Err (listed_failure operation message reason))
 listed_says all operation message reasons.ItemNotFound = all.not_found _
 listed_says all operation message reason = all.server _
 
-numbered_says : {P : Result Tree Error → Type 0} → OfTrees P → (operation : Operation) (message : List ℕ) (number : ℕ) (reason : Option ResultReason) → P (Err (numbered_failure operation message number reason))
+numbered_says : {P : Result Tree Error → Type 0} → OfTrees P
+    → (operation : Operation) (message : List ℕ) (number : ℕ) (reason : Option ResultReason)
+    → P (Err (numbered_failure operation message number reason))
 numbered_says all operation message number None = all.server _
 numbered_says all operation message number (Some reason) = listed_says all operation message reason
 
-failure_says : {P : Result Tree Error → Type 0} → OfTrees P → (operation : Operation) (message : List ℕ) (reason : Option ℕ) → P (Err (failure_of operation message reason))
+failure_says : {P : Result Tree Error → Type 0} → OfTrees P
+    → (operation : Operation) (message : List ℕ) (reason : Option ℕ)
+    → P (Err (failure_of operation message reason))
 failure_says all operation message None = all.server _
-failure_says all operation message (Some number) = numbered_says all operation message number (variant_at result_reason_line result_reason_variants number)
+failure_says all operation message (Some number) =
+    numbered_says all operation message number
+    (variant_at result_reason_line result_reason_variants number)
 
 payload_says : {P : Result Tree Error → Type 0} → OfTrees P → (payloads : List Tree) → P (payload_of payloads)
 payload_says all [] = all.ok _
 payload_says all (payload ∷ []) = all.ok payload
 payload_says all (payload ∷ next ∷ payloads) = all.internal _
 
-status_says : {P : Result Tree Error → Type 0} → OfTrees P → (operation : Operation) (item : Tree) (status : Option ℕ) → P (status_answer operation item status)
+status_says : {P : Result Tree Error → Type 0} → OfTrees P
+    → (operation : Operation) (item : Tree) (status : Option ℕ)
+    → P (status_answer operation item status)
 status_says all operation item None = all.internal _
 status_says {P} all operation item (Some status) =
     either P (status == (result_status_line Success).number) _ _
-    (either P (names operation (number_under OPERATION item)) _ _ (payload_says all (all_under RESPONSE_PAYLOAD item)) (all.internal _))
-    (either P (status == (result_status_line OperationFailed).number) _ _ (failure_says all operation (text_under RESULT_MESSAGE item) (number_under RESULT_REASON item)) (all.internal _))
+    (either P (names operation (number_under OPERATION item)) _ _
+    (payload_says all (all_under RESPONSE_PAYLOAD item)) (all.internal _))
+    (either P (status == (result_status_line OperationFailed).number) _ _
+    (failure_says all operation (text_under RESULT_MESSAGE item)
+    (number_under RESULT_REASON item)) (all.internal _))
 
-items_say : {P : Result Tree Error → Type 0} → OfTrees P → (operation : Operation) (counted : Bool) (items : List Tree) → P (items_answer operation counted items)
+items_say : {P : Result Tree Error → Type 0} → OfTrees P
+    → (operation : Operation) (counted : Bool) (items : List Tree)
+    → P (items_answer operation counted items)
 items_say all operation true [] = all.internal _
 items_say all operation true (item ∷ []) = status_says all operation item (number_under RESULT_STATUS item)
 items_say all operation true (item ∷ next ∷ items) = all.internal _
 items_say all operation false items = all.internal _
 
-tree_says : {P : Result Tree Error → Type 0} → OfTrees P → (operation : Operation) (message : Option Tree) → P (parsed_answer operation message)
+tree_says : {P : Result Tree Error → Type 0} → OfTrees P
+    → (operation : Operation) (message : Option Tree) → P (parsed_answer operation message)
 tree_says all operation None = all.malformed _
 tree_says {P} all operation (Some message) =
-    either P (has_tag RESPONSE_MESSAGE message) _ _ (items_say all operation (counts_one message) (all_under BATCH_ITEM message)) (all.internal _)
+    either P (has_tag RESPONSE_MESSAGE message) _ _
+    (items_say all operation (counts_one message) (all_under BATCH_ITEM message))
+    (all.internal _)
 
 none_fails : OfTrees (λ answer. answer ≡ reading_failed → ⊥)
-none_fails = record { ok = λ p is. cc; malformed = λ t is. cc; internal = λ t is. cc; server = λ t is. cc; not_found = λ t is. cc }
+none_fails = record {
+  ok = λ p is. cc;
+  malformed = λ t is. cc;
+  internal = λ t is. cc;
+  server =
+      λ t is. cc;
+  not_found = λ t is. cc;
+}
 
 pub never_fails : (operation : Operation) (m : List ℕ) → untyped_answer operation m ≡ reading_failed → ⊥
 never_fails operation m = tree_says none_fails operation (item_of 64 m)
@@ -89,59 +114,113 @@ record IsGood (operation : Operation) (item payload : Tree) : Type 0 where
   operation_is : number_under OPERATION item ≡ Some (operation_line operation).number
   payload_is : payload_of (all_under RESPONSE_PAYLOAD item) ≡ Ok payload
 
-from_named : (operation : Operation) (item payload : Tree) (number : Option ℕ) → number_under RESULT_STATUS item ≡ Some (result_status_line Success).number → number_under OPERATION item ≡ number →
-    cond (names operation number) (payload_of (all_under RESPONSE_PAYLOAD item)) (Err (InternalError (other_text operation))) ≡ Ok payload → IsGood operation item payload
+from_named : (operation : Operation) (item payload : Tree) (number : Option ℕ)
+    → number_under RESULT_STATUS item ≡ Some (result_status_line Success).number
+    → number_under OPERATION item ≡ number →
+    cond (names operation number) (payload_of (all_under RESPONSE_PAYLOAD item))
+    (Err (InternalError (other_text operation))) ≡ Ok payload → IsGood operation item payload
 from_named operation item payload None status is answers = error_payload answers
-from_named operation item payload (Some number) status is answers = named (number == (operation_line operation).number) refl answers
+from_named operation item payload (Some number) status is answers =
+    named (number == (operation_line operation).number) refl answers
   where
-    named : (b : Bool) → (number == (operation_line operation).number) ≡ b → cond b (payload_of (all_under RESPONSE_PAYLOAD item)) (Err (InternalError (other_text operation))) ≡ Ok payload → IsGood operation item payload
+    named : (b : Bool) → (number == (operation_line operation).number) ≡ b
+        → cond b (payload_of (all_under RESPONSE_PAYLOAD item))
+        (Err (InternalError (other_text operation))) ≡ Ok payload → IsGood operation item payload
     named false same answers = error_payload answers
-    named true same answers = record { status_is = status; operation_is = is ∙ ap Some (eqb-true number (operation_line operation).number same); payload_is = answers }
+    named true same answers = record {
+      status_is = status;
+      operation_is =
+          is ∙ ap Some (eqb-true number (operation_line operation).number same);
+      payload_is =
+          answers;
+    }
 
-from_status : (operation : Operation) (item payload : Tree) (status : Option ℕ) → number_under RESULT_STATUS item ≡ status → status_answer operation item status ≡ Ok payload → IsGood operation item payload
+from_status : (operation : Operation) (item payload : Tree) (status : Option ℕ)
+    → number_under RESULT_STATUS item ≡ status → status_answer operation item status ≡ Ok payload
+    → IsGood operation item payload
 from_status operation item payload None is answers = error_payload answers
-from_status operation item payload (Some status) is answers = by_status (status == (result_status_line Success).number) refl answers
+from_status operation item payload (Some status) is answers =
+    by_status (status == (result_status_line Success).number) refl answers
   where
-    failed : (b : Bool) → cond b (Err (failure_of operation (text_under RESULT_MESSAGE item) (number_under RESULT_REASON item))) (Err (InternalError (status_text status))) ≡ Ok payload → IsGood operation item payload
+    failed : (b : Bool) → cond b (Err (failure_of operation (text_under RESULT_MESSAGE item)
+        (number_under RESULT_REASON item))) (Err (InternalError (status_text status))) ≡ Ok payload
+        → IsGood operation item payload
     failed false answers = error_payload answers
     failed true answers = error_payload answers
 
     by_status : (b : Bool) → (status == (result_status_line Success).number) ≡ b →
-        cond b (success_of operation item) (cond (status == (result_status_line OperationFailed).number) (Err (failure_of operation (text_under RESULT_MESSAGE item) (number_under RESULT_REASON item))) (Err (InternalError (status_text status)))) ≡ Ok payload → IsGood operation item payload
+        cond b (success_of operation item)
+        (cond (status == (result_status_line OperationFailed).number)
+        (Err (failure_of operation (text_under RESULT_MESSAGE item)
+        (number_under RESULT_REASON item))) (Err (InternalError (status_text status))))
+        ≡ Ok payload → IsGood operation item payload
     by_status false same answers = failed (status == (result_status_line OperationFailed).number) answers
-    by_status true same answers = from_named operation item payload (number_under OPERATION item) (is ∙ ap Some (eqb-true status (result_status_line Success).number same)) refl answers
+    by_status true same answers = from_named operation item payload (number_under OPERATION item)
+        (is ∙ ap Some (eqb-true status (result_status_line Success).number same)) refl answers
 
-from_items : (operation : Operation) (message payload : Tree) (counted : Bool) (items : List Tree) → has_tag RESPONSE_MESSAGE message ≡ true → counts_one message ≡ counted → all_under BATCH_ITEM message ≡ items → items_answer operation counted items ≡ Ok payload → IsSuccess operation message payload
+from_items : (operation : Operation) (message payload : Tree) (counted : Bool) (items : List Tree)
+    → has_tag RESPONSE_MESSAGE message ≡ true → counts_one message ≡ counted
+    → all_under BATCH_ITEM message ≡ items → items_answer operation counted items ≡ Ok payload
+    → IsSuccess operation message payload
 from_items operation message payload false items has counts is answers = error_payload answers
 from_items operation message payload true [] has counts is answers = error_payload answers
 from_items operation message payload true (item ∷ next ∷ items) has counts is answers = error_payload answers
 from_items operation message payload true (item ∷ []) has counts is answers =
-    let good : IsGood operation item payload = from_status operation item payload (number_under RESULT_STATUS item) refl answers in
-    record { is_response = has; counts = counts; item = item; items = is; status_is = good.status_is; operation_is = good.operation_is; payload_is = good.payload_is }
+    let good : IsGood operation item payload =
+    from_status operation item payload (number_under RESULT_STATUS item) refl answers in
+    record {
+      is_response = has;
+      counts = counts;
+      item = item;
+      items = is;
+      status_is =
+          good.status_is;
+      operation_is = good.operation_is;
+      payload_is = good.payload_is;
+    }
 
-from_message : (operation : Operation) (message payload : Tree) → message_answer operation message ≡ Ok payload → IsSuccess operation message payload
+from_message : (operation : Operation) (message payload : Tree)
+    → message_answer operation message ≡ Ok payload → IsSuccess operation message payload
 from_message operation message payload answers = by_tag (has_tag RESPONSE_MESSAGE message) refl answers
   where
-    by_tag : (b : Bool) → has_tag RESPONSE_MESSAGE message ≡ b → cond b (items_answer operation (counts_one message) (all_under BATCH_ITEM message)) (Err not_response) ≡ Ok payload → IsSuccess operation message payload
+    by_tag : (b : Bool) → has_tag RESPONSE_MESSAGE message ≡ b
+        → cond b (items_answer operation (counts_one message) (all_under BATCH_ITEM message))
+        (Err not_response) ≡ Ok payload → IsSuccess operation message payload
     by_tag false has answers = error_payload answers
-    by_tag true has answers = from_items operation message payload (counts_one message) (all_under BATCH_ITEM message) has refl refl answers
+    by_tag true has answers = from_items operation message payload (counts_one message)
+        (all_under BATCH_ITEM message) has refl refl answers
 
-success_answers : (operation : Operation) (message payload : Tree) → IsSuccess operation message payload → message_answer operation message ≡ Ok payload
+success_answers : (operation : Operation) (message payload : Tree)
+    → IsSuccess operation message payload → message_answer operation message ≡ Ok payload
 success_answers operation message payload it =
     let n : ℕ = (operation_line operation).number in
     item_answers operation message it.item it.is_response it.counts it.items
     ∙ (ap (λ status. status_answer operation it.item status) it.status_is
-    ∙ (ap (λ (number : Option ℕ). cond (names operation number) (payload_of (all_under RESPONSE_PAYLOAD it.item)) (Err (InternalError (other_text operation)))) it.operation_is
-    ∙ (ap (λ (b : Bool). cond b (payload_of (all_under RESPONSE_PAYLOAD it.item)) (Err (InternalError (other_text operation)))) (eq-eqb n n refl)
+    ∙ (ap (λ (number : Option ℕ). cond (names operation number)
+    (payload_of (all_under RESPONSE_PAYLOAD it.item))
+    (Err (InternalError (other_text operation)))) it.operation_is
+    ∙ (ap (λ (b : Bool). cond b (payload_of (all_under RESPONSE_PAYLOAD it.item))
+    (Err (InternalError (other_text operation)))) (eq-eqb n n refl)
     ∙ it.payload_is)))
 
-from_tree : (operation : Operation) (limit : Option ℕ) (rest m : List ℕ) (payload : Tree) (message : Option Tree) → message_at rest limit ≡ Whole m → item_of 64 m ≡ message → parsed_answer operation message ≡ Ok payload → IsValidTree operation limit rest m payload
+from_tree : (operation : Operation) (limit : Option ℕ) (rest m : List ℕ) (payload : Tree)
+    (message : Option Tree) → message_at rest limit ≡ Whole m → item_of 64 m ≡ message
+    → parsed_answer operation message ≡ Ok payload → IsValidTree operation limit rest m payload
 from_tree operation limit rest m payload None front is answers = error_payload answers
-from_tree operation limit rest m payload (Some message) front is answers = record { message = message; front = front; parses = parses_of message m is; success = from_message operation message payload answers }
+from_tree operation limit rest m payload (Some message) front is answers =
+    record {
+      message = message;
+      front = front;
+      parses = parses_of message m is;
+      success =
+          from_message operation message payload answers;
+    }
 
-pub tree_valid : (operation : Operation) (limit : Option ℕ) → IsReadBy (untyped_answer operation) limit (IsValidTree operation limit)
+pub tree_valid : (operation : Operation) (limit : Option ℕ)
+    → IsReadBy (untyped_answer operation) limit (IsValidTree operation limit)
 tree_valid operation limit = record {
   valid = λ rest m payload front answers. from_tree operation limit rest m payload (item_of 64 m) front refl answers;
   front = λ rest m payload it. it.front;
-  read = λ rest m payload it. ap (parsed_answer operation) (computed_of it.message m it.parses) ∙ success_answers operation it.message payload it.success;
+  read = λ rest m payload it. ap (parsed_answer operation) (computed_of it.message m it.parses)
+      ∙ success_answers operation it.message payload it.success;
 }

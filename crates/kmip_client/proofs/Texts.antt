@@ -11,9 +11,12 @@ use Rattle.kmip_request.specs.Message.{credential_of}
 use Rattle.kmip_request.specs.Tables.{authentication, credential_values}
 use Rattle.kmip_request.specs.Values.{authentication_val, credential_value_val}
 
-texts_in : (kind : CredentialType) (value : CredentialValue) → fits_in (credential_value_val value) NoCase (Choice OfNumber credential_values) → FitsCredential (Some (credential_of (record { 0 = record { 0 = kind; 1 = value } })))
+texts_in : (kind : CredentialType) (value : CredentialValue)
+    → fits_in (credential_value_val value) NoCase (Choice OfNumber credential_values)
+    → FitsCredential (Some (credential_of (record { 0 = record { 0 = kind; 1 = value } })))
 texts_in kind (UsernameAndPassword username None) fits = (fits.1, tt)
 texts_in kind (UsernameAndPassword username (Some password)) fits = (fits.1, fits.2.1)
 
-pub texts_known : (a : Authentication) → Fits authentication (authentication_val a) → FitsCredential (Some (credential_of a))
+pub texts_known : (a : Authentication) → Fits authentication (authentication_val a)
+    → FitsCredential (Some (credential_of a))
 texts_known a fits = texts_in (a.0).0 (a.0).1 fits.1.2.1

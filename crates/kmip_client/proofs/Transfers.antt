@@ -10,16 +10,32 @@ pub keeps_self : (a : LinkState) → Keeps a a
 keeps_self a = record { tells = refl; still = refl; mark = refl; faults = omega arith }
 
 pub keeps_on : {a b c : LinkState} → Keeps a b → Keeps b c → Keeps a c
-keeps_on ab bc = record { tells = bc.tells ∙ ab.tells; still = bc.still ∙ ab.still; mark = bc.mark ∙ ab.mark; faults = omega arith }
+keeps_on ab bc = record {
+  tells = bc.tells ∙ ab.tells;
+  still = bc.still ∙ ab.still;
+  mark =
+      bc.mark ∙ ab.mark;
+  faults = omega arith;
+}
 
 pub writes_none : (a : LinkState) → Writes a a []
-writes_none a = record { sent = grind (arith, common_steps); pos = refl; ever = ([], grind (arith, common_steps)); still = λ _. refl }
+writes_none a = record {
+  sent = grind (arith, common_steps);
+  pos = refl;
+  ever =
+      ([], grind (arith, common_steps));
+  still = λ _. refl;
+}
 
 pub writes_on : {a b c : LinkState} {xs ys : List ℕ} → Keeps a b → Writes a b xs → Writes b c ys → Writes a c (xs ++ ys)
 writes_on {a = a} {b = b} {c = c} {xs = xs} {ys = ys} keeps ab bc = record {
   sent = grind (arith, common_steps);
   pos = bc.pos ∙ ab.pos;
-  ever = (ab.ever.0 ++ bc.ever.0, bc.ever.1 ∙ ap (λ l. l ++ bc.ever.0) ab.ever.1 ∙ append_assoc a.ever ab.ever.0 bc.ever.0);
+  ever = (
+    ab.ever.0 ++ bc.ever.0,
+    bc.ever.1 ∙ ap (λ l. l ++ bc.ever.0) ab.ever.1
+        ∙ append_assoc a.ever ab.ever.0 bc.ever.0,
+  );
   still = λ h. bc.still (rw keeps.still h) ∙ ab.still h;
 }
 
@@ -30,7 +46,8 @@ take_more n m xs = sym (take-add n m xs)
 rest_is : (n : ℕ) (xs : List ℕ) → take (length xs - n) (drop n xs) ≡ drop n xs
 rest_is n xs = rw (← length-drop n xs) (take-length (drop n xs))
 
-pub writes_next : {a b c : LinkState} (n m : ℕ) (xs : List ℕ) → Keeps a b → Writes a b (take n xs) → Writes b c (take m (take (length xs - n) (drop n xs))) → Writes a c (take (n + m) xs)
+pub writes_next : {a b c : LinkState} (n m : ℕ) (xs : List ℕ) → Keeps a b → Writes a b (take n xs)
+    → Writes b c (take m (take (length xs - n) (drop n xs))) → Writes a c (take (n + m) xs)
 writes_next {a = a} {b = b} {c = c} n m xs keeps ab bc =
     let P : List ℕ → Type 0 = λ l. Writes a c l in
     let Q : List ℕ → Type 0 = λ l. Writes b c (take m l) in
@@ -53,11 +70,15 @@ takes_on {a = a} {b = b} {c = c} {n = n} {m = m} ab bc = record {
 }
 
 -- the bytes of two readings, one after the other
-pub bytes_on : {a b : LinkState} {n : ℕ} (m : ℕ) (xs : List ℕ) → Takes a b n → (xs ++ take n (left a)) ++ take m (left b) ≡ xs ++ take (n + m) (left a)
+pub bytes_on : {a b : LinkState} {n : ℕ} (m : ℕ) (xs : List ℕ) → Takes a b n
+    → (xs ++ take n (left a)) ++ take m (left b) ≡ xs ++ take (n + m) (left a)
 bytes_on {a = a} {b = b} {n = n} m xs ab =
-    append_assoc xs (take n (left a)) (take m (left b)) ∙ ap (λ l. xs ++ l) (ap (λ l. take n (left a) ++ take m l) (left_after ab) ∙ take_more n m (left a))
+    append_assoc xs (take n (left a)) (take m (left b))
+    ∙ ap (λ l. xs ++ l) (ap (λ l. take n (left a) ++ take m l) (left_after ab)
+    ∙ take_more n m (left a))
 
-pub bytes_from : {a b : LinkState} {n : ℕ} (m : ℕ) → Takes a b n → take n (left a) ++ take m (left b) ≡ take (n + m) (left a)
+pub bytes_from : {a b : LinkState} {n : ℕ} (m : ℕ) → Takes a b n
+    → take n (left a) ++ take m (left b) ≡ take (n + m) (left a)
 bytes_from {a = a} {n = n} m ab = ap (λ l. take n (left a) ++ take m l) (left_after ab) ∙ take_more n m (left a)
 
 -- what was taken and what is left are all that was left
@@ -73,7 +94,8 @@ taken_all {a = a} {b = b} {n = n} ab none =
     let z : length (left b) ≡ 0 = ap length none in
     omega (arith, ab.within)
 
-pub takes_part_on : {a b c : LinkState} {n : ℕ} (m most : ℕ) → Takes a b n → TakesPart b c m → n + m ≤ most → TakesPart a c most
+pub takes_part_on : {a b c : LinkState} {n : ℕ} (m most : ℕ) → Takes a b n → TakesPart b c m
+    → n + m ≤ most → TakesPart a c most
 takes_part_on {n = n} m most ab bc h = (n + bc.0, omega arith, takes_on ab bc.2)
 
 -- a list that begins with one that begins with a third begins with the third
@@ -83,7 +105,9 @@ kept_on xs ys zs a b =
     sym (take-take (length xs) (length ys) zs short) ∙ ap (λ l. take (length xs) l) b ∙ a
 
 -- what was read into its place, once the room after it is cut off
-pub read_in_place : (old m into p q : List ℕ) (n got len : ℕ) → take n m ≡ old → n ≡ length old → got ≤ length into → n + got ≤ len → take (n + got) (take len ((take n m ++ (into ++ p)) ++ q)) ≡ old ++ take got into
+pub read_in_place : (old m into p q : List ℕ) (n got len : ℕ) → take n m ≡ old → n ≡ length old
+    → got ≤ length into → n + got ≤ len
+    → take (n + got) (take len ((take n m ++ (into ++ p)) ++ q)) ≡ old ++ take got into
 read_in_place old m into p q n got len is at within all =
     take-take (n + got) len ((take n m ++ (into ++ p)) ++ q) all
     ∙ (rw (is, at, append_assoc old (into ++ p) q, append_assoc into p q) (take-append-add old (into ++ (p ++ q)) got))

@@ -18,11 +18,13 @@ use Rattle.kmip_client.specs.Check.{check_response, check_items, check_item, pay
 use Rattle.kmip_client.specs.Outcome.{Answer, response_tag}
 use Rattle.kmip_client.specs.Client.{IsOfOperation}
 
-and_then_some : {A B : Type 0} (f : A → Option B) (o : Option A) (y : B) → option_and_then f o ≡ Some y → (x : A) × (o ≡ Some x) × (f x ≡ Some y)
+and_then_some : {A B : Type 0} (f : A → Option B) (o : Option A) (y : B)
+    → option_and_then f o ≡ Some y → (x : A) × (o ≡ Some x) × (f x ≡ Some y)
 and_then_some f None y h = absurd (cc)
 and_then_some f (Some x) y h = (x, refl, h)
 
-map_some : {A B : Type 0} (f : A → B) (o : Option A) (y : B) → option_map f o ≡ Some y → (x : A) × (o ≡ Some x) × (f x ≡ y)
+map_some : {A B : Type 0} (f : A → B) (o : Option A) (y : B) → option_map f o ≡ Some y → (x : A)
+    × (o ≡ Some x) × (f x ≡ y)
 map_some f None y h = absurd (cc)
 map_some f (Some x) y h = (x, refl, cc)
 
@@ -38,7 +40,8 @@ record IsField (f : Option Field) (rest : Field → Option Fields) (fields : Fie
   next : rest field ≡ Some others
   all : fields ≡ AndField field others
 
-field_some : (f : Option Field) (rest : Field → Option Fields) (fields : Fields) → with_field f rest ≡ Some fields → IsField f rest fields
+field_some : (f : Option Field) (rest : Field → Option Fields) (fields : Fields)
+    → with_field f rest ≡ Some fields → IsField f rest fields
 field_some None rest fields h = absurd (cc)
 field_some (Some g) rest fields h =
     let it = map_some (AndField g) (rest g) fields h in
@@ -51,19 +54,24 @@ record IsRows (rows : RowList) (tree : Tree) (value : Val) : Type 0 where
   reads : read_rows rows no_outer no_outer trees ≡ Some fields
   all : value ≡ Record fields
 
-rows_some : (rows : RowList) (tree : Tree) (value : Val) → read_in (Rows rows) NoCase no_outer tree ≡ Some value → IsRows rows tree value
+rows_some : (rows : RowList) (tree : Tree) (value : Val)
+    → read_in (Rows rows) NoCase no_outer tree ≡ Some value → IsRows rows tree value
 rows_some rows tree value h =
-    let it = and_then_some (λ (trees : List Tree). option_map Record (read_rows rows no_outer no_outer trees)) (children_in tree) value h in
+    let it = and_then_some (λ (trees : List Tree).
+    option_map Record (read_rows rows no_outer no_outer trees)) (children_in tree) value h in
     let fields = map_some Record (read_rows rows no_outer no_outer it.0) value it.2 in
     record { trees = it.0; fields = fields.0; reads = fields.1; all = sym fields.2 }
 
-many_some : (read : Tree → Option Val) (trees : List Tree) (field : Field) → marked_field AtLeastOne read trees ≡ Some field → each read trees ≡ Some (many_of field)
+many_some : (read : Tree → Option Val) (trees : List Tree) (field : Field)
+    → marked_field AtLeastOne read trees ≡ Some field → each read trees ≡ Some (many_of field)
 many_some read [] field h = absurd (cc)
 many_some read (tree ∷ trees) field h =
     let it = map_some Many (each read (tree ∷ trees)) field h in
     it.1 ∙ ap (λ f. Some (many_of f)) it.2
 
-optional_some : (read : Tree → Option Val) (trees : List Tree) (field : Field) (val : Val) → marked_field Optional read trees ≡ Some field → one_of field ≡ Some val → (tree : Tree) × (read tree ≡ Some val)
+optional_some : (read : Tree → Option Val) (trees : List Tree) (field : Field) (val : Val)
+    → marked_field Optional read trees ≡ Some field → one_of field ≡ Some val → (tree : Tree)
+    × (read tree ≡ Some val)
 optional_some read [] field val h is = absurd (let e : one_of field ≡ None = ap one_of (some_is (sym h)) in cc)
   where
     some_is : {f g : Field} → Some f ≡ Some g → f ≡ g
@@ -75,7 +83,8 @@ optional_some read (tree ∷ []) field val h is =
 optional_some read (tree ∷ next ∷ trees) field val h is = absurd (cc)
 
 -- one value that was read of a list
-single_some : (read : Tree → Option Val) (trees : List Tree) (val : Val) → each read trees ≡ Some (AndVal val NoVal) → (tree : Tree) × (read tree ≡ Some val)
+single_some : (read : Tree → Option Val) (trees : List Tree) (val : Val)
+    → each read trees ≡ Some (AndVal val NoVal) → (tree : Tree) × (read tree ≡ Some val)
 single_some read [] val h = absurd (cc)
 single_some read (tree ∷ trees) val h =
     let it = and_then_some (λ (v : Val). option_map (AndVal v) (each read trees)) (read tree) (AndVal val NoVal) h in
@@ -131,15 +140,20 @@ record IsRow (rows : RowList) (chosen : OuterValue) (trees : List Tree) (fields 
   field : Field
   others : Fields
   items : List Tree
-  first : marked_field (mark_of rows) (read_in (shape_of rows) NoCase (outer_for (role_of rows) no_outer chosen)) items ≡ Some field
+  first : marked_field (mark_of rows)
+      (read_in (shape_of rows) NoCase (outer_for (role_of rows) no_outer chosen)) items ≡ Some field
   next : read_rows (tail_of rows) no_outer (chosen_after (role_of rows) field chosen) trees ≡ Some others
   all : fields ≡ AndField field others
 
-row_some : (rows : RowList) (chosen : OuterValue) (trees : List Tree) (fields : Fields) → has_row rows ≡ true → read_rows rows no_outer chosen trees ≡ Some fields → IsRow rows chosen trees fields
+row_some : (rows : RowList) (chosen : OuterValue) (trees : List Tree) (fields : Fields)
+    → has_row rows ≡ true → read_rows rows no_outer chosen trees ≡ Some fields
+    → IsRow rows chosen trees fields
 row_some NoRow chosen trees fields some h = absurd (cc)
 row_some (AndRow name place mark role shape rows) chosen trees fields some h =
     let items : List Tree = filter (in_place place shape (outer_for role no_outer chosen)) trees in
-    let it = field_some (marked_field mark (read_in shape NoCase (outer_for role no_outer chosen)) items) (λ field. read_rows rows no_outer (chosen_after role field chosen) trees) fields h in
+    let it = field_some (marked_field mark
+    (read_in shape NoCase (outer_for role no_outer chosen)) items)
+    (λ field. read_rows rows no_outer (chosen_after role field chosen) trees) fields h in
     record { field = it.field; others = it.others; items = items; first = it.first; next = it.next; all = it.all }
 
 item_read : (tree : Tree) (item : Val) → read_in batch_item NoCase no_outer tree ≡ Some item → IsItem item
@@ -148,29 +162,37 @@ item_read tree item h =
     let r0 = row_some (rows_in batch_item) no_outer it.trees it.fields refl it.reads in
     let r1 = row_some (tail_of (rows_in batch_item)) (chosen_by r0.field) it.trees r0.others refl r0.next in
     let r2 = row_some (tail_of (tail_of (rows_in batch_item))) (chosen_by r0.field) it.trees r1.others refl r1.next in
-    let r3 = row_some (tail_of (tail_of (tail_of (rows_in batch_item)))) (chosen_by r0.field) it.trees r2.others refl r2.next in
-    let r4 = row_some (tail_of (tail_of (tail_of (tail_of (rows_in batch_item))))) (chosen_by r0.field) it.trees r3.others refl r3.next in
-    let r5 = row_some (tail_of (tail_of (tail_of (tail_of (tail_of (rows_in batch_item)))))) (chosen_by r0.field) it.trees r4.others refl r4.next in
+    let r3 = row_some (tail_of (tail_of (tail_of (rows_in batch_item))))
+    (chosen_by r0.field) it.trees r2.others refl r2.next in
+    let r4 = row_some (tail_of (tail_of (tail_of (tail_of (rows_in batch_item)))))
+    (chosen_by r0.field) it.trees r3.others refl r3.next in
+    let r5 = row_some (tail_of (tail_of (tail_of (tail_of (tail_of (rows_in batch_item))))))
+    (chosen_by r0.field) it.trees r4.others refl r4.next in
     record {
       operation = r0.field;
       payload = r5.field;
       trees = r5.items;
       first = ap (λ v. field_at 0 v) it.all ∙ at_first r0.all;
-      sixth = ap (λ v. field_at 5 v) it.all ∙ at_next 4 r0.all ∙ at_next 3 r1.all ∙ at_next 2 r2.all ∙ at_next 1 r3.all ∙ at_next 0 r4.all ∙ at_first r5.all;
+      sixth = ap (λ v. field_at 5 v) it.all ∙ at_next 4 r0.all ∙ at_next 3 r1.all ∙ at_next 2 r2.all
+          ∙ at_next 1 r3.all ∙ at_next 0 r4.all ∙ at_first r5.all;
       reads = r5.first;
     }
 
 -- the batch items of a response message
-items_read : (tree : Tree) (value : Val) → read_in response_message NoCase no_outer tree ≡ Some value → (trees : List Tree) × (each (read_in batch_item NoCase no_outer) trees ≡ Some (batch_items value))
+items_read : (tree : Tree) (value : Val)
+    → read_in response_message NoCase no_outer tree ≡ Some value → (trees : List Tree)
+    × (each (read_in batch_item NoCase no_outer) trees ≡ Some (batch_items value))
 items_read tree value h =
     let it = rows_some (rows_in response_message) tree value h in
     let r0 = row_some (rows_in response_message) no_outer it.trees it.fields refl it.reads in
     let r1 = row_some (tail_of (rows_in response_message)) no_outer it.trees r0.others refl r0.next in
-    let same : batch_items value ≡ many_of r1.field = ap batch_items it.all ∙ ap many_of (at_next 0 r0.all ∙ at_first r1.all) in
+    let same : batch_items value ≡ many_of r1.field =
+    ap batch_items it.all ∙ ap many_of (at_next 0 r0.all ∙ at_first r1.all) in
     (r1.items, many_some (read_in batch_item NoCase no_outer) r1.items r1.field r1.first ∙ ap Some (sym same))
 
 -- an item that answers with a payload names the operation and holds the payload
-ok_else : (b : Bool) (x y : Answer) (payload : Val) → (x ≡ Ok payload → ⊥) → cond b x y ≡ Ok payload → (b ≡ false) × (y ≡ Ok payload)
+ok_else : (b : Bool) (x y : Answer) (payload : Val) → (x ≡ Ok payload → ⊥) → cond b x y ≡ Ok payload
+    → (b ≡ false) × (y ≡ Ok payload)
 ok_else true x y payload never h = absurd (never h)
 ok_else false x y payload never h = (refl, h)
 
@@ -189,16 +211,25 @@ not_false : (b : Bool) → not b ≡ false → b ≡ true
 not_false true h = refl
 not_false false h = absurd (cc)
 
-item_ok : (operation : Operation) (item payload : Val) → check_item operation item ≡ Ok payload → (has_operation operation item ≡ true) × (one_of (field_at 5 item) ≡ Some payload)
+item_ok : (operation : Operation) (item payload : Val) → check_item operation item ≡ Ok payload
+    → (has_operation operation item ≡ true) × (one_of (field_at 5 item) ≡ Some payload)
 unfolding check_item
 item_ok operation item payload h =
     let a = ok_else (has_status OperationFailed item) _ _ payload (either_error _ _ _ payload) h in
-    let b = ok_else (has_status OperationPending item) _ _ payload (error_ok (InternalError (codes "Result status 'operation pending' is not supported")) payload) a.1 in
-    let c = ok_else (has_status OperationUndone item) _ _ payload (error_ok (InternalError (codes "Result status 'operation undone' is not supported")) payload) b.1 in
-    let d = ok_else (not (has_operation operation item)) _ _ payload (error_ok (InternalError (mismatch_text operation (operation_shown (one_of (field_at 0 item))))) payload) c.1 in
+    let b = ok_else (has_status OperationPending item) _ _ payload
+    (error_ok (InternalError (codes "Result status 'operation pending' is not supported"))
+    payload) a.1 in
+    let c = ok_else (has_status OperationUndone item) _ _ payload
+    (error_ok (InternalError (codes "Result status 'operation undone' is not supported"))
+    payload) b.1 in
+    let d = ok_else (not (has_operation operation item)) _ _ payload
+    (error_ok (InternalError (mismatch_text operation
+    (operation_shown (one_of (field_at 0 item))))) payload) c.1 in
     (not_false _ d.0, payload_ok _ payload d.1)
 
-items_ok : (operation : Operation) (told : Bool) (vals : Vals) (payload : Val) → check_items operation told vals ≡ Ok payload → (item : Val) × (vals ≡ AndVal item NoVal) × (check_item operation item ≡ Ok payload)
+items_ok : (operation : Operation) (told : Bool) (vals : Vals) (payload : Val)
+    → check_items operation told vals ≡ Ok payload → (item : Val) × (vals ≡ AndVal item NoVal)
+    × (check_item operation item ≡ Ok payload)
 items_ok operation false vals payload h = absurd (error_ok _ payload h)
 items_ok operation true NoVal payload h = absurd (error_ok _ payload h)
 items_ok operation true (AndVal item NoVal) payload h = (item, refl, h)
@@ -223,38 +254,69 @@ abbrev AreOwn : Cases → Type 0
 AreOwn NoCase = Unit {0}
 AreOwn (AndCase n name selector fixed shape cases) = (selector ≡ ByNumbers (n ∷ [])) × AreOwn cases
 
-split : {A : Type 0} (b : Bool) (x y : Option A) (z : A) → cond b x y ≡ Some z → ((b ≡ true) × (x ≡ Some z)) ⊎ ((b ≡ false) × (y ≡ Some z))
+split : {A : Type 0} (b : Bool) (x y : Option A) (z : A) → cond b x y ≡ Some z
+    → ((b ≡ true) × (x ≡ Some z)) ⊎ ((b ≡ false) × (y ≡ Some z))
 split true x y z h = inl (refl, h)
 split false x y z h = inr (refl, h)
 
 among_one : (n m : ℕ) → among n (m ∷ []) ≡ true → m ≡ n
 among_one n m h = grind (arith, nat_tests)
 
-case_own : (cases around : Cases) (operation : Operation) (outer : OuterValue) (tree : Tree) (payload : Val) → AreOwn cases →
-    read_case cases around (NumberKey (operation_line operation).number) outer tree ≡ Some payload → IsOfOperation operation payload
+case_own : (cases around : Cases) (operation : Operation) (outer : OuterValue) (tree : Tree)
+    (payload : Val) → AreOwn cases →
+    read_case cases around (NumberKey (operation_line operation).number) outer tree ≡ Some payload
+    → IsOfOperation operation payload
 case_own NoCase around operation outer tree payload own h = absurd (cc)
 case_own (AndCase m name selector fixed shape cases) around operation outer tree payload own h =
-    elim (split (matches (NumberKey (operation_line operation).number) selector) (option_map (Case m) (read_in shape around outer tree)) (read_case cases around (NumberKey (operation_line operation).number) outer tree) payload h) [
+    elim (split (matches (NumberKey (operation_line operation).number) selector)
+    (option_map (Case m) (read_in shape around outer tree))
+    (read_case cases around (NumberKey (operation_line operation).number) outer tree) payload h) [
       | inl it ↦
           let v = map_some (Case m) (read_in shape around outer tree) payload it.1 in
-          let key : among (operation_line operation).number (m ∷ []) ≡ true = ap (λ s. matches (NumberKey (operation_line operation).number) s) (sym own.0) ∙ it.0 in
+          let key : among (operation_line operation).number (m ∷ []) ≡ true =
+          ap (λ s. matches (NumberKey (operation_line operation).number) s) (sym own.0)
+          ∙ it.0 in
           subst (IsOfOperation operation) v.2 (among_one (operation_line operation).number m key)
       | inr it ↦ case_own cases around operation outer tree payload own.1 it.1
     ]
 
 own_payloads : AreOwn response_payloads
-own_payloads = (refl, (refl, (refl, (refl, (refl, (refl, (refl, (refl, (refl, (refl, (refl, (refl, (refl, (refl, (refl, (refl, (refl, tt)))))))))))))))))
+own_payloads = (
+  refl,
+  (
+    refl,
+    (
+      refl,
+      (
+        refl,
+        (
+          refl,
+          (
+            refl,
+            (refl, (refl, (refl, (refl, (refl, (refl, (refl, (refl, (refl, (refl, (refl, tt))))))))))),
+          ),
+        ),
+      ),
+    ),
+  ),
+)
 
-pub variant_of : (operation : Operation) (tree : Tree) (value payload : Val) → root_read response_message response_tag tree ≡ Some value → check_response operation value ≡ Ok payload → IsOfOperation operation payload
+pub variant_of : (operation : Operation) (tree : Tree) (value payload : Val)
+    → root_read response_message response_tag tree ≡ Some value
+    → check_response operation value ≡ Ok payload → IsOfOperation operation payload
 variant_of operation tree value payload reads checks =
     let items = items_read tree value (cond_some _ _ value reads) in
     let single = items_ok operation _ (batch_items value) payload checks in
     let one = single_some _ items.0 single.0 (items.1 ∙ ap Some single.1) in
     let item = item_read one.0 single.0 one.1 in
     let ok = item_ok operation single.0 payload single.2 in
-    let named : item.operation ≡ One (Number (pos (operation_line operation).number)) = sym item.first ∙ one_is _ _ (number_is _ _ ok.0) in
+    let named : item.operation ≡ One (Number (pos (operation_line operation).number)) =
+    sym item.first ∙ one_is _ _ (number_is _ _ ok.0) in
     let held : one_of item.payload ≡ Some payload = ap one_of (sym item.sixth) ∙ ok.1 in
     let read = optional_some _ item.trees item.payload payload item.reads held in
-    let own : read_in response_payload NoCase (chosen_by (One (Number (pos (operation_line operation).number)))) read.0 ≡ Some payload =
+    let own : read_in response_payload NoCase
+    (chosen_by (One (Number (pos (operation_line operation).number)))) read.0 ≡ Some payload =
     ap (λ f. read_in response_payload NoCase (chosen_by f) read.0) (sym named) ∙ read.1 in
-    case_own response_payloads response_payloads operation (chosen_by (One (Number (pos (operation_line operation).number)))) read.0 payload own_payloads own
+    case_own response_payloads response_payloads operation
+    (chosen_by (One (Number (pos (operation_line operation).number))))
+    read.0 payload own_payloads own

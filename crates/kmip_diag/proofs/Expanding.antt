@@ -47,22 +47,32 @@ mark_where Interval h = refl
 mutual
   good_says : (t : Skeleton) (level : ℕ) → is_good t level ≡ true → IsSkeleton t × IsWithin t level
   good_says (scalar tag mark) level e =
-      let l = both (leb level 64) _ e in let r = both (nat_lt tag (2 ^ 24)) _ l.1 in ((ltb-true tag (2 ^ 24) r.0, mark_says mark r.1), leb-true level 64 l.0)
+      let l = both (leb level 64) _ e in let r = both (nat_lt tag (2 ^ 24)) _ l.1 in
+      ((ltb-true tag (2 ^ 24) r.0, mark_says mark r.1), leb-true level 64 l.0)
   good_says (structure tag ts) level e =
-      let l = both (leb level 64) _ e in let r = both (nat_lt tag (2 ^ 24)) _ l.1 in let i = all_say ts (level + 1) r.1 in ((ltb-true tag (2 ^ 24) r.0, i.0), (leb-true level 64 l.0, i.1))
+      let l = both (leb level 64) _ e in let r = both (nat_lt tag (2 ^ 24)) _ l.1 in
+      let i = all_say ts (level + 1) r.1 in
+      ((ltb-true tag (2 ^ 24) r.0, i.0), (leb-true level 64 l.0, i.1))
 
   all_say : (ts : Skeletons) (level : ℕ) → are_good ts level ≡ true → AreGood ts level
   all_say none level e = (tt, tt)
-  all_say (more t ts) level e = let w = both (is_good t level) _ e in let l = good_says t level w.0 in let r = all_say ts level w.1 in ((l.0, r.0), (l.1, r.1))
+  all_say (more t ts) level e =
+      let w = both (is_good t level) _ e in let l = good_says t level w.0 in
+      let r = all_say ts level w.1 in ((l.0, r.0), (l.1, r.1))
 
 mutual
   good_where : (t : Skeleton) (level : ℕ) → IsSkeleton t → IsWithin t level → is_good t level ≡ true
-  good_where (scalar tag mark) level h w = and (leb level 64) _ (le-leb level 64 w) (and (nat_lt tag (2 ^ 24)) _ (lt-ltb tag (2 ^ 24) h.0) (mark_where mark h.1))
-  good_where (structure tag ts) level h w = and (leb level 64) _ (le-leb level 64 w.0) (and (nat_lt tag (2 ^ 24)) _ (lt-ltb tag (2 ^ 24) h.0) (all_where ts (level + 1) (h.1, w.1)))
+  good_where (scalar tag mark) level h w =
+      and (leb level 64) _ (le-leb level 64 w)
+      (and (nat_lt tag (2 ^ 24)) _ (lt-ltb tag (2 ^ 24) h.0) (mark_where mark h.1))
+  good_where (structure tag ts) level h w =
+      and (leb level 64) _ (le-leb level 64 w.0)
+      (and (nat_lt tag (2 ^ 24)) _ (lt-ltb tag (2 ^ 24) h.0) (all_where ts (level + 1) (h.1, w.1)))
 
   all_where : (ts : Skeletons) (level : ℕ) → AreGood ts level → are_good ts level ≡ true
   all_where none level g = refl
-  all_where (more t ts) level g = and (is_good t level) _ (good_where t level g.0.0 g.1.0) (all_where ts level (g.0.1, g.1.1))
+  all_where (more t ts) level g = and (is_good t level) _ (good_where t level g.0.0 g.1.0)
+      (all_where ts level (g.0.1, g.1.1))
 
 pub expansion_says : (p : Option ℕ) (text out : List ℕ) → expansion p text ≡ Some out → IsExpansion p text out
 unfolding expansion
@@ -75,12 +85,15 @@ expansion_says p text out e =
 pub expansion_where : (p : Option ℕ) (text out : List ℕ) → IsExpansion p text out → expansion p text ≡ Some out
 unfolding expansion
 expansion_where p text out (ts, good, e, lines) =
-    let read : (read_all (suc (length text)) p text).0 ≡ ts = ap (λ x. (read_all (suc (length text)) p x).0) (sym e) ∙ read_whole p ts (suc (length text)) good.0 (omega (arith, ap length e))
+    let read : (read_all (suc (length text)) p text).0 ≡ ts =
+    ap (λ x. (read_all (suc (length text)) p x).0) (sym e)
+    ∙ read_whole p ts (suc (length text)) good.0 (omega (arith, ap length e))
     in let test = and (are_good ts 1) _ (all_where ts 1 good) ((bytes_eq-Decides (printed_all p ts) text).1 e)
     in ap (checked_lines p text) read ∙ ap (λ b. cond b (Some (all_lines 0 ts)) None) test ∙ ap Some (sym lines)
 
 pub none_says : (p : Option ℕ) (text : List ℕ) → expansion p text ≡ None → IsNoDiagnostic p text
-none_says p text e ts good f = none-some (all_lines 0 ts) (sym e ∙ expansion_where p text (all_lines 0 ts) (ts, good, f, refl))
+none_says p text e ts good f = none-some (all_lines 0 ts)
+    (sym e ∙ expansion_where p text (all_lines 0 ts) (ts, good, f, refl))
 
 pub none_where : (p : Option ℕ) (text : List ℕ) → IsNoDiagnostic p text → expansion p text ≡ None
 none_where p text refuted = by_lines (expansion p text) refl

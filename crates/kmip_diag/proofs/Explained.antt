@@ -24,7 +24,8 @@ mutual
   all_within none level b q = tt
   all_within (more t ts) level b (n, le, q, all) = (within t level (take n b) q, all_within ts level (drop n b) all)
 
-pub explained : (p : Option ℕ) (t : Tree) (b : List ℕ) → HasRanges t → Parses t 1 b → expansion p (diagnostic p b) ≡ Some (lines_of 0 (skeleton t))
+pub explained : (p : Option ℕ) (t : Tree) (b : List ℕ) → HasRanges t → Parses t 1 b
+    → expansion p (diagnostic p b) ≡ Some (lines_of 0 (skeleton t))
 explained p t b h q = expansion_where p (diagnostic p b) (lines_of 0 (skeleton t)) (
   shown.more (skeleton t) shown.none,
   ((skeleton_ranges t h, tt), (within t 1 b q, tt)),

@@ -40,9 +40,18 @@ one_shown (cut_off tag s) (cut_off other r) level b h g =
     in let rest : s ≡ r = one_shown s r (level + 1) (value_of b) h.3 g.3
     in (λ i. cut_off (same i) (rest i))
 
-pub one_diagnostic : (p : Option ℕ) (b text other : List ℕ) → IsDiagnostic p b text → IsDiagnostic p b other → text ≡ other
+pub one_diagnostic : (p : Option ℕ) (b text other : List ℕ) → IsDiagnostic p b text
+    → IsDiagnostic p b other → text ≡ other
 one_diagnostic p b text other (s, h, e) (r, g, f) = e ∙ ap (shown_text p false) (one_shown s r 1 b h g) ∙ sym f
 
 pub item_diagnostic : (p : Option ℕ) (t : Tree) (b : List ℕ) → Parses t 1 b → diagnostic p b ≡ printed p (skeleton t)
-item_diagnostic p t b q = one_diagnostic p b (diagnostic p b) (printed p (skeleton t)) (is_diagnostic p b)
-    (item t ended, (length b, omega arith, subst (Parses t 1) (sym (take-length b)) q, drop-length b), sym (append-nil (printed p (skeleton t))))
+item_diagnostic p t b q = one_diagnostic p b (diagnostic p b) (printed p (skeleton t)) (is_diagnostic p b) (
+  item t ended,
+  (
+    length b,
+    omega arith,
+    subst (Parses t 1) (sym (take-length b)) q,
+    drop-length b,
+  ),
+  sym (append-nil (printed p (skeleton t))),
+)

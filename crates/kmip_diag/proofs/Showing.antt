@@ -23,18 +23,24 @@ same_fuel (suc f) (suc g) level [] h k = refl
 same_fuel (suc f) (suc g) level (x ∷ xs) h k =
     let short = length-drop (size_at (x ∷ xs)) (x ∷ xs)
     in let shorter = value_shorter (x ∷ xs) (omega arith)
-    in let rest = same_fuel f g level (drop (size_at (x ∷ xs)) (x ∷ xs)) (omega (arith, h, short)) (omega (arith, k, short))
+    in let rest = same_fuel f g level (drop (size_at (x ∷ xs)) (x ∷ xs)) (omega (arith, h, short))
+    (omega (arith, k, short))
     in let inner = same_fuel f g (level + 1) (value_of (x ∷ xs)) (omega (arith, h, shorter)) (omega (arith, k, shorter))
     in λ i. shown_by (front_at level (x ∷ xs)) (opening_tag level (x ∷ xs)) (rest i) (inner i)
 
-shown_step : (level : ℕ) (b : List ℕ) → 0 < length b → shown_within level b ≡ shown_by (front_at level b) (opening_tag level b) (shown_within level (drop (size_at b) b)) (shown_within (level + 1) (value_of b))
+shown_step : (level : ℕ) (b : List ℕ) → 0 < length b
+    → shown_within level b ≡ shown_by (front_at level b) (opening_tag level b)
+    (shown_within level (drop (size_at b) b)) (shown_within (level + 1) (value_of b))
 unfolding shown_within
 shown_step level [] some = absurd (omega (arith, some))
 shown_step level (x ∷ xs) some =
     let short = length-drop (size_at (x ∷ xs)) (x ∷ xs)
     in let shorter = value_shorter (x ∷ xs) some
-    in let rest = same_fuel (length (x ∷ xs)) (suc (length (drop (size_at (x ∷ xs)) (x ∷ xs)))) level (drop (size_at (x ∷ xs)) (x ∷ xs)) (omega (arith, short)) (omega arith)
-    in let inner = same_fuel (length (x ∷ xs)) (suc (length (value_of (x ∷ xs)))) (level + 1) (value_of (x ∷ xs)) (omega (arith, shorter)) (omega arith)
+    in let rest = same_fuel (length (x ∷ xs))
+    (suc (length (drop (size_at (x ∷ xs)) (x ∷ xs)))) level (drop (size_at (x ∷ xs)) (x ∷ xs))
+    (omega (arith, short)) (omega arith)
+    in let inner = same_fuel (length (x ∷ xs)) (suc (length (value_of (x ∷ xs)))) (level + 1)
+    (value_of (x ∷ xs)) (omega (arith, shorter)) (omega arith)
     in λ i. shown_by (front_at level (x ∷ xs)) (opening_tag level (x ∷ xs)) (rest i) (inner i)
 
 shown_end : (level : ℕ) (b : List ℕ) → b ≡ [] → shown_within level b ≡ ended
@@ -45,7 +51,8 @@ both : (x y : Bool) → (x && y) ≡ true → (x ≡ true) × (y ≡ true)
 both true y e = (refl, e)
 both false y e = absurd cc
 
-pub opened_says : (level : ℕ) (b : List ℕ) (tag : ℕ) → opening_tag level b ≡ Some tag → OpensAt level b × (tag ≡ head_tag b)
+pub opened_says : (level : ℕ) (b : List ℕ) (tag : ℕ) → opening_tag level b ≡ Some tag
+    → OpensAt level b × (tag ≡ head_tag b)
 opened_says level b tag e =
     let w = cond_some _ (head_tag b) tag e
     in let l = both (leb level 64) _ w.0
@@ -59,7 +66,8 @@ opened_none : (o : Option ℕ) → None ≡ option_map Open o → None ≡ o
 opened_none None e = refl
 opened_none (Some tag) e = absurd (none-some (Open tag) e)
 
-opened_token : (o : Option ℕ) (token : Token) → Some token ≡ option_map Open o → (tag : ℕ) × (o ≡ Some tag) × (token ≡ Open tag)
+opened_token : (o : Option ℕ) (token : Token) → Some token ≡ option_map Open o → (tag : ℕ)
+    × (o ≡ Some tag) × (token ≡ Open tag)
 opened_token None token e = absurd (none-some token (sym e))
 opened_token (Some tag) token e = (tag, refl, same_Some token (Open tag) e)
 
@@ -69,25 +77,34 @@ pub diag_start : (p : Option ℕ) (b : List ℕ) → diagnostic p b ≡ [] ++ sh
 unfolding diagnostic
 diag_start p b = refl
 
-module _ (p : Option ℕ) (whole text b : List ℕ) (level : ℕ) (is_cut_off : Bool) (so_far : whole ≡ text ++ shown_text p is_cut_off (shown_within level b)) where
+module _ (p : Option ℕ) (whole text b : List ℕ) (level : ℕ) (is_cut_off : Bool)
+    (so_far : whole ≡ text ++ shown_text p is_cut_off (shown_within level b)) where
   shows : (s : Shown) → shown_within level b ≡ s → whole ≡ text ++ shown_text p is_cut_off s
   shows s e = so_far ∙ ap (λ x. text ++ shown_text p is_cut_off x) e
 
-  pub diag_item : (t : Tree) (after rest : List ℕ) → 0 < length b → Some t ≡ front_at level b → after ≡ text ++ printed p (skeleton t) → rest ≡ drop (size_at b) b
+  pub diag_item : (t : Tree) (after rest : List ℕ) → 0 < length b → Some t ≡ front_at level b
+      → after ≡ text ++ printed p (skeleton t) → rest ≡ drop (size_at b) b
       → whole ≡ after ++ shown_text p is_cut_off (shown_within level rest)
   diag_item t after rest some front pushed dropped =
-      let step = shown_step level b some ∙ ap (λ o. shown_by o (opening_tag level b) (shown_within level (drop (size_at b) b)) (shown_within (level + 1) (value_of b))) (sym front)
+      let step = shown_step level b some
+      ∙ ap (λ o. shown_by o (opening_tag level b) (shown_within level (drop (size_at b) b))
+      (shown_within (level + 1) (value_of b))) (sym front)
       in shows (item t (shown_within level (drop (size_at b) b))) step
-      ∙ sym (append_assoc text (printed p (skeleton t)) (shown_text p is_cut_off (shown_within level (drop (size_at b) b))))
+      ∙ sym (append_assoc text (printed p (skeleton t))
+      (shown_text p is_cut_off (shown_within level (drop (size_at b) b))))
       ∙ ap (λ x. x ++ shown_text p is_cut_off (shown_within level (drop (size_at b) b))) (sym pushed)
       ∙ ap (λ r. after ++ shown_text p is_cut_off (shown_within level r)) (sym dropped)
 
-  diag_opened : (tag : ℕ) (after rest : List ℕ) → 0 < length b → None ≡ front_at level b → opening_tag level b ≡ Some tag → after ≡ text ++ (printed_tag p tag ++ (91 ∷ [])) → rest ≡ value_of b
+  diag_opened : (tag : ℕ) (after rest : List ℕ) → 0 < length b → None ≡ front_at level b
+      → opening_tag level b ≡ Some tag → after ≡ text ++ (printed_tag p tag ++ (91 ∷ []))
+      → rest ≡ value_of b
       → whole ≡ after ++ shown_text p true (shown_within (level + 1) rest)
   diag_opened tag after rest some front opens pushed inside =
       let step = shown_step level b some
-      ∙ ap (λ o. shown_by o (opening_tag level b) (shown_within level (drop (size_at b) b)) (shown_within (level + 1) (value_of b))) (sym front)
-      ∙ ap (λ o. shown_by None o (shown_within level (drop (size_at b) b)) (shown_within (level + 1) (value_of b))) opens
+      ∙ ap (λ o. shown_by o (opening_tag level b) (shown_within level (drop (size_at b) b))
+      (shown_within (level + 1) (value_of b))) (sym front)
+      ∙ ap (λ o. shown_by None o (shown_within level (drop (size_at b) b))
+      (shown_within (level + 1) (value_of b))) opens
       in let more = shown_text p true (shown_within (level + 1) (value_of b))
       in shows (cut_off tag (shown_within (level + 1) (value_of b))) step
       ∙ ap (λ x. text ++ x) (sym (append_assoc (printed_tag p tag) (91 ∷ []) more))
@@ -95,27 +112,40 @@ module _ (p : Option ℕ) (whole text b : List ℕ) (level : ℕ) (is_cut_off : 
       ∙ ap (λ x. x ++ more) (sym pushed)
       ∙ ap (λ r. after ++ shown_text p true (shown_within (level + 1) r)) (sym inside)
 
-  pub diag_cut_off : (token : Token) (after rest : List ℕ) → 0 < length b → None ≡ front_at level b → Some token ≡ option_map Open (opening_tag level b) → after ≡ text ++ token_text p token → rest ≡ value_of b
+  pub diag_cut_off : (token : Token) (after rest : List ℕ) → 0 < length b → None ≡ front_at level b
+      → Some token ≡ option_map Open (opening_tag level b) → after ≡ text ++ token_text p token
+      → rest ≡ value_of b
       → (level ≤ 64) × (whole ≡ after ++ shown_text p true (shown_within (level + 1) rest))
-  diag_cut_off token after rest some front opens pushed inside = let o = opened_token (opening_tag level b) token opens in ((opened_says level b o.0 o.1).0.0, diag_opened o.0 after rest some front o.1 (pushed ∙ ap (λ k. text ++ token_text p k) o.2) inside)
+  diag_cut_off token after rest some front opens pushed inside =
+      let o = opened_token (opening_tag level b) token opens in (
+        (opened_says level b o.0 o.1).0.0,
+        diag_opened o.0 after rest some front o.1
+            (pushed ∙ ap (λ k. text ++ token_text p k) o.2) inside,
+      )
 
-  pub diag_stop : (after : List ℕ) → 0 < length b → None ≡ front_at level b → None ≡ option_map Open (opening_tag level b) → after ≡ text ++ (33 ∷ []) → after ≡ whole
+  pub diag_stop : (after : List ℕ) → 0 < length b → None ≡ front_at level b
+      → None ≡ option_map Open (opening_tag level b) → after ≡ text ++ (33 ∷ []) → after ≡ whole
   diag_stop after some front opens pushed =
       let step = shown_step level b some
-      ∙ ap (λ o. shown_by o (opening_tag level b) (shown_within level (drop (size_at b) b)) (shown_within (level + 1) (value_of b))) (sym front)
-      ∙ ap (λ o. shown_by None o (shown_within level (drop (size_at b) b)) (shown_within (level + 1) (value_of b))) (sym (opened_none (opening_tag level b) opens))
+      ∙ ap (λ o. shown_by o (opening_tag level b) (shown_within level (drop (size_at b) b))
+      (shown_within (level + 1) (value_of b))) (sym front)
+      ∙ ap (λ o. shown_by None o (shown_within level (drop (size_at b) b))
+      (shown_within (level + 1) (value_of b))) (sym (opened_none (opening_tag level b) opens))
       in pushed ∙ sym (shows stopped step)
 
   pub diag_end_cut_off : (after : List ℕ) → b ≡ [] → is_cut_off ≡ true → after ≡ text ++ (33 ∷ []) → after ≡ whole
-  diag_end_cut_off after e is pushed = pushed ∙ sym (shows ended (shown_end level b e) ∙ ap (λ x. text ++ shown_text p x ended) is)
+  diag_end_cut_off after e is pushed =
+      pushed ∙ sym (shows ended (shown_end level b e) ∙ ap (λ x. text ++ shown_text p x ended) is)
 
   pub diag_end : b ≡ [] → is_cut_off ≡ false → text ≡ whole
   diag_end e is = sym (shows ended (shown_end level b e) ∙ ap (λ x. text ++ shown_text p x ended) is ∙ append-nil text)
 
 -- ---- the relation
 
-shows_step : (level : ℕ) (b : List ℕ) (rest inner : Shown) → 0 < length b → Shows rest level (drop (size_at b) b) → Shows inner (level + 1) (value_of b)
-    → (o : Option Tree) → MatchOption o (NoFront level b) (λ t. (size_at b ≤ length b) × Parses t level (take (size_at b) b))
+shows_step : (level : ℕ) (b : List ℕ) (rest inner : Shown) → 0 < length b
+    → Shows rest level (drop (size_at b) b) → Shows inner (level + 1) (value_of b)
+    → (o : Option Tree) → MatchOption o (NoFront level b)
+    (λ t. (size_at b ≤ length b) × Parses t level (take (size_at b) b))
     → (w : Option ℕ) → opening_tag level b ≡ w → Shows (shown_by o w rest inner) level b
 shows_step level b rest inner some r i (Some t) m w e = (size_at b, m.0, m.1, r)
 shows_step level b rest inner some r i None m (Some tag) e = let o = opened_says level b tag e in (m, o.0, o.1, i)
@@ -127,7 +157,8 @@ shows_at (suc fuel) level [] low h = refl
 shows_at (suc fuel) level (x ∷ xs) low h =
     let short = length-drop (size_at (x ∷ xs)) (x ∷ xs)
     in let shorter = value_shorter (x ∷ xs) (omega arith)
-    in shows_step level (x ∷ xs) (shown_at fuel level (drop (size_at (x ∷ xs)) (x ∷ xs))) (shown_at fuel (level + 1) (value_of (x ∷ xs))) (omega arith)
+    in shows_step level (x ∷ xs) (shown_at fuel level (drop (size_at (x ∷ xs)) (x ∷ xs)))
+    (shown_at fuel (level + 1) (value_of (x ∷ xs))) (omega arith)
     (shows_at fuel level (drop (size_at (x ∷ xs)) (x ∷ xs)) low (omega (arith, h, short)))
     (shows_at fuel (level + 1) (value_of (x ∷ xs)) (omega arith) (omega (arith, h, shorter)))
     (front_at level (x ∷ xs)) (front_rule level (x ∷ xs) low) (opening_tag level (x ∷ xs)) refl

@@ -79,7 +79,8 @@ open_step : (p : Option ℕ) (tag : ℕ) (us ts : Skeletons) (outer : List Skele
 open_step p tag us ts outer = structure_text p tag us ts (close_text p outer)
 
 -- an empty stack, or a piece
-pub first_piece : (p : Option ℕ) (ts : Skeletons) (outer : List Skeletons) → IsStack ts outer → ((ts ≡ none) × (outer ≡ [])) ⊎ Piece p ts outer
+pub first_piece : (p : Option ℕ) (ts : Skeletons) (outer : List Skeletons) → IsStack ts outer
+    → ((ts ≡ none) × (outer ≡ [])) ⊎ Piece p ts outer
 first_piece p none [] h = inl (refl, refl)
 first_piece p none (us ∷ outer) h = inr (record {
   token = Close;
@@ -118,7 +119,8 @@ pub record Whole (p : Option ℕ) (d : ℕ) (k : Token) (ts : Skeletons) (outer 
   pub text : open_text p inner around ≡ token_text p k ++ open_text p ts outer
   pub lines : open_lines inner around ≡ token_line d k ++ open_lines ts outer
 
-pub put_back : (p : Option ℕ) (d : ℕ) (k : Token) (ts : Skeletons) (outer : List Skeletons) → IsToken k → next_depth d k ≡ Some (length outer) → IsStack ts outer → Whole p d k ts outer
+pub put_back : (p : Option ℕ) (d : ℕ) (k : Token) (ts : Skeletons) (outer : List Skeletons)
+    → IsToken k → next_depth d k ≡ Some (length outer) → IsStack ts outer → Whole p d k ts outer
 put_back p d Close ts outer h e s = record {
   inner = none;
   around = ts ∷ outer;
@@ -136,7 +138,8 @@ put_back p d (Scalar tag mark) ts outer h e s =
       is_stack = (((h, s.0.0), (omega (arith, f.0, same), s.0.1)), s.1);
       depth = sym same;
       text = append_assoc (printed_tag p tag ++ printed_mark mark) (printed_all p ts) (close_text p outer);
-      lines = append_assoc (line (length outer) tag (mark_kind mark) (data_text mark)) (all_lines (length outer) ts) (close_lines outer)
+      lines = append_assoc (line (length outer) tag (mark_kind mark) (data_text mark))
+          (all_lines (length outer) ts) (close_lines outer)
           ∙ ap (λ n. line n tag (mark_kind mark) (data_text mark) ++ open_lines ts outer) (sym same);
     }
 put_back p d (Open tag) ts [] h e s = absurd (omega (arith, same_some (within d (Some (d + 1)) 0 e).1))
@@ -151,63 +154,94 @@ put_back p d (Open tag) ts (us ∷ outer) h e s =
       is_stack = ((((h, good.0), s.1.0.0), ((omega (arith, f.0, same), good.1), s.1.0.1)), s.1.1);
       depth = sym same;
       text = open_step p tag ts us outer;
-      lines = append_assoc (line (length outer) tag kinds.Structure [] ++ all_lines (length outer + 1) ts) (all_lines (length outer) us) (close_lines outer)
-          ∙ append_assoc (line (length outer) tag kinds.Structure []) (all_lines (length outer + 1) ts) (all_lines (length outer) us ++ close_lines outer)
-          ∙ ap (λ n. line n tag kinds.Structure [] ++ (all_lines (length outer + 1) ts ++ (all_lines (length outer) us ++ close_lines outer))) (sym same)
-          ∙ ap (λ n. line d tag kinds.Structure [] ++ (all_lines n ts ++ (all_lines (length outer) us ++ close_lines outer))) deeper;
+      lines = append_assoc (line (length outer) tag kinds.Structure []
+          ++ all_lines (length outer + 1) ts) (all_lines (length outer) us) (close_lines outer)
+          ∙ append_assoc (line (length outer) tag kinds.Structure [])
+          (all_lines (length outer + 1) ts) (all_lines (length outer) us ++ close_lines outer)
+          ∙ ap (λ n. line n tag kinds.Structure []
+          ++ (all_lines (length outer + 1) ts
+          ++ (all_lines (length outer) us ++ close_lines outer))) (sym same)
+          ∙ ap (λ n. line d tag kinds.Structure []
+          ++ (all_lines n ts ++ (all_lines (length outer) us ++ close_lines outer))) deeper;
     }
 
 -- what is left to read, at the depth; the text of the pieces so far, and their lines
 pub record Reads (p : Option ℕ) (text rest : List ℕ) (d : ℕ) (again out : List ℕ) : Type 0 where
   pub sound : (ts : Skeletons) (outer : List Skeletons) → IsStack ts outer → length outer ≡ d
-      → (ws : Skeletons) × AreGood ws 1 × (printed_all p ws ≡ again ++ open_text p ts outer) × (all_lines 0 ws ≡ out ++ open_lines ts outer)
+      → (ws : Skeletons) × AreGood ws 1 × (printed_all p ws ≡ again ++ open_text p ts outer)
+      × (all_lines 0 ws ≡ out ++ open_lines ts outer)
   pub complete : (ws : Skeletons) → AreGood ws 1 → printed_all p ws ≡ text
-      → (ts : Skeletons) × (outer : List Skeletons) × IsStack ts outer × (length outer ≡ d) × (open_text p ts outer ≡ rest) × (again ++ rest ≡ text)
+      → (ts : Skeletons) × (outer : List Skeletons) × IsStack ts outer × (length outer ≡ d)
+      × (open_text p ts outer ≡ rest) × (again ++ rest ≡ text)
 
 pub reads_start : (p : Option ℕ) (text : List ℕ) → Reads p text text 0 [] []
-reads_start p text = record { sound = begin_sound; complete = λ ws g e. (ws, [], (g, tt), refl, append-nil (printed_all p ws) ∙ e, refl) }
+reads_start p text = record {
+  sound = begin_sound;
+  complete = λ ws g e.
+      (ws, [], (g, tt), refl, append-nil (printed_all p ws) ∙ e, refl);
+}
   where
     begin_sound : (ts : Skeletons) (outer : List Skeletons) → IsStack ts outer → length outer ≡ 0
-        → (ws : Skeletons) × AreGood ws 1 × (printed_all p ws ≡ [] ++ open_text p ts outer) × (all_lines 0 ws ≡ [] ++ open_lines ts outer)
+        → (ws : Skeletons) × AreGood ws 1 × (printed_all p ws ≡ [] ++ open_text p ts outer)
+        × (all_lines 0 ws ≡ [] ++ open_lines ts outer)
     begin_sound ts [] s l = (ts, s.0, sym (append-nil (printed_all p ts)), sym (append-nil (all_lines 0 ts)))
     begin_sound ts (us ∷ outer) s l = absurd (omega (arith, l))
 
 no_pair : {A : Type 0} {x : Token × List ℕ} → None ≡ Some x → A
 no_pair {A} {x} e = absurd (none-some x e)
 
-read_piece : (p : Option ℕ) (ts : Skeletons) (outer : List Skeletons) (rest : List ℕ) (piece : Piece p ts outer) → open_text p ts outer ≡ rest → read_token p rest ≡ Some (piece.token, open_text p piece.inner piece.around)
-read_piece p ts outer rest piece f = ap (read_token p) (sym f ∙ piece.text) ∙ token_read p piece.token (open_text p piece.inner piece.around) piece.is_token
+read_piece : (p : Option ℕ) (ts : Skeletons) (outer : List Skeletons) (rest : List ℕ)
+    (piece : Piece p ts outer) → open_text p ts outer ≡ rest
+    → read_token p rest ≡ Some (piece.token, open_text p piece.inner piece.around)
+read_piece p ts outer rest piece f =
+    ap (read_token p) (sym f ∙ piece.text)
+    ∙ token_read p piece.token (open_text p piece.inner piece.around) piece.is_token
 
-read_none : (p : Option ℕ) (ts : Skeletons) (outer : List Skeletons) (rest : List ℕ) → open_text p ts outer ≡ rest → ((ts ≡ none) × (outer ≡ [])) → rest ≡ []
+read_none : (p : Option ℕ) (ts : Skeletons) (outer : List Skeletons) (rest : List ℕ)
+    → open_text p ts outer ≡ rest → ((ts ≡ none) × (outer ≡ [])) → rest ≡ []
 read_none p ts outer rest f z = sym f ∙ ap (λ x. open_text p x outer) z.0 ∙ ap (close_text p) z.1
 
 module _ (p : Option ℕ) (text rest : List ℕ) (d : ℕ) (again out : List ℕ) (r : Reads p text rest d again out) where
-  pub reads_step : (k : Token) (after : List ℕ) (e : ℕ) (pushed lines : List ℕ) → Some (k, after) ≡ read_token p rest → IsToken k → next_depth d k ≡ Some e
+  pub reads_step : (k : Token) (after : List ℕ) (e : ℕ) (pushed lines : List ℕ)
+      → Some (k, after) ≡ read_token p rest → IsToken k → next_depth d k ≡ Some e
       → pushed ≡ again ++ token_text p k → lines ≡ out ++ token_line d k → Reads p text after e pushed lines
   reads_step k after e pushed lines front is_token q pushes adds = record {
     sound = step_sound;
     complete = λ ws g f. let w = r.complete ws g f in step_complete w.0 w.1 w.2 w.3 w.4 w.5 (first_piece p w.0 w.1 w.2);
   } where
     step_sound : (ts : Skeletons) (outer : List Skeletons) → IsStack ts outer → length outer ≡ e
-        → (ws : Skeletons) × AreGood ws 1 × (printed_all p ws ≡ pushed ++ open_text p ts outer) × (all_lines 0 ws ≡ lines ++ open_lines ts outer)
+        → (ws : Skeletons) × AreGood ws 1 × (printed_all p ws ≡ pushed ++ open_text p ts outer)
+        × (all_lines 0 ws ≡ lines ++ open_lines ts outer)
     step_sound ts outer s l =
         let w = put_back p d k ts outer is_token (q ∙ ap Some (sym l)) s
         in let v = r.sound w.inner w.around w.is_stack w.depth
         in (
           v.0,
           v.1,
-          v.2 ∙ ap (λ x. again ++ x) w.text ∙ sym (append_assoc again (token_text p k) (open_text p ts outer)) ∙ ap (λ x. x ++ open_text p ts outer) (sym pushes),
-          v.3 ∙ ap (λ x. out ++ x) w.lines ∙ sym (append_assoc out (token_line d k) (open_lines ts outer)) ∙ ap (λ x. x ++ open_lines ts outer) (sym adds),
+          v.2 ∙ ap (λ x. again ++ x) w.text
+              ∙ sym (append_assoc again (token_text p k) (open_text p ts outer))
+              ∙ ap (λ x. x ++ open_text p ts outer) (sym pushes),
+          v.3 ∙ ap (λ x. out ++ x) w.lines
+              ∙ sym (append_assoc out (token_line d k) (open_lines ts outer))
+              ∙ ap (λ x. x ++ open_lines ts outer) (sym adds),
         )
 
-    step_complete : (ts : Skeletons) (outer : List Skeletons) → IsStack ts outer → length outer ≡ d → open_text p ts outer ≡ rest → again ++ rest ≡ text → ((ts ≡ none) × (outer ≡ [])) ⊎ Piece p ts outer
-        → (us : Skeletons) × (around : List Skeletons) × IsStack us around × (length around ≡ e) × (open_text p us around ≡ after) × (pushed ++ after ≡ text)
-    step_complete ts outer s l f a (inl z) = no_pair (ap (read_token p) (sym (read_none p ts outer rest f z)) ∙ sym front)
+    step_complete : (ts : Skeletons) (outer : List Skeletons) → IsStack ts outer → length outer ≡ d
+        → open_text p ts outer ≡ rest → again ++ rest ≡ text → ((ts ≡ none) × (outer ≡ []))
+        ⊎ Piece p ts outer
+        → (us : Skeletons) × (around : List Skeletons) × IsStack us around × (length around ≡ e)
+        × (open_text p us around ≡ after) × (pushed ++ after ≡ text)
+    step_complete ts outer s l f a (inl z) =
+        no_pair (ap (read_token p) (sym (read_none p ts outer rest f z)) ∙ sym front)
     step_complete ts outer s l f a (inr piece) =
-        let same = same_Some (piece.token, open_text p piece.inner piece.around) (k, after) (sym (read_piece p ts outer rest piece f) ∙ sym front)
+        let same = same_Some (piece.token, open_text p piece.inner piece.around) (k, after)
+        (sym (read_piece p ts outer rest piece f) ∙ sym front)
         in let token : piece.token ≡ k = ap (λ x. x.0) same
         in let left : open_text p piece.inner piece.around ≡ after = ap (λ x. x.1) same
-        in let whole : token_text p k ++ after ≡ rest = sym (sym f ∙ piece.text ∙ ap (λ x. token_text p x ++ open_text p piece.inner piece.around) token ∙ ap (λ x. token_text p k ++ x) left)
+        in let whole : token_text p k ++ after ≡ rest =
+        sym (sym f ∙ piece.text ∙ ap
+        (λ x. token_text p x ++ open_text p piece.inner piece.around) token
+        ∙ ap (λ x. token_text p k ++ x) left)
         in (
           piece.inner,
           piece.around,
@@ -220,23 +254,30 @@ module _ (p : Option ℕ) (text rest : List ℕ) (d : ℕ) (again out : List ℕ
   pub reads_no_token : 0 < length rest → None ≡ read_token p rest → IsNoDiagnostic p text
   reads_no_token some front ws g f = let w = r.complete ws g f in refused w.0 w.1 w.2 w.4 (first_piece p w.0 w.1 w.2)
     where
-      refused : (ts : Skeletons) (outer : List Skeletons) → IsStack ts outer → open_text p ts outer ≡ rest → ((ts ≡ none) × (outer ≡ [])) ⊎ Piece p ts outer → ⊥
+      refused : (ts : Skeletons) (outer : List Skeletons) → IsStack ts outer
+          → open_text p ts outer ≡ rest → ((ts ≡ none) × (outer ≡ [])) ⊎ Piece p ts outer → ⊥
       refused ts outer s f (inl z) = omega (arith, some, ap length (read_none p ts outer rest f z))
       refused ts outer s f (inr piece) = no_pair (front ∙ read_piece p ts outer rest piece f)
 
-  pub reads_no_depth : (k : Token) (after : List ℕ) → Some (k, after) ≡ read_token p rest → next_depth d k ≡ None → IsNoDiagnostic p text
-  reads_no_depth k after front q ws g f = let w = r.complete ws g f in refused w.0 w.1 w.2 w.3 w.4 (first_piece p w.0 w.1 w.2)
+  pub reads_no_depth : (k : Token) (after : List ℕ) → Some (k, after) ≡ read_token p rest
+      → next_depth d k ≡ None → IsNoDiagnostic p text
+  reads_no_depth k after front q ws g f =
+      let w = r.complete ws g f in refused w.0 w.1 w.2 w.3 w.4 (first_piece p w.0 w.1 w.2)
     where
-      refused : (ts : Skeletons) (outer : List Skeletons) → IsStack ts outer → length outer ≡ d → open_text p ts outer ≡ rest → ((ts ≡ none) × (outer ≡ [])) ⊎ Piece p ts outer → ⊥
+      refused : (ts : Skeletons) (outer : List Skeletons) → IsStack ts outer → length outer ≡ d
+          → open_text p ts outer ≡ rest → ((ts ≡ none) × (outer ≡ [])) ⊎ Piece p ts outer → ⊥
       refused ts outer s l f (inl z) = no_pair (ap (read_token p) (sym (read_none p ts outer rest f z)) ∙ sym front)
       refused ts outer s l f (inr piece) =
-          let same = same_Some (piece.token, open_text p piece.inner piece.around) (k, after) (sym (read_piece p ts outer rest piece f) ∙ sym front)
-          in no_some (sym q ∙ ap (next_depth d) (sym (ap (λ x. x.0) same)) ∙ ap (λ m. next_depth m piece.token) (sym l) ∙ piece.depth)
+          let same = same_Some (piece.token, open_text p piece.inner piece.around) (k, after)
+          (sym (read_piece p ts outer rest piece f) ∙ sym front)
+          in no_some (sym q ∙ ap (next_depth d) (sym (ap (λ x. x.0) same))
+          ∙ ap (λ m. next_depth m piece.token) (sym l) ∙ piece.depth)
 
   pub reads_unclosed : rest ≡ [] → 0 < d → IsNoDiagnostic p text
   reads_unclosed z some ws g f = let w = r.complete ws g f in refused w.0 w.1 w.2 w.3 w.4 (first_piece p w.0 w.1 w.2)
     where
-      refused : (ts : Skeletons) (outer : List Skeletons) → IsStack ts outer → length outer ≡ d → open_text p ts outer ≡ rest → ((ts ≡ none) × (outer ≡ [])) ⊎ Piece p ts outer → ⊥
+      refused : (ts : Skeletons) (outer : List Skeletons) → IsStack ts outer → length outer ≡ d
+          → open_text p ts outer ≡ rest → ((ts ≡ none) × (outer ≡ [])) ⊎ Piece p ts outer → ⊥
       refused ts outer s l f (inl y) = omega (arith, some, l, ap length y.1)
       refused ts outer s l f (inr piece) = no_pair (sym (ap (read_token p) z) ∙ read_piece p ts outer rest piece f)
 
@@ -244,4 +285,6 @@ module _ (p : Option ℕ) (text rest : List ℕ) (d : ℕ) (again out : List ℕ
   reads_other z differs ws g f = differs (sym (append-nil again) ∙ ap (λ x. again ++ x) (sym z) ∙ (r.complete ws g f).5)
 
   pub reads_end : d ≡ 0 → again ≡ text → IsExpansion p text out
-  reads_end zero_deep same = let w = r.sound none [] ((tt, tt), tt) (sym zero_deep) in (w.0, w.1, w.2 ∙ append-nil again ∙ same, sym (w.3 ∙ append-nil out))
+  reads_end zero_deep same =
+      let w = r.sound none [] ((tt, tt), tt) (sym zero_deep) in
+      (w.0, w.1, w.2 ∙ append-nil again ∙ same, sym (w.3 ∙ append-nil out))

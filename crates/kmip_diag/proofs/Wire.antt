@@ -22,7 +22,8 @@ front_size level b n (le, (t, q)) = sym (computed.front_size t level n b le q)
 
 -- the item at the front, or none
 abbrev pub IsFrontTree : ℕ → List ℕ → Option Tree → Type 0
-IsFrontTree level b o = MatchOption o (NoFront level b) (λ t. (size_at b ≤ length b) × Parses t level (take (size_at b) b))
+IsFrontTree level b o = MatchOption o (NoFront level b)
+    (λ t. (size_at b ≤ length b) × Parses t level (take (size_at b) b))
 
 pub front_rule : (level : ℕ) (b : List ℕ) → 1 ≤ level → IsFrontTree level b (front_at level b)
 front_rule level b low = by_level (leb level 64) refl
@@ -31,13 +32,20 @@ front_rule level b low = by_level (leb level 64) refl
     by_front l None e = λ n (le, (t, q)). none-some t (sym e ∙ (computed.front_computed t level b l).1 (n, le, q))
     by_front l (Some t) e =
         let f = (computed.front_computed t level b l).0 e
-        in subst (λ n. (n ≤ length b) × Parses t level (take n b)) (sym (computed.front_size t level f.0 b f.1 f.2)) (f.1, f.2)
+        in subst (λ n. (n ≤ length b) × Parses t level (take n b))
+        (sym (computed.front_size t level f.0 b f.1 f.2)) (f.1, f.2)
 
     by_level : (x : Bool) → leb level 64 ≡ x → IsFrontTree level b (front_at level b)
     by_level true e = by_front (low, leb-true level 64 e) (front_at level b) refl
     by_level false e =
         let deep = leb-false level 64 e
-        in subst (IsFrontTree level b) (sym (no_front_deep level b deep)) (λ n (le, (t, q)). omega (arith, deep, (computed.sized t level (take n b) q).level_is.1))
+        in subst (IsFrontTree level b) (sym (no_front_deep level b deep))
+        (λ n (le, (t, q)). omega (
+          arith,
+          deep,
+          (computed.sized t level (take n b)
+              q).level_is.1,
+        ))
 
 -- contents are shorter than the item with its head
 pub value_shorter : (b : List ℕ) → 0 < length b → length (value_of b) < length b
@@ -53,7 +61,8 @@ no_bytes [] r h e = refl
 no_bytes (x ∷ xs) r h e = absurd (omega (arith, eqb-true (length (x ∷ xs)) 0 (sym h ∙ e)))
 
 -- the test of two texts
-pub other_text : (x again text : List ℕ) (r : Bool) → r ≡ not (bytes_eq x text) → x ≡ again → r ≡ true → again ≡ text → ⊥
+pub other_text : (x again text : List ℕ) (r : Bool) → r ≡ not (bytes_eq x text) → x ≡ again
+    → r ≡ true → again ≡ text → ⊥
 other_text x again text r h e f same = false≢true (sym (h ∙ ap not ((bytes_eq-Decides x text).1 (e ∙ same))) ∙ f)
 
 pub same_text : (x again text : List ℕ) (r : Bool) → r ≡ not (bytes_eq x text) → x ≡ again → r ≡ false → again ≡ text

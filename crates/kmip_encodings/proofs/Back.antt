@@ -32,9 +32,11 @@ hex_marked b = grind (arith, nat_tests)
 pub hex_back : (b : List ℕ) → AreBytes b → hex_bytes (hex_text b) ≡ Some b
 hex_back b h = rw (hex_marked b) (ap result_ok (decode_of-encode_upper b h))
 
-marked_back : (b : List ℕ) (number : List ℕ → Option ℕ) (other : Option ℕ) → AreBytes b → hex_or (hex_text b) number other ≡ number b
+marked_back : (b : List ℕ) (number : List ℕ → Option ℕ) (other : Option ℕ) → AreBytes b
+    → hex_or (hex_text b) number other ≡ number b
 marked_back b number other h =
-    ap (λ m. cond m (option_and_then number (hex_bytes (hex_text b))) other) (hex_marked b) ∙ ap (option_and_then number) (hex_back b h)
+    ap (λ m. cond m (option_and_then number (hex_bytes (hex_text b))) other) (hex_marked b)
+    ∙ ap (option_and_then number) (hex_back b h)
 
 unmarked : (s : List ℕ) → (get_or s 0 0 == 48) ≡ false → has_mark s ≡ false
 unmarked s h = rw h (and-false (nat_le 2 (length s)))
@@ -58,10 +60,12 @@ eight_are_bytes n (suc (suc (suc (suc (suc (suc (suc zero))))))) = omega arith
 eight_are_bytes n (suc (suc (suc (suc (suc (suc (suc (suc i)))))))) = omega arith
 
 pub word_back : (n : ℕ) → n < 2 ^ 32 → option_and_then word_of_bytes (hex_bytes (hex_text (to_be_bytes w32 n))) ≡ Some n
-word_back n h = ap (option_and_then word_of_bytes) (hex_back (to_be_bytes w32 n) (four_are_bytes n)) ∙ ap Some (from_be_bytes-to_be_bytes_4 n h)
+word_back n h = ap (option_and_then word_of_bytes) (hex_back (to_be_bytes w32 n) (four_are_bytes n))
+    ∙ ap Some (from_be_bytes-to_be_bytes_4 n h)
 
 pub long_back : (n : ℕ) → n < 2 ^ 64 → option_and_then long_of_bytes (hex_bytes (hex_text (to_be_bytes w64 n))) ≡ Some n
-long_back n h = ap (option_and_then long_of_bytes) (hex_back (to_be_bytes w64 n) (eight_are_bytes n)) ∙ ap Some (from_be_bytes-to_be_bytes_8 n h)
+long_back n h = ap (option_and_then long_of_bytes)
+    (hex_back (to_be_bytes w64 n) (eight_are_bytes n)) ∙ ap Some (from_be_bytes-to_be_bytes_8 n h)
 
 -- ---- tags
 
@@ -102,7 +106,8 @@ word_stands (x ∷ ws) (suc i) w h =
       | false ↦ word_stands ws i w h
     ]
 
-word_found : (ws : List (List ℕ)) (tag i : ℕ) (w : List ℕ) → are_good ws ≡ true → slice_get ws i ≡ Some w → named_from tag ws w ≡ Some (tag + i)
+word_found : (ws : List (List ℕ)) (tag i : ℕ) (w : List ℕ) → are_good ws ≡ true
+    → slice_get ws i ≡ Some w → named_from tag ws w ≡ Some (tag + i)
 word_found [] tag i w g h = cc
 word_found (x ∷ ws) tag zero w g h =
     let same : x ≡ w = cc in
@@ -110,8 +115,10 @@ word_found (x ∷ ws) tag zero w g h =
     rw (same, same_text w) (ap Some here)
 word_found (x ∷ ws) tag (suc i) w g h =
     let new = not_true (has_word x ws) (and_left (not (has_word x ws)) (not (get_or x 0 0 == 48) && are_good ws) g) in
-    let rest = and_right (not (get_or x 0 0 == 48)) (are_good ws) (and_right (not (has_word x ws)) (not (get_or x 0 0 == 48) && are_good ws) g) in
-    elim (bytes_eq x w) as (λ b. bytes_eq x w ≡ b → cond b (Some tag) (named_from (tag + 1) ws w) ≡ Some (tag + suc i)) [
+    let rest = and_right (not (get_or x 0 0 == 48)) (are_good ws)
+    (and_right (not (has_word x ws)) (not (get_or x 0 0 == 48) && are_good ws) g) in
+    elim (bytes_eq x w) as (λ b. bytes_eq x w ≡ b
+    → cond b (Some tag) (named_from (tag + 1) ws w) ≡ Some (tag + suc i)) [
       | true ↦ λ e.
           let same : x ≡ w = (bytes_eq-Decides x w).0 e in
           absurd (true≢false (sym (word_stands ws i w h) ∙ ap (λ v. has_word v ws) (sym same) ∙ new))
@@ -120,18 +127,25 @@ word_found (x ∷ ws) tag (suc i) w g h =
           word_found ws (tag + 1) i w rest h ∙ ap Some next
     ] refl
 
-word_plain : (ws : List (List ℕ)) (i : ℕ) (w : List ℕ) → are_good ws ≡ true → slice_get ws i ≡ Some w → (get_or w 0 0 == 48) ≡ false
+word_plain : (ws : List (List ℕ)) (i : ℕ) (w : List ℕ) → are_good ws ≡ true
+    → slice_get ws i ≡ Some w → (get_or w 0 0 == 48) ≡ false
 word_plain [] i w g h = cc
 word_plain (x ∷ ws) zero w g h =
     let same : x ≡ w = cc in
     subst (λ (v : List ℕ). (get_or v 0 0 == 48) ≡ false) same
-    (not_true (get_or x 0 0 == 48) (and_left (not (get_or x 0 0 == 48)) (are_good ws) (and_right (not (has_word x ws)) (not (get_or x 0 0 == 48) && are_good ws) g)))
+    (not_true (get_or x 0 0 == 48)
+    (and_left (not (get_or x 0 0 == 48)) (are_good ws)
+    (and_right (not (has_word x ws)) (not (get_or x 0 0 == 48) && are_good ws) g)))
 word_plain (x ∷ ws) (suc i) w g h =
-    word_plain ws i w (and_right (not (get_or x 0 0 == 48)) (are_good ws) (and_right (not (has_word x ws)) (not (get_or x 0 0 == 48) && are_good ws) g)) h
+    word_plain ws i w (and_right (not (get_or x 0 0 == 48)) (are_good ws)
+    (and_right (not (has_word x ws)) (not (get_or x 0 0 == 48) && are_good ws) g)) h
 
-word_at : (tag : ℕ) (w : List ℕ) → tag_word tag ≡ Some w → (first_tag ≤ tag) × (slice_get words (tag - first_tag) ≡ Some w)
+word_at : (tag : ℕ) (w : List ℕ) → tag_word tag ≡ Some w → (first_tag ≤ tag)
+    × (slice_get words (tag - first_tag) ≡ Some w)
 word_at tag w h =
-    elim (nat_lt tag first_tag) as (λ b. nat_lt tag first_tag ≡ b → cond b None (slice_get words (tag - first_tag)) ≡ Some w → (first_tag ≤ tag) × (slice_get words (tag - first_tag) ≡ Some w)) [
+    elim (nat_lt tag first_tag) as (λ b. nat_lt tag first_tag ≡ b → cond b None
+    (slice_get words (tag - first_tag)) ≡ Some w → (first_tag ≤ tag)
+    × (slice_get words (tag - first_tag) ≡ Some w)) [
       | true ↦ λ e k. cc
       | false ↦ λ e k. (grind (arith, nat_tests), k)
     ] refl h
@@ -141,7 +155,8 @@ unfolding tag_of_text tag_named
 named_back tag w h =
     let at = word_at tag w h in
     let back : first_tag + (tag - first_tag) ≡ tag = omega (arith, at.0) in
-    rw (unmarked w (word_plain words (tag - first_tag) w words_good at.1)) (word_found words first_tag (tag - first_tag) w words_good at.1 ∙ ap Some back)
+    rw (unmarked w (word_plain words (tag - first_tag) w words_good at.1))
+    (word_found words first_tag (tag - first_tag) w words_good at.1 ∙ ap Some back)
 
 three : (tag : ℕ) → tag < 2 ^ 24 → tag_of_bytes (drop 1 (to_be_bytes w32 tag)) ≡ Some tag
 three tag h = ap Some (omega (arith, from_be_bytes-to_be_bytes_4 tag (omega arith)))
@@ -155,7 +170,8 @@ number_back tag h = marked_back (drop 1 (to_be_bytes w32 tag)) tag_of_bytes _ (t
 
 pub tag_back : (tag : ℕ) → tag < 2 ^ 24 → tag_of_text (tag_text tag) ≡ Some tag
 tag_back tag h =
-    elim (tag_word tag) as (λ o. tag_word tag ≡ o → tag_of_text (unwrap_or o (hex_text (drop 1 (to_be_bytes w32 tag)))) ≡ Some tag) [
+    elim (tag_word tag) as (λ o. tag_word tag ≡ o
+    → tag_of_text (unwrap_or o (hex_text (drop 1 (to_be_bytes w32 tag)))) ≡ Some tag) [
       | Some w ↦ λ e. named_back tag w e
       | None ↦ λ e. number_back tag h
     ] refl
@@ -165,15 +181,19 @@ tag_back tag h =
 entry_back : (tag n : ℕ) (w : List ℕ) → enumeration_name tag n ≡ Some w → enumeration_of_text tag w ≡ Some n
 unfolding enumeration_of_text
 entry_back tag n w h =
-    rw (unmarked w (name_plain (entries_of tag) n w (are_sound tag).1 h)) (number_of_name (entries_of tag) n w (are_sound tag).0 h)
+    rw (unmarked w (name_plain (entries_of tag) n w (are_sound tag).1 h))
+    (number_of_name (entries_of tag) n w (are_sound tag).0 h)
 
 digits_back : (tag n : ℕ) → n < 2 ^ 32 → enumeration_of_text tag (hex_text (to_be_bytes w32 n)) ≡ Some n
 unfolding enumeration_of_text
-digits_back tag n h = marked_back (to_be_bytes w32 n) word_of_bytes _ (four_are_bytes n) ∙ ap Some (from_be_bytes-to_be_bytes_4 n h)
+digits_back tag n h = marked_back (to_be_bytes w32 n) word_of_bytes _ (four_are_bytes n)
+    ∙ ap Some (from_be_bytes-to_be_bytes_4 n h)
 
 pub enumeration_back : (tag n : ℕ) → n < 2 ^ 32 → enumeration_of_text tag (enumeration_text tag n) ≡ Some n
 enumeration_back tag n h =
-    elim (enumeration_name tag n) as (λ o. enumeration_name tag n ≡ o → enumeration_of_text tag (unwrap_or o (hex_text (to_be_bytes w32 n))) ≡ Some n) [
+    elim (enumeration_name tag n)
+    as (λ o. enumeration_name tag n ≡ o
+    → enumeration_of_text tag (unwrap_or o (hex_text (to_be_bytes w32 n))) ≡ Some n) [
       | Some w ↦ λ e. entry_back tag n w e
       | None ↦ λ e. digits_back tag n h
     ] refl
@@ -194,9 +214,13 @@ pub date_back : (n : ℕ) → n < 2 ^ 64 → date_of_text (date_text n) ≡ Some
 unfolding date_of_text date_text
 date_back n h =
     let text = civil_text (civil_of n) in
-    elim (is_number (date_number text) n) as (λ b. is_number (date_number text) n ≡ b → hex_or (cond b text (hex_text (to_be_bytes w64 n))) long_of_bytes (date_number (cond b text (hex_text (to_be_bytes w64 n)))) ≡ Some n) [
+    elim (is_number (date_number text) n) as
+    (λ b. is_number (date_number text) n ≡ b
+    → hex_or (cond b text (hex_text (to_be_bytes w64 n))) long_of_bytes
+    (date_number (cond b text (hex_text (to_be_bytes w64 n)))) ≡ Some n) [
       | true ↦ λ e. rw (civil_unmarked (civil_of n)) (is_that (date_number text) n e)
-      | false ↦ λ e. marked_back (to_be_bytes w64 n) long_of_bytes _ (eight_are_bytes n) ∙ ap Some (from_be_bytes-to_be_bytes_8 n h)
+      | false ↦ λ e. marked_back (to_be_bytes w64 n) long_of_bytes _ (eight_are_bytes n)
+          ∙ ap Some (from_be_bytes-to_be_bytes_8 n h)
     ] refl
 
 -- ---- numbers

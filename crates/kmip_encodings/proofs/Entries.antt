@@ -28,10 +28,14 @@ use Rattle.kmip_codes.specs.KeyRoleTypes.{key_role_types}
 use Rattle.kmip_codes.specs.PaddingMethods.{padding_methods}
 use Rattle.kmip_codes.specs.WrappingMethods.{wrapping_methods}
 
-pub name_of_variant : {V : Type 0} (line : V → Entry) (variants : List V) (number : ℕ) → option_map (λ v. (line v).name) (variant_at line variants number) ≡ name_in (map line variants) number
+pub name_of_variant : {V : Type 0} (line : V → Entry) (variants : List V) (number : ℕ)
+    → option_map (λ v. (line v).name) (variant_at line variants number)
+    ≡ name_in (map line variants) number
 name_of_variant line [] number = refl
 name_of_variant line (v ∷ vs) number =
-    elim (nat_eq (line v).number number) as (λ b. option_map (λ u. (line u).name) (cond b (Some v) (variant_at line vs number)) ≡ cond b (Some (line v).name) (name_in (map line vs) number)) [
+    elim (nat_eq (line v).number number) as
+    (λ b. option_map (λ u. (line u).name) (cond b (Some v) (variant_at line vs number))
+    ≡ cond b (Some (line v).name) (name_in (map line vs) number)) [
       | true ↦ refl
       | false ↦ name_of_variant line vs number
     ]
@@ -105,8 +109,10 @@ name_stands (e ∷ es) n name h =
     elim (bytes_eq name e.name) as (λ b. bytes_eq name e.name ≡ b → cond b true (has_name name es) ≡ true) [
       | true ↦ λ s. refl
       | false ↦ λ s. name_stands es n name (
-          elim (nat_eq e.number n) as (λ b. nat_eq e.number n ≡ b → cond b (Some e.name) (name_in es n) ≡ Some name → name_in es n ≡ Some name) [
-            | true ↦ λ t k. let same : e.name ≡ name = cc in absurd (true≢false (sym ((bytes_eq-Decides name e.name).1 (sym same)) ∙ s))
+          elim (nat_eq e.number n) as (λ b. nat_eq e.number n ≡ b → cond b (Some e.name)
+          (name_in es n) ≡ Some name → name_in es n ≡ Some name) [
+            | true ↦ λ t k. let same : e.name ≡ name = cc in
+                absurd (true≢false (sym ((bytes_eq-Decides name e.name).1 (sym same)) ∙ s))
             | false ↦ λ t k. k
           ] refl h)
     ] refl
@@ -117,24 +123,31 @@ number_stands (e ∷ es) name n h =
     elim (nat_eq n e.number) as (λ b. nat_eq n e.number ≡ b → cond b true (has_number n es) ≡ true) [
       | true ↦ λ s. refl
       | false ↦ λ s. number_stands es name n (
-          elim (bytes_eq e.name name) as (λ b. bytes_eq e.name name ≡ b → cond b (Some e.number) (number_in es name) ≡ Some n → number_in es name ≡ Some n) [
-            | true ↦ λ t k. let same : e.number ≡ n = cc in absurd (true≢false (sym ((Decides-eqb n e.number).1 (sym same)) ∙ s))
+          elim (bytes_eq e.name name)
+          as (λ b. bytes_eq e.name name ≡ b
+          → cond b (Some e.number) (number_in es name) ≡ Some n → number_in es name ≡ Some n) [
+            | true ↦ λ t k. let same : e.number ≡ n = cc in
+                absurd (true≢false (sym ((Decides-eqb n e.number).1 (sym same)) ∙ s))
             | false ↦ λ t k. k
           ] refl h)
     ] refl
 
-pub number_of_name : (es : List Entry) (n : ℕ) (name : List ℕ) → are_distinct es ≡ true → name_in es n ≡ Some name → number_in es name ≡ Some n
+pub number_of_name : (es : List Entry) (n : ℕ) (name : List ℕ) → are_distinct es ≡ true
+    → name_in es n ≡ Some name → number_in es name ≡ Some n
 number_of_name [] n name d h = cc
 number_of_name (e ∷ es) n name d h =
     let rest = and_right (not (has_number e.number es)) (not (has_name e.name es) && are_distinct es) d in
     let fresh = not_true (has_name e.name es) (and_left (not (has_name e.name es)) (are_distinct es) rest) in
-    elim (nat_eq e.number n) as (λ b. nat_eq e.number n ≡ b → cond b (Some e.name) (name_in es n) ≡ Some name → cond (bytes_eq e.name name) (Some e.number) (number_in es name) ≡ Some n) [
+    elim (nat_eq e.number n) as (λ b. nat_eq e.number n ≡ b → cond b (Some e.name) (name_in es n)
+    ≡ Some name → cond (bytes_eq e.name name) (Some e.number) (number_in es name) ≡ Some n) [
       | true ↦ λ s k.
           let same : e.name ≡ name = cc in
           let here : e.number ≡ n = (Decides-eqb e.number n).0 s in
           rw ((bytes_eq-Decides e.name name).1 same) (ap Some here)
       | false ↦ λ s k.
-          elim (bytes_eq e.name name) as (λ b. bytes_eq e.name name ≡ b → cond b (Some e.number) (number_in es name) ≡ Some n) [
+          elim (bytes_eq e.name name)
+          as (λ b. bytes_eq e.name name ≡ b
+          → cond b (Some e.number) (number_in es name) ≡ Some n) [
             | true ↦ λ t.
                 let same : e.name ≡ name = (bytes_eq-Decides e.name name).0 t in
                 absurd (true≢false (sym (name_stands es n name k) ∙ ap (λ s. has_name s es) (sym same) ∙ fresh))
@@ -142,12 +155,16 @@ number_of_name (e ∷ es) n name d h =
           ] refl
     ] refl h
 
-pub name_of_number : (es : List Entry) (n : ℕ) (name : List ℕ) → are_distinct es ≡ true → number_in es name ≡ Some n → name_in es n ≡ Some name
+pub name_of_number : (es : List Entry) (n : ℕ) (name : List ℕ) → are_distinct es ≡ true
+    → number_in es name ≡ Some n → name_in es n ≡ Some name
 name_of_number [] n name d h = cc
 name_of_number (e ∷ es) n name d h =
     let rest = and_right (not (has_number e.number es)) (not (has_name e.name es) && are_distinct es) d in
-    let fresh = not_true (has_number e.number es) (and_left (not (has_number e.number es)) (not (has_name e.name es) && are_distinct es) d) in
-    elim (bytes_eq e.name name) as (λ b. bytes_eq e.name name ≡ b → cond b (Some e.number) (number_in es name) ≡ Some n → cond (nat_eq e.number n) (Some e.name) (name_in es n) ≡ Some name) [
+    let fresh = not_true (has_number e.number es)
+    (and_left (not (has_number e.number es)) (not (has_name e.name es) && are_distinct es) d) in
+    elim (bytes_eq e.name name) as (λ b. bytes_eq e.name name ≡ b → cond b (Some e.number)
+    (number_in es name) ≡ Some n → cond (nat_eq e.number n) (Some e.name) (name_in es n)
+    ≡ Some name) [
       | true ↦ λ s k.
           let same : e.number ≡ n = cc in
           let here : e.name ≡ name = (bytes_eq-Decides e.name name).0 s in
@@ -167,12 +184,15 @@ number_small (e ∷ es) n name p h =
     elim (bytes_eq e.name name) as (λ b. cond b (Some e.number) (number_in es name) ≡ Some n → n < 512) [
       | true ↦ λ k.
           let same : e.number ≡ n = cc in
-          let small : nat_lt e.number 512 ≡ true = and_left (nat_lt e.number 512) (not (get_or e.name 0 0 == 48)) (and_left (is_plain e) (are_plain es) p) in
+          let small : nat_lt e.number 512 ≡ true =
+          and_left (nat_lt e.number 512) (not (get_or e.name 0 0 == 48))
+          (and_left (is_plain e) (are_plain es) p) in
           subst (λ (m : ℕ). m < 512) same (grind (arith, nat_tests))
       | false ↦ λ k. number_small es n name (and_right (is_plain e) (are_plain es) p) k
     ] h
 
-pub none_named : (es : List Entry) (name : List ℕ) (i : ℕ) → IsSound es → 512 ≤ i → ((n : ℕ) → n < i → name_in es n ≡ Some name → ⊥) → number_in es name ≡ None
+pub none_named : (es : List Entry) (name : List ℕ) (i : ℕ) → IsSound es → 512 ≤ i
+    → ((n : ℕ) → n < i → name_in es n ≡ Some name → ⊥) → number_in es name ≡ None
 none_named es name i sound h none =
     elim (number_in es name) as (λ o. number_in es name ≡ o → o ≡ None) [
       | None ↦ λ e. refl
@@ -182,12 +202,17 @@ none_named es name i sound h none =
     ] refl
 
 -- no name begins with `0`
-pub name_plain : (es : List Entry) (n : ℕ) (name : List ℕ) → are_plain es ≡ true → name_in es n ≡ Some name → (get_or name 0 0 == 48) ≡ false
+pub name_plain : (es : List Entry) (n : ℕ) (name : List ℕ) → are_plain es ≡ true
+    → name_in es n ≡ Some name → (get_or name 0 0 == 48) ≡ false
 name_plain [] n name p h = cc
 name_plain (e ∷ es) n name p h =
-    elim (nat_eq e.number n) as (λ b. cond b (Some e.name) (name_in es n) ≡ Some name → (get_or name 0 0 == 48) ≡ false) [
+    elim (nat_eq e.number n) as (λ b. cond b (Some e.name) (name_in es n) ≡ Some name →
+    (get_or name 0 0 == 48) ≡ false) [
       | true ↦ λ k.
           let same : e.name ≡ name = cc in
-          subst (λ (m : List ℕ). (get_or m 0 0 == 48) ≡ false) same (not_true (get_or e.name 0 0 == 48) (and_right (nat_lt e.number 512) (not (get_or e.name 0 0 == 48)) (and_left (is_plain e) (are_plain es) p)))
+          subst (λ (m : List ℕ). (get_or m 0 0 == 48) ≡ false) same
+          (not_true (get_or e.name 0 0 == 48)
+          (and_right (nat_lt e.number 512) (not (get_or e.name 0 0 == 48))
+          (and_left (is_plain e) (are_plain es) p)))
       | false ↦ λ k. name_plain es n name (and_right (is_plain e) (are_plain es) p) k
     ] h

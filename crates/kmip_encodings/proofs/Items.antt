@@ -34,42 +34,60 @@ onto_push ts t (Err m) = refl
 abbrev pub left : {A : Type 0} → (Json → Read Tree) → List (Value A) → ℕ → Read Trees
 left one items index = items_by one index (items_view (drop index items))
 
-rest_at : {X : Type 0} (xs : List X) (i : ℕ) (x : X) → i < length xs → x ≡ get_or xs i x → drop i xs ≡ x ∷ drop (i + 1) xs
+rest_at : {X : Type 0} (xs : List X) (i : ℕ) (x : X) → i < length xs → x ≡ get_or xs i x
+    → drop i xs ≡ x ∷ drop (i + 1) xs
 rest_at xs i x h e = rw (add-one, drop-cons xs i x h, ← e) refl
 
-next : {A : Type 0} (one : Json → Read Tree) (items : List (Value A)) (index : ℕ) (v : Value A) → index < length items → v ≡ get_or items index v
+next : {A : Type 0} (one : Json → Read Tree) (items : List (Value A)) (index : ℕ) (v : Value A)
+    → index < length items → v ≡ get_or items index v
     → left one items index ≡ trees_read (within index (one (value_view v))) (left one items (index + 1))
 next one items index v h e = ap (λ l. items_by one index (items_view l)) (rest_at items index v h e)
 
-pub items_more : {A : Type 0} (one : Json → Read Tree) (items : List (Value A)) (index : ℕ) (v : Value A) (ts : List Tree) (t : Tree) (all : Read Trees) → index < length items → v ≡ get_or items index v
-    → one (value_view v) ≡ Ok t → all ≡ onto ts (left one items index) → all ≡ onto (ts ++ t ∷ []) (left one items (index + 1))
+pub items_more : {A : Type 0} (one : Json → Read Tree) (items : List (Value A)) (index : ℕ)
+    (v : Value A) (ts : List Tree) (t : Tree) (all : Read Trees) → index < length items
+    → v ≡ get_or items index v
+    → one (value_view v) ≡ Ok t → all ≡ onto ts (left one items index)
+    → all ≡ onto (ts ++ t ∷ []) (left one items (index + 1))
 items_more one items index v ts t all h e r p =
-    p ∙ ap (onto ts) (next one items index v h e ∙ ap (λ x. trees_read (within index x) (left one items (index + 1))) r) ∙ onto_push ts t (left one items (index + 1))
+    p ∙ ap (onto ts) (next one items index v h e
+    ∙ ap (λ x. trees_read (within index x) (left one items (index + 1))) r)
+    ∙ onto_push ts t (left one items (index + 1))
 
-pub items_fail : {A : Type 0} (one : Json → Read Tree) (items : List (Value A)) (index : ℕ) (v : Value A) (ts : List Tree) (m : Misfit) (all : Read Trees) → index < length items → v ≡ get_or items index v
+pub items_fail : {A : Type 0} (one : Json → Read Tree) (items : List (Value A)) (index : ℕ)
+    (v : Value A) (ts : List Tree) (m : Misfit) (all : Read Trees) → index < length items
+    → v ≡ get_or items index v
     → within index (one (value_view v)) ≡ Err m → all ≡ onto ts (left one items index) → all ≡ Err m
 items_fail one items index v ts m all h e r p =
     p ∙ ap (onto ts) (next one items index v h e ∙ ap (λ x. trees_read x (left one items (index + 1))) r)
 
-pub items_done : {A : Type 0} (one : Json → Read Tree) (items : List (Value A)) (index : ℕ) (ts : List Tree) (all : Read Trees) → length items ≤ index → all ≡ onto ts (left one items index) → all ≡ Ok (trees_of ts)
+pub items_done : {A : Type 0} (one : Json → Read Tree) (items : List (Value A)) (index : ℕ)
+    (ts : List Tree) (all : Read Trees) → length items ≤ index
+    → all ≡ onto ts (left one items index) → all ≡ Ok (trees_of ts)
 items_done one items index ts all h p =
-    p ∙ at_drop_all (λ l. onto ts (items_by one index (items_view l))) items index h ∙ ap (λ l. Ok (trees_of l)) (append-nil ts)
+    p ∙ at_drop_all (λ l. onto ts (items_by one index (items_view l))) items index h
+    ∙ ap (λ l. Ok (trees_of l)) (append-nil ts)
 
 -- ---- members
 
-known_rest : {A : Type 0} (ms : List (Bor (List ℕ) × Value A)) (i : ℕ) (m : Bor (List ℕ) × Value A) → i < length ms → m ≡ get_or ms i m
+known_rest : {A : Type 0} (ms : List (Bor (List ℕ) × Value A)) (i : ℕ) (m : Bor (List ℕ) × Value A)
+    → i < length ms → m ≡ get_or ms i m
     → are_known (members_view (drop i ms)) ≡ (is_known m.0.now && are_known (members_view (drop (i + 1) ms)))
 known_rest ms i m h e = ap (λ l. are_known (members_view l)) (rest_at ms i m h e)
 
-pub known_more : {A : Type 0} (ms : List (Bor (List ℕ) × Value A)) (i : ℕ) (m : Bor (List ℕ) × Value A) (all : Bool) → i < length ms → m ≡ get_or ms i m → is_known m.0.now ≡ true
+pub known_more : {A : Type 0} (ms : List (Bor (List ℕ) × Value A)) (i : ℕ)
+    (m : Bor (List ℕ) × Value A) (all : Bool) → i < length ms → m ≡ get_or ms i m
+    → is_known m.0.now ≡ true
     → all ≡ are_known (members_view (drop i ms)) → all ≡ are_known (members_view (drop (i + 1) ms))
 known_more ms i m all h e k p = p ∙ known_rest ms i m h e ∙ ap (λ b. b && are_known (members_view (drop (i + 1) ms))) k
 
-pub known_not : {A : Type 0} (ms : List (Bor (List ℕ) × Value A)) (i : ℕ) (m : Bor (List ℕ) × Value A) (all : Bool) → i < length ms → m ≡ get_or ms i m → is_known m.0.now ≡ false
+pub known_not : {A : Type 0} (ms : List (Bor (List ℕ) × Value A)) (i : ℕ)
+    (m : Bor (List ℕ) × Value A) (all : Bool) → i < length ms → m ≡ get_or ms i m
+    → is_known m.0.now ≡ false
     → all ≡ are_known (members_view (drop i ms)) → all ≡ false
 known_not ms i m all h e k p = p ∙ known_rest ms i m h e ∙ ap (λ b. b && are_known (members_view (drop (i + 1) ms))) k
 
-pub known_done : {A : Type 0} (ms : List (Bor (List ℕ) × Value A)) (i : ℕ) (all : Bool) → length ms ≤ i → all ≡ are_known (members_view (drop i ms)) → all ≡ true
+pub known_done : {A : Type 0} (ms : List (Bor (List ℕ) × Value A)) (i : ℕ) (all : Bool)
+    → length ms ≤ i → all ≡ are_known (members_view (drop i ms)) → all ≡ true
 known_done ms i all h p = p ∙ at_drop_all (λ l. are_known (members_view l)) ms i h
 
 -- ---- an item
@@ -83,18 +101,25 @@ unfolding read_item
 read_more zero j h = absurd (h refl)
 read_more (suc n) j h = let e : suc n - 1 ≡ n = omega arith in rw e refl
 
-pub opened : (n : ℕ) (j : Json) (known : Option Bool) → (n ≡ 0 → ⊥) → known ≡ known_members j → read_item n j ≡ known_read known (parts_in (read_item (n - 1)) j)
+pub opened : (n : ℕ) (j : Json) (known : Option Bool) → (n ≡ 0 → ⊥) → known ≡ known_members j
+    → read_item n j ≡ known_read known (parts_in (read_item (n - 1)) j)
 opened n j known h e = read_more n j h ∙ ap (λ k. known_read k (parts_in (read_item (n - 1)) j)) (sym e)
 
 -- what reading the value of a text comes to
-pub text_read : (r : Result Tree EncodingError) (text : List ℕ) (j : Json) → document text ≡ Some j → HasUniqueKeys j → Reads r (tree_of j) → ReadsText r text
-text_read (Ok t) text j d u h = subst (λ (o : Option Json). IsSomeAnd o (λ k. HasUniqueKeys k × (tree_of k ≡ Ok t))) (sym d) (u, h)
+pub text_read : (r : Result Tree EncodingError) (text : List ℕ) (j : Json) → document text ≡ Some j
+    → HasUniqueKeys j → Reads r (tree_of j) → ReadsText r text
+text_read (Ok t) text j d u h = subst
+    (λ (o : Option Json). IsSomeAnd o (λ k. HasUniqueKeys k × (tree_of k ≡ Ok t))) (sym d) (u, h)
 text_read (Err (errors.NotJson offset)) text j d u h = absurd h
 text_read (Err errors.RepeatedName) text j d u h = absurd h
-text_read (Err (errors.Misfit fault)) text j d u h = subst (λ (o : Option Json). IsSomeAnd o (λ k. HasUniqueKeys k × (tree_of k ≡ Err (misfit_of fault)))) (sym d) (u, h)
+text_read (Err (errors.Misfit fault)) text j d u h =
+    subst (λ (o : Option Json). IsSomeAnd o
+    (λ k. HasUniqueKeys k × (tree_of k ≡ Err (misfit_of fault)))) (sym d) (u, h)
 text_read (Err errors.OutOfMemory) text j d u h = tt
 
-pub not_structure : (one : Json → Read Tree) (tag : ℕ) (kind : Kind) (j : Json) → (kind ≡ Structure → ⊥) → node_read one tag kind j ≡ scalar_read tag kind (scalar_in tag kind j)
+pub not_structure : (one : Json → Read Tree) (tag : ℕ) (kind : Kind) (j : Json)
+    → (kind ≡ Structure → ⊥) → node_read one tag kind j
+    ≡ scalar_read tag kind (scalar_in tag kind j)
 not_structure one tag Structure j h = absurd (h refl)
 not_structure one tag Integer j h = refl
 not_structure one tag LongInteger j h = refl
@@ -106,10 +131,12 @@ not_structure one tag ByteString j h = refl
 not_structure one tag DateTime j h = refl
 not_structure one tag Interval j h = refl
 
-pub scalar_is : (tag : ℕ) (kind : Kind) (t : Tree) (o : Option Scalar) → Some t ≡ option_map (scalar tag) o → scalar_read tag kind o ≡ Ok t
+pub scalar_is : (tag : ℕ) (kind : Kind) (t : Tree) (o : Option Scalar)
+    → Some t ≡ option_map (scalar tag) o → scalar_read tag kind o ≡ Ok t
 scalar_is tag kind t (Some s) e = let same : t ≡ scalar tag s = cc in ap Ok (sym same)
 scalar_is tag kind t None e = cc
 
-pub scalar_none : (tag : ℕ) (kind : Kind) (o : Option Scalar) → None ≡ option_map (scalar tag) o → scalar_read tag kind o ≡ wants (expected.Value kind)
+pub scalar_none : (tag : ℕ) (kind : Kind) (o : Option Scalar) → None ≡ option_map (scalar tag) o
+    → scalar_read tag kind o ≡ wants (expected.Value kind)
 scalar_none tag kind (Some s) e = cc
 scalar_none tag kind None e = refl

@@ -56,11 +56,19 @@ signed_fits : (z : ℤ) → FitsSigned w64 z → cast_unsigned w64 z < 2 ^ 64
 signed_fits z h = omega (arith, ints, h)
 
 module _ (one : Json → Read Tree) (tag : ℕ) where
-  long_is_back : (z : ℤ) → FitsSigned w64 z → node_read one tag LongInteger (long_json z) ≡ Ok (scalar tag (long_integer z))
+  long_is_back : (z : ℤ) → FitsSigned w64 z
+      → node_read one tag LongInteger (long_json z) ≡ Ok (scalar tag (long_integer z))
   long_is_back z h =
-      elim (is_short z) as (λ b. is_short z ≡ b → node_read one tag LongInteger (cond b (json.number (signed_decimal z)) (json.string (hex_text (to_be_bytes w64 (cast_unsigned w64 z))))) ≡ Ok (scalar tag (long_integer z))) [
-        | true ↦ λ e. let small : unsigned_abs z < 2 ^ 53 = omega (arith, is_short-abs z e) in rw (whole_back z small) refl
-        | false ↦ λ e. ap (λ o. scalar_read tag LongInteger (option_map (λ n. long_integer (cast_signed w64 n)) o)) (long_back (cast_unsigned w64 z) (signed_fits z h))
+      elim (is_short z) as (λ b. is_short z ≡ b
+      → node_read one tag LongInteger
+      (cond b (json.number (signed_decimal z))
+      (json.string (hex_text (to_be_bytes w64 (cast_unsigned w64 z)))))
+      ≡ Ok (scalar tag (long_integer z))) [
+        | true ↦ λ e. let small : unsigned_abs z < 2 ^ 53 = omega (arith, is_short-abs z e) in
+            rw (whole_back z small) refl
+        | false ↦ λ e. ap (λ o. scalar_read tag LongInteger
+            (option_map (λ n. long_integer (cast_signed w64 n)) o))
+            (long_back (cast_unsigned w64 z) (signed_fits z h))
             ∙ ap (λ y. Ok (scalar tag (long_integer y))) (to_z-of_z w64 z h)
       ] refl
 
@@ -68,13 +76,16 @@ module _ (one : Json → Read Tree) (tag : ℕ) where
   scalar_back (integer z) h = rw (whole_back z (abs_small z h), small_back z h) refl
   scalar_back (long_integer z) h = long_is_back z h
   scalar_back (big_integer b) h = ap (λ o. scalar_read tag BigInteger (option_map big_integer o)) (hex_back b h)
-  scalar_back (enumeration n) h = ap (λ o. scalar_read tag Enumeration (option_map enumeration o)) (enumeration_back tag n h)
+  scalar_back (enumeration n) h = ap (λ o. scalar_read tag Enumeration (option_map enumeration o))
+      (enumeration_back tag n h)
   scalar_back (boolean b) h = refl
   scalar_back (text_string b) h = refl
-  scalar_back (byte_string b) h = ap (λ r. scalar_read tag ByteString (option_map byte_string (result_ok r))) (decode_of-encode_upper b h)
+  scalar_back (byte_string b) h = ap (λ r. scalar_read tag ByteString
+      (option_map byte_string (result_ok r))) (decode_of-encode_upper b h)
   scalar_back (date_time n) h = ap (λ o. scalar_read tag DateTime (option_map date_time o)) (date_back n h)
   scalar_back (interval n) h =
-      ap (λ o. scalar_read tag Interval (option_map interval (option_and_then small_natural o))) (whole_back (pos n) (omega arith))
+      ap (λ o. scalar_read tag Interval (option_map interval (option_and_then small_natural o)))
+      (whole_back (pos n) (omega arith))
       ∙ ap (λ o. scalar_read tag Interval (option_map interval o)) (natural_back n h)
 
 mutual
@@ -84,17 +95,20 @@ mutual
   item_back (scalar tag s) zero h d = absurd (omega arith)
   item_back (structure tag ts) zero h d = absurd (omega arith)
   item_back (scalar tag s) (suc n) h d =
-      ap (λ o. parts_read (read_item n) o (kind_named (kind_text (kind_of_scalar s))) (Some (value_json tag s))) (tag_back tag h.0)
+      ap (λ o. parts_read (read_item n) o (kind_named (kind_text (kind_of_scalar s)))
+      (Some (value_json tag s))) (tag_back tag h.0)
       ∙ ap (λ o. parts_read (read_item n) (Some tag) o (Some (value_json tag s))) (kind_back (kind_of_scalar s))
       ∙ scalar_back (read_item n) tag s h.1
   item_back (structure tag ts) (suc n) h d =
       ap (λ o. parts_read (read_item n) o (Some Structure) (Some (json.array (items_json ts)))) (tag_back tag h.0)
       ∙ ap (structure_read tag) (items_back ts n 0 h.1 (omega arith))
 
-  items_back : (ts : Trees) (n index : ℕ) → HaveRanges ts → levels_of_all ts ≤ n → items_by (read_item n) index (items_json ts) ≡ Ok ts
+  items_back : (ts : Trees) (n index : ℕ) → HaveRanges ts → levels_of_all ts ≤ n
+      → items_by (read_item n) index (items_json ts) ≡ Ok ts
   items_back none n index h d = refl
   items_back (more t ts) n index h d =
-      ap (λ r. trees_read (within index r) (items_by (read_item n) (index + 1) (items_json ts))) (item_back t n h.0 (omega arith))
+      ap (λ r. trees_read (within index r) (items_by (read_item n) (index + 1) (items_json ts)))
+      (item_back t n h.0 (omega arith))
       ∙ ap (trees_read (Ok t)) (items_back ts n (index + 1) h.1 (omega arith))
 
 pub tree_back : (t : Tree) → HasRanges t → levels t ≤ 64 → tree_of (json_of t) ≡ Ok t
@@ -104,10 +118,12 @@ tree_back t h d = item_back t 64 h d
 -- ---- the text
 
 flat_long : (z : ℤ) → depth (long_json z) ≡ 0
-flat_long z = elim (is_short z) as (λ b. depth (cond b (json.number (signed_decimal z)) (json.string (hex_text (to_be_bytes w64 (cast_unsigned w64 z))))) ≡ 0) [
-  | true ↦ refl
-  | false ↦ refl
-]
+flat_long z = elim (is_short z)
+    as (λ b. depth (cond b (json.number (signed_decimal z))
+    (json.string (hex_text (to_be_bytes w64 (cast_unsigned w64 z))))) ≡ 0) [
+      | true ↦ refl
+      | false ↦ refl
+    ]
 
 flat : (tag : ℕ) (s : Scalar) → depth (value_json tag s) ≡ 0
 flat tag (integer z) = refl
@@ -134,10 +150,13 @@ mag_of (pos n) h = omega arith
 mag_of (negsuc n) h = omega arith
 
 long_number : (z : ℤ) → HasNumbers (long_json z)
-long_number z = elim (is_short z) as (λ b. is_short z ≡ b → HasNumbers (cond b (json.number (signed_decimal z)) (json.string (hex_text (to_be_bytes w64 (cast_unsigned w64 z)))))) [
-  | true ↦ λ e. IsNumber-signed_decimal z (mag_of z (omega (arith, is_short-abs z e)))
-  | false ↦ λ e. tt
-] refl
+long_number z = elim (is_short z) as
+    (λ b. is_short z ≡ b → HasNumbers
+    (cond b (json.number (signed_decimal z))
+    (json.string (hex_text (to_be_bytes w64 (cast_unsigned w64 z)))))) [
+      | true ↦ λ e. IsNumber-signed_decimal z (mag_of z (omega (arith, is_short-abs z e)))
+      | false ↦ λ e. tt
+    ] refl
 
 number_is : (tag : ℕ) (s : Scalar) → IsInRange s → HasNumbers (value_json tag s)
 number_is tag (integer z) h = IsNumber-signed_decimal z (mag_of z (abs_small z h))
@@ -165,10 +184,13 @@ text_back t h d = document-print (json_of t) (numbers t h) (omega (arith, nests 
 
 value_unique : (tag : ℕ) (s : Scalar) → HasUniqueKeys (value_json tag s)
 value_unique tag (integer z) = tt
-value_unique tag (long_integer z) = elim (is_short z) as (λ b. HasUniqueKeys (cond b (json.number (signed_decimal z)) (json.string (hex_text (to_be_bytes w64 (cast_unsigned w64 z)))))) [
-  | true ↦ tt
-  | false ↦ tt
-]
+value_unique tag (long_integer z) =
+    elim (is_short z) as (λ b. HasUniqueKeys
+    (cond b (json.number (signed_decimal z))
+    (json.string (hex_text (to_be_bytes w64 (cast_unsigned w64 z)))))) [
+      | true ↦ tt
+      | false ↦ tt
+    ]
 value_unique tag (big_integer b) = tt
 value_unique tag (enumeration n) = tt
 value_unique tag (boolean b) = tt

@@ -13,15 +13,23 @@ not_both true true x y no_both = absurd (no_both refl refl)
 not_both true false x y no_both = refl
 not_both false b x y no_both = refl
 
-pub whole_found : (word : List ℕ) (z : ℤ) → is_exact z ≡ true → signed_digits_value 10 word ≡ z → signed_decimal z ≡ word → whole_number word ≡ Some z
+pub whole_found : (word : List ℕ) (z : ℤ) → is_exact z ≡ true → signed_digits_value 10 word ≡ z
+    → signed_decimal z ≡ word → whole_number word ≡ Some z
 unfolding whole_number
 whole_found word z small value is =
-    both (is_exact (signed_digits_value 10 word)) (bytes_eq (signed_decimal (signed_digits_value 10 word)) word) (Some (signed_digits_value 10 word)) None
-    (ap is_exact value ∙ small) ((bytes_eq-Decides (signed_decimal (signed_digits_value 10 word)) word).1 (ap signed_decimal value ∙ is))
+    both (is_exact (signed_digits_value 10 word))
+    (bytes_eq (signed_decimal (signed_digits_value 10 word)) word)
+    (Some (signed_digits_value 10 word)) None
+    (ap is_exact value ∙ small) ((bytes_eq-Decides (signed_decimal (signed_digits_value 10 word))
+    word).1 (ap signed_decimal value ∙ is))
     ∙ ap Some value
 
-pub whole_none : (word : List ℕ) → ((z : ℤ) → is_exact z ≡ true → signed_decimal z ≡ word → ⊥) → whole_number word ≡ None
+pub whole_none : (word : List ℕ) → ((z : ℤ) → is_exact z ≡ true → signed_decimal z ≡ word → ⊥)
+    → whole_number word ≡ None
 unfolding whole_number
 whole_none word none =
-    not_both (is_exact (signed_digits_value 10 word)) (bytes_eq (signed_decimal (signed_digits_value 10 word)) word) (Some (signed_digits_value 10 word)) None
-    (λ small same. none (signed_digits_value 10 word) small ((bytes_eq-Decides (signed_decimal (signed_digits_value 10 word)) word).0 same))
+    not_both (is_exact (signed_digits_value 10 word))
+    (bytes_eq (signed_decimal (signed_digits_value 10 word)) word)
+    (Some (signed_digits_value 10 word)) None
+    (λ small same. none (signed_digits_value 10 word) small
+    ((bytes_eq-Decides (signed_decimal (signed_digits_value 10 word)) word).0 same))

@@ -36,11 +36,14 @@ abbrev pub extra_of : Between → Option (List ℕ) → List Asked
 extra_of now None = []
 extra_of now (Some request) = option_to_list (asks now.objects request)
 
-asked_with : (settings : CallSettings) (call : Call) (now after : Between) (request : List ℕ) (response : Option (List ℕ)) → (answered_with settings call now after request response).after.asked ≡ after.asked
+asked_with : (settings : CallSettings) (call : Call) (now after : Between) (request : List ℕ)
+    (response : Option (List ℕ))
+    → (answered_with settings call now after request response).after.asked ≡ after.asked
 asked_with settings call now after request None = refl
 asked_with settings call now after request (Some response) = refl
 
-after_asked : (settings : CallSettings) (call : Call) (now : Between) (request : Option (List ℕ)) → (sent_with settings call now request).after.asked ≡ now.asked ++ extra_of now request
+after_asked : (settings : CallSettings) (call : Call) (now : Between) (request : Option (List ℕ))
+    → (sent_with settings call now request).after.asked ≡ now.asked ++ extra_of now request
 after_asked settings call now None = sym (append_none now.asked)
 after_asked settings call now (Some request) = asked_with settings call now _ request _
 
@@ -48,51 +51,75 @@ told_same : (a b : JoinedReport) → Reported a ≡ Reported b → b ≡ a
 told_same a b e = cc
 
 -- a response was made
-record Formed (settings : CallSettings) (call : Call) (now after : Between) (request : List ℕ) (response : Option (List ℕ)) (x : JoinedReport) : Type 0 where
+record Formed (settings : CallSettings) (call : Call) (now after : Between) (request : List ℕ)
+    (response : Option (List ℕ)) (x : JoinedReport) : Type 0 where
   told : x ≡ joined_report settings call (turn_with settings call (Some request) (after.rest ++ or_empty response))
   objects : (answered_with settings call now after request response).after.objects ≡ after.objects
   rest : (answered_with settings call now after request response).after.rest
-      ≡ drop (outcome_of (Some request) (call_operation call) settings.limit (after.rest ++ or_empty response)).taken (after.rest ++ or_empty response)
+      ≡ drop (outcome_of (Some request) (call_operation call) settings.limit
+      (after.rest ++ or_empty response)).taken (after.rest ++ or_empty response)
 
-formed : (settings : CallSettings) (call : Call) (now after : Between) (request : List ℕ) (response : Option (List ℕ)) (x : JoinedReport) → (answered_with settings call now after request response).expected ≡ Reported x →
+formed : (settings : CallSettings) (call : Call) (now after : Between) (request : List ℕ)
+    (response : Option (List ℕ)) (x : JoinedReport)
+    → (answered_with settings call now after request response).expected ≡ Reported x →
     Formed settings call now after request response x
 formed settings call now after request None x is = absurd (cc)
-formed settings call now after request (Some response) x is = record { told = told_same _ _ is; objects = refl; rest = refl }
+formed settings call now after request (Some response) x is =
+    record { told = told_same _ _ is; objects = refl; rest = refl }
 
 -- what the program's definitions say of a call that is told so
-record Comes (settings : CallSettings) (call : Call) (now : Between) (request : Option (List ℕ)) (after : World) (x : JoinedReport) : Type 0 where
+record Comes (settings : CallSettings) (call : Call) (now : Between) (request : Option (List ℕ))
+    (after : World) (x : JoinedReport) : Type 0 where
   told : x ≡ joined_report settings call (turn_with settings call request after.rest)
   objects : (sent_with settings call now request).after.objects ≡ after.objects
-  rest : (sent_with settings call now request).after.rest ≡ drop (outcome_of request (call_operation call) settings.limit after.rest).taken after.rest
+  rest : (sent_with settings call now request).after.rest
+      ≡ drop (outcome_of request (call_operation call) settings.limit after.rest).taken after.rest
   answers : length (sent_with settings call now request).after.asked ≡ after.answers
 
 -- the maker's answer to come is its answer by its number
 abbrev IsNext : Between → Option (List ℕ) → Type 0
 IsNext now request = now.given ≡ plain_answers (length now.asked) (extra_of now request)
 
-comes : (settings : CallSettings) (call : Call) (now : Between) (request : Option (List ℕ)) (x : JoinedReport) → settings.time ≡ pos 0 → IsNext now request → (sent_with settings call now request).expected ≡ Reported x →
+comes : (settings : CallSettings) (call : Call) (now : Between) (request : Option (List ℕ))
+    (x : JoinedReport) → settings.time ≡ pos 0 → IsNext now request
+    → (sent_with settings call now request).expected ≡ Reported x →
     Comes settings call now request (after_sending (world_at now) request) x
-comes settings call now None x time made is = record { told = told_same _ _ is; objects = refl; rest = refl; answers = refl }
+comes settings call now None x time made is =
+    record { told = told_same _ _ is; objects = refl; rest = refl; answers = refl }
 comes settings call now (Some request) x time made is =
     let q : Option Asked = asks now.objects request in
-    let first : first_for q now.given ≡ next_made (world_at now) q = first_is q (length now.asked) now.given [] (made ∙ ap (λ (l : List Asked). plain_answers (length now.asked) l) (sym (append_none (option_to_list q)))) in
-    let same : served now.objects request (first_for q now.given) settings.time ≡ served now.objects request (next_made (world_at now) q) (pos 0) =
-    ap (λ (m : Option Made). served now.objects request m settings.time) first ∙ ap (λ (t : ℤ). served now.objects request (next_made (world_at now) q) t) time in
-    let bytes : response_bytes (served now.objects request (first_for q now.given) settings.time).message ≡ response_bytes (served now.objects request (next_made (world_at now) q) (pos 0)).message =
+    let first : first_for q now.given ≡ next_made (world_at now) q =
+    first_is q (length now.asked) now.given []
+    (made ∙ ap (λ (l : List Asked). plain_answers (length now.asked) l)
+    (sym (append_none (option_to_list q)))) in
+    let same : served now.objects request (first_for q now.given) settings.time
+    ≡ served now.objects request (next_made (world_at now) q) (pos 0) =
+    ap (λ (m : Option Made). served now.objects request m settings.time) first
+    ∙ ap (λ (t : ℤ). served now.objects request (next_made (world_at now) q) t) time in
+    let bytes : response_bytes (served now.objects request (first_for q now.given)
+    settings.time).message ≡ response_bytes
+    (served now.objects request (next_made (world_at now) q) (pos 0)).message =
     ap (λ s. response_bytes s.message) same in
-    let f = formed settings call now _ request (response_bytes (served now.objects request (first_for q now.given) settings.time).message) x is in
-    let rest : now.rest ++ or_empty (response_bytes (served now.objects request (first_for q now.given) settings.time).message) ≡ (after_request (world_at now) request).rest =
+    let f = formed settings call now _ request
+    (response_bytes (served now.objects request (first_for q now.given) settings.time).message)
+    x is in
+    let rest : now.rest ++ or_empty
+    (response_bytes (served now.objects request (first_for q now.given) settings.time).message)
+    ≡ (after_request (world_at now) request).rest =
     ap (λ (b : Option (List ℕ)). now.rest ++ or_empty b) bytes in
     record {
       told = f.told ∙ ap (λ (l : List ℕ). joined_report settings call (turn_with settings call (Some request) l)) rest;
       objects = f.objects ∙ ap (λ s. s.objects) same;
-      rest = f.rest ∙ ap (λ (l : List ℕ). drop (outcome_of (Some request) (call_operation call) settings.limit l).taken l) rest;
+      rest = f.rest ∙ ap (λ (l : List ℕ).
+          drop (outcome_of (Some request) (call_operation call) settings.limit l).taken l) rest;
       answers = ap length (after_asked settings call now (Some request)) ∙ length-append now.asked (option_to_list q);
     }
 
 -- ---- one call of a list
 
-next_is : (settings : CallSettings) (now : Between) (call : Call) → next settings now call ≡ sent_with settings call now (request_bytes (request_of call) settings.credential)
+next_is : (settings : CallSettings) (now : Between) (call : Call)
+    → next settings now call ≡ sent_with settings call now
+    (request_bytes (request_of call) settings.credential)
 unfolding next
 next_is settings now call = refl
 
@@ -107,11 +134,14 @@ cond_same : (b : Bool) (x : Between) → cond b x x ≡ x
 cond_same true x = refl
 cond_same false x = refl
 
-expected_one : (settings : CallSettings) (now : Between) (call : Call) → expected_calls settings now (call ∷ []) ≡ (next settings now call).expected ∷ []
+expected_one : (settings : CallSettings) (now : Between) (call : Call)
+    → expected_calls settings now (call ∷ []) ≡ (next settings now call).expected ∷ []
 unfolding expected_calls
-expected_one settings now call = ap (λ (l : List Expected). (next settings now call).expected ∷ l) (cond_none (next settings now call).stops)
+expected_one settings now call = ap (λ (l : List Expected). (next settings now call).expected ∷ l)
+    (cond_none (next settings now call).stops)
 
-finish_one : (settings : CallSettings) (now : Between) (call : Call) → finish settings now (call ∷ []) ≡ (next settings now call).after
+finish_one : (settings : CallSettings) (now : Between) (call : Call)
+    → finish settings now (call ∷ []) ≡ (next settings now call).after
 unfolding finish
 finish_one settings now call = cond_same (next settings now call).stops (next settings now call).after
 
@@ -121,7 +151,9 @@ pub record Only (e : Expected) (xs : List CallAnswer) : Type 0 where
   pub is : xs ≡ x ∷ []
   pub told : e ≡ Reported (report_of x)
 
-only : (settings : CallSettings) (e : Expected) (xs : List CallAnswer) → ReportsMatch settings (e ∷ []) (map report_of xs) → (has_unsent (e ∷ []) ≡ true → ⊥) → Only e xs
+only : (settings : CallSettings) (e : Expected) (xs : List CallAnswer)
+    → ReportsMatch settings (e ∷ []) (map report_of xs) → (has_unsent (e ∷ []) ≡ true → ⊥)
+    → Only e xs
 only settings (Reported told) [] meet sound = absurd meet
 only settings (Reported told) (x ∷ []) meet sound = record { x = x; is = refl; told = ap Reported (sym meet.0) }
 only settings (Reported told) (x ∷ y ∷ xs) meet sound = absurd meet.1
@@ -129,7 +161,8 @@ only settings (Unsent request) xs meet sound = absurd (sound refl)
 
 -- ---- the program's step
 
-asked_line : (call : Call) (credential : Option CredentialType) → request_asked (line_call call) credential ≡ asked_of (request_of call) credential
+asked_line : (call : Call) (credential : Option CredentialType)
+    → request_asked (line_call call) credential ≡ asked_of (request_of call) credential
 asked_line Query credential = refl
 asked_line (CreateRsaKeyPair bits private public) credential = refl
 asked_line (RngRetrieve count) credential = refl
@@ -141,27 +174,35 @@ asked_line (RenameKey id name) credential = refl
 asked_line (GetKey id) credential = refl
 
 abbrev line_settings : CallSettings → LineSettings
-line_settings settings = record { credential = settings.credential; limit = settings.limit; buffered = settings.buffered }
+line_settings settings = record
+    { credential = settings.credential; limit = settings.limit; buffered = settings.buffered }
 
 -- the step of what is asked
 abbrev step_for : LineSettings → Call → World → LineAsked → Joined
 step_for settings call world it =
     let now : World = after_sending world it.message in
-    let s : Step = step_of (λ payload. value_in_style (line_call call) payload Bare) Bare settings.buffered now.rest (outcome_of it.message it.operation settings.limit now.rest) in
+    let s : Step = step_of (λ payload. value_in_style (line_call call) payload Bare)
+    Bare settings.buffered now.rest (outcome_of it.message it.operation settings.limit now.rest)
+    in
     record { step = s; after = record now { rest = drop s.taken now.rest } }
 
-step_is : (settings : LineSettings) (call : Call) (world : World) → joined_step settings (line_call call) world ≡ step_for settings call world (asked_of (request_of call) settings.credential)
+step_is : (settings : LineSettings) (call : Call) (world : World)
+    → joined_step settings (line_call call) world
+    ≡ step_for settings call world (asked_of (request_of call) settings.credential)
 unfolding joined_step
-step_is settings call world = ap (λ (it : LineAsked). step_for settings call world it) (asked_line call settings.credential)
+step_is settings call world = ap (λ (it : LineAsked). step_for settings call world it)
+    (asked_line call settings.credential)
 
 -- ---- a call that was made
 
-pub record MadeSo (settings : LineSettings) (call : Call) (before after : ServerLinkState PlainMemory) (x : CallAnswer) : Type 0 where
+pub record MadeSo (settings : LineSettings) (call : Call)
+    (before after : ServerLinkState PlainMemory) (x : CallAnswer) : Type 0 where
   pub world : world_of after ≡ (joined_step settings (line_call call) (world_of before)).after
   pub told : ReportsStep (joined_step settings (line_call call) (world_of before)).step settings.buffered x
 
 -- what is known of a call before and after it, with what stood before it by the maker's answers in the end
-pub record Known (settings : CallSettings) (call : Call) (before after : ServerLinkState PlainMemory) (now : Between) (x : CallAnswer) : Type 0 where
+pub record Known (settings : CallSettings) (call : Call)
+    (before after : ServerLinkState PlainMemory) (now : Between) (x : CallAnswer) : Type 0 where
   pub time : settings.time ≡ pos 0
   pub plain_after : HasPlainAnswers after
   pub stood : (extra : List Asked) → after.server.maker.asked ≡ now.asked ++ extra → Stands before now extra
@@ -169,24 +210,34 @@ pub record Known (settings : CallSettings) (call : Call) (before after : ServerL
   pub told : (next settings now call).expected ≡ Reported (report_of x)
   pub pair : makes_pair call ≡ true → IfOk x.answer (λ a. is_pair a ≡ true)
 
-made_known : (settings : CallSettings) (call : Call) (before after : ServerLinkState PlainMemory) (now : Between) (x : CallAnswer) → Known settings call before after now x → MadeSo (line_settings settings) call before after x
+made_known : (settings : CallSettings) (call : Call) (before after : ServerLinkState PlainMemory)
+    (now : Between) (x : CallAnswer) → Known settings call before after now x
+    → MadeSo (line_settings settings) call before after x
 made_known settings call before after now x known =
     let request : Option (List ℕ) = request_bytes (request_of call) settings.credential in
     let n : Next = sent_with settings call now request in
     let e : next settings now call ≡ n = next_is settings now call in
     let ends : standing plain_state after ≡ n.after = known.ends ∙ ap (λ (it : Next). it.after) e in
-    let asked : after.server.maker.asked ≡ now.asked ++ extra_of now request = ap (λ (b : Between). b.asked) ends ∙ after_asked settings call now request in
+    let asked : after.server.maker.asked ≡ now.asked ++ extra_of now request =
+    ap (λ (b : Between). b.asked) ends ∙ after_asked settings call now request in
     let stood : Stands before now (extra_of now request) = known.stood (extra_of now request) asked in
-    let it = comes settings call now request (report_of x) known.time stood.given (sym (ap (λ (it : Next). it.expected) e) ∙ known.told) in
-    let step : joined_step (line_settings settings) (line_call call) (world_of before) ≡ step_for (line_settings settings) call (world_at now) (asked_of (request_of call) settings.credential) =
+    let it = comes settings call now request (report_of x) known.time stood.given
+    (sym (ap (λ (it : Next). it.expected) e) ∙ known.told) in
+    let step : joined_step (line_settings settings) (line_call call) (world_of before)
+    ≡ step_for (line_settings settings) call (world_at now)
+    (asked_of (request_of call) settings.credential) =
     step_is (line_settings settings) call (world_of before)
-    ∙ ap (λ (w : World). step_for (line_settings settings) call w (asked_of (request_of call) settings.credential)) stood.world in
+    ∙ ap (λ (w : World). step_for (line_settings settings) call w
+    (asked_of (request_of call) settings.credential)) stood.world in
     record {
       world = world_same _ _ _ _ _ _ (ap (λ (b : Between). b.objects) ends ∙ it.objects)
-          (ap length known.plain_after ∙ as_many 0 after.server.maker.asked ∙ ap (λ (b : Between). length b.asked) ends ∙ it.answers)
+          (ap length known.plain_after ∙ as_many 0 after.server.maker.asked
+          ∙ ap (λ (b : Between). length b.asked) ends ∙ it.answers)
           (ap (λ (b : Between). b.rest) ends ∙ it.rest)
           ∙ ap (λ (j : Joined). j.after) (sym step);
-      told = subst (λ (j : Joined). ReportsStep j.step settings.buffered x) (sym step) (told_as settings call request (after_sending (world_at now) request).rest x it.told known.pair);
+      told = subst (λ (j : Joined). ReportsStep j.step settings.buffered x) (sym step)
+          (told_as settings call request
+          (after_sending (world_at now) request).rest x it.told known.pair);
     }
 
 -- the first answer of a list of one
@@ -196,16 +247,23 @@ popped rest x y e = cc
 abbrev Clients : Type 0
 Clients = ClientState (ServerLinkState PlainMemory)
 
-one_of : (old new : Clients) (call : Call) (xs : List CallAnswer) → IsOpen plain_state old.link → IsMade old new call xs →
+one_of : (old new : Clients) (call : Call) (xs : List CallAnswer) → IsOpen plain_state old.link
+    → IsMade old new call xs →
     Only (next (call_settings old) (before_all plain_state old new.link) call).expected xs
 one_of old new call xs opened said =
     let s : CallSettings = call_settings old in
     let now : Between = before_all plain_state old new.link in
     let one : expected_calls s now (call ∷ []) ≡ (next s now call).expected ∷ [] = expected_one s now call in
-    only s (next s now call).expected xs (subst (λ (es : List Expected). ReportsMatch s es (map report_of xs)) one (said.session.joined opened))
-    (λ cut. let above : 0 < new.link.faults = said.session.faulted opened (ap has_unsent one ∙ cut) in let sound : new.link.faults ≡ 0 = said.sound in omega (arith, above, sound))
+    only s (next s now call).expected xs
+    (subst (λ (es : List Expected). ReportsMatch s es (map report_of xs)) one
+    (said.session.joined opened))
+    (λ cut. let above : 0 < new.link.faults =
+    said.session.faulted opened (ap has_unsent one ∙ cut) in
+    let sound : new.link.faults ≡ 0 = said.sound in omega (arith, above, sound))
 
-came_so : (old new : Clients) (call : Call) (xs rest : List CallAnswer) (x : CallAnswer) → IsJoined old.link → IsMade old new call xs → xs ≡ x ∷ rest → (makes_pair call ≡ true → IfOk x.answer (λ a. is_pair a ≡ true)) →
+came_so : (old new : Clients) (call : Call) (xs rest : List CallAnswer) (x : CallAnswer)
+    → IsJoined old.link → IsMade old new call xs → xs ≡ x ∷ rest
+    → (makes_pair call ≡ true → IfOk x.answer (λ a. is_pair a ≡ true)) →
     MadeSo (line_settings (call_settings old)) call old.link new.link x
 came_so old new call xs rest x joined said last pair =
     let s : CallSettings = call_settings old in
@@ -215,7 +273,8 @@ came_so old new call xs rest x joined said last pair =
     made_known s call old.link new.link now x (record {
       time = joined.time;
       plain_after = said.plain_after;
-      stood = λ extra asked. stands old.link new.link.server.maker.given new.link.server.maker.asked extra joined.is_open said.known said.plain said.plain_after asked;
+      stood = λ extra asked.
+          stands old.link new.link.server.maker.given new.link.server.maker.asked extra joined.is_open said.known said.plain said.plain_after asked;
       ends = said.session.finished joined.is_open ∙ finish_one s now call;
       told = it.told ∙ ap (λ (a : CallAnswer). Reported (report_of a)) same;
       pair = pair;
@@ -227,18 +286,31 @@ not_true : (b : Bool) → (b ≡ true → ⊥) → b ≡ false
 not_true true not = absurd (not refl)
 not_true false not = refl
 
-pub still_joined : (old new : Clients) (call : Call) (xs : List CallAnswer) → IsJoined old.link → IsMade old new call xs → IsJoined new.link
+pub still_joined : (old new : Clients) (call : Call) (xs : List CallAnswer) → IsJoined old.link
+    → IsMade old new call xs → IsJoined new.link
 still_joined old new call xs joined made = record {
-  is_open = made.session.opened joined.is_open (not_true _ (λ cut. let above : 0 < new.link.faults = made.session.faulted joined.is_open cut in let sound : new.link.faults ≡ 0 = made.sound in omega (arith, above, sound)));
+  is_open = made.session.opened joined.is_open
+      (not_true _ (λ cut. let above : 0 < new.link.faults =
+      made.session.faulted joined.is_open cut in let sound : new.link.faults ≡ 0 = made.sound in
+      omega (arith, above, sound)));
   time = ap (λ (s : CallSettings). s.time) made.settings ∙ joined.time;
 }
 
-pub same_settings : (old new : Clients) (call : Call) (xs : List CallAnswer) → IsMade old new call xs → line_settings (call_settings new) ≡ line_settings (call_settings old)
+pub same_settings : (old new : Clients) (call : Call) (xs : List CallAnswer)
+    → IsMade old new call xs → line_settings (call_settings new) ≡ line_settings (call_settings old)
 same_settings old new call xs made = ap line_settings made.settings
 
 -- ---- so a call was made
 
-pub made_so : (old new : Clients) (call : Call) (xs : List CallAnswer) (x : CallAnswer) (pair : Bool) → IsJoined old.link → IsMade old new call xs → pair ≡ makes_pair call → IsSuited pair xs x → IsMadeSo old new call x
+pub made_so : (old new : Clients) (call : Call) (xs : List CallAnswer) (x : CallAnswer)
+    (pair : Bool) → IsJoined old.link → IsMade old new call xs → pair ≡ makes_pair call
+    → IsSuited pair xs x → IsMadeSo old new call x
 made_so old new call xs x pair joined made is suited =
     let it = came_so old new call xs suited.later x joined made suited.is (λ e. suited.suits (is ∙ e)) in
-    record { settings = same_settings old new call xs made; joined = still_joined old new call xs joined made; world = it.world; tells = it.told }
+    record {
+      settings = same_settings old new call xs made;
+      joined =
+          still_joined old new call xs joined made;
+      world = it.world;
+      tells = it.told;
+    }

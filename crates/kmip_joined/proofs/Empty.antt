@@ -26,6 +26,7 @@ pub joined_new : (link : ServerLinkState PlainMemory) (maker : PlainMemory) → 
 joined_new link maker is = subst (λ (l : ServerLinkState PlainMemory). IsJoined l) (sym is) (joined_over maker)
 
 -- the first of the answers is suited where what is known of it holds
-pub first_suits : (pair : Bool) (xs : List CallAnswer) (x : CallAnswer) → slice_get xs 0 ≡ Some x → (pair ≡ true → IfOk x.answer (λ a. is_pair a ≡ true)) → IsSuited pair xs x
+pub first_suits : (pair : Bool) (xs : List CallAnswer) (x : CallAnswer) → slice_get xs 0 ≡ Some x
+    → (pair ≡ true → IfOk x.answer (λ a. is_pair a ≡ true)) → IsSuited pair xs x
 first_suits pair [] x is suits = absurd (cc)
 first_suits pair (y ∷ ys) x is suits = record { later = ys; is = cc; suits = suits }

@@ -28,7 +28,8 @@ abbrev pub own_made : Own → Option Asked → Option Made
 own_made own question = option_map (plain_answer (length own.asked + 1)) question
 
 abbrev pub own_serve : ℤ → Own → List ℕ → Own
-own_serve t own b = owned (served own.objects b (own_made own (asks own.objects b)) t).objects (own.asked ++ option_to_list (asks own.objects b))
+own_serve t own b = owned (served own.objects b (own_made own (asks own.objects b)) t).objects
+    (own.asked ++ option_to_list (asks own.objects b))
 
 abbrev pub own_of : Run → Own
 own_of run = owned run.objects run.asked
@@ -45,12 +46,14 @@ asked_is t (b ∷ bs) run =
     ∙ ap (λ (l : List Asked). l ++ asked_by t (serve t run b) bs) (serve_asked t run b)
     ∙ append_assoc run.asked (option_to_list (asks run.objects b)) (asked_by t (serve t run b) bs)
 
-pub first_is : (question : Option Asked) (n : ℕ) (given : List Made) (rest : List Asked) → given ≡ plain_answers n (option_to_list question ++ rest) →
+pub first_is : (question : Option Asked) (n : ℕ) (given : List Made) (rest : List Asked)
+    → given ≡ plain_answers n (option_to_list question ++ rest) →
     first_for question given ≡ option_map (plain_answer (n + 1)) question
 first_is None n given rest h = refl
 first_is (Some question) n given rest h = ap (λ (l : List Made). first_for (Some question) l) h
 
-rest_is : (question : Option Asked) (n : ℕ) (given : List Made) (rest : List Asked) → given ≡ plain_answers n (option_to_list question ++ rest) →
+rest_is : (question : Option Asked) (n : ℕ) (given : List Made) (rest : List Asked)
+    → given ≡ plain_answers n (option_to_list question ++ rest) →
     rest_for question given ≡ plain_answers (n + length (option_to_list question)) rest
 rest_is None n given rest h = h ∙ ap (λ (k : ℕ). plain_answers k rest) (omega arith)
 rest_is (Some question) n given rest h = ap (λ (l : List Made). rest_for (Some question) l) h
@@ -60,18 +63,25 @@ record Serves (t : ℤ) (run : Run) (b : List ℕ) (rest : List Asked) : Type 0 
   same : own_of (serve t run b) ≡ own_serve t (own_of run) b
   given : (serve t run b).given ≡ plain_answers (length (serve t run b).asked) rest
 
-own_same : (objects objects' : List Object) (asked asked' : List Asked) → objects ≡ objects' → asked ≡ asked' → owned objects asked ≡ owned objects' asked'
+own_same : (objects objects' : List Object) (asked asked' : List Asked) → objects ≡ objects'
+    → asked ≡ asked' → owned objects asked ≡ owned objects' asked'
 own_same objects objects' asked asked' o a = λ i. owned (o i) (a i)
 
-serves : (t : ℤ) (run : Run) (b : List ℕ) (rest : List Asked) → run.given ≡ plain_answers (length run.asked) (option_to_list (asks run.objects b) ++ rest) → Serves t run b rest
+serves : (t : ℤ) (run : Run) (b : List ℕ) (rest : List Asked)
+    → run.given ≡ plain_answers (length run.asked) (option_to_list (asks run.objects b) ++ rest)
+    → Serves t run b rest
 serves t run b rest h =
     let q : Option Asked = asks run.objects b in
     let n : ℕ = length run.asked in
     let made : first_for q run.given ≡ option_map (plain_answer (n + 1)) q = first_is q n run.given rest h in
-    let more : length (run.asked ++ option_to_list q) ≡ n + length (option_to_list q) = length-append run.asked (option_to_list q) in
+    let more : length (run.asked ++ option_to_list q) ≡ n + length (option_to_list q) =
+    length-append run.asked (option_to_list q) in
     record {
-      same = own_same (serve t run b).objects _ (serve t run b).asked _ (serve_objects t run b ∙ ap (λ (m : Option Made). (served run.objects b m t).objects) made) (serve_asked t run b);
-      given = serve_given t run b ∙ rest_is q n run.given rest h ∙ ap (λ (k : ℕ). plain_answers k rest) (sym (ap length (serve_asked t run b) ∙ more));
+      same = own_same (serve t run b).objects _ (serve t run b).asked _
+          (serve_objects t run b ∙ ap (λ (m : Option Made). (served run.objects b m t).objects)
+          made) (serve_asked t run b);
+      given = serve_given t run b ∙ rest_is q n run.given rest h
+          ∙ ap (λ (k : ℕ). plain_answers k rest) (sym (ap length (serve_asked t run b) ∙ more));
     }
 
 -- a run is what it would be without the maker, and its maker's answers to come are those to these questions
@@ -79,12 +89,15 @@ pub record IsOwn (t : ℤ) (start : Own) (bs : List (List ℕ)) (extra : List As
   pub same : own_of run ≡ fold (own_serve t) start bs
   pub given : run.given ≡ plain_answers (length run.asked) extra
 
-pub runs_own : (t : ℤ) (bs : List (List ℕ)) (run : Run) (extra : List Asked) → run.given ≡ plain_answers (length run.asked) (asked_by t run bs ++ extra) →
+pub runs_own : (t : ℤ) (bs : List (List ℕ)) (run : Run) (extra : List Asked)
+    → run.given ≡ plain_answers (length run.asked) (asked_by t run bs ++ extra) →
     IsOwn t (own_of run) bs extra (fold (serve t) run bs)
 runs_own t [] run extra h = record { same = refl; given = h }
 runs_own t (b ∷ bs) run extra h =
     let n : ℕ = length run.asked in
     let here = serves t run b (asked_by t (serve t run b) bs ++ extra)
-    (h ∙ ap (λ (l : List Asked). plain_answers n l) (append_assoc (option_to_list (asks run.objects b)) (asked_by t (serve t run b) bs) extra)) in
+    (h ∙ ap (λ (l : List Asked). plain_answers n l)
+    (append_assoc (option_to_list (asks run.objects b)) (asked_by t (serve t run b) bs) extra))
+    in
     let later = runs_own t bs (serve t run b) extra here.given in
     record { same = later.same ∙ ap (λ (start : Own). fold (own_serve t) start bs) here.same; given = later.given }

@@ -17,14 +17,23 @@ use Rattle.kmip_joined.specs.Told.{HasPlainAnswers}
 use Rattle.kmip_joined.proofs.Own.{Own, owned, own_of, own_serve, asked_by, asked_is, append_none, runs_own, IsOwn}
 
 -- what the server did so far, by the messages alone
-before_own : (link : ServerLinkState PlainMemory) → IsOpen plain_state link → LinkFacts plain_state link → HasPlainAnswers link →
-    owned link.server.objects link.server.maker.asked ≡ fold (own_serve link.server.time) (owned [] []) (messages_in link.sent).whole
+before_own : (link : ServerLinkState PlainMemory) → IsOpen plain_state link
+    → LinkFacts plain_state link → HasPlainAnswers link →
+    owned link.server.objects link.server.maker.asked
+    ≡ fold (own_serve link.server.time) (owned [] []) (messages_in link.sent).whole
 unfolding run_of
 before_own link opened known plain =
     let t : ℤ = link.server.time in
     let ws : List (List ℕ) = (messages_in link.sent).whole in
     let given : List Made = link.server.maker.given ++ [] in
-    let served : run_of t given ws ≡ record { objects = link.server.objects; ever = Some link.ever; asked = link.server.maker.asked; given = [] } = (known.serves opened.fed refl opened.sound).run [] in
+    let served : run_of t given ws ≡ record {
+      objects = link.server.objects;
+      ever = Some link.ever;
+      asked =
+          link.server.maker.asked;
+      given = [];
+    } =
+    (known.serves opened.fed refl opened.sound).run [] in
     let all : asked_by t (fresh given) ws ++ [] ≡ link.server.maker.asked =
     append_none (asked_by t (fresh given) ws) ∙ sym (asked_is t ws (fresh given)) ∙ ap (λ (r : Run). r.asked) served in
     let plain_too : given ≡ plain_answers 0 (asked_by t (fresh given) ws ++ []) =
@@ -32,11 +41,13 @@ before_own link opened known plain =
     ap own_of (sym served) ∙ (runs_own t ws (fresh given) [] plain_too).same
 
 -- and by the maker's answers in the end, where these are those to all questions
-after_own : (t : ℤ) (ws : List (List ℕ)) (given : List Made) (asked extra : List Asked) → given ≡ plain_answers 0 asked → asked ≡ (run_of t given ws).asked ++ extra →
+after_own : (t : ℤ) (ws : List (List ℕ)) (given : List Made) (asked extra : List Asked)
+    → given ≡ plain_answers 0 asked → asked ≡ (run_of t given ws).asked ++ extra →
     IsOwn t (owned [] []) ws extra (run_of t given ws)
 unfolding run_of
 after_own t ws given asked extra plain is =
-    let all : asked ≡ asked_by t (fresh given) ws ++ extra = is ∙ ap (λ (l : List Asked). l ++ extra) (asked_is t ws (fresh given)) in
+    let all : asked ≡ asked_by t (fresh given) ws ++ extra =
+    is ∙ ap (λ (l : List Asked). l ++ extra) (asked_is t ws (fresh given)) in
     runs_own t ws (fresh given) extra (plain ∙ ap (λ (l : List Asked). plain_answers 0 l) all)
 
 abbrev pub world_with : List Object → ℕ → List ℕ → World
@@ -46,7 +57,8 @@ world_with objects answers rest = record { objects = objects; answers = answers;
 abbrev pub world_at : Between → World
 world_at now = world_with now.objects (length now.asked) now.rest
 
-pub world_same : (objects objects' : List Object) (answers answers' : ℕ) (rest rest' : List ℕ) → objects ≡ objects' → answers ≡ answers' → rest ≡ rest' →
+pub world_same : (objects objects' : List Object) (answers answers' : ℕ) (rest rest' : List ℕ)
+    → objects ≡ objects' → answers ≡ answers' → rest ≡ rest' →
     world_with objects answers rest ≡ world_with objects' answers' rest'
 world_same objects objects' answers answers' rest rest' o a r = λ i. world_with (o i) (a i) (r i)
 
@@ -55,12 +67,16 @@ pub record Stands (link : ServerLinkState PlainMemory) (now : Between) (extra : 
   pub world : world_of link ≡ world_at now
   pub given : now.given ≡ plain_answers (length now.asked) extra
 
-pub stands : (link : ServerLinkState PlainMemory) (given : List Made) (asked extra : List Asked) → IsOpen plain_state link → LinkFacts plain_state link → HasPlainAnswers link →
-    given ≡ plain_answers 0 asked → asked ≡ (between link.server.time given (server_link_state plain_state link)).asked ++ extra →
+pub stands : (link : ServerLinkState PlainMemory) (given : List Made) (asked extra : List Asked)
+    → IsOpen plain_state link → LinkFacts plain_state link → HasPlainAnswers link →
+    given ≡ plain_answers 0 asked → asked
+    ≡ (between link.server.time given (server_link_state plain_state link)).asked ++ extra →
     Stands link (between link.server.time given (server_link_state plain_state link)) extra
 stands link given asked extra opened known plain plain_after is =
     let own = after_own link.server.time (messages_in link.sent).whole given asked extra plain_after is in
-    let same : owned link.server.objects link.server.maker.asked ≡ own_of (run_of link.server.time given (messages_in link.sent).whole) = before_own link opened known plain ∙ sym own.same in
+    let same : owned link.server.objects link.server.maker.asked
+    ≡ own_of (run_of link.server.time given (messages_in link.sent).whole) =
+    before_own link opened known plain ∙ sym own.same in
     record {
       world = world_same _ _ _ _ (left (server_link_state plain_state link)) _ (ap (λ (o : Own). o.objects) same)
           (ap length plain ∙ as_many 0 link.server.maker.asked ∙ ap (λ (o : Own). length o.asked) same) refl;

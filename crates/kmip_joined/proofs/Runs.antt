@@ -15,7 +15,9 @@ use Rattle.kmip_joined.proofs.Calls.{made_so}
 abbrev Clients : Type 0
 Clients = ClientState (ServerLinkState PlainMemory)
 
-ran_so : (before after : Clients) (call : Call) (xs : List CallAnswer) (told : CallAnswer) (pair diag failed : Bool) (old new : List ℕ) → IsJoined before.link → diag ≡ before.buffered → pair ≡ makes_pair call →
+ran_so : (before after : Clients) (call : Call) (xs : List CallAnswer) (told : CallAnswer)
+    (pair diag failed : Bool) (old new : List ℕ) → IsJoined before.link → diag ≡ before.buffered
+    → pair ≡ makes_pair call →
     IsMade before after call xs → IsSuited pair xs told → IsShown diag told failed old new →
     Runs (joined_step (settings_of before) (line_call call) (world_of before.link)) (world_of after.link) failed old new
 ran_so before after call xs told pair diag failed old new joined kept is made suited shown =
@@ -24,8 +26,12 @@ ran_so before after call xs told pair diag failed old new joined kept is made su
     let tells : ReportsStep s diag told = subst (λ (b : Bool). ReportsStep s b told) (sym kept) m.tells in
     record { text = shown.text s tells; failed_is = shown.failed_is ∙ tells.failed; world = m.world }
 
-pub ran_ok : (before after : Clients) (call : Call) (xs : List CallAnswer) (told : CallAnswer) (pair diag : Bool) (result : Result Bool OutOfMemory) (old new : List ℕ) → IsJoined before.link → diag ≡ before.buffered → pair ≡ makes_pair call →
+pub ran_ok : (before after : Clients) (call : Call) (xs : List CallAnswer) (told : CallAnswer)
+    (pair diag : Bool) (result : Result Bool OutOfMemory) (old new : List ℕ) → IsJoined before.link
+    → diag ≡ before.buffered → pair ≡ makes_pair call →
     IsMade before after call xs → IsSuited pair xs told → IfOk result (λ failed. IsShown diag told failed old new) →
-    IfOk result (λ failed. Runs (joined_step (settings_of before) (line_call call) (world_of before.link)) (world_of after.link) failed old new)
-ran_ok before after call xs told pair diag (Ok failed) old new joined kept is made suited shown = ran_so before after call xs told pair diag failed old new joined kept is made suited shown
+    IfOk result (λ failed. Runs (joined_step (settings_of before) (line_call call)
+    (world_of before.link)) (world_of after.link) failed old new)
+ran_ok before after call xs told pair diag (Ok failed) old new joined kept is made suited shown =
+    ran_so before after call xs told pair diag failed old new joined kept is made suited shown
 ran_ok before after call xs told pair diag (Err error) old new joined kept is made suited shown = tt

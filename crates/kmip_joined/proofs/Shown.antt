@@ -43,7 +43,9 @@ seen_in (answered.Renamed p) n v e = ap shown_in e
 seen_in (answered.Got p) n v e = ap shown_in e
 
 -- a payload of an operation is a case of its number
-of_case : (operation : Operation) (payload : Val) (P : Val → Type 0) → ((n : ℕ) (v : Val) → n ≡ (operation_line operation).number → P (Case n v)) → IsOfOperation operation payload → P payload
+of_case : (operation : Operation) (payload : Val) (P : Val → Type 0)
+    → ((n : ℕ) (v : Val) → n ≡ (operation_line operation).number → P (Case n v))
+    → IsOfOperation operation payload → P payload
 of_case operation (Case n v) P f own = f n v own
 of_case operation (Number z) P f own = absurd own
 of_case operation (Text s) P f own = absurd own
@@ -60,7 +62,8 @@ done_shown (answered.Signed p) e = absurd (cc)
 done_shown (answered.Renamed p) e = absurd (cc)
 done_shown (answered.Got p) e = absurd (cc)
 
-pair_shown : (x : Answered) (n : ℕ) (v : Val) → is_pair x ≡ true → answered_val x ≡ v → answered_shown x ≡ texts_in_style (Case n v) Bare
+pair_shown : (x : Answered) (n : ℕ) (v : Val) → is_pair x ≡ true → answered_val x ≡ v
+    → answered_shown x ≡ texts_in_style (Case n v) Bare
 pair_shown answered.Unit n v pair e = absurd (cc)
 pair_shown (answered.Pair first second) n v pair e = ap (λ (w : Val). texts_in_style (Case n w) Bare) e
 pair_shown (answered.Query p) n v pair e = absurd (cc)
@@ -71,19 +74,31 @@ pair_shown (answered.Got p) n v pair e = absurd (cc)
 
 -- what a call's helper returned of this payload is shown as this
 abbrev IsShown : Call → Val → Type 0
-IsShown call payload = (x : Answered) → answered_val x ≡ part_for call payload → (makes_pair call ≡ true → is_pair x ≡ true) → answered_shown x ≡ value_in_style (line_call call) payload Bare
+IsShown call payload = (x : Answered) → answered_val x ≡ part_for call payload
+    → (makes_pair call ≡ true → is_pair x ≡ true)
+    → answered_shown x ≡ value_in_style (line_call call) payload Bare
 
 is_shown : (call : Call) (payload : Val) → IsOfOperation (call_operation call) payload → IsShown call payload
-is_shown Query payload own = of_case (call_operation Query) payload (IsShown Query) (λ n v k x e pair. seen_in x n v e ∙ ap (λ m. shown_by m v) k) own
+is_shown Query payload own = of_case (call_operation Query) payload (IsShown Query)
+    (λ n v k x e pair. seen_in x n v e ∙ ap (λ m. shown_by m v) k) own
 is_shown (CreateRsaKeyPair bits private public) payload own =
-    of_case (call_operation (CreateRsaKeyPair bits private public)) payload (IsShown (CreateRsaKeyPair bits private public)) (λ n v k x e pair. pair_shown x n v (pair refl) e) own
-is_shown (RngRetrieve count) payload own = of_case (call_operation (RngRetrieve count)) payload (IsShown (RngRetrieve count)) (λ n v k x e pair. seen_in x n v e ∙ ap (λ m. shown_by m v) k) own
-is_shown (Sign id bytes) payload own = of_case (call_operation (Sign id bytes)) payload (IsShown (Sign id bytes)) (λ n v k x e pair. seen_in x n v e ∙ ap (λ m. shown_by m v) k) own
+    of_case (call_operation (CreateRsaKeyPair bits private public)) payload
+    (IsShown (CreateRsaKeyPair bits private public))
+    (λ n v k x e pair. pair_shown x n v (pair refl) e) own
+is_shown (RngRetrieve count) payload own =
+    of_case (call_operation (RngRetrieve count)) payload (IsShown (RngRetrieve count))
+    (λ n v k x e pair. seen_in x n v e ∙ ap (λ m. shown_by m v) k) own
+is_shown (Sign id bytes) payload own =
+    of_case (call_operation (Sign id bytes)) payload (IsShown (Sign id bytes))
+    (λ n v k x e pair. seen_in x n v e ∙ ap (λ m. shown_by m v) k) own
 is_shown (ActivateKey id) payload own = λ x e pair. done_shown x e
 is_shown (RevokeKey id) payload own = λ x e pair. done_shown x e
 is_shown (DestroyKey id) payload own = λ x e pair. done_shown x e
-is_shown (RenameKey id name) payload own = of_case (call_operation (RenameKey id name)) payload (IsShown (RenameKey id name)) (λ n v k x e pair. seen_in x n v e ∙ ap (λ m. shown_by m v) k) own
-is_shown (GetKey id) payload own = of_case (call_operation (GetKey id)) payload (IsShown (GetKey id)) (λ n v k x e pair. seen_in x n v e ∙ ap (λ m. shown_by m v) k) own
+is_shown (RenameKey id name) payload own =
+    of_case (call_operation (RenameKey id name)) payload (IsShown (RenameKey id name))
+    (λ n v k x e pair. seen_in x n v e ∙ ap (λ m. shown_by m v) k) own
+is_shown (GetKey id) payload own = of_case (call_operation (GetKey id)) payload
+    (IsShown (GetKey id)) (λ n v k x e pair. seen_in x n v e ∙ ap (λ m. shown_by m v) k) own
 
 abbrev ok : Val → Answer
 ok v = Ok v
@@ -98,10 +113,17 @@ err_same : (a b : Error) → err a ≡ err b → a ≡ b
 err_same a b e = cc
 
 -- so is the line of the answer, and it is an error where the answer is one
-pub shown_is : (call : Call) (answer : Answer) (result : Result Answered Error) → answered_seen result ≡ helper_answer call answer → IfOk answer (IsOfOperation (call_operation call)) →
+pub shown_is : (call : Call) (answer : Answer) (result : Result Answered Error)
+    → answered_seen result ≡ helper_answer call answer
+    → IfOk answer (IsOfOperation (call_operation call)) →
     (makes_pair call ≡ true → IfOk result (λ x. is_pair x ≡ true)) →
-    (answer_line answered_shown Bare result ≡ answer_line (λ payload. value_in_style (line_call call) payload Bare) Bare answer) × (is_error result ≡ is_error answer)
-shown_is call (Ok payload) (Ok x) same own pair = (ap (λ (t : List ℕ). value_line t Bare) (is_shown call payload own x (ok_same _ _ same) pair), refl)
+    (answer_line answered_shown Bare result
+    ≡ answer_line (λ payload. value_in_style (line_call call) payload Bare) Bare answer)
+    × (is_error result ≡ is_error answer)
+shown_is call (Ok payload) (Ok x) same own pair = (
+  ap (λ (t : List ℕ). value_line t Bare) (is_shown call payload own x (ok_same _ _ same) pair),
+  refl,
+)
 shown_is call (Ok payload) (Err error) same own pair = absurd (cc)
 shown_is call (Err error) (Ok x) same own pair = absurd (cc)
 shown_is call (Err error) (Err other) same own pair = (ap (λ (e : Error). error_line e Bare) (err_same _ _ same), refl)

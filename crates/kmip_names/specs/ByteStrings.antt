@@ -16,4 +16,5 @@ abbrev pub unique_batch_item_id_val : UniqueBatchItemID → Val
 unique_batch_item_id_val x = Bytes x.0
 
 pub unique_batch_item_id_same : IsFaithful unique_batch_item_id_val
-unique_batch_item_id_same x y h = let made : List ℕ → UniqueBatchItemID = λ value. record { 0 = value } in ap made (same_bytes h)
+unique_batch_item_id_same x y h =
+    let made : List ℕ → UniqueBatchItemID = λ value. record { 0 = value } in ap made (same_bytes h)

@@ -24,10 +24,13 @@ abbrev pub cryptographic_length_val : CryptographicLength → Val
 cryptographic_length_val x = Number x.0
 
 pub cryptographic_length_same : IsFaithful cryptographic_length_val
-cryptographic_length_same x y h = let made : ℤ → CryptographicLength = λ value. record { 0 = value } in ap made (same_number h)
+cryptographic_length_same x y h =
+    let made : ℤ → CryptographicLength = λ value. record { 0 = value } in ap made (same_number h)
 
 abbrev pub compromise_occurrence_date_val : CompromiseOccurrenceDate → Val
 compromise_occurrence_date_val x = Number (pos x.0)
 
 pub compromise_occurrence_date_same : IsFaithful compromise_occurrence_date_val
-compromise_occurrence_date_same x y h = let made : ℕ → CompromiseOccurrenceDate = λ value. record { 0 = value } in ap made (same_unsigned h)
+compromise_occurrence_date_same x y h =
+    let made : ℕ → CompromiseOccurrenceDate = λ value. record { 0 = value } in
+    ap made (same_unsigned h)

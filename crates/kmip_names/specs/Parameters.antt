@@ -33,13 +33,15 @@ abbrev pub fixed_field_length_val : FixedFieldLength → Val
 fixed_field_length_val x = Number x.0
 
 pub fixed_field_length_same : IsFaithful fixed_field_length_val
-fixed_field_length_same x y h = let made : ℤ → FixedFieldLength = λ value. record { 0 = value } in ap made (same_number h)
+fixed_field_length_same x y h =
+    let made : ℤ → FixedFieldLength = λ value. record { 0 = value } in ap made (same_number h)
 
 abbrev pub invocation_field_length_val : InvocationFieldLength → Val
 invocation_field_length_val x = Number x.0
 
 pub invocation_field_length_same : IsFaithful invocation_field_length_val
-invocation_field_length_same x y h = let made : ℤ → InvocationFieldLength = λ value. record { 0 = value } in ap made (same_number h)
+invocation_field_length_same x y h =
+    let made : ℤ → InvocationFieldLength = λ value. record { 0 = value } in ap made (same_number h)
 
 abbrev pub counter_length_val : CounterLength → Val
 counter_length_val x = Number x.0
@@ -51,4 +53,5 @@ abbrev pub initial_counter_value_val : InitialCounterValue → Val
 initial_counter_value_val x = Number x.0
 
 pub initial_counter_value_same : IsFaithful initial_counter_value_val
-initial_counter_value_same x y h = let made : ℤ → InitialCounterValue = λ value. record { 0 = value } in ap made (same_number h)
+initial_counter_value_same x y h =
+    let made : ℤ → InitialCounterValue = λ value. record { 0 = value } in ap made (same_number h)

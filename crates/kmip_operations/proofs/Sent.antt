@@ -8,7 +8,8 @@ use Rattle.kmip_client.specs.Outcome.{OutcomeOf, outcome_by, answer_by, left_for
 use Rattle.kmip_client.proofs.Messages.{message_short}
 
 -- over a link in memory each answer but out of memory is the outcome's
-finished : {A : Type 0} (o : OutcomeOf A) (before after : MemoryState) (answer : Result A Error) → Exchanged o (memory_state before) (memory_state after) answer → answer ≢ Err OutOfMemory →
+finished : {A : Type 0} (o : OutcomeOf A) (before after : MemoryState) (answer : Result A Error)
+    → Exchanged o (memory_state before) (memory_state after) answer → answer ≢ Err OutOfMemory →
     (answer ≡ o.answer) × Moves (memory_state before) (memory_state after) o.sent o.taken
 finished o before after answer (Exchanged.completed is moves) some = (is, moves)
 finished o before after answer (Exchanged.write_failed is rose n below moves) some = absurd (omega arith)
@@ -21,24 +22,33 @@ abbrev pub IsFresh : MemoryState → Type 0
 IsFresh link = (link.ever ≡ []) × (link.pos ≡ 0) × (link.sent ≡ [])
 
 -- the whole request was sent, where it has a wire form and memory did not run out
-pub sent_whole : {A : Type 0} (request : Option (List ℕ)) (reads : List ℕ → Result A Error) (limit : Option ℕ) (before after : MemoryState) (answer : Result A Error) → IsFresh before →
-    Exchanged (outcome_by request reads limit (left_for (memory_state before) (memory_state after))) (memory_state before) (memory_state after) answer →
+pub sent_whole : {A : Type 0} (request : Option (List ℕ)) (reads : List ℕ → Result A Error)
+    (limit : Option ℕ) (before after : MemoryState) (answer : Result A Error) → IsFresh before →
+    Exchanged (outcome_by request reads limit (left_for (memory_state before) (memory_state after)))
+    (memory_state before) (memory_state after) answer →
     answer ≢ Err OutOfMemory → ((text : List ℕ) → answer ≢ Err (SerializeError text)) → Some after.sent ≡ request
 sent_whole None reads limit before after answer fresh did some valid =
-    absurd (valid _ (finished (outcome_by None reads limit (left_for (memory_state before) (memory_state after))) before after answer did some).0)
+    absurd (valid _ (finished (outcome_by None reads limit
+    (left_for (memory_state before) (memory_state after))) before after answer did some).0)
 sent_whole (Some request) reads limit before after answer fresh did some valid =
-    let done = finished (outcome_by (Some request) reads limit (left_for (memory_state before) (memory_state after))) before after answer did some in
+    let done = finished (outcome_by (Some request) reads limit
+    (left_for (memory_state before) (memory_state after))) before after answer did some in
     ap (λ (l : List ℕ). Some l) (done.1.sent_is ∙ ap (λ (l : List ℕ). l ++ request) fresh.2)
 
 -- and there is none, where the answer says so
-pub none_sent : {A : Type 0} (request : Option (List ℕ)) (reads : List ℕ → Result A Error) (limit : Option ℕ) (before after : MemoryState) (answer : Result A Error) (text : List ℕ) → IsFresh before →
-    Exchanged (outcome_by request reads limit (left_for (memory_state before) (memory_state after))) (memory_state before) (memory_state after) answer →
+pub none_sent : {A : Type 0} (request : Option (List ℕ)) (reads : List ℕ → Result A Error)
+    (limit : Option ℕ) (before after : MemoryState) (answer : Result A Error) (text : List ℕ)
+    → IsFresh before →
+    Exchanged (outcome_by request reads limit (left_for (memory_state before) (memory_state after)))
+    (memory_state before) (memory_state after) answer →
     answer ≡ Err (SerializeError text) → None ≡ request
 none_sent None reads limit before after answer text fresh did is = refl
 none_sent (Some request) reads limit before after answer text fresh did is =
     let rest : List ℕ = left_for (memory_state before) (memory_state after) in
     let done = finished (outcome_by (Some request) reads limit rest) before after answer did (λ none. absurd (cc)) in
     let empty : rest ≡ [] = rw (fresh.1, done.1.still refl, fresh.0) refl in
-    let here : message_at rest limit ≡ Message.Ended = ap (λ (l : List ℕ). message_at l limit) empty ∙ message_short [] limit (omega arith) in
-    let clash : answer_by reads Message.Ended ≡ Err (SerializeError text) = sym (done.0 ∙ ap (λ (m : Message). answer_by reads m) here) ∙ is in
+    let here : message_at rest limit ≡ Message.Ended =
+    ap (λ (l : List ℕ). message_at l limit) empty ∙ message_short [] limit (omega arith) in
+    let clash : answer_by reads Message.Ended ≡ Err (SerializeError text) =
+    sym (done.0 ∙ ap (λ (m : Message). answer_by reads m) here) ∙ is in
     absurd (cc)

@@ -24,9 +24,11 @@ use Rattle.kmip_shape.proofs.Ranges.{depth, Keeps, AllKeep, keeps_more, then_kee
 
 -- ---- the table of a payload
 
-payload_keeps : (p : RequestPayload) (c : Option CredentialType) → FitsRequest p c → Keeps (tree_of request_payload REQUEST_PAYLOAD (request_payload_val p)) 32
+payload_keeps : (p : RequestPayload) (c : Option CredentialType) → FitsRequest p c
+    → Keeps (tree_of request_payload REQUEST_PAYLOAD (request_payload_val p)) 32
 payload_keeps p c h =
-    keeps_more (tree_of request_payload REQUEST_PAYLOAD (request_payload_val p)) (depth request_payload) 32 payload_depth
+    keeps_more (tree_of request_payload REQUEST_PAYLOAD (request_payload_val p))
+    (depth request_payload) 32 payload_depth
     (fits_ranges request_payload (request_payload_val p) REQUEST_PAYLOAD payload_in_range (omega arith) h.0)
 
 -- ---- the head of a request, and the message
@@ -79,7 +81,8 @@ minor_test (RNGRetrieve a) = refl
 minor_fits : (p : RequestPayload) → minor_of p ≤ 2
 minor_fits p = let h : minor_of p < 3 = below (minor_of p) 3 (minor_test p) in omega (arith, h)
 
-password_keeps : (password : Option (List ℕ)) → IfSome password (λ p. IsUtf8 p) → AllKeep (Some (password_trees password)) 1
+password_keeps : (password : Option (List ℕ)) → IfSome password (λ p. IsUtf8 p)
+    → AllKeep (Some (password_trees password)) 1
 password_keeps None h = (tt, omega arith)
 password_keeps (Some p) h = (((omega arith, h), tt), omega arith)
 
@@ -88,7 +91,19 @@ authentication_keeps None h = (tt, omega arith)
 authentication_keeps (Some (UsernameAndPassword c)) h =
     let p = password_keeps c.password h.1 in
     let deep : levels_of_all (trees_of (password_trees c.password)) ≤ 1 = p.1 in (
-      ((omega arith, ((omega arith, ((omega arith, omega arith), ((omega arith, ((omega arith, h.0), p.0)), tt))), tt)), tt),
+      (
+        (
+          omega arith,
+          (
+            (
+              omega arith,
+              ((omega arith, omega arith), ((omega arith, ((omega arith, h.0), p.0)), tt)),
+            ),
+            tt,
+          ),
+        ),
+        tt,
+      ),
       omega arith,
     )
 
@@ -96,14 +111,29 @@ authentication_keeps (Some (UsernameAndPassword c)) h =
 small_fits : (n : ℕ) → n ≤ 2 → FitsSigned w32 (pos n)
 small_fits n h = omega (arith, ints, h)
 
-header_keeps : (minor : ℕ) (trees : List Tree) → minor ≤ 2 → AllKeep (Some trees) 4 → HasRanges (header_tree minor trees) × (levels (header_tree minor trees) ≤ 5)
+header_keeps : (minor : ℕ) (trees : List Tree) → minor ≤ 2 → AllKeep (Some trees) 4
+    → HasRanges (header_tree minor trees) × (levels (header_tree minor trees) ≤ 5)
 header_keeps minor trees m h =
-    let count : AllKeep (Some (scalar BATCH_COUNT (integer (pos 1)) ∷ [])) 4 = (((omega arith, small_fits 1 (omega arith)), tt), omega arith) in
+    let count : AllKeep (Some (scalar BATCH_COUNT (integer (pos 1)) ∷ [])) 4 =
+    (((omega arith, small_fits 1 (omega arith)), tt), omega arith) in
     let rest : AllKeep (Some (trees ++ scalar BATCH_COUNT (integer (pos 1)) ∷ [])) 4 =
-    then_keeps (Some trees) (Some (scalar BATCH_COUNT (integer (pos 1)) ∷ [])) 4 4 4 (omega arith) (omega arith) h count in
-    ((omega arith, ((omega arith, ((omega arith, small_fits 1 (omega arith)), ((omega arith, small_fits minor m), tt))), rest.0)), omega (arith, rest.1))
+    then_keeps (Some trees) (Some (scalar BATCH_COUNT (integer (pos 1)) ∷ [])) 4 4 4 (omega arith)
+    (omega arith) h count in (
+      (
+        omega arith,
+        (
+          (
+            omega arith,
+            ((omega arith, small_fits 1 (omega arith)), ((omega arith, small_fits minor m), tt)),
+          ),
+          rest.0,
+        ),
+      ),
+      omega (arith, rest.1),
+    )
 
-message_keeps : (header : Tree) (operation : ℕ) (payload : Option Tree) → HasRanges header × (levels header ≤ 5) → operation < 2 ^ 32 → Keeps payload 32
+message_keeps : (header : Tree) (operation : ℕ) (payload : Option Tree) → HasRanges header
+    × (levels header ≤ 5) → operation < 2 ^ 32 → Keeps payload 32
     → Keeps (option_map (message_tree header operation) payload) 64
 message_keeps header operation None h o k = tt
 message_keeps header operation (Some t) h o k =
@@ -111,26 +141,38 @@ message_keeps header operation (Some t) h o k =
 
 request_keeps : (p : RequestPayload) (c : Option CredentialType) → FitsRequest p c → Keeps (request_tree p c) 64
 request_keeps p c h =
-    message_keeps (header_tree (minor_of p) (authentication_trees c)) (operation_line (operation_of p)).number (tree_of request_payload REQUEST_PAYLOAD (request_payload_val p))
-    (header_keeps (minor_of p) (authentication_trees c) (minor_fits p) (authentication_keeps c h.1)) (operation_fits p) (payload_keeps p c h)
+    message_keeps (header_tree (minor_of p) (authentication_trees c))
+    (operation_line (operation_of p)).number
+    (tree_of request_payload REQUEST_PAYLOAD (request_payload_val p))
+    (header_keeps (minor_of p) (authentication_trees c) (minor_fits p) (authentication_keeps c h.1))
+    (operation_fits p) (payload_keeps p c h)
 
 -- ---- trees of the same bytes
 
-same_bytes : (x y : Option Tree) (b : List ℕ) → Keeps x 64 → Keeps y 64 → option_and_then bytes x ≡ Some b → option_and_then bytes y ≡ Some b → x ≡ y
+same_bytes : (x y : Option Tree) (b : List ℕ) → Keeps x 64 → Keeps y 64
+    → option_and_then bytes x ≡ Some b → option_and_then bytes y ≡ Some b → x ≡ y
 same_bytes None y b h k e f = absurd (cc)
 same_bytes (Some t) None b h k e f = absurd (cc)
 same_bytes (Some t) (Some u) b h k e f = ap (λ (v : Tree). Some v) (one_text t u b h.0 k.0 e f)
 
-no_more : (x y : Option Tree) (b rest : List ℕ) → Keeps x 64 → Keeps y 64 → option_and_then bytes x ≡ Some b → option_and_then bytes y ≡ Some (b ++ rest) → rest ≡ []
+no_more : (x y : Option Tree) (b rest : List ℕ) → Keeps x 64 → Keeps y 64
+    → option_and_then bytes x ≡ Some b → option_and_then bytes y ≡ Some (b ++ rest) → rest ≡ []
 no_more None y b rest h k e f = absurd (cc)
 no_more (Some t) None b rest h k e f = absurd (cc)
 no_more (Some t) (Some u) b rest h k e f =
-    no_longer t u 1 1 b rest (written_parses t 1 b h.0 (omega arith) (omega (arith, h.1)) e) (written_parses u 1 (b ++ rest) k.0 (omega arith) (omega (arith, k.1)) f)
+    no_longer t u 1 1 b rest (written_parses t 1 b h.0 (omega arith) (omega (arith, h.1)) e)
+    (written_parses u 1 (b ++ rest) k.0 (omega arith) (omega (arith, k.1)) f)
 
 -- ---- requests
 
-pub equal : (p q : RequestPayload) (c d : Option CredentialType) (b : List ℕ) → FitsRequest p c → FitsRequest q d → request_bytes p c ≡ Some b → request_bytes q d ≡ Some b → request_tree p c ≡ request_tree q d
-equal p q c d b h k e f = same_bytes (request_tree p c) (request_tree q d) b (request_keeps p c h) (request_keeps q d k) e f
+pub equal : (p q : RequestPayload) (c d : Option CredentialType) (b : List ℕ) → FitsRequest p c
+    → FitsRequest q d → request_bytes p c ≡ Some b → request_bytes q d ≡ Some b
+    → request_tree p c ≡ request_tree q d
+equal p q c d b h k e f = same_bytes (request_tree p c) (request_tree q d) b (request_keeps p c h)
+    (request_keeps q d k) e f
 
-pub apart : (p q : RequestPayload) (c d : Option CredentialType) (b rest : List ℕ) → FitsRequest p c → FitsRequest q d → request_bytes p c ≡ Some b → request_bytes q d ≡ Some (b ++ rest) → rest ≡ []
-apart p q c d b rest h k e f = no_more (request_tree p c) (request_tree q d) b rest (request_keeps p c h) (request_keeps q d k) e f
+pub apart : (p q : RequestPayload) (c d : Option CredentialType) (b rest : List ℕ) → FitsRequest p c
+    → FitsRequest q d → request_bytes p c ≡ Some b → request_bytes q d ≡ Some (b ++ rest)
+    → rest ≡ []
+apart p q c d b rest h k e f = no_more (request_tree p c) (request_tree q d) b rest
+    (request_keeps p c h) (request_keeps q d k) e f

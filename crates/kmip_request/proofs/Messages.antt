@@ -25,7 +25,10 @@ use Rattle.kmip_request.specs.declared.payload.RequestPayload.{RequestPayload}
 
 -- the item of a payload, where it has one, decides whether the message has a tree
 around : (header : Tree) (operation : ℕ) (payload : Option Tree) →
-    structure_of REQUEST_MESSAGE (then_trees (Some (header ∷ [])) (then_trees (then_trees (one_tree (structure_of BATCH_ITEM (then_trees (Some (scalar OPERATION (enumeration operation) ∷ [])) (then_trees (Some []) (then_trees (one_tree payload) (Some [])))))) (Some [])) (Some [])))
+    structure_of REQUEST_MESSAGE (then_trees (Some (header ∷ []))
+    (then_trees (then_trees (one_tree
+    (structure_of BATCH_ITEM (then_trees (Some (scalar OPERATION (enumeration operation) ∷ []))
+    (then_trees (Some []) (then_trees (one_tree payload) (Some [])))))) (Some [])) (Some [])))
     ≡ option_map (message_tree header operation) payload
 around header operation None = refl
 around header operation (Some p) = refl
@@ -35,41 +38,76 @@ abbrev version : ℕ → ProtocolVersion
 version minor = record { 0 = record { 0 = pos 1 }; 1 = record { 0 = pos minor } }
 
 -- the same for each credential: its type, and its value
-for_values : (shape : Shape) (val : Val) (minor : ℕ) (operation : Operation) (type : CredentialType) (value : CredentialValue) →
-    tree_of (request_message_of shape) REQUEST_MESSAGE (lent_message_val (version minor) (Some (record { 0 = record { 0 = type; 1 = value } })) operation val)
-    ≡ option_map (message_tree (header_tree minor (authentication_trees (Some (credential_of (record { 0 = record { 0 = type; 1 = value } }))))) (operation_line operation).number) (tree_of shape REQUEST_PAYLOAD val)
+for_values : (shape : Shape) (val : Val) (minor : ℕ) (operation : Operation) (type : CredentialType)
+    (value : CredentialValue) →
+    tree_of (request_message_of shape) REQUEST_MESSAGE
+    (lent_message_val (version minor)
+    (Some (record { 0 = record { 0 = type; 1 = value } })) operation val)
+    ≡ option_map (message_tree (header_tree minor (authentication_trees
+    (Some (credential_of (record { 0 = record { 0 = type; 1 = value } })))))
+    (operation_line operation).number) (tree_of shape REQUEST_PAYLOAD val)
 for_values shape val minor operation types.UsernameAndPassword (values.UsernameAndPassword username None) =
-    around (header_tree minor (authentication_trees (Some (credential_of (record { 0 = record { 0 = types.UsernameAndPassword; 1 = values.UsernameAndPassword username None } }))))) (operation_line operation).number (tree_of shape REQUEST_PAYLOAD val)
+    around (header_tree minor (authentication_trees (Some
+    (credential_of (record {
+      0 = record
+          { 0 = types.UsernameAndPassword; 1 = values.UsernameAndPassword username None };
+    })))))
+    (operation_line operation).number (tree_of shape REQUEST_PAYLOAD val)
 for_values shape val minor operation types.UsernameAndPassword (values.UsernameAndPassword username (Some password)) =
-    around (header_tree minor (authentication_trees (Some (credential_of (record { 0 = record { 0 = types.UsernameAndPassword; 1 = values.UsernameAndPassword username (Some password) } }))))) (operation_line operation).number (tree_of shape REQUEST_PAYLOAD val)
+    around (header_tree minor (authentication_trees (Some
+    (credential_of (record {
+      0 = record
+          { 0 = types.UsernameAndPassword; 1 = values.UsernameAndPassword username (Some password) };
+    }))))) (operation_line operation).number (tree_of shape REQUEST_PAYLOAD val)
 
 -- and for a payload of every shape
 tree_is : (shape : Shape) (val : Val) (minor : ℕ) (operation : Operation) (credential : Option Authentication) →
     tree_of (request_message_of shape) REQUEST_MESSAGE (lent_message_val (version minor) credential operation val)
-    ≡ option_map (message_tree (header_tree minor (authentication_trees (option_map credential_of credential))) (operation_line operation).number) (tree_of shape REQUEST_PAYLOAD val)
-tree_is shape val minor operation None = around (header_tree minor []) (operation_line operation).number (tree_of shape REQUEST_PAYLOAD val)
+    ≡ option_map (message_tree (header_tree minor (authentication_trees
+    (option_map credential_of credential))) (operation_line operation).number)
+    (tree_of shape REQUEST_PAYLOAD val)
+tree_is shape val minor operation None =
+    around (header_tree minor []) (operation_line operation).number
+    (tree_of shape REQUEST_PAYLOAD val)
 tree_is shape val minor operation (Some a) = for_values shape val minor operation (a.0).0 (a.0).1
 
 pub bytes_are : (payload : RequestPayload) (credential : Option Authentication) →
-    bytes_of (request_message_of request_payload) REQUEST_MESSAGE (lent_message_val (version_of payload) credential (operation_of payload) (request_payload_val payload))
+    bytes_of (request_message_of request_payload) REQUEST_MESSAGE
+    (lent_message_val (version_of payload) credential (operation_of payload)
+    (request_payload_val payload))
     ≡ request_bytes payload (option_map credential_of credential)
 bytes_are payload credential =
-    ap (λ tree. option_and_then bytes tree) (tree_is request_payload (request_payload_val payload) (minor_of payload) (operation_of payload) credential)
+    ap (λ tree. option_and_then bytes tree)
+    (tree_is request_payload (request_payload_val payload) (minor_of payload)
+    (operation_of payload) credential)
 
 -- the message that is written is that of the payload's version and operation
-lent_is : (payload : RequestPayload) (credential : Option Authentication) (made_in : ProtocolVersion) (operation : Operation) → made_in ≡ version_of payload → operation ≡ operation_of payload →
-    bytes_of (request_message_of request_payload) REQUEST_MESSAGE (lent_message_val made_in credential operation (request_payload_val payload)) ≡ request_bytes payload (option_map credential_of credential)
+lent_is : (payload : RequestPayload) (credential : Option Authentication)
+    (made_in : ProtocolVersion) (operation : Operation) → made_in ≡ version_of payload
+    → operation ≡ operation_of payload →
+    bytes_of (request_message_of request_payload) REQUEST_MESSAGE
+    (lent_message_val made_in credential operation (request_payload_val payload))
+    ≡ request_bytes payload (option_map credential_of credential)
 lent_is payload credential made_in operation v o =
-    ap (λ (x : ProtocolVersion). bytes_of (request_message_of request_payload) REQUEST_MESSAGE (lent_message_val x credential operation (request_payload_val payload))) v
-    ∙ (ap (λ (x : Operation). bytes_of (request_message_of request_payload) REQUEST_MESSAGE (lent_message_val (version_of payload) credential x (request_payload_val payload))) o ∙ bytes_are payload credential)
+    ap (λ (x : ProtocolVersion). bytes_of (request_message_of request_payload) REQUEST_MESSAGE
+    (lent_message_val x credential operation (request_payload_val payload))) v
+    ∙ (ap (λ (x : Operation). bytes_of (request_message_of request_payload) REQUEST_MESSAGE
+    (lent_message_val (version_of payload) credential x (request_payload_val payload))) o
+    ∙ bytes_are payload credential)
 
-pub lent_ok : {A : Type 0} (result : Result A WireError) (b : List ℕ) (payload : RequestPayload) (credential : Option Authentication) (made_in : ProtocolVersion) (operation : Operation) → made_in ≡ version_of payload → operation ≡ operation_of payload →
-    OnOk result (bytes_of (request_message_of request_payload) REQUEST_MESSAGE (lent_message_val made_in credential operation (request_payload_val payload)) ≡ Some b) →
+pub lent_ok : {A : Type 0} (result : Result A WireError) (b : List ℕ) (payload : RequestPayload)
+    (credential : Option Authentication) (made_in : ProtocolVersion) (operation : Operation)
+    → made_in ≡ version_of payload → operation ≡ operation_of payload →
+    OnOk result (bytes_of (request_message_of request_payload) REQUEST_MESSAGE
+    (lent_message_val made_in credential operation (request_payload_val payload)) ≡ Some b) →
     OnOk result (request_bytes payload (option_map credential_of credential) ≡ Some b)
 lent_ok result b payload credential made_in operation v o h =
     subst (λ (x : Option (List ℕ)). OnOk result (x ≡ Some b)) (lent_is payload credential made_in operation v o) h
 
-pub lent_no_form : (payload : RequestPayload) (credential : Option Authentication) (made_in : ProtocolVersion) (operation : Operation) → made_in ≡ version_of payload → operation ≡ operation_of payload →
-    bytes_of (request_message_of request_payload) REQUEST_MESSAGE (lent_message_val made_in credential operation (request_payload_val payload)) ≡ None →
+pub lent_no_form : (payload : RequestPayload) (credential : Option Authentication)
+    (made_in : ProtocolVersion) (operation : Operation) → made_in ≡ version_of payload
+    → operation ≡ operation_of payload →
+    bytes_of (request_message_of request_payload) REQUEST_MESSAGE
+    (lent_message_val made_in credential operation (request_payload_val payload)) ≡ None →
     request_bytes payload (option_map credential_of credential) ≡ None
 lent_no_form payload credential made_in operation v o h = sym (lent_is payload credential made_in operation v o) ∙ h

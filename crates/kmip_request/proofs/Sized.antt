@@ -15,18 +15,22 @@ no_bytes : (o : Option (List ℕ)) → None ≡ option_map length o → o ≡ No
 no_bytes None h = refl
 no_bytes (Some b) h = none_some _ h
 
-pub no_length : (shape : Shape) (tag : ℕ) (val : Val) (len : Option ℕ) → len ≡ wire_len_of shape val → len ≡ None → bytes_of shape tag val ≡ None
+pub no_length : (shape : Shape) (tag : ℕ) (val : Val) (len : Option ℕ) → len ≡ wire_len_of shape val
+    → len ≡ None → bytes_of shape tag val ≡ None
 no_length shape tag val len h e = no_bytes (bytes_of shape tag val) (sym e ∙ (h ∙ wire_len_law shape tag val))
 
-pub form_of_length : (shape : Shape) (val : Val) (len : Option ℕ) → len ≡ wire_len_of shape val → IfSome len (λ _. HasForm shape val)
+pub form_of_length : (shape : Shape) (val : Val) (len : Option ℕ) → len ≡ wire_len_of shape val
+    → IfSome len (λ _. HasForm shape val)
 form_of_length shape val None h = tt
 form_of_length shape val (Some n) h = (value_known val NoCase shape n (sym h)).0
 
-pub size_of_length : (shape : Shape) (val : Val) (len : Option ℕ) → len ≡ wire_len_of shape val → IfSome len (λ n. n ≡ size_of shape val)
+pub size_of_length : (shape : Shape) (val : Val) (len : Option ℕ) → len ≡ wire_len_of shape val
+    → IfSome len (λ n. n ≡ size_of shape val)
 size_of_length shape val None h = tt
 size_of_length shape val (Some n) h = sym ((value_known val NoCase shape n (sym h)).1)
 
 -- what was appended to an empty buffer are the canonical bytes
-pub bytes_appended : (shape : Shape) (tag : ℕ) (val : Val) (a b : Room) (n : ℕ) → HasForm shape val → a.bytes ≡ [] → Appends a b (text_of shape tag val) n → bytes_of shape tag val ≡ Some b.bytes
+pub bytes_appended : (shape : Shape) (tag : ℕ) (val : Val) (a b : Room) (n : ℕ) → HasForm shape val
+    → a.bytes ≡ [] → Appends a b (text_of shape tag val) n → bytes_of shape tag val ≡ Some b.bytes
 bytes_appended shape tag val a b n f empty w =
     (written val NoCase shape tag f).0 ∙ ap Some (sym (w.bytes ∙ ap (λ x. x ++ text_of shape tag val) empty))

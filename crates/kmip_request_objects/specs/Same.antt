@@ -52,10 +52,12 @@ use Rattle.kmip_request_objects.specs.declared.managed_object.PrivateKey.{Privat
 use Rattle.kmip_request_objects.specs.declared.managed_object.Template.{Template}
 
 pub mac_or_signature_same : IsFaithful mac_or_signature_val
-mac_or_signature_same x y h = let made : List ℕ → MACOrSignature = λ value. record { 0 = value } in ap made (same_bytes h)
+mac_or_signature_same x y h =
+    let made : List ℕ → MACOrSignature = λ value. record { 0 = value } in ap made (same_bytes h)
 
 pub iv_or_counter_or_nonce_same : IsFaithful iv_or_counter_or_nonce_val
-iv_or_counter_or_nonce_same x y h = let made : List ℕ → IVOrCounterOrNonce = λ value. record { 0 = value } in ap made (same_bytes h)
+iv_or_counter_or_nonce_same x y h =
+    let made : List ℕ → IVOrCounterOrNonce = λ value. record { 0 = value } in ap made (same_bytes h)
 
 abbrev whole_name : NameValue × (NameType × Unit {0}) → Name
 whole_name t = record { 0 = t.0; 1 = (t.1).0 }

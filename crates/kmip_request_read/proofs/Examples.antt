@@ -51,7 +51,9 @@ group_as_a_member : IsMatched (adds (codes "x-a") (Structure (Case 6 (Text (code
 unfolding attribute
 group_as_a_member h = other_case 16 6 refl (((((h.1).1).2.1).2.2.1).1).0
 
-structure_as_a_member : IsMatched (adds (codes "x-a") (Structure (Case 10 (Record (AndField (Many (vals_of [])) NoField)) ∷ []))) → ⊥
+structure_as_a_member : IsMatched
+    (adds (codes "x-a") (Structure (Case 10 (Record (AndField (Many (vals_of [])) NoField)) ∷ [])))
+    → ⊥
 unfolding attribute
 structure_as_a_member h = absurd (cc)
 
@@ -59,11 +61,58 @@ structure_as_a_member h = absurd (cc)
 
 abbrev registers : KeyFormatType → KeyMaterial → RequestPayload
 registers format material = Register objects.SymmetricKey (record { 0 = None; 1 = None })
-    (Some (SymmetricKey (record { 0 = record { 0 = format; 1 = None; 2 = Some (record { 0 = material; 1 = None }); 3 = None; 4 = None; 5 = None } })))
+    (Some (SymmetricKey (record {
+      0 = record {
+        0 = format;
+        1 = None;
+        2 = Some
+            (record { 0 = material; 1 = None });
+        3 = None;
+        4 = None;
+        5 = None;
+      };
+    })))
 
 bytes_in_the_raw_format : IsMatched (registers formats.Raw (materials.Bytes []))
 unfolding template_attribute key_block key_value
-bytes_in_the_raw_format = (refl, (refl, (tt, tt, (tt, (tt, tt, (tt, tt, tt)), (tt, (refl, (tt, (tt, tt, (tt, tt, (tt, (tt, (refl, tt), (tt, tt, tt)), (tt, tt, (tt, tt, (tt, tt, tt)))))), tt)), tt)))))
+bytes_in_the_raw_format = (
+  refl,
+  (
+    refl,
+    (
+      tt,
+      tt,
+      (
+        tt,
+        (tt, tt, (tt, tt, tt)),
+        (
+          tt,
+          (
+            refl,
+            (
+              tt,
+              (
+                tt,
+                tt,
+                (
+                  tt,
+                  tt,
+                  (
+                    tt,
+                    (tt, (refl, tt), (tt, tt, tt)),
+                    (tt, tt, (tt, tt, (tt, tt, tt))),
+                  ),
+                ),
+              ),
+              tt,
+            ),
+          ),
+          tt,
+        ),
+      ),
+    ),
+  ),
+)
 
 bytes_in_a_transparent_format : IsMatched (registers formats.TransparentRSAPublicKey (materials.Bytes [])) → ⊥
 unfolding template_attribute key_block key_value
@@ -73,9 +122,47 @@ bytes_in_a_format_without_material : IsMatched (registers formats.TransparentECD
 unfolding template_attribute key_block key_value
 bytes_in_a_format_without_material h = none_some ⊥ ((((((h.1).1).2.2.1).1).1).2.2.1).1.0
 
-key_in_its_format : IsMatched (registers formats.TransparentSymmetricKey (materials.TransparentSymmetricKey (record { key = [] })))
+key_in_its_format : IsMatched (registers formats.TransparentSymmetricKey
+    (materials.TransparentSymmetricKey (record { key = [] })))
 unfolding template_attribute key_block key_value
-key_in_its_format = (refl, (refl, (tt, tt, (tt, (tt, tt, (tt, tt, tt)), (tt, (refl, (tt, (tt, tt, (tt, tt, (tt, (tt, (refl, (tt, tt, tt)), (tt, tt, tt)), (tt, tt, (tt, tt, (tt, tt, tt)))))), tt)), tt)))))
+key_in_its_format = (
+  refl,
+  (
+    refl,
+    (
+      tt,
+      tt,
+      (
+        tt,
+        (tt, tt, (tt, tt, tt)),
+        (
+          tt,
+          (
+            refl,
+            (
+              tt,
+              (
+                tt,
+                tt,
+                (
+                  tt,
+                  tt,
+                  (
+                    tt,
+                    (tt, (refl, (tt, tt, tt)), (tt, tt, tt)),
+                    (tt, tt, (tt, tt, (tt, tt, tt))),
+                  ),
+                ),
+              ),
+              tt,
+            ),
+          ),
+          tt,
+        ),
+      ),
+    ),
+  ),
+)
 
 structure_in_the_raw_format : IsMatched (registers formats.Raw (materials.Structure [])) → ⊥
 unfolding template_attribute key_block key_value

@@ -41,11 +41,17 @@ contents_are tag (Some v) b even h = go (nat_lt (length v) (2 ^ 32)) refl h
 structure_is : (tag : ℕ) (ts : Trees) (b : List ℕ) → bytes (structure tag ts) ≡ Some b → IsMessage b
 structure_is tag ts b h = contents_are tag (all_bytes ts) b (trees_aligned ts) h
 
-message_is : (header : Tree) (operation : ℕ) (payload : Option Tree) (b : List ℕ) → option_and_then bytes (option_map (message_tree header operation) payload) ≡ Some b → IsMessage b
+message_is : (header : Tree) (operation : ℕ) (payload : Option Tree) (b : List ℕ)
+    → option_and_then bytes (option_map (message_tree header operation) payload) ≡ Some b
+    → IsMessage b
 message_is header operation None b h = none_some _ h
 message_is header operation (Some t) b h =
-    structure_is REQUEST_MESSAGE (trees_of (header ∷ structure BATCH_ITEM (trees_of (scalar OPERATION (enumeration operation) ∷ t ∷ [])) ∷ [])) b h
+    structure_is REQUEST_MESSAGE (trees_of (header ∷ structure BATCH_ITEM
+    (trees_of (scalar OPERATION (enumeration operation) ∷ t ∷ [])) ∷ [])) b h
 
-pub request_is_message : (p : RequestPayload) (c : Option CredentialType) (b : List ℕ) → request_bytes p c ≡ Some b → (8 ≤ length b) × (length b ≡ 8 + head_length b)
+pub request_is_message : (p : RequestPayload) (c : Option CredentialType) (b : List ℕ)
+    → request_bytes p c ≡ Some b → (8 ≤ length b) × (length b ≡ 8 + head_length b)
 request_is_message p c b h =
-    message_is (header_tree (minor_of p) (authentication_trees c)) (operation_line (operation_of p)).number (tree_of request_payload REQUEST_PAYLOAD (request_payload_val p)) b h
+    message_is (header_tree (minor_of p) (authentication_trees c))
+    (operation_line (operation_of p)).number
+    (tree_of request_payload REQUEST_PAYLOAD (request_payload_val p)) b h

@@ -38,26 +38,38 @@ pub number_found : (word : List ℕ) (n : ℕ) → n < 2 ^ 32 → decimal n ≡ 
 unfolding number_of
 number_found word n small is =
     let value : digits_value 10 word ≡ n = ap (digits_value 10) (sym is) ∙ (decimal_is_IsNumeral n (omega arith)).1 in
-    both (nat_lt (digits_value 10 word) (2 ^ 32)) (bytes_eq (decimal (digits_value 10 word)) word) (Some (digits_value 10 word)) None
-    (rw value (below n (2 ^ 32) small)) ((bytes_eq-Decides (decimal (digits_value 10 word)) word).1 (ap decimal value ∙ is))
+    both (nat_lt (digits_value 10 word) (2 ^ 32)) (bytes_eq (decimal (digits_value 10 word)) word)
+    (Some (digits_value 10 word)) None
+    (rw value (below n (2 ^ 32) small))
+    ((bytes_eq-Decides (decimal (digits_value 10 word)) word).1 (ap decimal value ∙ is))
     ∙ ap Some value
 
 -- where no number is printed so, none is found
 pub number_none : (word : List ℕ) → ((n : ℕ) → n < 2 ^ 32 → decimal n ≡ word → ⊥) → number_of word ≡ None
 unfolding number_of
 number_none word none =
-    not_both (nat_lt (digits_value 10 word) (2 ^ 32)) (bytes_eq (decimal (digits_value 10 word)) word) (Some (digits_value 10 word)) None
-    (λ small same. none (digits_value 10 word) (is_below _ _ small) ((bytes_eq-Decides (decimal (digits_value 10 word)) word).0 same))
+    not_both (nat_lt (digits_value 10 word) (2 ^ 32))
+    (bytes_eq (decimal (digits_value 10 word)) word) (Some (digits_value 10 word)) None
+    (λ small same. none (digits_value 10 word) (is_below _ _ small)
+    ((bytes_eq-Decides (decimal (digits_value 10 word)) word).0 same))
 
-pub int_found : (word : List ℕ) (z : ℤ) → FitsSigned w32 z → signed_digits_value 10 word ≡ z → signed_decimal z ≡ word → int_of word ≡ Some z
+pub int_found : (word : List ℕ) (z : ℤ) → FitsSigned w32 z → signed_digits_value 10 word ≡ z
+    → signed_decimal z ≡ word → int_of word ≡ Some z
 unfolding int_of
 int_found word z fits value is =
-    both (is_i32 (signed_digits_value 10 word)) (bytes_eq (signed_decimal (signed_digits_value 10 word)) word) (Some (signed_digits_value 10 word)) None
-    (rw value (is_i32_from_fits z fits)) ((bytes_eq-Decides (signed_decimal (signed_digits_value 10 word)) word).1 (ap signed_decimal value ∙ is))
+    both (is_i32 (signed_digits_value 10 word))
+    (bytes_eq (signed_decimal (signed_digits_value 10 word)) word)
+    (Some (signed_digits_value 10 word)) None
+    (rw value (is_i32_from_fits z fits))
+    ((bytes_eq-Decides (signed_decimal (signed_digits_value 10 word)) word).1
+    (ap signed_decimal value ∙ is))
     ∙ ap Some value
 
 pub int_none : (word : List ℕ) → ((z : ℤ) → FitsSigned w32 z → signed_decimal z ≡ word → ⊥) → int_of word ≡ None
 unfolding int_of
 int_none word none =
-    not_both (is_i32 (signed_digits_value 10 word)) (bytes_eq (signed_decimal (signed_digits_value 10 word)) word) (Some (signed_digits_value 10 word)) None
-    (λ small same. none (signed_digits_value 10 word) (fits_from_is_i32 _ small) ((bytes_eq-Decides (signed_decimal (signed_digits_value 10 word)) word).0 same))
+    not_both (is_i32 (signed_digits_value 10 word))
+    (bytes_eq (signed_decimal (signed_digits_value 10 word)) word)
+    (Some (signed_digits_value 10 word)) None
+    (λ small same. none (signed_digits_value 10 word) (fits_from_is_i32 _ small)
+    ((bytes_eq-Decides (signed_decimal (signed_digits_value 10 word)) word).0 same))

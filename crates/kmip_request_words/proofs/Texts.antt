@@ -6,7 +6,8 @@ use Rattle.std.proofs.lemmas.Bool.Decides.{Decides-eqb}
 use Rattle.kmip_request_words.specs.Words.{has_empty_part}
 use Rattle.kmip_request_words.specs.Values.{unescape, then_rest, escaped_byte, upper_digit}
 
-pub list_any_map : (parts : List (Bor (List ℕ))) → list_any (λ part. length part.now == 0) parts ≡ has_empty_part (map (λ part. part.now) parts)
+pub list_any_map : (parts : List (Bor (List ℕ)))
+    → list_any (λ part. length part.now == 0) parts ≡ has_empty_part (map (λ part. part.now) parts)
 list_any_map [] = refl
 list_any_map (part ∷ parts) = ap (λ b. (length part.now == 0) || b) (list_any_map parts)
 
@@ -18,7 +19,8 @@ abbrev pub onto : List ℕ → Option (List ℕ) → Option (List ℕ)
 onto front (Some rest) = Some (front ++ rest)
 onto front None = None
 
-pub onto_push : (front : List ℕ) (byte : ℕ) (rest : Option (List ℕ)) → onto front (then_rest (Some byte) rest) ≡ onto (front ++ byte ∷ []) rest
+pub onto_push : (front : List ℕ) (byte : ℕ) (rest : Option (List ℕ))
+    → onto front (then_rest (Some byte) rest) ≡ onto (front ++ byte ∷ []) rest
 onto_push front byte (Some rest) = ap (λ (l : List ℕ). Some l) (sym (append_assoc front (byte ∷ []) rest))
 onto_push front byte None = refl
 
@@ -30,14 +32,19 @@ other c x y not = elim (eqb c 37) as (λ b. eqb c 37 ≡ b → cond b x y ≡ y)
 ] refl
 
 -- a byte that stands for itself
-pub at_plain : (word : List ℕ) → 1 ≤ length word → slice_index word 0 ≢ 37 → unescape word ≡ then_rest (Some (slice_index word 0)) (unescape (drop 1 word))
+pub at_plain : (word : List ℕ) → 1 ≤ length word → slice_index word 0 ≢ 37
+    → unescape word ≡ then_rest (Some (slice_index word 0)) (unescape (drop 1 word))
 unfolding unescape
 at_plain [] some plain = absurd (omega arith)
 at_plain (c ∷ []) some plain = other c None (Some (c ∷ [])) plain
 at_plain (c ∷ d ∷ []) some plain = other c None (then_rest (Some c) (unescape (d ∷ []))) plain
-at_plain (c ∷ d ∷ e ∷ rest) some plain = other c (then_rest (escaped_byte (upper_digit d) (upper_digit e)) (unescape rest)) (then_rest (Some c) (unescape (d ∷ e ∷ rest))) plain
+at_plain (c ∷ d ∷ e ∷ rest) some plain =
+    other c (then_rest (escaped_byte (upper_digit d) (upper_digit e)) (unescape rest))
+    (then_rest (Some c) (unescape (d ∷ e ∷ rest))) plain
 
-pub at_escape : (word : List ℕ) → 3 ≤ length word → slice_index word 0 ≡ 37 → unescape word ≡ then_rest (escaped_byte (upper_digit (slice_index word 1)) (upper_digit (slice_index word 2))) (unescape (drop 3 word))
+pub at_escape : (word : List ℕ) → 3 ≤ length word → slice_index word 0 ≡ 37
+    → unescape word ≡ then_rest (escaped_byte (upper_digit (slice_index word 1))
+    (upper_digit (slice_index word 2))) (unescape (drop 3 word))
 unfolding unescape
 at_escape [] some escape = absurd (omega arith)
 at_escape (c ∷ []) some escape = absurd (omega arith)

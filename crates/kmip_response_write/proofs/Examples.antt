@@ -27,7 +27,12 @@ other_case m n e h = let k : nat_eq m n ≡ true = eq-eqb m n (some_same m n h) 
 
 abbrev message_of : List BatchItem → ResponseMessage
 message_of items = record {
-  header = record { protocol_version = record { major = pos 1; minor = pos 0 }; timestamp = pos 1; batch_count = pos 1 };
+  header = record {
+    protocol_version = record { major = pos 1; minor = pos 0 };
+    timestamp =
+        pos 1;
+    batch_count = pos 1;
+  };
   batch_items = items;
 }
 
@@ -53,7 +58,30 @@ activated = Activate (record { unique_identifier = record { 0 = codes "k1" } })
 payload_of_its_operation : IsSettled (answer operations.Activate activated)
 payload_of_its_operation = (
   refl,
-  (tt, (tt, (tt, tt, (tt, tt, tt)), (tt, tt, (tt, tt, tt))), (tt, ((tt, tt, (tt, tt, (tt, tt, (tt, tt, (tt, tt, (tt, (refl, (tt, tt, tt)), (tt, tt, tt))))))), tt), tt)),
+  (
+    tt,
+    (tt, (tt, tt, (tt, tt, tt)), (tt, tt, (tt, tt, tt))),
+    (
+      tt,
+      (
+        (
+          tt,
+          tt,
+          (
+            tt,
+            tt,
+            (
+              tt,
+              tt,
+              (tt, tt, (tt, tt, (tt, (refl, (tt, tt, tt)), (tt, tt, tt)))),
+            ),
+          ),
+        ),
+        tt,
+      ),
+      tt,
+    ),
+  ),
 )
 
 payload_of_another_operation : IsSettled (answer operations.Revoke activated) → ⊥
@@ -65,7 +93,11 @@ payload_without_an_operation h = none_some ⊥ ((h.1).2.1.0.2.2.2.2.2.1).0
 no_payload : IsSettled (message_of (item_of None None ∷ []))
 no_payload = (
   refl,
-  (tt, (tt, (tt, tt, (tt, tt, tt)), (tt, tt, (tt, tt, tt))), (tt, ((tt, tt, (tt, tt, (tt, tt, (tt, tt, (tt, tt, (tt, tt, (tt, tt, tt))))))), tt), tt)),
+  (
+    tt,
+    (tt, (tt, tt, (tt, tt, tt)), (tt, tt, (tt, tt, tt))),
+    (tt, ((tt, tt, (tt, tt, (tt, tt, (tt, tt, (tt, tt, (tt, tt, (tt, tt, tt))))))), tt), tt),
+  ),
 )
 
 no_batch_item : IsSettled (message_of []) → ⊥
@@ -82,7 +114,42 @@ adds name value = answer operations.AddAttribute (AddAttribute (record {
 group_under_its_name : IsSettled (adds (codes "Object Group") (ObjectGroup (codes "g")))
 group_under_its_name = (
   refl,
-  (tt, (tt, (tt, tt, (tt, tt, tt)), (tt, tt, (tt, tt, tt))), (tt, ((tt, tt, (tt, tt, (tt, tt, (tt, tt, (tt, tt, (tt, (refl, (tt, tt, (tt, (tt, tt, (tt, tt, (tt, (refl, tt), tt))), tt))), (tt, tt, tt))))))), tt), tt)),
+  (
+    tt,
+    (tt, (tt, tt, (tt, tt, tt)), (tt, tt, (tt, tt, tt))),
+    (
+      tt,
+      (
+        (
+          tt,
+          tt,
+          (
+            tt,
+            tt,
+            (
+              tt,
+              tt,
+              (
+                tt,
+                tt,
+                (
+                  tt,
+                  tt,
+                  (
+                    tt,
+                    (refl, (tt, tt, (tt, (tt, tt, (tt, tt, (tt, (refl, tt), tt))), tt))),
+                    (tt, tt, tt),
+                  ),
+                ),
+              ),
+            ),
+          ),
+        ),
+        tt,
+      ),
+      tt,
+    ),
+  ),
 )
 
 text_under_a_name_of_the_table : IsSettled (adds (codes "Object Group") (TextString (codes "g"))) → ⊥
@@ -109,19 +176,142 @@ got object_type format material attributes = answer operations.Get (Get (record 
 bytes_in_the_raw_format : IsSettled (got objects.SymmetricKey formats.Raw (materials.Bytes []) None)
 bytes_in_the_raw_format = (
   refl,
-  (tt, (tt, (tt, tt, (tt, tt, tt)), (tt, tt, (tt, tt, tt))), (tt, ((tt, tt, (tt, tt, (tt, tt, (tt, tt, (tt, tt, (tt, (refl, (tt, tt, (tt, tt, (tt, (refl, (tt, (tt, tt, (tt, tt, (tt, (tt, (refl, tt), (tt, tt, tt)), (tt, tt, (tt, tt, (tt, tt, tt)))))), tt)), tt)))), (tt, tt, tt))))))), tt), tt)),
+  (
+    tt,
+    (tt, (tt, tt, (tt, tt, tt)), (tt, tt, (tt, tt, tt))),
+    (
+      tt,
+      (
+        (
+          tt,
+          tt,
+          (
+            tt,
+            tt,
+            (
+              tt,
+              tt,
+              (
+                tt,
+                tt,
+                (
+                  tt,
+                  tt,
+                  (
+                    tt,
+                    (
+                      refl,
+                      (
+                        tt,
+                        tt,
+                        (
+                          tt,
+                          tt,
+                          (
+                            tt,
+                            (
+                              refl,
+                              (
+                                tt,
+                                (
+                                  tt,
+                                  tt,
+                                  (
+                                    tt,
+                                    tt,
+                                    (
+                                      tt,
+                                      (tt, (refl, tt), (tt, tt, tt)),
+                                      (tt, tt, (tt, tt, (tt, tt, tt))),
+                                    ),
+                                  ),
+                                ),
+                                tt,
+                              ),
+                            ),
+                            tt,
+                          ),
+                        ),
+                      ),
+                    ),
+                    (tt, tt, tt),
+                  ),
+                ),
+              ),
+            ),
+          ),
+        ),
+        tt,
+      ),
+      tt,
+    ),
+  ),
 )
 
 wrapped_in_the_raw_format : IsSettled (got objects.SymmetricKey formats.Raw (materials.Wrapped []) None)
 wrapped_in_the_raw_format = (
   refl,
-  (tt, (tt, (tt, tt, (tt, tt, tt)), (tt, tt, (tt, tt, tt))), (tt, ((tt, tt, (tt, tt, (tt, tt, (tt, tt, (tt, tt, (tt, (refl, (tt, tt, (tt, tt, (tt, (refl, (tt, (tt, tt, (tt, tt, (tt, tt, (tt, tt, (tt, tt, (tt, tt, tt)))))), tt)), tt)))), (tt, tt, tt))))))), tt), tt)),
+  (
+    tt,
+    (tt, (tt, tt, (tt, tt, tt)), (tt, tt, (tt, tt, tt))),
+    (
+      tt,
+      (
+        (
+          tt,
+          tt,
+          (
+            tt,
+            tt,
+            (
+              tt,
+              tt,
+              (
+                tt,
+                tt,
+                (
+                  tt,
+                  tt,
+                  (
+                    tt,
+                    (
+                      refl,
+                      (
+                        tt,
+                        tt,
+                        (
+                          tt,
+                          tt,
+                          (
+                            tt,
+                            (
+                              refl,
+                              (tt, (tt, tt, (tt, tt, (tt, tt, (tt, tt, (tt, tt, (tt, tt, tt)))))), tt),
+                            ),
+                            tt,
+                          ),
+                        ),
+                      ),
+                    ),
+                    (tt, tt, tt),
+                  ),
+                ),
+              ),
+            ),
+          ),
+        ),
+        tt,
+      ),
+      tt,
+    ),
+  ),
 )
 
 object_of_another_type : IsSettled (got objects.PublicKey formats.Raw (materials.Bytes []) None) → ⊥
 object_of_another_type h = other_case 3 2 refl (((h.1).2.1.0.2.2.2.2.2.1).1.2.2.1).0
 
-bytes_in_a_transparent_format : IsSettled (got objects.SymmetricKey formats.TransparentSymmetricKey (materials.Bytes []) None) → ⊥
+bytes_in_a_transparent_format : IsSettled
+    (got objects.SymmetricKey formats.TransparentSymmetricKey (materials.Bytes []) None) → ⊥
 bytes_in_a_transparent_format h = other_case 2 1 refl (((h.1).2.1.0.2.2.2.2.2.1).1.2.2.1.1.1.2.2.1.1).0
 
 wrapped_beside_attributes : IsSettled (got objects.SymmetricKey formats.Raw (materials.Wrapped []) (Some [])) → ⊥

@@ -23,12 +23,16 @@ third : (sent received script : List ℕ) → 0 < length script → both_streams
 third sent received [] more = absurd (omega arith)
 third sent received (c ∷ script) more = go (c == 10) (lines_of script)
   where
-    go : (b : Bool) (lines : List (List ℕ)) → both_streams sent received (cond b ([] ∷ lines) (onto_first c lines)) ≡ Bad 3
+    go : (b : Bool) (lines : List (List ℕ))
+        → both_streams sent received (cond b ([] ∷ lines) (onto_first c lines)) ≡ Bad 3
     go true lines = refl
     go false [] = refl
     go false (line ∷ lines) = refl
 
 -- two streams, and a third line
-pub third_line : (lines : List (List ℕ)) (sent received after rest : List ℕ) → Some (sent, lines_of after) ≡ next_stream lines → Some (received, lines_of rest) ≡ next_stream (lines_of after) → 0 < length rest → Bad 3 ≡ captured_in lines
+pub third_line : (lines : List (List ℕ)) (sent received after rest : List ℕ)
+    → Some (sent, lines_of after) ≡ next_stream lines
+    → Some (received, lines_of rest) ≡ next_stream (lines_of after) → 0 < length rest
+    → Bad 3 ≡ captured_in lines
 third_line lines sent received after rest first second more =
     sym (ap from_first (sym first) ∙ ap (after_sent sent) (sym second) ∙ third sent received rest more)

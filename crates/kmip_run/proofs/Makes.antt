@@ -21,45 +21,61 @@ use Rattle.kmip_run.proofs.Runs.{append_none}
 
 pub next_is : (x : ℕ) → (x * 6364136223846793005 % 2 ^ 64 + 1442695040888963407) % 2 ^ 64 ≡ next_of x
 unfolding next_of
-next_is x = mod-add-mod (x * 6364136223846793005) (2 ^ 64) 1442695040888963407 ∙ ap (λ (n : ℕ). (n + 1442695040888963407) % 2 ^ 64) (mul_comm x 6364136223846793005)
+next_is x = mod-add-mod (x * 6364136223846793005) (2 ^ 64) 1442695040888963407
+    ∙ ap (λ (n : ℕ). (n + 1442695040888963407) % 2 ^ 64) (mul_comm x 6364136223846793005)
 
 -- no more is taken than is left
-by_within : (head : Result ℕ HeadError) (rest : List ℕ) → 8 ≤ length rest → taken_for rest (message_by head rest) ≤ length rest
+by_within : (head : Result ℕ HeadError) (rest : List ℕ) → 8 ≤ length rest
+    → taken_for rest (message_by head rest) ≤ length rest
 by_within (Err error) rest some = some
-by_within (Ok n) rest some = elim (nat_lt (length rest) (n + 8)) as (λ b. taken_for rest (cond b Ended (Whole (take (n + 8) rest))) ≤ length rest) [
-  | true ↦ omega arith
-  | false ↦ rw (length-take (n + 8) rest) (omega arith)
-]
+by_within (Ok n) rest some = elim (nat_lt (length rest) (n + 8)) as
+    (λ b. taken_for rest (cond b Ended (Whole (take (n + 8) rest))) ≤ length rest) [
+      | true ↦ omega arith
+      | false ↦ rw (length-take (n + 8) rest) (omega arith)
+    ]
 
 message_within : (rest : List ℕ) (limit : Option ℕ) → taken_for rest (message_at rest limit) ≤ length rest
 unfolding message_at
 message_within rest limit =
-    elim (nat_lt (length rest) 8) as (λ b. nat_lt (length rest) 8 ≡ b → taken_for rest (cond b Ended (message_by (head_says (take 8 rest) limit) rest)) ≤ length rest) [
+    elim (nat_lt (length rest) 8)
+    as (λ b. nat_lt (length rest) 8 ≡ b
+    → taken_for rest (cond b Ended (message_by (head_says (take 8 rest) limit) rest))
+    ≤ length rest) [
       | true ↦ λ e. omega arith
       | false ↦ λ e. by_within (head_says (take 8 rest) limit) rest (grind (arith, nat_tests))
     ] refl
 
-outcome_within : (request : Option (List ℕ)) (operation : Operation) (limit : Option ℕ) (rest : List ℕ) → (outcome_of request operation limit rest).taken ≤ length rest
+outcome_within : (request : Option (List ℕ)) (operation : Operation) (limit : Option ℕ)
+    (rest : List ℕ) → (outcome_of request operation limit rest).taken ≤ length rest
 outcome_within None operation limit rest = omega arith
 outcome_within (Some request) operation limit rest = message_within rest limit
 
 step_within : (settings : Settings) (call : Call) (rest : List ℕ) → (step settings call rest).taken ≤ length rest
-step_within settings call rest = outcome_within (request_asked call settings.credential).message (request_asked call settings.credential).operation settings.limit rest
+step_within settings call rest = outcome_within (request_asked call settings.credential).message
+    (request_asked call settings.credential).operation settings.limit rest
 
 -- a call was fed its response, and made
-pub makes_call : (before fed_to after : ClientState MemoryState) {ending : Ending} {old new : List ℕ} (settings : Settings) (it : Recorded) (failed : Bool) (left_before left_after : ℕ) →
+pub makes_call : (before fed_to after : ClientState MemoryState) {ending : Ending}
+    {old new : List ℕ} (settings : Settings) (it : Recorded) (failed : Bool)
+    (left_before left_after : ℕ) →
     failed ≡ fails ending →
     settings ≡ settings_of fed_to →
     fed_to.link ≡ record before.link { ever = before.link.ever ++ it.response } →
     drop fed_to.link.pos fed_to.link.ever ≡ drop before.link.pos before.link.ever ++ it.response →
-    left_before ≡ length (drop fed_to.link.pos fed_to.link.ever) → left_after ≡ length (drop after.link.pos after.link.ever) →
+    left_before ≡ length (drop fed_to.link.pos fed_to.link.ever)
+    → left_after ≡ length (drop after.link.pos after.link.ever) →
     Answers (step (settings_of fed_to) it.call (drop fed_to.link.pos fed_to.link.ever)) fed_to after ending old new →
-    MakesCall (step settings it.call (drop before.link.pos before.link.ever ++ it.response)) it.response before.link after.link failed (left_before - left_after)
-makes_call before fed_to after {ending = ending} {old = old} {new = new} settings it failed left_before left_after fails_is same link left before_is after_is answers =
+    MakesCall (step settings it.call (drop before.link.pos before.link.ever ++ it.response))
+    it.response before.link after.link failed (left_before - left_after)
+makes_call before fed_to after {ending = ending} {old = old}
+    {new = new}
+    settings it failed left_before left_after fails_is same link left before_is after_is answers =
     let rest : List ℕ = drop before.link.pos before.link.ever ++ it.response in
     let s : Step = step settings it.call rest in
     let did : Answers s fed_to after ending old new = rw (same, sym left) answers in
-    let ended : length (drop after.link.pos after.link.ever) ≡ length rest - s.taken = ap length did.left ∙ ap (λ (l : List ℕ). length (drop s.taken l)) left ∙ length-drop s.taken rest in
+    let ended : length (drop after.link.pos after.link.ever) ≡ length rest - s.taken =
+    ap length did.left ∙ ap (λ (l : List ℕ). length (drop s.taken l)) left
+    ∙ length-drop s.taken rest in
     record {
       failed_is = fails_is ∙ did.failed_is;
       taken_is = omega (arith, before_is, after_is, ended, ap length left, step_within settings it.call rest);
@@ -83,16 +99,35 @@ pub record SoMade (all : Counts) (before now : MemoryState) (ok errors taken : �
   pub pos : now.pos ≡ before.pos + taken
 
 nothing_made : (all : Counts) (link : MemoryState) → SoMade all link link 0 0 0 all
-nothing_made all link = record { fed = []; sent = []; all_fed = refl; all_sent = refl; all_taken = omega arith; all_ok = omega arith; all_errors = omega arith; ever = append_none link.ever; sent_is = append_none link.sent; pos = omega arith }
+nothing_made all link = record {
+  fed = [];
+  sent = [];
+  all_fed = refl;
+  all_sent = refl;
+  all_taken = omega arith;
+  all_ok =
+      omega arith;
+  all_errors = omega arith;
+  ever = append_none link.ever;
+  sent_is =
+      append_none link.sent;
+  pos = omega arith;
+}
 
-pub none_made : (settings : Settings) (count x : ℕ) (rest : List ℕ) (link : MemoryState) → SoMade (counts_after settings count x rest) link link 0 0 0 (counts_after settings (count - 0) x rest)
+pub none_made : (settings : Settings) (count x : ℕ) (rest : List ℕ) (link : MemoryState)
+    → SoMade (counts_after settings count x rest) link link 0 0 0
+    (counts_after settings (count - 0) x rest)
 none_made settings count x rest link =
     let same : count - 0 ≡ count = omega arith in
     rw same (nothing_made (counts_after settings count x rest) link)
 
 -- one exchange more
-one_made : {all : Counts} {before now after : MemoryState} {failed : Bool} (ok errors taken did : ℕ) (fed : List ℕ) (s : Step) (rest : Counts) →
-    SoMade all before now ok errors taken (then_made fed s rest) → MakesCall s fed now after failed did → SoMade all before after (ok + one_ok failed) (errors + one_error failed) (taken + did) rest
+one_made : {all : Counts} {before now after : MemoryState} {failed : Bool} (ok errors taken did : ℕ)
+    (fed : List ℕ) (s : Step) (rest : Counts) →
+    SoMade all before now ok errors taken (then_made fed s rest)
+    → MakesCall s fed now after failed did
+    → SoMade all before after (ok + one_ok failed) (errors + one_error failed)
+    (taken + did) rest
 one_made {before = before} {failed = failed} ok errors taken did fed s rest so_far call = record {
   fed = so_far.fed ++ fed;
   sent = so_far.sent ++ s.sent;
@@ -108,8 +143,11 @@ one_made {before = before} {failed = failed} ok errors taken did fed s rest so_f
 
 made_more : (settings : Settings) (count x : ℕ) (rest : List ℕ) →
     counts_after settings (suc count) x rest ≡
-    then_made (made_of (next_of x)).response (step settings (made_of (next_of x)).call (rest ++ (made_of (next_of x)).response))
-    (counts_after settings count (next_of x) (drop (step settings (made_of (next_of x)).call (rest ++ (made_of (next_of x)).response)).taken (rest ++ (made_of (next_of x)).response)))
+    then_made (made_of (next_of x)).response
+    (step settings (made_of (next_of x)).call (rest ++ (made_of (next_of x)).response))
+    (counts_after settings count (next_of x)
+    (drop (step settings (made_of (next_of x)).call
+    (rest ++ (made_of (next_of x)).response)).taken (rest ++ (made_of (next_of x)).response)))
 unfolding counts_after
 made_more settings count x rest = refl
 
@@ -118,25 +156,33 @@ unfolding counts_after
 made_no_more settings x rest = refl
 
 -- the next exchange
-pub next_made : {all : Counts} {before now after : MemoryState} {failed : Bool} (settings : Settings) (it : Recorded) (left later x y ok errors taken did : ℕ) →
+pub next_made : {all : Counts} {before now after : MemoryState} {failed : Bool}
+    (settings : Settings) (it : Recorded) (left later x y ok errors taken did : ℕ) →
     left ≡ suc later → y ≡ next_of x → it ≡ made_of y →
     SoMade all before now ok errors taken (counts_after settings left x (drop now.pos now.ever)) →
     MakesCall (step settings it.call (drop now.pos now.ever ++ it.response)) it.response now after failed did →
-    SoMade all before after (ok + one_ok failed) (errors + one_error failed) (taken + did) (counts_after settings later y (drop after.pos after.ever))
+    SoMade all before after (ok + one_ok failed) (errors + one_error failed) (taken + did)
+    (counts_after settings later y (drop after.pos after.ever))
 next_made {now = now} settings it left later x y ok errors taken did more y_is it_is so_far call =
     let here = rw (more, made_more settings later x (drop now.pos now.ever), sym y_is, sym it_is) at so_far in
-    rw call.left (one_made ok errors taken did it.response (step settings it.call (drop now.pos now.ever ++ it.response)) _ here call)
+    rw call.left (one_made ok errors taken did it.response
+    (step settings it.call (drop now.pos now.ever ++ it.response)) _ here call)
 
 -- an exchange under the same settings
-pub under_same : {before after : MemoryState} {failed : Bool} {did : ℕ} (a b : Settings) (call : Call) (fed rest : List ℕ) → a ≡ b → MakesCall (step a call rest) fed before after failed did → MakesCall (step b call rest) fed before after failed did
+pub under_same : {before after : MemoryState} {failed : Bool} {did : ℕ} (a b : Settings)
+    (call : Call) (fed rest : List ℕ) → a ≡ b
+    → MakesCall (step a call rest) fed before after failed did
+    → MakesCall (step b call rest) fed before after failed did
 under_same {before = before} {after = after} {failed = failed} {did = did} a b call fed rest same makes =
     subst (λ (s : Settings). MakesCall (step s call rest) fed before after failed did) same makes
 
 -- no exchange is left
 pub all_made : {all : Counts} {before now : MemoryState} (settings : Settings) (left x ok errors taken : ℕ) → left ≡ 0 →
-    SoMade all before now ok errors taken (counts_after settings left x (drop now.pos now.ever)) → Makes all before now ok errors taken
+    SoMade all before now ok errors taken (counts_after settings left x (drop now.pos now.ever))
+    → Makes all before now ok errors taken
 all_made {all = all} {before = before} {now = now} settings left x ok errors taken none so_far =
-    let here : SoMade all before now ok errors taken no_counts = rw (none, made_no_more settings x (drop now.pos now.ever)) at so_far in
+    let here : SoMade all before now ok errors taken no_counts =
+    rw (none, made_no_more settings x (drop now.pos now.ever)) at so_far in
     record {
       ok_is = omega (arith, here.all_ok);
       errors_is = omega (arith, here.all_errors);
@@ -151,10 +197,14 @@ one_in_all true = refl
 one_in_all false = refl
 
 -- the lines say what was made
-pub tells_all : {c : Counts} {before after : MemoryState} (count ok errors sent taken : ℕ) (old new : List ℕ) → Makes c before after ok errors taken →
-    sent ≡ length after.sent - length before.sent → new ≡ old ++ made_text count ok errors sent taken → Replays (counted_transcript count c) before after 0 old new
+pub tells_all : {c : Counts} {before after : MemoryState} (count ok errors sent taken : ℕ)
+    (old new : List ℕ) → Makes c before after ok errors taken →
+    sent ≡ length after.sent - length before.sent
+    → new ≡ old ++ made_text count ok errors sent taken
+    → Replays (counted_transcript count c) before after 0 old new
 tells_all {c = c} {before = before} {after = after} count ok errors sent taken old new makes sent_is text =
-    let whole : length after.sent ≡ length before.sent + length c.sent = ap length makes.sent ∙ length-append before.sent c.sent in
+    let whole : length after.sent ≡ length before.sent + length c.sent =
+    ap length makes.sent ∙ length-append before.sent c.sent in
     let all_sent : sent ≡ length c.sent = omega (arith, sent_is, whole) in
     record {
       text = rw (all_sent, makes.ok_is, makes.errors_is, makes.taken_is) at text;
@@ -165,7 +215,9 @@ tells_all {c = c} {before = before} {after = after} count ok errors sent taken o
     }
 
 -- no byte that was sent is lost
-pub sent_grows : {c : Counts} {before after : MemoryState} {ok errors taken : ℕ} → Makes c before after ok errors taken → length before.sent ≤ length after.sent
+pub sent_grows : {c : Counts} {before after : MemoryState} {ok errors taken : ℕ}
+    → Makes c before after ok errors taken → length before.sent ≤ length after.sent
 sent_grows {c = c} {before = before} {after = after} makes =
-    let whole : length after.sent ≡ length before.sent + length c.sent = ap length makes.sent ∙ length-append before.sent c.sent in
+    let whole : length after.sent ≡ length before.sent + length c.sent =
+    ap length makes.sent ∙ length-append before.sent c.sent in
     omega (arith, whole)

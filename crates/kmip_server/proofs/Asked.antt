@@ -14,22 +14,30 @@ use Rattle.kmip_server.specs.Calls.{HelperRan, answered_val, answered_seen}
 use Rattle.kmip_server.specs.declared.answers.Answered.{Answered}
 
 -- what is made of a helper's result is the helper's part of the payload
-seen_part : {P R : Type 0} (call : Call) (variant : P → ResponsePayload) (part : P → R) (make : R → Answered) → ((p : P) → answered_val (make (part p)) ≡ part_for call (response_payload_val (variant p))) →
-    (answer : Result P Error) → answered_seen (part_of make (part_of part answer)) ≡ helper_answer call (seen_by (λ payload. response_payload_val (variant payload)) answer)
+seen_part : {P R : Type 0} (call : Call) (variant : P → ResponsePayload) (part : P → R)
+    (make : R → Answered) → ((p : P) → answered_val (make (part p))
+    ≡ part_for call (response_payload_val (variant p))) →
+    (answer : Result P Error) → answered_seen (part_of make (part_of part answer))
+    ≡ helper_answer call (seen_by (λ payload. response_payload_val (variant payload)) answer)
 seen_part call variant part make same (Ok payload) = ap Ok (same payload)
 seen_part call variant part make same (Err error) = refl
 
-pub asked_of : {T P R : Type 0} {state : T → LinkState} {before after : ClientState T} (call : Call) (variant : P → ResponsePayload) (part : P → R) (make : R → Answered) (result : Result R Error) →
+pub asked_of : {T P R : Type 0} {state : T → LinkState} {before after : ClientState T} (call : Call)
+    (variant : P → ResponsePayload) (part : P → R) (make : R → Answered) (result : Result R Error) →
     ((p : P) → answered_val (make (part p)) ≡ part_for call (response_payload_val (variant p))) →
-    Helped state (request_of call) variant part before after result → HelperRan state call before after (part_of make result)
+    Helped state (request_of call) variant part before after result
+    → HelperRan state call before after (part_of make result)
 asked_of call variant part make result same (called answer is_call is) =
     HelperRan.called (seen_by (λ payload. response_payload_val (variant payload)) answer) is_call
     (ap (λ r. answered_seen (part_of make r)) is ∙ seen_part call variant part make same answer)
 asked_of call variant part make result same (not_made is stays) = HelperRan.not_made (ap (part_of make) is) stays
 
 -- a call that is made with no memory of its own
-pub asked_at_once : {T P : Type 0} {state : T → LinkState} {before after : ClientState T} (call : Call) (variant : P → ResponsePayload) (make : P → Answered) (result : Result P Error) →
+pub asked_at_once : {T P : Type 0} {state : T → LinkState} {before after : ClientState T}
+    (call : Call) (variant : P → ResponsePayload) (make : P → Answered) (result : Result P Error) →
     ((p : P) → answered_val (make p) ≡ part_for call (response_payload_val (variant p))) →
-    IsCall state (request_of call) before after (seen_by (λ payload. response_payload_val (variant payload)) result) → HelperRan state call before after (part_of make result)
+    IsCall state (request_of call) before after
+    (seen_by (λ payload. response_payload_val (variant payload)) result)
+    → HelperRan state call before after (part_of make result)
 asked_at_once call variant make (Ok payload) same is_call = HelperRan.called _ is_call (ap Ok (same payload))
 asked_at_once call variant make (Err error) same is_call = HelperRan.called _ is_call refl

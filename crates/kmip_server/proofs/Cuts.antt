@@ -42,19 +42,25 @@ use Rattle.kmip_server.proofs.Opened.{AreRequests, code_told, ready_of, time_sam
 
 -- ---- only a link answers that a request was not sent
 
-failure_by : (b : Bool) (x y : Answer) → fails_writing x ≡ false → fails_writing y ≡ false → fails_writing (cond b x y) ≡ false
+failure_by : (b : Bool) (x y : Answer) → fails_writing x ≡ false → fails_writing y ≡ false
+    → fails_writing (cond b x y) ≡ false
 failure_by true x y p q = p
 failure_by false x y p q = q
 
-failure_not : (operation : Operation) (reason message : Option Val) → fails_writing (failure operation reason message) ≡ false
+failure_not : (operation : Operation) (reason message : Option Val)
+    → fails_writing (failure operation reason message) ≡ false
 failure_not operation reason message =
-    failure_by (is_number (pos (result_reason_line reasons.ItemNotFound).number) reason) (Err (ItemNotFound (failed_text operation (text_in message)))) (Err (ServerError (failed_text operation (text_in message)))) refl refl
+    failure_by (is_number (pos (result_reason_line reasons.ItemNotFound).number) reason)
+    (Err (ItemNotFound (failed_text operation (text_in message))))
+    (Err (ServerError (failed_text operation (text_in message)))) refl refl
 
 payload_not : (payload : Option Val) → fails_writing (payload_answer payload) ≡ false
 payload_not None = refl
 payload_not (Some payload) = refl
 
-item_by : (failed pending undone other : Bool) (f p u o a : Answer) → fails_writing f ≡ false → fails_writing p ≡ false → fails_writing u ≡ false → fails_writing o ≡ false → fails_writing a ≡ false →
+item_by : (failed pending undone other : Bool) (f p u o a : Answer) → fails_writing f ≡ false
+    → fails_writing p ≡ false → fails_writing u ≡ false → fails_writing o ≡ false
+    → fails_writing a ≡ false →
     fails_writing (cond failed f (cond pending p (cond undone u (cond other o a)))) ≡ false
 item_by true pending undone other f p u o a hf hp hu ho ha = hf
 item_by false true undone other f p u o a hf hp hu ho ha = hp
@@ -65,15 +71,18 @@ item_by false false false false f p u o a hf hp hu ho ha = ha
 item_not : (operation : Operation) (item : Val) → fails_writing (check_item operation item) ≡ false
 unfolding check_item
 item_not operation item =
-    item_by (has_status OperationFailed item) (has_status OperationPending item) (has_status OperationUndone item) (not (has_operation operation item))
+    item_by (has_status OperationFailed item) (has_status OperationPending item)
+    (has_status OperationUndone item) (not (has_operation operation item))
     (failure operation (one_of (field_at 3 item)) (one_of (field_at 4 item)))
     (Err (InternalError (codes "Result status 'operation pending' is not supported")))
     (Err (InternalError (codes "Result status 'operation undone' is not supported")))
     (Err (InternalError (mismatch_text operation (operation_shown (one_of (field_at 0 item))))))
     (payload_answer (one_of (field_at 5 item)))
-    (failure_not operation (one_of (field_at 3 item)) (one_of (field_at 4 item))) refl refl refl (payload_not (one_of (field_at 5 item)))
+    (failure_not operation (one_of (field_at 3 item)) (one_of (field_at 4 item))) refl refl refl
+    (payload_not (one_of (field_at 5 item)))
 
-items_not : (operation : Operation) (one : Bool) (items : Vals) → fails_writing (check_items operation one items) ≡ false
+items_not : (operation : Operation) (one : Bool) (items : Vals)
+    → fails_writing (check_items operation one items) ≡ false
 items_not operation true (AndVal item NoVal) = item_not operation item
 items_not operation true NoVal = refl
 items_not operation true (AndVal item (AndVal next items)) = refl
@@ -92,7 +101,8 @@ answer_not operation Message.Ended = refl
 answer_not operation (Message.Refused error) = refl
 answer_not operation (Message.Whole m) = tree_not operation (item_of 64 m)
 
-outcome_not : (request : Option (List ℕ)) (operation : Operation) (limit : Option ℕ) (rest : List ℕ) → fails_writing (outcome_of request operation limit rest).answer ≡ false
+outcome_not : (request : Option (List ℕ)) (operation : Operation) (limit : Option ℕ) (rest : List ℕ)
+    → fails_writing (outcome_of request operation limit rest).answer ≡ false
 outcome_not None operation limit rest = refl
 outcome_not (Some request) operation limit rest = answer_not operation (message_at rest limit)
 
@@ -107,38 +117,54 @@ pub record Broke (request : Option (List ℕ)) (before after : LinkState) (answe
   pub moves : Moves before after (take n bytes) 0
   pub answer_is : answer ≡ Err (RequestWriteError (codes "link failed"))
 
-broke_by : (request : Option (List ℕ)) (operation : Operation) (limit : Option ℕ) (rest : List ℕ) (before after : LinkState) (answer : Answer) (n : ℕ) → n < length (outcome_of request operation limit rest).sent →
-    Moves before after (take n (outcome_of request operation limit rest).sent) 0 → answer ≡ Err (RequestWriteError (codes "link failed")) → Broke request before after answer
+broke_by : (request : Option (List ℕ)) (operation : Operation) (limit : Option ℕ) (rest : List ℕ)
+    (before after : LinkState) (answer : Answer) (n : ℕ)
+    → n < length (outcome_of request operation limit rest).sent →
+    Moves before after (take n (outcome_of request operation limit rest).sent) 0
+    → answer ≡ Err (RequestWriteError (codes "link failed")) → Broke request before after answer
 broke_by None operation limit rest before after answer n part moves is = absurd (omega (arith, part))
-broke_by (Some bytes) operation limit rest before after answer n part moves is = record { bytes = bytes; valid = refl; n = n; part = part; moves = moves; answer_is = is }
+broke_by (Some bytes) operation limit rest before after answer n part moves is =
+    record { bytes = bytes; valid = refl; n = n; part = part; moves = moves; answer_is = is }
 
 not_so : (x : Answer) (answer : Answer) → answer ≡ x → fails_writing x ≡ false → fails_writing answer ≡ true → ⊥
 not_so x answer is not so = let e : true ≡ false = sym so ∙ ap fails_writing is ∙ not in cc
 
-broke_of : (request : Option (List ℕ)) (operation : Operation) (limit : Option ℕ) (rest : List ℕ) (before after : LinkState) (answer : Answer) → fails_writing answer ≡ true →
+broke_of : (request : Option (List ℕ)) (operation : Operation) (limit : Option ℕ) (rest : List ℕ)
+    (before after : LinkState) (answer : Answer) → fails_writing answer ≡ true →
     Exchanged (outcome_of request operation limit rest) before after answer → Broke request before after answer
-broke_of request operation limit rest before after answer so (completed is moves) = absurd (not_so _ answer is (outcome_not request operation limit rest) so)
-broke_of request operation limit rest before after answer so (write_failed is rose n h moves) = broke_by request operation limit rest before after answer n h moves is
-broke_of request operation limit rest before after answer so (read_failed is rose n h moves) = absurd (not_so _ answer is refl so)
-broke_of request operation limit rest before after answer so (sending_cut is n h moves) = absurd (not_so _ answer is refl so)
-broke_of request operation limit rest before after answer so (reading_cut is n h moves) = absurd (not_so _ answer is refl so)
+broke_of request operation limit rest before after answer so (completed is moves) =
+    absurd (not_so _ answer is (outcome_not request operation limit rest) so)
+broke_of request operation limit rest before after answer so (write_failed is rose n h moves) =
+    broke_by request operation limit rest before after answer n h moves is
+broke_of request operation limit rest before after answer so (read_failed is rose n h moves) =
+    absurd (not_so _ answer is refl so)
+broke_of request operation limit rest before after answer so (sending_cut is n h moves) =
+    absurd (not_so _ answer is refl so)
+broke_of request operation limit rest before after answer so (reading_cut is n h moves) =
+    absurd (not_so _ answer is refl so)
 
 -- ---- what is served of it
 
-served_same : (objects : List Object) (b kept : List ℕ) (made : Option Made) (t : ℤ) → request_read kept ≡ request_read b → served objects kept made t ≡ served objects b made t
+served_same : (objects : List Object) (b kept : List ℕ) (made : Option Made) (t : ℤ)
+    → request_read kept ≡ request_read b → served objects kept made t ≡ served objects b made t
 unfolding served
 served_same objects b kept made t e = ap (λ r. served_request objects r made t) e
 
-asks_same : (objects : List Object) (b kept : List ℕ) → request_read kept ≡ request_read b → asks objects kept ≡ asks objects b
+asks_same : (objects : List Object) (b kept : List ℕ) → request_read kept ≡ request_read b
+    → asks objects kept ≡ asks objects b
 unfolding asks
 asks_same objects b kept e = ap (asks_request objects) e
 
-response_same : (t : ℤ) (run : Run) (b kept : List ℕ) → request_read kept ≡ request_read b → response_to t run kept ≡ response_to t run b
+response_same : (t : ℤ) (run : Run) (b kept : List ℕ) → request_read kept ≡ request_read b
+    → response_to t run kept ≡ response_to t run b
 response_same t run b kept e =
-    ap (λ q. response_bytes (served run.objects kept (first_for q run.given) t).message) (asks_same run.objects b kept e)
-    ∙ ap (λ (s : Served). response_bytes s.message) (served_same run.objects b kept (first_for (asks run.objects b) run.given) t e)
+    ap (λ q. response_bytes (served run.objects kept (first_for q run.given) t).message)
+    (asks_same run.objects b kept e)
+    ∙ ap (λ (s : Served). response_bytes s.message)
+    (served_same run.objects b kept (first_for (asks run.objects b) run.given) t e)
 
-then_none : (first : List ℕ) (ever bytes : Option (List ℕ)) → ever ≡ Some first → then_bytes ever bytes ≡ None → bytes ≡ None
+then_none : (first : List ℕ) (ever bytes : Option (List ℕ)) → ever ≡ Some first
+    → then_bytes ever bytes ≡ None → bytes ≡ None
 then_none first (Some e) (Some b) is h = absurd (cc)
 then_none first (Some e) None is h = refl
 then_none first None bytes is h = absurd (cc)
@@ -149,29 +175,50 @@ append_none (x ∷ xs) = ap (λ l. x ∷ l) (append_none xs)
 
 -- ---- the call
 
-unsent_of : (settings : CallSettings) (call : Call) (before after : LinkState) (answer : Answer) (a b : Option (List ℕ)) (request : Option (List ℕ)) (broke : Broke request before after answer) →
-    IsRequestText settings.buffered request answer a → ((taken : List ℕ) → IsResponseText settings.buffered taken answer b → b ≡ None) → (taken : List ℕ) → IsResponseText settings.buffered taken answer b →
+unsent_of : (settings : CallSettings) (call : Call) (before after : LinkState) (answer : Answer)
+    (a b : Option (List ℕ)) (request : Option (List ℕ))
+    (broke : Broke request before after answer) →
+    IsRequestText settings.buffered request answer a
+    → ((taken : List ℕ) → IsResponseText settings.buffered taken answer b → b ≡ None)
+    → (taken : List ℕ) → IsResponseText settings.buffered taken answer b →
     (answer ≡ Err (RequestWriteError (codes "link failed")) → a ≡ diagnostic_of settings.buffered request) →
     IsUnsent settings broke.bytes (code_told before after (helper_answer call answer) a b)
 unsent_of settings call before after answer a b request broke p none taken q text = record {
   n = broke.n;
   part = broke.part;
-  sent = ap (λ l. drop (length before.sent) l) broke.moves.sent_is ∙ drop-append_seam before.sent (take broke.n broke.bytes);
+  sent = ap (λ l. drop (length before.sent) l) broke.moves.sent_is
+      ∙ drop-append_seam before.sent (take broke.n broke.bytes);
   answer = ap (helper_answer call) broke.answer_is;
   request_text = text broke.answer_is ∙ ap (diagnostic_of settings.buffered) broke.valid;
   response_text = none taken q;
 }
 
-request_text_is : (buffered : Bool) (request : Option (List ℕ)) (answer : Answer) (a : Option (List ℕ)) → IsRequestText buffered request answer a → answer ≡ Err (RequestWriteError (codes "link failed")) → a ≡ diagnostic_of buffered request
-request_text_is buffered request answer a p is = let p' : IsRequestText {A = Val} buffered request (Err (RequestWriteError (codes "link failed"))) a = subst (λ (x : Answer). IsRequestText buffered request x a) is p in p'
+request_text_is : (buffered : Bool) (request : Option (List ℕ)) (answer : Answer)
+    (a : Option (List ℕ)) → IsRequestText buffered request answer a
+    → answer ≡ Err (RequestWriteError (codes "link failed")) → a ≡ diagnostic_of buffered request
+request_text_is buffered request answer a p is =
+    let p' : IsRequestText {A = Val} buffered request
+    (Err (RequestWriteError (codes "link failed"))) a =
+    subst (λ (x : Answer). IsRequestText buffered request x a) is p in p'
 
-response_text_is : (buffered : Bool) (answer : Answer) (b : Option (List ℕ)) → answer ≡ Err (RequestWriteError (codes "link failed")) → (taken : List ℕ) → IsResponseText buffered taken answer b → b ≡ None
-response_text_is buffered answer b is taken q = let q' : IsResponseText {A = Val} buffered taken (Err (RequestWriteError (codes "link failed"))) b = subst (λ (x : Answer). IsResponseText buffered taken x b) is q in q'
+response_text_is : (buffered : Bool) (answer : Answer) (b : Option (List ℕ))
+    → answer ≡ Err (RequestWriteError (codes "link failed")) → (taken : List ℕ)
+    → IsResponseText buffered taken answer b → b ≡ None
+response_text_is buffered answer b is taken q =
+    let q' : IsResponseText {A = Val} buffered taken
+    (Err (RequestWriteError (codes "link failed"))) b =
+    subst (λ (x : Answer). IsResponseText buffered taken x b) is q in q'
 
 -- what serving came to before the message that was kept
-pub cut_of : AreMessages → AreRequests → {M : Type 0} (state : M → MakerState) (settings : CallSettings) (call : Call) (before : LinkState) (after : ServerLinkState M) (told : JoinedReport) (b : List ℕ) (n : ℕ) →
-    request_bytes (request_of call) settings.credential ≡ Some b → IsReadBack call settings.credential → n < length b → Moves before (server_link_state state after) (take n b) 0 → IsReady settings.time before →
-    0 < after.faults → IsRequestOf call after.kept → IsCut settings.time after.server.objects (state after.server.maker) after.ever after.sent after.kept → IsUnsent settings b told →
+pub cut_of : AreMessages → AreRequests
+    → {M : Type 0} (state : M → MakerState) (settings : CallSettings) (call : Call)
+    (before : LinkState) (after : ServerLinkState M) (told : JoinedReport) (b : List ℕ) (n : ℕ) →
+    request_bytes (request_of call) settings.credential ≡ Some b
+    → IsReadBack call settings.credential → n < length b
+    → Moves before (server_link_state state after) (take n b) 0 → IsReady settings.time before →
+    0 < after.faults → IsRequestOf call after.kept
+    → IsCut settings.time after.server.objects
+    (state after.server.maker) after.ever after.sent after.kept → IsUnsent settings b told →
     CutCall state settings call before after told
 cut_of responses requests state settings call before after told b n valid reads part moves ready faults kept_is cut unsent =
     let t : ℤ = settings.time in
@@ -179,28 +226,41 @@ cut_of responses requests state settings call before after told b n valid reads 
     let w : List (List ℕ) = (messages_in before.sent).whole in
     let run : Run = run_of t given w in
     let more : List ℕ = moves.ever.more in
-    let split_is : messages_in after.sent ≡ with_begun w (take n b) = ap messages_in moves.sent_is ∙ split_part before.sent b n ready.whole (requests (request_of call) settings.credential b valid) part in
+    let split_is : messages_in after.sent ≡ with_begun w (take n b) =
+    ap messages_in moves.sent_is ∙ split_part before.sent b n ready.whole
+    (requests (request_of call) settings.credential b valid) part in
     let wholes : (messages_in after.sent).whole ≡ w = ap (λ (s : Split). s.whole) split_is in
     let runs : run_of t given (messages_in after.sent).whole ≡ run = ap (run_of t given) wholes in
     let ever : run.ever ≡ Some after.ever = ap (λ (r : Run). r.ever) (sym runs) ∙ cut.ever_is in
     let same : before.ever ≡ after.ever =
-    same_frames (length w) before.ever after.ever more [] (run_framed responses t ready.given w before.ever ready.agrees.ever) (run_framed responses t given w after.ever ever)
+    same_frames (length w) before.ever after.ever more []
+    (run_framed responses t ready.given w before.ever ready.agrees.ever)
+    (run_framed responses t given w after.ever ever)
     (sym moves.ever.is ∙ sym (append_none after.ever)) in
     let reads_same : request_read after.kept ≡ request_read b = kept_is ∙ sym (reads b valid) in
     let none : response_to t run b ≡ None =
     sym (response_same t run b after.kept reads_same)
-    ∙ then_none after.ever run.ever (response_to t run after.kept) ever (sym (serve_ever t run after.kept) ∙ ap (λ (r : Run). (serve t r after.kept).ever) (sym runs) ∙ cut.none) in
+    ∙ then_none after.ever run.ever (response_to t run after.kept) ever
+    (sym (serve_ever t run after.kept)
+    ∙ ap (λ (r : Run). (serve t r after.kept).ever) (sym runs) ∙ cut.none) in
     let asked_same : asks run.objects after.kept ≡ asks run.objects b = asks_same run.objects b after.kept reads_same in
     let givens : rest_for (asks run.objects b) run.given ≡ [] =
-    ap (λ q. rest_for q run.given) (sym asked_same) ∙ sym (serve_given t run after.kept) ∙ ap (λ (r : Run). (serve t r after.kept).given) (sym runs) ∙ cut.given in
+    ap (λ q. rest_for q run.given) (sym asked_same) ∙ sym (serve_given t run after.kept)
+    ∙ ap (λ (r : Run). (serve t r after.kept).given) (sym runs) ∙ cut.given in
     let askeds : run.asked ++ option_to_list (asks run.objects b) ≡ (state after.server.maker).asked =
-    ap (λ q. run.asked ++ option_to_list q) (sym asked_same) ∙ sym (serve_asked t run after.kept) ∙ ap (λ (r : Run). (serve t r after.kept).asked) (sym runs) ∙ cut.asked in
+    ap (λ q. run.asked ++ option_to_list q) (sym asked_same) ∙ sym (serve_asked t run after.kept)
+    ∙ ap (λ (r : Run). (serve t r after.kept).asked) (sym runs) ∙ cut.asked in
     let objects : run.objects ≡ after.server.objects = ap (λ (r : Run). r.objects) (sym runs) ∙ cut.objects_are in
     let stays : after.pos ≡ before.pos = let e : after.pos ≡ before.pos + 0 = moves.pos in omega (arith, e) in
-    let rest : left before ≡ left (server_link_state state after) = ap (λ l. drop before.pos l) same ∙ ap (λ p. drop p after.ever) (sym stays) in
+    let rest : left before ≡ left (server_link_state state after) =
+    ap (λ l. drop before.pos l) same ∙ ap (λ p. drop p after.ever) (sym stays) in
     record {
       faults = faults;
-      agrees = record { ever = ever ∙ ap Some (sym same); held = subst (AreResponsesHeld t (fresh given)) wholes cut.held };
+      agrees = record {
+        ever = ever ∙ ap Some (sym same);
+        held =
+            subst (AreResponsesHeld t (fresh given)) wholes cut.held;
+      };
       request = b;
       next_is = next_unformed settings (between t given before) call b valid none
           ∙ same_next _ _ _ _ _ _ refl refl (same_between _ _ _ _ _ _ _ _ objects givens askeds rest);
@@ -214,22 +274,35 @@ cut_of responses requests state settings call before after told b n valid reads 
       };
     }
 
-pub cut_called : AreMessages → AreRequests → {M : Type 0} (state : M → MakerState) (before after : ClientState (ServerLinkState M)) (call : Call) (answer : Answer) →
+pub cut_called : AreMessages → AreRequests
+    → {M : Type 0} (state : M → MakerState) (before after : ClientState (ServerLinkState M))
+    (call : Call) (answer : Answer) →
     IsReadBack call before.credential →
-    IsCall (server_link_state state) (request_of call) before after answer → fails_writing answer ≡ true → IsOpen state before.link → LinkFacts state before.link → LinkFacts state after.link →
+    IsCall (server_link_state state) (request_of call) before after answer
+    → fails_writing answer ≡ true → IsOpen state before.link → LinkFacts state before.link
+    → LinkFacts state after.link →
     after.link.starved ≡ false → 0 < after.link.faults → IsRequestOf call after.link.kept →
     CallEffect state (call_settings before) call before.link after.link
-    (code_told (server_link_state state before.link) (server_link_state state after.link) (helper_answer call answer) after.request_text after.response_text) (loses_connection answer)
+    (code_told (server_link_state state before.link) (server_link_state state after.link)
+    (helper_answer call answer) after.request_text after.response_text)
+    (loses_connection answer)
 cut_called responses requests state before after call answer reads is_call so opened known known' fed faults kept_is =
     let settings : CallSettings = call_settings before in
     let lb : LinkState = server_link_state state before.link in
     let la : LinkState = server_link_state state after.link in
     let request : Option (List ℕ) = request_bytes (request_of call) before.credential in
-    let broke : Broke request lb la answer = broke_of request (operation_of (request_of call)) before.limit (left_for lb la) lb la answer so (is_call.exchange refl) in
-    let tells : IsTrue (state after.link.server.maker).tells = rw (tells_same state before.link after.link is_call.keeps.mark) opened.tells in
-    let time : after.link.server.time ≡ before.link.server.time = time_same state before.link after.link is_call.keeps.mark in
-    let cut : IsCut before.link.server.time after.link.server.objects (state after.link.server.maker) after.link.ever after.link.sent after.link.kept = rw (← time) (known'.cut fed tells faults) in
-    let unsent : IsUnsent settings broke.bytes (code_told lb la (helper_answer call answer) after.request_text after.response_text) =
+    let broke : Broke request lb la answer =
+    broke_of request (operation_of (request_of call)) before.limit
+    (left_for lb la) lb la answer so (is_call.exchange refl) in
+    let tells : IsTrue (state after.link.server.maker).tells =
+    rw (tells_same state before.link after.link is_call.keeps.mark) opened.tells in
+    let time : after.link.server.time ≡ before.link.server.time =
+    time_same state before.link after.link is_call.keeps.mark in
+    let cut : IsCut before.link.server.time after.link.server.objects
+    (state after.link.server.maker) after.link.ever after.link.sent after.link.kept =
+    rw (← time) (known'.cut fed tells faults) in
+    let unsent : IsUnsent settings broke.bytes
+    (code_told lb la (helper_answer call answer) after.request_text after.response_text) =
     unsent_of settings call lb la answer after.request_text after.response_text request broke is_call.request_text (response_text_is before.buffered answer after.response_text broke.answer_is) _ (is_call.response_text refl)
     (request_text_is before.buffered request answer after.request_text is_call.request_text) in
     CallEffect.cut_short (ap loses_connection broke.answer_is)

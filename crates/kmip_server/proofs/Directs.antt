@@ -42,7 +42,9 @@ use Rattle.kmip_server.specs.declared.answers.CallAnswer.{CallAnswer}
 -- what the crates below promise
 pub record Laws : Type 0 where
   pub own : (call : Call) → call_of (request_for (request_of call)) ≡ Some call
-  pub settled : (objects : List Object) (call : Call) (made : Option Made) (t : ℤ) → IsHeldResponse (served_call objects call made t).message → IsSettled (served_call objects call made t).message
+  pub settled : (objects : List Object) (call : Call) (made : Option Made) (t : ℤ)
+      → IsHeldResponse (served_call objects call made t).message
+      → IsSettled (served_call objects call made t).message
   pub back : AreReadBack
 
 -- ---- a helper's request is that helper's call
@@ -58,11 +60,14 @@ own_served (DestroyKey id) = refl
 own_served (RenameKey id name) = refl
 own_served (GetKey id) = refl
 
-pub served_own : Laws → (objects : List Object) (call : Call) (b : List ℕ) (made : Option Made) (t : ℤ) → request_read b ≡ Some (request_for (request_of call)) → served objects b made t ≡ served_call objects call made t
+pub served_own : Laws → (objects : List Object) (call : Call) (b : List ℕ) (made : Option Made)
+    (t : ℤ) → request_read b ≡ Some (request_for (request_of call))
+    → served objects b made t ≡ served_call objects call made t
 unfolding served
 served_own laws objects call b made t read = rw (read, own_served call, laws.own call) refl
 
-pub asks_own : Laws → (objects : List Object) (call : Call) (b : List ℕ) → request_read b ≡ Some (request_for (request_of call)) → asks objects b ≡ question objects call
+pub asks_own : Laws → (objects : List Object) (call : Call) (b : List ℕ)
+    → request_read b ≡ Some (request_for (request_of call)) → asks objects b ≡ question objects call
 unfolding asks
 asks_own laws objects call b read = rw (read, own_served call, laws.own call) refl
 
@@ -72,7 +77,9 @@ abbrev said : Call → BatchItem → ℤ → Answer
 said call item t = check_response (call_operation call) (response_message_val (message_with t item))
 
 -- a call that was done
-done_is : (call : Call) (payload : Option ResponsePayload) (t : ℤ) → helper_answer call (said call (done_item (call_operation call) payload) t) ≡ done_answer call payload
+done_is : (call : Call) (payload : Option ResponsePayload) (t : ℤ)
+    → helper_answer call (said call (done_item (call_operation call) payload) t)
+    ≡ done_answer call payload
 unfolding check_item
 done_is Query None t = refl
 done_is Query (Some payload) t = refl
@@ -93,7 +100,8 @@ done_is (RenameKey id name) (Some payload) t = refl
 done_is (GetKey id) None t = refl
 done_is (GetKey id) (Some payload) t = refl
 
-pub said_is : (call : Call) (reply : Reply) (t : ℤ) → helper_answer call (said call (item_for call reply) t) ≡ reply_answer call reply
+pub said_is : (call : Call) (reply : Reply) (t : ℤ)
+    → helper_answer call (said call (item_for call reply) t) ≡ reply_answer call reply
 unfolding check_item
 said_is call NotFound t = refl
 said_is call Denied t = refl
@@ -132,24 +140,31 @@ abbrev starts : List Object → List Made → List Asked → Between
 starts objects given asked = record { objects = objects; given = given; asked = asked; rest = [] }
 
 -- what a call is told as, whose answer is the object map's
-record Own (settings : CallSettings) (objects : List Object) (given : List Made) (asked : List Asked) (call : Call) : Type 0 where
+record Own (settings : CallSettings) (objects : List Object) (given : List Made)
+    (asked : List Asked) (call : Call) : Type 0 where
   pub told : JoinedReport
   pub answer : told.answer ≡ reply_answer call (step objects call (first_for (question objects call) given)).answer
   pub next_is : next settings (starts objects given asked) call ≡ record {
     expected = Reported told;
     stops = false;
-    after = starts (step objects call (first_for (question objects call) given)).objects (rest_for (question objects call) given) (asked ++ option_to_list (question objects call));
+    after = starts (step objects call (first_for (question objects call) given)).objects
+        (rest_for (question objects call) given) (asked ++ option_to_list (question objects call));
   }
 
-served_call_objects : (objects : List Object) (call : Call) (made : Option Made) (t : ℤ) → (served_call objects call made t).objects ≡ (step objects call made).objects
+served_call_objects : (objects : List Object) (call : Call) (made : Option Made) (t : ℤ)
+    → (served_call objects call made t).objects ≡ (step objects call made).objects
 unfolding served_call
 served_call_objects objects call made t = refl
 
-served_call_message : (objects : List Object) (call : Call) (made : Option Made) (t : ℤ) → (served_call objects call made t).message ≡ message_with t (item_for call (step objects call made).answer)
+served_call_message : (objects : List Object) (call : Call) (made : Option Made) (t : ℤ)
+    → (served_call objects call made t).message
+    ≡ message_with t (item_for call (step objects call made).answer)
 unfolding served_call
 served_call_message objects call made t = refl
 
-own_next : Laws → (settings : CallSettings) (objects : List Object) (given : List Made) (askeds : List Asked) (call : Call) → OneFits settings objects call (first_for (question objects call) given) →
+own_next : Laws → (settings : CallSettings) (objects : List Object) (given : List Made)
+    (askeds : List Asked) (call : Call)
+    → OneFits settings objects call (first_for (question objects call) given) →
     IsHeldNext settings (starts objects given askeds) call → Own settings objects given askeds call
 own_next laws settings objects given askeds call fits held =
     let t : ℤ = settings.time in
@@ -160,30 +175,52 @@ own_next laws settings objects given askeds call fits held =
     let read : request_read b ≡ Some (request_for (request_of call)) = held.reads b fits.valid in
     let asked = asks_own laws objects call b read in
     let mades : first_for (asks objects b) given ≡ made = ap (λ q. first_for q given) asked in
-    let is_served_so : served objects b (first_for (asks objects b) given) t ≡ served_call objects call made t = ap (λ a. served objects b a t) mades ∙ served_own laws objects call b made t read in
+    let is_served_so : served objects b (first_for (asks objects b) given) t
+    ≡ served_call objects call made t =
+    ap (λ a. served objects b a t) mades ∙ served_own laws objects call b made t read in
     let m : ResponseMessage = (served_call objects call made t).message in
-    let formed : response_bytes (served objects b (first_for (asks objects b) given) t).message ≡ Some r = ap (λ (s : Served). response_bytes s.message) is_served_so ∙ fits.formed in
-    let holds : IsHeldResponse m = subst (λ (s : Served). IsHeldResponse s.message) is_served_so (held.holds b r fits.valid formed) in
+    let formed : response_bytes (served objects b (first_for (asks objects b) given) t).message
+    ≡ Some r = ap (λ (s : Served). response_bytes s.message) is_served_so ∙ fits.formed in
+    let holds : IsHeldResponse m = subst (λ (s : Served). IsHeldResponse s.message) is_served_so
+    (held.holds b r fits.valid formed) in
     let back : ReadsBack m r = reads_back laws.back m r holds (laws.settled objects call made t holds) fits.formed in
     let turn = turn_with settings call (Some b) r in
-    let message : m ≡ message_with t (item_for call (step objects call made).answer) = served_call_message objects call made t in
-    let answered : turn.outcome.answer ≡ check_response (call_operation call) (response_message_val (message_with t (item_for call (step objects call made).answer))) =
-    answer_is (call_operation call) m r settings.limit back fits.within ∙ ap (λ (x : ResponseMessage). check_response (call_operation call) (response_message_val x)) message in
-    let helped_is : helper_answer call turn.outcome.answer ≡ reply_answer call (step objects call made).answer = ap (helper_answer call) answered ∙ said_is call (step objects call made).answer t in
-    let stops : loses_connection turn.outcome.answer ≡ false = sym (helped_keeps call turn.outcome.answer) ∙ ap loses_connection helped_is ∙ replies_keep call (step objects call made).answer in
-    let rests : drop turn.outcome.taken r ≡ [] = ap (λ n. drop n r) (taken_is r settings.limit m back fits.within) ∙ drop-length r in
-    let objects_is : (after_bytes settings now b).objects ≡ (step objects call made).objects = ap (λ (s : Served). s.objects) is_served_so ∙ served_call_objects objects call made t in
-    let given_is : (after_bytes settings now b).given ≡ rest_for (question objects call) given = ap (λ q. rest_for q given) asked in
-    let asked_is : (after_bytes settings now b).asked ≡ askeds ++ option_to_list (question objects call) = ap (λ q. askeds ++ option_to_list q) asked in
+    let message : m ≡ message_with t (item_for call (step objects call made).answer) =
+    served_call_message objects call made t in
+    let answered : turn.outcome.answer
+    ≡ check_response (call_operation call)
+    (response_message_val (message_with t (item_for call (step objects call made).answer))) =
+    answer_is (call_operation call) m r settings.limit back fits.within
+    ∙ ap (λ (x : ResponseMessage). check_response (call_operation call)
+    (response_message_val x)) message in
+    let helped_is : helper_answer call turn.outcome.answer
+    ≡ reply_answer call (step objects call made).answer =
+    ap (helper_answer call) answered ∙ said_is call (step objects call made).answer t in
+    let stops : loses_connection turn.outcome.answer ≡ false =
+    sym (helped_keeps call turn.outcome.answer) ∙ ap loses_connection helped_is
+    ∙ replies_keep call (step objects call made).answer in
+    let rests : drop turn.outcome.taken r ≡ [] =
+    ap (λ n. drop n r) (taken_is r settings.limit m back fits.within) ∙ drop-length r in
+    let objects_is : (after_bytes settings now b).objects ≡ (step objects call made).objects =
+    ap (λ (s : Served). s.objects) is_served_so ∙ served_call_objects objects call made t in
+    let given_is : (after_bytes settings now b).given ≡ rest_for (question objects call) given =
+    ap (λ q. rest_for q given) asked in
+    let asked_is : (after_bytes settings now b).asked
+    ≡ askeds ++ option_to_list (question objects call) =
+    ap (λ q. askeds ++ option_to_list q) asked in
     record {
       told = joined_report settings call turn;
       answer = helped_is;
-      next_is = next_formed settings now call b r fits.valid formed ∙ same_next _ _ _ _ _ _ refl stops (same_between _ _ _ _ _ _ _ _ objects_is given_is asked_is rests);
+      next_is = next_formed settings now call b r fits.valid formed
+          ∙ same_next _ _ _ _ _ _ refl stops
+          (same_between _ _ _ _ _ _ _ _ objects_is given_is asked_is rests);
     }
 
 -- ---- all calls
 
-expected_on : (settings : CallSettings) (now : Between) (call : Call) (calls : List Call) (told : JoinedReport) (after : Between) → next settings now call ≡ record { expected = Reported told; stops = false; after = after } →
+expected_on : (settings : CallSettings) (now : Between) (call : Call) (calls : List Call)
+    (told : JoinedReport) (after : Between)
+    → next settings now call ≡ record { expected = Reported told; stops = false; after = after } →
     expected_calls settings now (call ∷ calls) ≡ Reported told ∷ expected_calls settings after calls
 unfolding expected_calls
 expected_on settings now call calls told after e = rw e refl
@@ -192,68 +229,117 @@ expected_end : (settings : CallSettings) (now : Between) → expected_calls sett
 unfolding expected_calls
 expected_end settings now = refl
 
-held_first : (settings : CallSettings) (now : Between) (call : Call) (calls : List Call) → AreHeldNext settings now (call ∷ calls) → IsHeldNext settings now call
+held_first : (settings : CallSettings) (now : Between) (call : Call) (calls : List Call)
+    → AreHeldNext settings now (call ∷ calls) → IsHeldNext settings now call
 unfolding AreHeldNext
 held_first settings now call calls held = held.0
 
-held_later : (settings : CallSettings) (now : Between) (call : Call) (calls : List Call) (told : JoinedReport) (after : Between) → next settings now call ≡ record { expected = Reported told; stops = false; after = after } →
+held_later : (settings : CallSettings) (now : Between) (call : Call) (calls : List Call)
+    (told : JoinedReport) (after : Between)
+    → next settings now call ≡ record { expected = Reported told; stops = false; after = after } →
     AreHeldNext settings now (call ∷ calls) → AreHeldNext settings after calls
 unfolding AreHeldNext
-held_later settings now call calls told after e held = let later : Unless (next settings now call).stops (AreHeldNext settings (next settings now call).after calls) = held.1 in
+held_later settings now call calls told after e held =
+    let later : Unless (next settings now call).stops
+    (AreHeldNext settings (next settings now call).after calls) = held.1 in
     subst (λ (n : Next). Unless n.stops (AreHeldNext settings n.after calls)) e later
 
 -- Client and server joined answer as the object map.
-pub joined_is_direct : Laws → (settings : CallSettings) (objects : List Object) (given : List Made) (asked : List Asked) (calls : List Call) (xs : List JoinedReport) → AllFit settings objects given calls →
-    AreHeldNext settings (starts objects given asked) calls → ReportsMatch settings (expected_calls settings (starts objects given asked) calls) xs → answers_of xs ≡ direct objects given calls
-joined_is_direct laws settings objects given asked [] xs fit held meet = go xs (subst (λ es. ReportsMatch settings es xs) (expected_end settings _) meet)
+pub joined_is_direct : Laws → (settings : CallSettings) (objects : List Object) (given : List Made)
+    (asked : List Asked) (calls : List Call) (xs : List JoinedReport)
+    → AllFit settings objects given calls →
+    AreHeldNext settings (starts objects given asked) calls
+    → ReportsMatch settings (expected_calls settings (starts objects given asked) calls) xs
+    → answers_of xs ≡ direct objects given calls
+joined_is_direct laws settings objects given asked [] xs fit held meet =
+    go xs (subst (λ es. ReportsMatch settings es xs) (expected_end settings _) meet)
   where
     go : (ys : List JoinedReport) → ReportsMatch settings [] ys → answers_of ys ≡ []
     go [] m = refl
     go (y ∷ ys) m = absurd m
 joined_is_direct laws settings objects given asked (call ∷ calls) xs fit held meet =
-    go (λ ys m. joined_is_direct laws settings (step objects call (first_for (question objects call) given)).objects (rest_for (question objects call) given) (asked ++ option_to_list (question objects call)) calls ys fit.1
+    go (λ ys m. joined_is_direct laws settings
+    (step objects call (first_for (question objects call) given)).objects
+    (rest_for (question objects call) given)
+    (asked ++ option_to_list (question objects call)) calls ys fit.1
     (held_later settings _ call calls own.told _ own.next_is held) m)
     xs (subst (λ es. ReportsMatch settings es xs) (expected_on settings _ call calls own.told _ own.next_is) meet)
   where
     own : Own settings objects given asked call
     own = own_next laws settings objects given asked call fit.0 (held_first settings _ call calls held)
 
-    go : ((ys : List JoinedReport) → ReportsMatch settings (expected_calls settings (starts (step objects call (first_for (question objects call) given)).objects (rest_for (question objects call) given) (asked ++ option_to_list (question objects call))) calls) ys →
-        answers_of ys ≡ direct (step objects call (first_for (question objects call) given)).objects (rest_for (question objects call) given) calls) →
-        (ys : List JoinedReport) → ReportsMatch settings (Reported own.told ∷ expected_calls settings (starts (step objects call (first_for (question objects call) given)).objects (rest_for (question objects call) given) (asked ++ option_to_list (question objects call))) calls) ys →
+    go : ((ys : List JoinedReport) → ReportsMatch settings
+        (expected_calls settings (starts (step objects call
+        (first_for (question objects call) given)).objects (rest_for (question objects call) given)
+        (asked ++ option_to_list (question objects call))) calls) ys →
+        answers_of ys ≡ direct (step objects call (first_for (question objects call) given)).objects
+        (rest_for (question objects call) given) calls) →
+        (ys : List JoinedReport) → ReportsMatch settings
+        (Reported own.told ∷ expected_calls settings
+        (starts (step objects call (first_for (question objects call) given)).objects
+        (rest_for (question objects call) given)
+        (asked ++ option_to_list (question objects call))) calls) ys →
         answers_of ys ≡ direct objects given (call ∷ calls)
     go hypothesis [] m = absurd m
     go hypothesis (y ∷ ys) m =
-        let first : y.answer ≡ reply_answer call (step objects call (first_for (question objects call) given)).answer = ap (λ (x : JoinedReport). x.answer) m.0 ∙ own.answer in
+        let first : y.answer ≡ reply_answer call
+        (step objects call (first_for (question objects call) given)).answer =
+        ap (λ (x : JoinedReport). x.answer) m.0 ∙ own.answer in
         let later = hypothesis ys m.1 in
-        ap (λ a. a ∷ answers_of ys) first ∙ ap (λ as'. reply_answer call (step objects call (first_for (question objects call) given)).answer ∷ as') later
+        ap (λ a. a ∷ answers_of ys) first
+        ∙ ap (λ as'. reply_answer call
+        (step objects call (first_for (question objects call) given)).answer ∷ as') later
 
 -- over a link that was just made
-pub direct_new : Laws → (settings : CallSettings) (now : Between) (given : List Made) (calls : List Call) (xs : List JoinedReport) → now ≡ record { objects = []; given = given; asked = []; rest = [] } → AllFit settings [] given calls →
-    AreHeldNext settings now calls → ReportsMatch settings (expected_calls settings now calls) xs → answers_of xs ≡ direct [] given calls
+pub direct_new : Laws → (settings : CallSettings) (now : Between) (given : List Made)
+    (calls : List Call) (xs : List JoinedReport)
+    → now ≡ record { objects = []; given = given; asked = []; rest = [] }
+    → AllFit settings [] given calls →
+    AreHeldNext settings now calls → ReportsMatch settings (expected_calls settings now calls) xs
+    → answers_of xs ≡ direct [] given calls
 direct_new laws settings now given calls xs is fit held meet =
-    joined_is_direct laws settings [] given [] calls xs fit (subst (λ n. AreHeldNext settings n calls) is held) (subst (λ n. ReportsMatch settings (expected_calls settings n calls) xs) is meet)
+    joined_is_direct laws settings [] given [] calls xs fit
+    (subst (λ n. AreHeldNext settings n calls) is held)
+    (subst (λ n. ReportsMatch settings (expected_calls settings n calls) xs) is meet)
 
 -- the objects are those of the object map too
-objects_are_direct : Laws → (settings : CallSettings) (objects : List Object) (given : List Made) (asked : List Asked) (calls : List Call) → AllFit settings objects given calls →
-    AreHeldNext settings (starts objects given asked) calls → (finish settings (starts objects given asked) calls).objects ≡ objects_after objects (answered_calls objects given calls)
-objects_are_direct laws settings objects given asked [] fit held = ap (λ (b : Between). b.objects) (finish_end settings (starts objects given asked))
+objects_are_direct : Laws → (settings : CallSettings) (objects : List Object) (given : List Made)
+    (asked : List Asked) (calls : List Call) → AllFit settings objects given calls →
+    AreHeldNext settings (starts objects given asked) calls
+    → (finish settings (starts objects given asked) calls).objects
+    ≡ objects_after objects (answered_calls objects given calls)
+objects_are_direct laws settings objects given asked [] fit held =
+    ap (λ (b : Between). b.objects) (finish_end settings (starts objects given asked))
 objects_are_direct laws settings objects given asked (call ∷ calls) fit held =
-    let own : Own settings objects given asked call = own_next laws settings objects given asked call fit.0 (held_first settings _ call calls held) in
+    let own : Own settings objects given asked call =
+    own_next laws settings objects given asked call fit.0
+    (held_first settings _ call calls held) in
     ap (λ (b : Between). b.objects) (finish_cons settings _ call calls (Reported own.told) false _ own.next_is)
-    ∙ objects_are_direct laws settings (step objects call (first_for (question objects call) given)).objects (rest_for (question objects call) given) (asked ++ option_to_list (question objects call)) calls fit.1
+    ∙ objects_are_direct laws settings
+    (step objects call (first_for (question objects call) given)).objects
+    (rest_for (question objects call) given)
+    (asked ++ option_to_list (question objects call)) calls fit.1
     (held_later settings _ call calls own.told _ own.next_is held)
 
-objects_new : Laws → (settings : CallSettings) (now : Between) (given : List Made) (calls : List Call) → now ≡ record { objects = []; given = given; asked = []; rest = [] } → AllFit settings [] given calls →
-    AreHeldNext settings now calls → (finish settings now calls).objects ≡ objects_after [] (answered_calls [] given calls)
+objects_new : Laws → (settings : CallSettings) (now : Between) (given : List Made)
+    (calls : List Call) → now ≡ record { objects = []; given = given; asked = []; rest = [] }
+    → AllFit settings [] given calls →
+    AreHeldNext settings now calls → (finish settings now calls).objects
+    ≡ objects_after [] (answered_calls [] given calls)
 objects_new laws settings now given calls is fit held =
-    ap (λ n. (finish settings n calls).objects) is ∙ objects_are_direct laws settings [] given [] calls fit (subst (λ n. AreHeldNext settings n calls) is held)
+    ap (λ n. (finish settings n calls).objects) is
+    ∙ objects_are_direct laws settings [] given [] calls fit
+    (subst (λ n. AreHeldNext settings n calls) is held)
 
 -- ---- all that is promised of calls
 
-session_of : Laws → {M : Type 0} (state : M → MakerState) (calls : List Call) (before after : ClientState (ServerLinkState M)) (reports : List CallAnswer) → CallsRan state calls before reports after →
-    (IsOpen state before.link → CallsEnd state (call_settings before) (server_link_state state before.link) after.link calls (map report_of reports)) →
-    after.errors ≡ count_after before.errors (last_is_lost (map report_of reports)) → IsCallSession state calls before after reports
+session_of : Laws → {M : Type 0} (state : M → MakerState) (calls : List Call)
+    (before after : ClientState (ServerLinkState M)) (reports : List CallAnswer)
+    → CallsRan state calls before reports after →
+    (IsOpen state before.link → CallsEnd state (call_settings before)
+    (server_link_state state before.link) after.link calls (map report_of reports)) →
+    after.errors ≡ count_after before.errors (last_is_lost (map report_of reports))
+    → IsCallSession state calls before after reports
 session_of laws state calls before after reports ran ended count =
     let settings : CallSettings = call_settings before in
     let given : List Made = (state after.link.server.maker).given in
@@ -269,14 +355,27 @@ session_of laws state calls before after reports ran ended count =
       faulted = λ opened. (ended opened).faulted;
       direct_answers = λ new fit.
           let end = ended (open_new state before.link new) in
-          direct_new laws settings now given calls (map report_of reports) (between_new before.link.server.time given (server_link_state state before.link) new.sent new.ever new.pos) fit end.held end.meet;
+          direct_new laws settings now given calls (map report_of reports)
+          (between_new before.link.server.time given
+          (server_link_state state before.link) new.sent new.ever new.pos)
+          fit end.held end.meet;
       direct_objects = λ new fit.
           let end = ended (open_new state before.link new) in
-          ap (λ (b : Between). b.objects) end.ends ∙ objects_new laws settings now given calls (between_new before.link.server.time given (server_link_state state before.link) new.sent new.ever new.pos) fit end.held;
+          ap (λ (b : Between). b.objects) end.ends
+          ∙ objects_new laws settings now given calls
+          (between_new before.link.server.time given
+          (server_link_state state before.link) new.sent new.ever new.pos) fit end.held;
     }
 
-pub session_if : Laws → {M : Type 0} (state : M → MakerState) (calls : List Call) (before after : ClientState (ServerLinkState M)) (result : Result (List CallAnswer) Error) → IfOk result (λ reports. CallsRan state calls before reports after) →
-    IfOk result (λ reports. IsOpen state before.link → CallsEnd state (call_settings before) (server_link_state state before.link) after.link calls (map report_of reports)) →
-    IfOk result (λ reports. after.errors ≡ count_after before.errors (last_is_lost (map report_of reports))) → IfOk result (λ reports. IsCallSession state calls before after reports)
-session_if laws state calls before after (Ok reports) ran ended count = session_of laws state calls before after reports ran ended count
+pub session_if : Laws → {M : Type 0} (state : M → MakerState) (calls : List Call)
+    (before after : ClientState (ServerLinkState M)) (result : Result (List CallAnswer) Error)
+    → IfOk result (λ reports. CallsRan state calls before reports after) →
+    IfOk result (λ reports. IsOpen state before.link
+    → CallsEnd state (call_settings before)
+    (server_link_state state before.link) after.link calls (map report_of reports)) →
+    IfOk result (λ reports. after.errors
+    ≡ count_after before.errors (last_is_lost (map report_of reports)))
+    → IfOk result (λ reports. IsCallSession state calls before after reports)
+session_if laws state calls before after (Ok reports) ran ended count =
+    session_of laws state calls before after reports ran ended count
 session_if laws state calls before after (Err error) ran ended count = ran

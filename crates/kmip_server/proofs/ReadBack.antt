@@ -14,7 +14,11 @@ use Rattle.kmip_server_core.specs.Requests.{request_of}
 use Rattle.kmip_server.specs.Joined.{IsReadBack}
 
 pub reads_of : {E : Type 0} (call : Call) (credential : Option CredentialType) (result : Result (Unit {0}) E) →
-    ((p : RequestPayload) (c : Option CredentialType) (b : List ℕ) → FitsRequest p c → IsMatched p → request_bytes p c ≡ Some b → request_read b ≡ Some (request_for p)) →
-    ((call : Call) → IsMatched (request_of call)) → FitsCredential credential → IfOk result (λ _. Fits request_payload (request_payload_val (request_of call))) → IfOk result (λ _. IsReadBack call credential)
-reads_of call credential (Ok x) read matched texts fits = λ b valid. read (request_of call) credential b (fits, texts) (matched call) valid
+    ((p : RequestPayload) (c : Option CredentialType) (b : List ℕ) → FitsRequest p c → IsMatched p
+    → request_bytes p c ≡ Some b → request_read b ≡ Some (request_for p)) →
+    ((call : Call) → IsMatched (request_of call)) → FitsCredential credential
+    → IfOk result (λ _. Fits request_payload (request_payload_val (request_of call)))
+    → IfOk result (λ _. IsReadBack call credential)
+reads_of call credential (Ok x) read matched texts fits =
+    λ b valid. read (request_of call) credential b (fits, texts) (matched call) valid
 reads_of call credential (Err e) read matched texts fits = tt

@@ -31,22 +31,28 @@ within_says : (n : ℕ) (limit : Option ℕ) (b : List ℕ) → length b ≡ 8 +
 within_says n None b size h = refl
 within_says n (Some limit) b size h = rw (le-ltb limit (n + 8) (omega arith)) refl
 
-pub whole_is : (b : List ℕ) (limit : Option ℕ) → IsMessage b → head_code b ≡ 1 → IsWithinLimit limit b → message_at b limit ≡ Whole b
+pub whole_is : (b : List ℕ) (limit : Option ℕ) → IsMessage b → head_code b ≡ 1
+    → IsWithinLimit limit b → message_at b limit ≡ Whole b
 unfolding message_at
 whole_is b limit message structure h =
     let n : ℕ = head_length b in
     let long : nat_lt (length b) 8 ≡ false = le-ltb (length b) 8 message.head in
     let code : head_code (take 8 b) ≡ 1 = code_same b message.head ∙ structure in
-    let says : head_says (take 8 b) limit ≡ Ok n = rw (code, length_same b message.head) (within_says n limit b message.size h) in
-    let enough : nat_lt (length b) (n + 8) ≡ false = le-ltb (length b) (n + 8) (let s : length b ≡ 8 + n = message.size in omega arith) in
+    let says : head_says (take 8 b) limit ≡ Ok n =
+    rw (code, length_same b message.head) (within_says n limit b message.size h) in
+    let enough : nat_lt (length b) (n + 8) ≡ false =
+    le-ltb (length b) (n + 8) (let s : length b ≡ 8 + n = message.size in omega arith) in
     let all : n + 8 ≡ length b = let s : length b ≡ 8 + n = message.size in omega arith in
     rw (long, says, enough) (ap (λ k. Whole (take k b)) all ∙ ap Whole (take-length b))
 
-pub answer_is : (operation : Operation) (m : ResponseMessage) (b : List ℕ) (limit : Option ℕ) → ReadsBack m b → IsWithinLimit limit b → answer_of operation (message_at b limit) ≡ check_response operation (response_message_val m)
+pub answer_is : (operation : Operation) (m : ResponseMessage) (b : List ℕ) (limit : Option ℕ)
+    → ReadsBack m b → IsWithinLimit limit b
+    → answer_of operation (message_at b limit) ≡ check_response operation (response_message_val m)
 answer_is operation m b limit back h =
     ap (answer_of operation) (whole_is b limit back.message back.structure h)
     ∙ ap (tree_answer operation) back.parses
     ∙ ap (value_answer operation) back.reads
 
-pub taken_is : (b : List ℕ) (limit : Option ℕ) (m : ResponseMessage) → ReadsBack m b → IsWithinLimit limit b → taken_for b (message_at b limit) ≡ length b
+pub taken_is : (b : List ℕ) (limit : Option ℕ) (m : ResponseMessage) → ReadsBack m b
+    → IsWithinLimit limit b → taken_for b (message_at b limit) ≡ length b
 taken_is b limit m back h = ap (taken_for b) (whole_is b limit back.message back.structure h)

@@ -37,9 +37,16 @@ item_is : (tag : ℕ) (v : List ℕ) → length v < 2 ^ 32 → length v % 8 ≡ 
 item_is tag v h even =
     let long = item_len tag 1 v in
     let says = head_of tag v h in
-    record { message = record { head = omega (arith, long); size = omega (arith, long, says, even) }; code = code_of_item tag v }
+    record {
+      message = record {
+        head = omega (arith, long);
+        size = omega (arith, long, says, even);
+      };
+      code = code_of_item tag v;
+    }
 
-contents_are : (tag : ℕ) (o : Option (List ℕ)) (b : List ℕ) → IsAligned o → structure_bytes tag o ≡ Some b → IsStructure b
+contents_are : (tag : ℕ) (o : Option (List ℕ)) (b : List ℕ) → IsAligned o
+    → structure_bytes tag o ≡ Some b → IsStructure b
 contents_are tag None b even h = none_some _ h
 contents_are tag (Some v) b even h = go (nat_lt (length v) (2 ^ 32)) refl h
   where
@@ -47,13 +54,17 @@ contents_are tag (Some v) b even h = go (nat_lt (length v) (2 ^ 32)) refl h
     go true e k = subst IsStructure (some_same _ _ k) (item_is tag v (ltb-true (length v) (2 ^ 32) e) even)
     go false e k = none_some _ k
 
-some_bytes : (o : Option Tree) (b : List ℕ) → option_and_then bytes o ≡ Some b → (t : Tree) × (o ≡ Some t) × (bytes t ≡ Some b)
+some_bytes : (o : Option Tree) (b : List ℕ) → option_and_then bytes o ≡ Some b → (t : Tree)
+    × (o ≡ Some t) × (bytes t ≡ Some b)
 some_bytes None b h = none_some _ h
 some_bytes (Some t) b h = (t, refl, h)
 
-structure_is : (o : Option (List Tree)) (tag : ℕ) (t : Tree) (b : List ℕ) → structure_of tag o ≡ Some t → bytes t ≡ Some b → IsStructure b
+structure_is : (o : Option (List Tree)) (tag : ℕ) (t : Tree) (b : List ℕ)
+    → structure_of tag o ≡ Some t → bytes t ≡ Some b → IsStructure b
 structure_is None tag t b e h = none_some _ e
-structure_is (Some ts) tag t b e h = contents_are tag (all_bytes (trees_of ts)) b (trees_aligned (trees_of ts)) (ap bytes (some_same _ _ e) ∙ h)
+structure_is (Some ts) tag t b e h =
+    contents_are tag (all_bytes (trees_of ts)) b (trees_aligned (trees_of ts))
+    (ap bytes (some_same _ _ e) ∙ h)
 
 response_is : (m : ResponseMessage) (b : List ℕ) → response_bytes m ≡ Some b → IsStructure b
 response_is m b h =
@@ -72,15 +83,20 @@ table_depth : depth response_message ≤ 64
 table_depth = omega arith
 
 -- the tree that a response's bytes are written of, as which they parse
-written : (m : ResponseMessage) (b : List ℕ) → IsHeld m → response_bytes m ≡ Some b → (t : Tree) × (response_tree m ≡ Some t) × Parses t 1 b
+written : (m : ResponseMessage) (b : List ℕ) → IsHeld m → response_bytes m ≡ Some b → (t : Tree)
+    × (response_tree m ≡ Some t) × Parses t 1 b
 written m b f h =
     let s = some_bytes (response_tree m) b h in
-    let k : Keeps (Some s.0) (depth response_message) = subst (λ (o : Option Tree). Keeps o (depth response_message)) s.1 (fits_ranges response_message (response_message_val m) 0x42007B table_in_range (omega arith) f) in
+    let k : Keeps (Some s.0) (depth response_message) =
+    subst (λ (o : Option Tree). Keeps o (depth response_message)) s.1
+    (fits_ranges response_message (response_message_val m) 0x42007B table_in_range
+    (omega arith) f) in
     (s.0, s.1, written_parses s.0 1 b k.0 (omega arith) (omega (arith, k.1, table_depth)) s.2)
 
 -- what is promised of settled messages
 abbrev pub AreReadBack : Type 0
-AreReadBack = (m : ResponseMessage) (t : Tree) → IsHeld m → IsSettled m → response_tree m ≡ Some t → root_read response_message 0x42007B t ≡ Some (response_message_val m)
+AreReadBack = (m : ResponseMessage) (t : Tree) → IsHeld m → IsSettled m → response_tree m ≡ Some t
+    → root_read response_message 0x42007B t ≡ Some (response_message_val m)
 
 -- the bytes are one message that reads as this one
 pub record ReadsBack (m : ResponseMessage) (b : List ℕ) : Type 0 where
@@ -90,7 +106,8 @@ pub record ReadsBack (m : ResponseMessage) (b : List ℕ) : Type 0 where
   pub parses : item_of 64 b ≡ Some tree
   pub reads : root_read response_message 0x42007B tree ≡ Some (response_message_val m)
 
-pub reads_back : AreReadBack → (m : ResponseMessage) (b : List ℕ) → IsHeld m → IsSettled m → response_bytes m ≡ Some b → ReadsBack m b
+pub reads_back : AreReadBack → (m : ResponseMessage) (b : List ℕ) → IsHeld m → IsSettled m
+    → response_bytes m ≡ Some b → ReadsBack m b
 reads_back law m b held settled h =
     let is = response_is m b h in
     let w = written m b held h in

@@ -23,29 +23,48 @@ use Rattle.kmip_server_core.proofs.Answering.{message_told, objects_told, unwrit
 
 -- ---- what is foretold is what the step answers
 
-allowed_told : (b : Bool) (objects : List Object) (s : Stepped) → s.answer ≡ Done → cond b Done Denied ≡ (step_where b objects s).answer
+allowed_told : (b : Bool) (objects : List Object) (s : Stepped) → s.answer ≡ Done
+    → cond b Done Denied ≡ (step_where b objects s).answer
 allowed_told true objects s h = sym h
 allowed_told false objects s h = refl
 
 found_told : (f : Option (ℕ × Object)) (objects : List Object) (allows : Object → Bool) (act : ℕ → Object → Stepped) →
-    ((place : ℕ) (object : Object) → cond (allows object) Done Denied ≡ (act place object).answer) → change_answer allows (option_map object_of f) ≡ (on_found f objects act).answer
+    ((place : ℕ) (object : Object) → cond (allows object) Done Denied ≡ (act place object).answer)
+    → change_answer allows (option_map object_of f) ≡ (on_found f objects act).answer
 found_told None objects allows act h = refl
 found_told (Some at) objects allows act h = h at.0 at.1
 
-pub activate_told : (objects : List Object) (id : List ℕ) → change_answer (λ object. is_pre_active object.state) (option_map object_of (find_in objects id)) ≡ (step objects (ActivateKey id) None).answer
-activate_told objects id = found_told (find_in objects id) objects (λ object. is_pre_active object.state) (activate objects) (λ place object. allowed_told (is_pre_active object.state) objects _ refl)
+pub activate_told : (objects : List Object) (id : List ℕ)
+    → change_answer (λ object. is_pre_active object.state)
+    (option_map object_of (find_in objects id)) ≡ (step objects (ActivateKey id) None).answer
+activate_told objects id = found_told (find_in objects id) objects
+    (λ object. is_pre_active object.state) (activate objects)
+    (λ place object. allowed_told (is_pre_active object.state) objects _ refl)
 
-pub revoke_told : (objects : List Object) (id : List ℕ) → change_answer (λ object. is_active object.state) (option_map object_of (find_in objects id)) ≡ (step objects (RevokeKey id) None).answer
-revoke_told objects id = found_told (find_in objects id) objects (λ object. is_active object.state) (revoke objects) (λ place object. allowed_told (is_active object.state) objects _ refl)
+pub revoke_told : (objects : List Object) (id : List ℕ)
+    → change_answer (λ object. is_active object.state) (option_map object_of (find_in objects id))
+    ≡ (step objects (RevokeKey id) None).answer
+revoke_told objects id = found_told (find_in objects id) objects (λ object. is_active object.state)
+    (revoke objects) (λ place object. allowed_told (is_active object.state) objects _ refl)
 
-pub destroy_told : (objects : List Object) (id : List ℕ) → change_answer (λ object. not (is_active object.state || is_destroyed object.state)) (option_map object_of (find_in objects id)) ≡ (step objects (DestroyKey id) None).answer
-destroy_told objects id = found_told (find_in objects id) objects (λ object. not (is_active object.state || is_destroyed object.state)) (destroy objects) (λ place object. allowed_told (not (is_active object.state || is_destroyed object.state)) objects _ refl)
+pub destroy_told : (objects : List Object) (id : List ℕ)
+    → change_answer (λ object. not (is_active object.state || is_destroyed object.state))
+    (option_map object_of (find_in objects id)) ≡ (step objects (DestroyKey id) None).answer
+destroy_told objects id = found_told (find_in objects id) objects
+    (λ object. not (is_active object.state || is_destroyed object.state)) (destroy objects)
+    (λ place object. allowed_told (not (is_active object.state || is_destroyed object.state))
+    objects _ refl)
 
-pub rename_told : (objects : List Object) (id name : List ℕ) → change_answer (λ object. not (is_destroyed object.state)) (option_map object_of (find_in objects id)) ≡ (step objects (RenameKey id name) None).answer
-rename_told objects id name = found_told (find_in objects id) objects (λ object. not (is_destroyed object.state)) (rename name objects) (λ place object. allowed_told (not (is_destroyed object.state)) objects _ refl)
+pub rename_told : (objects : List Object) (id name : List ℕ)
+    → change_answer (λ object. not (is_destroyed object.state))
+    (option_map object_of (find_in objects id)) ≡ (step objects (RenameKey id name) None).answer
+rename_told objects id name = found_told (find_in objects id) objects
+    (λ object. not (is_destroyed object.state)) (rename name objects)
+    (λ place object. allowed_told (not (is_destroyed object.state)) objects _ refl)
 
 -- an object that is told stays
-allowed_stays : (b : Bool) (objects : List Object) (answer : Answer) → (step_where b objects (stay objects answer)).objects ≡ objects
+allowed_stays : (b : Bool) (objects : List Object) (answer : Answer)
+    → (step_where b objects (stay objects answer)).objects ≡ objects
 allowed_stays true objects answer = refl
 allowed_stays false objects answer = refl
 
@@ -59,13 +78,19 @@ get_stays objects id = go (find_in objects id)
 -- ---- what is answered
 
 -- the item tells the step's answer, where that was foretold
-foretold_item : (call : Call) (f : Result (Unit {0}) StoreError) (answer : Answer) (item : BatchItem) → step_answer (λ _. Done) f ≡ Some answer → ItemReports (λ _. Done) call f item → item ≡ item_for call answer
+foretold_item : (call : Call) (f : Result (Unit {0}) StoreError) (answer : Answer)
+    (item : BatchItem) → step_answer (λ _. Done) f ≡ Some answer
+    → ItemReports (λ _. Done) call f item → item ≡ item_for call answer
 foretold_item call f answer item says tells =
-    let h : option_map (item_for call) (Some answer) ≡ Some item = subst (λ o. option_map (item_for call) o ≡ Some item) says tells in
+    let h : option_map (item_for call) (Some answer) ≡ Some item =
+    subst (λ o. option_map (item_for call) o ≡ Some item) says tells in
     sym (some_same (item_for call answer) item h)
 
-done_serves : (objects new : List Object) (call : Call) (time : ℤ) (maker : MakerState) (item : BatchItem) (bytes : List ℕ) → question objects call ≡ None →
-    item ≡ item_for call (step objects call None).answer → IsWritten (message_with time item) (Ok bytes) → (step objects call None).objects ≡ new → AnswersCall call time objects maker maker new (Ok bytes)
+done_serves : (objects new : List Object) (call : Call) (time : ℤ) (maker : MakerState)
+    (item : BatchItem) (bytes : List ℕ) → question objects call ≡ None →
+    item ≡ item_for call (step objects call None).answer
+    → IsWritten (message_with time item) (Ok bytes) → (step objects call None).objects ≡ new
+    → AnswersCall call time objects maker maker new (Ok bytes)
 done_serves objects new call time maker item bytes none item_is w news =
     let same = message_told objects call None time (step objects call None).answer item refl item_is in
     answered None bytes (subst (λ q. IsGiven q None maker maker) (sym none) (none_given maker))
@@ -73,20 +98,37 @@ done_serves objects new call time maker item bytes none item_is w news =
     (sym news ∙ objects_told objects call None time)
 
 -- a call that the store then did, or refused, or lacked memory for
-pub changing_serves : (objects new : List Object) (call : Call) (time : ℤ) (maker : MakerState) (f r : Result (Unit {0}) StoreError) (item : BatchItem) (bytes : List ℕ) → question objects call ≡ None →
-    step_answer (λ _. Done) f ≡ Some (step objects call None).answer → ItemReports (λ _. Done) call f item → IsWritten (message_with time item) (Ok bytes) →
+pub changing_serves : (objects new : List Object) (call : Call) (time : ℤ) (maker : MakerState)
+    (f r : Result (Unit {0}) StoreError) (item : BatchItem) (bytes : List ℕ)
+    → question objects call ≡ None →
+    step_answer (λ _. Done) f ≡ Some (step objects call None).answer
+    → ItemReports (λ _. Done) call f item → IsWritten (message_with time item) (Ok bytes) →
     Steps (λ _. Done) objects call new r → AnswersCall call time objects maker maker new (response_of r bytes)
-changing_serves objects new call time maker f (Ok x) item bytes none says tells w s = done_serves objects new call time maker item bytes none (foretold_item call f _ item says tells) w (ap (λ (x : Stepped). x.objects) s)
-changing_serves objects new call time maker f (Err errors.ItemNotFound) item bytes none says tells w s = done_serves objects new call time maker item bytes none (foretold_item call f _ item says tells) w (ap (λ (x : Stepped). x.objects) s)
-changing_serves objects new call time maker f (Err errors.PermissionDenied) item bytes none says tells w s = done_serves objects new call time maker item bytes none (foretold_item call f _ item says tells) w (ap (λ (x : Stepped). x.objects) s)
-changing_serves objects new call time maker f (Err errors.CryptographicFailure) item bytes none says tells w s = absurd s
+changing_serves objects new call time maker f (Ok x) item bytes none says tells w s =
+    done_serves objects new call time maker item bytes none
+    (foretold_item call f _ item says tells) w (ap (λ (x : Stepped). x.objects) s)
+changing_serves objects new call time maker f
+    (Err errors.ItemNotFound) item bytes none says tells w s =
+    done_serves objects new call time maker item bytes none
+    (foretold_item call f _ item says tells) w (ap (λ (x : Stepped). x.objects) s)
+changing_serves objects new call time maker f
+    (Err errors.PermissionDenied) item bytes none says tells w s =
+    done_serves objects new call time maker item bytes none
+    (foretold_item call f _ item says tells) w (ap (λ (x : Stepped). x.objects) s)
+changing_serves objects new call time maker f
+    (Err errors.CryptographicFailure) item bytes none says tells w s = absurd s
 changing_serves objects new call time maker f (Err errors.OutOfMemory) item bytes none says tells w s = no_memory refl s
 
 -- a call whose message was not written
-pub unchanged_serves : (objects : List Object) (call : Call) (time : ℤ) (maker : MakerState) (f : Result (Unit {0}) StoreError) (item : BatchItem) (error : WireError) → question objects call ≡ None →
-    step_answer (λ _. Done) f ≡ Some (step objects call None).answer → ItemReports (λ _. Done) call f item → IsWritten (message_with time item) (Err error) →
+pub unchanged_serves : (objects : List Object) (call : Call) (time : ℤ) (maker : MakerState)
+    (f : Result (Unit {0}) StoreError) (item : BatchItem) (error : WireError)
+    → question objects call ≡ None →
+    step_answer (λ _. Done) f ≡ Some (step objects call None).answer
+    → ItemReports (λ _. Done) call f item → IsWritten (message_with time item) (Err error) →
     AnswersCall call time objects maker maker objects (Err error)
 unchanged_serves objects call time maker f item error none says tells w =
     unwritten (question objects call) (λ made. served_call objects call made time) objects maker maker None error
     (subst (λ q. IsGiven q None maker maker) (sym none) (none_given maker))
-    (subst (λ m. IsWritten m (Err error)) (message_told objects call None time (step objects call None).answer item refl (foretold_item call f _ item says tells)) w)
+    (subst (λ m. IsWritten m (Err error))
+    (message_told objects call None time (step objects call None).answer item refl
+    (foretold_item call f _ item says tells)) w)

@@ -20,45 +20,57 @@ use Rattle.kmip_server_core.specs.Answering.{IsItemWritten, answered, no_memory,
 use Rattle.kmip_server_core.proofs.Answering.{message_told, objects_told}
 
 -- a pair that was made has the next two identifiers
-created_is : (objects : List Object) (bits : ℤ) (private public : List ℕ) (made : Option Made) (x y : List ℕ) → (create objects bits private public made).answer ≡ Created x y →
-    (create objects bits private public made).answer ≡ Created (identifier (length objects)) (identifier (length objects + 1))
+created_is : (objects : List Object) (bits : ℤ) (private public : List ℕ) (made : Option Made)
+    (x y : List ℕ) → (create objects bits private public made).answer ≡ Created x y →
+    (create objects bits private public made).answer
+    ≡ Created (identifier (length objects)) (identifier (length objects + 1))
 created_is objects bits private public (Some (answers.Pair a b)) x y h = refl
 created_is objects bits private public (Some (answers.Bytes b)) x y h = absurd (cc)
 created_is objects bits private public (Some answers.Refused) x y h = absurd (cc)
 created_is objects bits private public None x y h = absurd (cc)
 
 -- no pair is refused for an object
-not_found : (objects : List Object) (bits : ℤ) (private public : List ℕ) (made : Option Made) → (create objects bits private public made).answer ≡ NotFound → ⊥
+not_found : (objects : List Object) (bits : ℤ) (private public : List ℕ) (made : Option Made)
+    → (create objects bits private public made).answer ≡ NotFound → ⊥
 not_found objects bits private public (Some (answers.Pair a b)) h = cc
 not_found objects bits private public (Some (answers.Bytes b)) h = cc
 not_found objects bits private public (Some answers.Refused) h = cc
 not_found objects bits private public None h = cc
 
-not_denied : (objects : List Object) (bits : ℤ) (private public : List ℕ) (made : Option Made) → (create objects bits private public made).answer ≡ Denied → ⊥
+not_denied : (objects : List Object) (bits : ℤ) (private public : List ℕ) (made : Option Made)
+    → (create objects bits private public made).answer ≡ Denied → ⊥
 not_denied objects bits private public (Some (answers.Pair a b)) h = cc
 not_denied objects bits private public (Some (answers.Bytes b)) h = cc
 not_denied objects bits private public (Some answers.Refused) h = cc
 not_denied objects bits private public None h = cc
 
-told_serves : (objects new : List Object) (call : Call) (time : ℤ) (before after : MakerState) (given answer : Answer) (bytes : List ℕ) (s : IsStep objects call new given before after) →
-    (step objects call s.made).answer ≡ answer → IsItemWritten time (item_for call answer) bytes → AnswersCall call time objects before after new (Ok bytes)
+told_serves : (objects new : List Object) (call : Call) (time : ℤ) (before after : MakerState)
+    (given answer : Answer) (bytes : List ℕ) (s : IsStep objects call new given before after) →
+    (step objects call s.made).answer ≡ answer → IsItemWritten time (item_for call answer) bytes
+    → AnswersCall call time objects before after new (Ok bytes)
 told_serves objects new call time before after given answer bytes s is t =
     let same = message_told objects call s.made time answer (item_for call answer) is refl in
     answered s.made bytes s.given (subst IsHeld same t.0) (subst (λ m. response_bytes m ≡ Some bytes) same t.1) refl
     (sym (ap (λ (x : Stepped). x.objects) s.step_is) ∙ objects_told objects call s.made time)
 
-pub pair_serves : (objects new : List Object) (bits : ℤ) (private public : List ℕ) (time : ℤ) (before after : MakerState) (r : Result (List ℕ × List ℕ) StoreError) (made refused : List ℕ) →
+pub pair_serves : (objects new : List Object) (bits : ℤ) (private public : List ℕ) (time : ℤ)
+    (before after : MakerState) (r : Result (List ℕ × List ℕ) StoreError) (made refused : List ℕ) →
     StepsAsking (λ pair. Created pair.0 pair.1) objects (CreateRsaKeyPair bits private public) new before after r →
-    IsItemWritten time (item_for (CreateRsaKeyPair bits private public) (Created (identifier (length objects)) (identifier (length objects + 1)))) made →
+    IsItemWritten time (item_for (CreateRsaKeyPair bits private public)
+    (Created (identifier (length objects)) (identifier (length objects + 1)))) made →
     IsItemWritten time (item_for (CreateRsaKeyPair bits private public) Failed) refused →
     AnswersCall (CreateRsaKeyPair bits private public) time objects before after new (response_of_pair r made refused)
 pair_serves objects new bits private public time before after (Ok pair) made refused s t f =
-    told_serves objects new (CreateRsaKeyPair bits private public) time before after (Created pair.0 pair.1) (Created (identifier (length objects)) (identifier (length objects + 1))) made s
+    told_serves objects new (CreateRsaKeyPair bits private public) time before after
+    (Created pair.0 pair.1) (Created (identifier (length objects))
+    (identifier (length objects + 1))) made s
     (created_is objects bits private public s.made pair.0 pair.1 (ap (λ (x : Stepped). x.answer) s.step_is)) t
 pair_serves objects new bits private public time before after (Err errors.CryptographicFailure) made refused s t f =
-    told_serves objects new (CreateRsaKeyPair bits private public) time before after Failed Failed refused s.0 (ap (λ (x : Stepped). x.answer) (s.0).step_is) f
+    told_serves objects new (CreateRsaKeyPair bits private public)
+    time before after Failed Failed refused s.0 (ap (λ (x : Stepped). x.answer) (s.0).step_is) f
 pair_serves objects new bits private public time before after (Err errors.ItemNotFound) made refused s t f =
     absurd (not_found objects bits private public s.made (ap (λ (x : Stepped). x.answer) s.step_is))
 pair_serves objects new bits private public time before after (Err errors.PermissionDenied) made refused s t f =
     absurd (not_denied objects bits private public s.made (ap (λ (x : Stepped). x.answer) s.step_is))
-pair_serves objects new bits private public time before after (Err errors.OutOfMemory) made refused s t f = no_memory refl s.0
+pair_serves objects new bits private public time before after
+    (Err errors.OutOfMemory) made refused s t f = no_memory refl s.0

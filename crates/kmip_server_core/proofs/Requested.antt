@@ -23,7 +23,9 @@ use Rattle.kmip_server_core.specs.Requests.{request_of, candidate, if_request, c
 use Rattle.kmip_server_core.proofs.Matched.{helper_is_matched}
 
 own : (call : Call) → if_request (request_payload_val (request_of call)) call ≡ Some call
-own call = let e : same_val (request_payload_val (request_of call)) (request_payload_val (request_of call)) ≡ true = same_val-refl (request_payload_val (request_of call)) in rw e refl
+own call =
+    let e : same_val (request_payload_val (request_of call)) (request_payload_val (request_of call))
+    ≡ true = same_val-refl (request_payload_val (request_of call)) in rw e refl
 
 -- the call of its own request
 pub own_call : (call : Call) → call_of (request_for (request_of call)) ≡ Some call
@@ -52,8 +54,10 @@ picked_own (GetKey id) = refl
 if_payload : (payload : Val) (d c : Call) → if_request payload d ≡ Some c → request_payload_val (request_of c) ≡ payload
 if_payload payload d c h = go (same_val (request_payload_val (request_of d)) payload) refl h
   where
-    go : (b : Bool) → same_val (request_payload_val (request_of d)) payload ≡ b → (if b then Some d else None) ≡ Some c → request_payload_val (request_of c) ≡ payload
-    go true e k = ap (λ x. request_payload_val (request_of x)) (sym (some_same d c k)) ∙ same_val-sound (request_payload_val (request_of d)) payload e
+    go : (b : Bool) → same_val (request_payload_val (request_of d)) payload ≡ b
+        → (if b then Some d else None) ≡ Some c → request_payload_val (request_of c) ≡ payload
+    go true e k = ap (λ x. request_payload_val (request_of x)) (sym (some_same d c k))
+        ∙ same_val-sound (request_payload_val (request_of d)) payload e
     go false e k = none_some _ k
 
 -- the request of the call has this payload
@@ -61,15 +65,18 @@ pub call_payload : (r : Request) (c : Call) → call_of r ≡ Some c → request
 unfolding call_of
 call_payload r c h = go (candidate r.operation r.payload) h
   where
-    go : (o : Option Call) → option_and_then (if_request r.payload) o ≡ Some c → request_payload_val (request_of c) ≡ r.payload
+    go : (o : Option Call) → option_and_then (if_request r.payload) o ≡ Some c
+        → request_payload_val (request_of c) ≡ r.payload
     go None k = none_some _ k
     go (Some d) k = if_payload r.payload d c k
 
 -- ---- what the code looks at
 
 -- bytes that are read as the payload and as the request of a call
-pub same_read : (b : List ℕ) (p : RequestPayload) (c : Call) → request_read b ≡ Some (request_for p) → request_read b ≡ Some (request_for (request_of c)) → Some c ≡ call_of (request_for p)
-same_read b p c read own = sym (own_call c) ∙ ap call_of (some_same (request_for (request_of c)) (request_for p) (sym own ∙ read))
+pub same_read : (b : List ℕ) (p : RequestPayload) (c : Call) → request_read b ≡ Some (request_for p)
+    → request_read b ≡ Some (request_for (request_of c)) → Some c ≡ call_of (request_for p)
+same_read b p c read own = sym (own_call c)
+    ∙ ap call_of (some_same (request_for (request_of c)) (request_for p) (sym own ∙ read))
 
 none_called : (p : RequestPayload) → ((c : Call) → request_of c ≡ p → ⊥) → None ≡ call_of (request_for p)
 none_called p never = go (call_of (request_for p)) refl
@@ -81,35 +88,52 @@ none_called p never = go (call_of (request_for p)) refl
 pub no_candidate : (p : RequestPayload) → candidate_call p ≡ None → None ≡ call_of (request_for p)
 no_candidate p none = none_called p (λ c h. none_some ⊥ (sym none ∙ (ap candidate_call (sym h) ∙ picked_own c)))
 
-pub other_request : (p : RequestPayload) (c : Call) → candidate_call p ≡ Some c → (request_of c ≡ p → ⊥) → None ≡ call_of (request_for p)
-other_request p c some other = none_called p (λ d h. other (ap request_of (some_same c d (sym some ∙ (ap candidate_call (sym h) ∙ picked_own d))) ∙ h))
+pub other_request : (p : RequestPayload) (c : Call) → candidate_call p ≡ Some c
+    → (request_of c ≡ p → ⊥) → None ≡ call_of (request_for p)
+other_request p c some other = none_called p
+    (λ d h. other (ap request_of (some_same c d (sym some ∙
+    (ap candidate_call (sym h) ∙ picked_own d))) ∙ h))
 
 -- bytes of the payload that are not those of the one call whose request it may be
-pub other_bytes : (b : List ℕ) (p : RequestPayload) (credential : Option CredentialType) (c : Call) → candidate_call p ≡ Some c → request_bytes p credential ≡ Some b → (request_bytes (request_of c) credential ≡ Some b → ⊥) → None ≡ call_of (request_for p)
-other_bytes b p credential c some written other = other_request p c some (λ h. other (ap (λ x. request_bytes x credential) h ∙ written))
+pub other_bytes : (b : List ℕ) (p : RequestPayload) (credential : Option CredentialType) (c : Call)
+    → candidate_call p ≡ Some c → request_bytes p credential ≡ Some b
+    → (request_bytes (request_of c) credential ≡ Some b → ⊥) → None ≡ call_of (request_for p)
+other_bytes b p credential c some written other =
+    other_request p c some (λ h. other (ap (λ x. request_bytes x credential) h ∙ written))
 
 -- bytes of the payload are the request of a call where its request is written as them
-pub is_of : (r : Result Bool OutOfMemory) (b : List ℕ) (p : RequestPayload) (credential : Option CredentialType) (c : Call) → request_read b ≡ Some (request_for p) → request_bytes p credential ≡ Some b →
-    IfOk r (λ same. same ≡ true → request_read b ≡ Some (request_for (request_of c))) → IfOk r (λ same. same ≡ false → request_bytes (request_of c) credential ≡ Some b → ⊥) →
+pub is_of : (r : Result Bool OutOfMemory) (b : List ℕ) (p : RequestPayload)
+    (credential : Option CredentialType) (c : Call) → request_read b ≡ Some (request_for p)
+    → request_bytes p credential ≡ Some b →
+    IfOk r (λ same. same ≡ true → request_read b ≡ Some (request_for (request_of c)))
+    → IfOk r (λ same. same ≡ false → request_bytes (request_of c) credential ≡ Some b → ⊥) →
     IfOk r (λ is. IsTrue is ↔ (request_read b ≡ Some (request_for (request_of c))))
 is_of (Ok true) b p credential c read written same other = (λ t. same refl, λ h. refl)
 is_of (Ok false) b p credential c read written same other = (
   λ t. absurd (cc),
   λ h.
-      let vals : request_payload_val (request_of c) ≡ request_payload_val p = ap (λ (x : Request). x.payload) (some_same (request_for (request_of c)) (request_for p) (sym h ∙ read)) in
+      let vals : request_payload_val (request_of c) ≡ request_payload_val p =
+      ap (λ (x : Request). x.payload)
+      (some_same (request_for (request_of c)) (request_for p) (sym h ∙ read)) in
       absurd (other refl (ap (λ x. request_bytes x credential) (request_payload_same (request_of c) p vals) ∙ written)),
 )
 is_of (Err e) b p credential c read written same other = tt
 
 -- and bytes that are no request are that of no call
-pub is_of_none : (b : List ℕ) (c : Call) → request_read b ≡ None → IsTrue false ↔ (request_read b ≡ Some (request_for (request_of c)))
+pub is_of_none : (b : List ℕ) (c : Call) → request_read b ≡ None
+    → IsTrue false ↔ (request_read b ≡ Some (request_for (request_of c)))
 is_of_none b c none = (λ t. absurd (cc), λ h. none_some _ (sym none ∙ h))
 
 -- ---- what the code writes
 
 -- a call's request was written as these bytes
-pub made_read : ((p : RequestPayload) (c : Option CredentialType) (b : List ℕ) → FitsRequest p c → IsMatched p → request_bytes p c ≡ Some b → request_read b ≡ Some (request_for p)) →
-    (call : Call) (p : RequestPayload) (credential : Option CredentialType) (b : List ℕ) → p ≡ request_of call → Fits request_payload (request_payload_val p) → FitsCredential credential → request_bytes p credential ≡ Some b →
+pub made_read : ((p : RequestPayload) (c : Option CredentialType) (b : List ℕ) → FitsRequest p c
+    → IsMatched p → request_bytes p c ≡ Some b → request_read b ≡ Some (request_for p)) →
+    (call : Call) (p : RequestPayload) (credential : Option CredentialType) (b : List ℕ)
+    → p ≡ request_of call → Fits request_payload (request_payload_val p)
+    → FitsCredential credential → request_bytes p credential ≡ Some b →
     request_read b ≡ Some (request_for (request_of call))
 made_read reads call p credential b is fits texts written =
-    reads (request_of call) credential b (subst (λ x. Fits request_payload (request_payload_val x)) is fits, texts) (helper_is_matched call) (subst (λ x. request_bytes x credential ≡ Some b) is written)
+    reads (request_of call) credential b
+    (subst (λ x. Fits request_payload (request_payload_val x)) is fits, texts)
+    (helper_is_matched call) (subst (λ x. request_bytes x credential ≡ Some b) is written)

@@ -20,4 +20,5 @@ date_fits z h = rw (dated z h) (date_below z h)
     date_below (negsuc n) h = let l : n < 2 ^ 63 = h.sfits in omega arith
 
 pub date_read : (n : ℕ) → n < 2 ^ 64 → date_val (cast_signed w64 n) ≡ Number (pos n)
-date_read n h = ap Number (dated (cast_signed w64 n) (sfits_to_z {w = w64} {n = n} (record { fits = h })) ∙ ap pos (of_z-to_z w64 n h))
+date_read n h = ap Number (dated (cast_signed w64 n)
+    (sfits_to_z {w = w64} {n = n} (record { fits = h })) ∙ ap pos (of_z-to_z w64 n h))

@@ -19,7 +19,8 @@ take-two_writes xs o x y fits =
 pub digits_step : (input output : List ℕ) (i x y : ℕ) → i < length input → 2 * i + 1 < length output
     → x ≡ hex_digit (slice_index input i / 16) → y ≡ hex_digit (slice_index input i % 16)
     → take (2 * i) output ++ flat_map hex_byte (drop i input) ≡ flat_map hex_byte input
-    → take (2 * (i + 1)) (slice_set (slice_set output (2 * i) x) (2 * i + 1) y) ++ flat_map hex_byte (drop (i + 1) input) ≡ flat_map hex_byte input
+    → take (2 * (i + 1)) (slice_set (slice_set output (2 * i) x) (2 * i + 1) y)
+    ++ flat_map hex_byte (drop (i + 1) input) ≡ flat_map hex_byte input
 digits_step input output i x y h fits ex ey inv =
     let two : 2 * (i + 1) ≡ 2 * i + 2 = omega arith in
     let front = take-two_writes output (2 * i) x y fits in
@@ -27,14 +28,17 @@ digits_step input output i x y h fits ex ey inv =
     rw (two, front, append_assoc, ex, ey) (rw rest at inv)
 
 pub digits_done : (input output : List ℕ) (i : ℕ) → length input ≤ i
-    → take (2 * i) output ++ flat_map hex_byte (drop i input) ≡ flat_map hex_byte input → take (2 * i) output ≡ flat_map hex_byte input
+    → take (2 * i) output ++ flat_map hex_byte (drop i input) ≡ flat_map hex_byte input
+    → take (2 * i) output ≡ flat_map hex_byte input
 digits_done input output i h inv =
     let d = drop_all i input h in
     rw (d, append-nil) at inv
 
 pub ascii_step : (output : List ℕ) (i x y : ℕ) → 2 * i + 1 < length output → x < 128 → y < 128
-    → IsAscii (take (2 * i) output) → IsAscii (take (2 * (i + 1)) (slice_set (slice_set output (2 * i) x) (2 * i + 1) y))
+    → IsAscii (take (2 * i) output) → IsAscii
+    (take (2 * (i + 1)) (slice_set (slice_set output (2 * i) x) (2 * i + 1) y))
 ascii_step output i x y fits small little before =
     let two : 2 * (i + 1) ≡ 2 * i + 2 = omega arith in
     let front = take-two_writes output (2 * i) x y fits in
-    rw (two, front) (IsAscii-append (take (2 * i) output) (x ∷ y ∷ []) before (IsAscii-cons x (y ∷ []) small (IsAscii-cons y [] little IsAscii-nil)))
+    rw (two, front) (IsAscii-append (take (2 * i) output) (x ∷ y ∷ []) before
+    (IsAscii-cons x (y ∷ []) small (IsAscii-cons y [] little IsAscii-nil)))

@@ -25,7 +25,10 @@ wide : (o : Style) (c : ℕ) → 128 ≤ c → flat_map (escape o) (encode_utf8 
 unfolding encode_utf8
 wide o c h = rw (le-ltb c 128 h) (kept o _ (high (ltb c 2048) (ltb c 65536)))
   where
-    high : (a b : Bool) → AreHigh (cond a ((192 + c / 64) ∷ next c ∷ []) (cond b ((224 + c / 4096) ∷ next (c / 64) ∷ next c ∷ []) ((240 + c / 262144) ∷ next (c / 4096) ∷ next (c / 64) ∷ next c ∷ [])))
+    high : (a b : Bool) → AreHigh
+        (cond a ((192 + c / 64) ∷ next c ∷ [])
+        (cond b ((224 + c / 4096) ∷ next (c / 64) ∷ next c ∷ [])
+        ((240 + c / 262144) ∷ next (c / 4096) ∷ next (c / 64) ∷ next c ∷ [])))
     high true b = (omega arith, (omega arith, tt))
     high false true = (omega arith, (omega arith, (omega arith, tt)))
     high false false = (omega arith, (omega arith, (omega arith, (omega arith, tt))))
@@ -34,7 +37,8 @@ pub quote : {a b : Growing} → Grows a b (always (92 ∷ 34 ∷ [])) → Grows 
 unfolding encode_utf8
 quote {a} {b} p = p
 
-pub backslash : {a b : Growing} → Grows a b (always (92 ∷ 92 ∷ [])) → Grows a b (λ o. flat_map (escape o) (encode_utf8 92))
+pub backslash : {a b : Growing} → Grows a b (always (92 ∷ 92 ∷ []))
+    → Grows a b (λ o. flat_map (escape o) (encode_utf8 92))
 unfolding encode_utf8
 backslash {a} {b} p = p
 
@@ -43,18 +47,24 @@ escaped_control o c h =
     let e : escape o c ≡ control_mark o ++ hex_byte c = grind (arith, nat_tests) in
     rw (encode_ascii c (omega arith), e) (append-nil (control_mark o ++ hex_byte c))
 
-pub control : {a b : Growing} (c : ℕ) → c < 32 → Grows a b (λ o. control_mark o ++ hex_byte c) → Grows a b (λ o. flat_map (escape o) (encode_utf8 c))
-control {a} {b} c h p = in_style {x = λ o. control_mark o ++ hex_byte c} {y = λ o. flat_map (escape o) (encode_utf8 c)} (sym (escaped_control a.style c h)) p
+pub control : {a b : Growing} (c : ℕ) → c < 32 → Grows a b (λ o. control_mark o ++ hex_byte c)
+    → Grows a b (λ o. flat_map (escape o) (encode_utf8 c))
+control {a} {b} c h p = in_style {x = λ o. control_mark o ++ hex_byte c}
+    {y = λ o. flat_map (escape o) (encode_utf8 c)} (sym (escaped_control a.style c h)) p
 
-pub delete : {a b : Growing} → Grows a b (λ o. control_mark o ++ hex_byte 127) → Grows a b (λ o. flat_map (escape o) (encode_utf8 127))
+pub delete : {a b : Growing} → Grows a b (λ o. control_mark o ++ hex_byte 127)
+    → Grows a b (λ o. flat_map (escape o) (encode_utf8 127))
 unfolding encode_utf8
-delete {a} {b} p = in_style {x = λ o. control_mark o ++ hex_byte 127} {y = λ o. flat_map (escape o) (encode_utf8 127)} (same a.style) p
+delete {a} {b} p = in_style {x = λ o. control_mark o ++ hex_byte 127}
+    {y = λ o. flat_map (escape o) (encode_utf8 127)} (same a.style) p
   where
     same : (o : Style) → control_mark o ++ hex_byte 127 ≡ flat_map (escape o) (encode_utf8 127)
     same o = sym (append-nil (control_mark o ++ hex_byte 127))
 
-pub plain : {a b : Growing} (c : ℕ) → (c ≡ 34 → ⊥) → (c ≡ 92 → ⊥) → 32 ≤ c → (c ≡ 127 → ⊥) → Grows a b (always (encode_utf8 c)) → Grows a b (λ o. flat_map (escape o) (encode_utf8 c))
-plain {a} {b} c q s l d p = in_style {x = always (encode_utf8 c)} {y = λ o. flat_map (escape o) (encode_utf8 c)} (sym (go (ltb c 128) refl)) p
+pub plain : {a b : Growing} (c : ℕ) → (c ≡ 34 → ⊥) → (c ≡ 92 → ⊥) → 32 ≤ c → (c ≡ 127 → ⊥)
+    → Grows a b (always (encode_utf8 c)) → Grows a b (λ o. flat_map (escape o) (encode_utf8 c))
+plain {a} {b} c q s l d p = in_style {x = always (encode_utf8 c)}
+    {y = λ o. flat_map (escape o) (encode_utf8 c)} (sym (go (ltb c 128) refl)) p
   where
     go : (t : Bool) → ltb c 128 ≡ t → flat_map (escape a.style) (encode_utf8 c) ≡ encode_utf8 c
     go true e = let h : c < 128 = grind arith in rw (encode_ascii c h, unchanged a.style c q s l d) refl

@@ -25,44 +25,84 @@ maybe_law (Some l) h = rw (leaf_law l h) refl
 plus_law : (a b : Option ℕ) (m n : ℕ) → a ≡ Some m → b ≡ Some n → m + n < 2 ^ 32 → plus_len a b ≡ Some (m + n)
 plus_law a b m n d e h = rw (d, e, lt-ltb (m + n) (2 ^ 32) h) refl
 
-plains_law : (around : Cases) (vs : Vals) → plains_form around vs → plains_size around vs < 2 ^ 32 → plains_len around vs ≡ Some (plains_size around vs)
+plains_law : (around : Cases) (vs : Vals) → plains_form around vs → plains_size around vs < 2 ^ 32
+    → plains_len around vs ≡ Some (plains_size around vs)
 plains_law around NoVal f h = refl
 plains_law around (AndVal v vs) f h =
     let rest : plains_size around vs < 2 ^ 32 = omega arith in
-    plus_law (maybe_len (plain_leaf around v)) (plains_len around vs) (maybe_size (plain_leaf around v)) (plains_size around vs) (maybe_law (plain_leaf around v) f.0) (plains_law around vs f.1 rest) h
+    plus_law (maybe_len (plain_leaf around v)) (plains_len around vs)
+    (maybe_size (plain_leaf around v)) (plains_size around vs)
+    (maybe_law (plain_leaf around v) f.0) (plains_law around vs f.1 rest) h
 
-custom_law : (around : Cases) (fs : Fields) → custom_form around fs → custom_len around fs ≡ Some (8 + plains_size around (many_of fs))
+custom_law : (around : Cases) (fs : Fields) → custom_form around fs
+    → custom_len around fs ≡ Some (8 + plains_size around (many_of fs))
 custom_law around (AndField (Many vs) NoField) f = ap structure_len (plains_law around vs f.0 f.1)
 custom_law around NoField f = absurd f
 custom_law around (AndField Absent fs) f = absurd f
 custom_law around (AndField (One v) fs) f = absurd f
 custom_law around (AndField (Many vs) (AndField d fs)) f = absurd f
 
-bytes_law : (n : ℕ) (fs : Fields) (rows : RowList) → form_in (Record fs) NoCase (RowsOrBytes n rows) → (fields_form fs rows → fields_size fs rows < 2 ^ 32 → fields_len fs rows ≡ Some (fields_size fs rows))
+bytes_law : (n : ℕ) (fs : Fields) (rows : RowList) → form_in (Record fs) NoCase (RowsOrBytes n rows)
+    → (fields_form fs rows → fields_size fs rows < 2 ^ 32
+    → fields_len fs rows ≡ Some (fields_size fs rows))
     → len_in (Record fs) NoCase (RowsOrBytes n rows) ≡ Some (size_in (Record fs) NoCase (RowsOrBytes n rows))
 bytes_law n fs rows f ih = go (byte_form n fs) f
   where
-    go : (o : Option (List ℕ)) → elim o as (λ _. Type 0) [ None ↦ fields_form fs rows × (fields_size fs rows < 2 ^ 32) | Some b ↦ leaf_form (byte_string b) ]
-        → elim o as (λ _. Option ℕ) [ None ↦ structure_len (fields_len fs rows) | Some b ↦ maybe_len (Some (byte_string b)) ] ≡ Some (elim o as (λ _. ℕ) [ None ↦ 8 + fields_size fs rows | Some b ↦ leaf_size (byte_string b) ])
+    go : (o : Option (List ℕ)) → elim o as
+        (λ _. Type 0) [
+          | None ↦ fields_form fs rows
+              × (fields_size fs rows < 2 ^ 32)
+          | Some b ↦ leaf_form (byte_string b)
+        ]
+        → elim o as (λ _. Option ℕ) [
+          | None ↦ structure_len (fields_len fs rows)
+          | Some b ↦ maybe_len
+              (Some (byte_string b))
+        ] ≡ Some
+        (elim o as (λ _. ℕ) [
+          | None ↦ 8 + fields_size fs rows
+          | Some b ↦ leaf_size
+              (byte_string b)
+        ])
     go None f = ap structure_len (ih f.0 f.1)
     go (Some b) f = maybe_law (Some (byte_string b)) f
 
-case_law : (cases : Cases) (n : ℕ) (v : Val) → elim (case_at cases n) as (λ _. Type 0) [ None ↦ ⊥ | Some c ↦ elim (has_wire_form c.selector) as (λ _. Type 0) [ true ↦ form_in v cases c.shape | false ↦ ⊥ ] ]
+case_law : (cases : Cases) (n : ℕ) (v : Val)
+    → elim (case_at cases n) as (λ _. Type 0) [
+      | None ↦ ⊥
+      | Some c ↦ elim (has_wire_form c.selector) as
+          (λ _. Type 0) [ true ↦ form_in v cases c.shape | false ↦ ⊥ ]
+    ]
     → ((c : Found) → form_in v cases c.shape → len_in v cases c.shape ≡ Some (size_in v cases c.shape))
-    → elim (case_at cases n) as (λ _. Option ℕ) [ None ↦ None | Some c ↦ cond (has_wire_form c.selector) (len_in v cases c.shape) None ] ≡ Some (elim (case_at cases n) as (λ _. ℕ) [ None ↦ 0 | Some c ↦ size_in v cases c.shape ])
+    → elim (case_at cases n) as (λ _. Option ℕ)
+    [ None ↦ None | Some c ↦ cond (has_wire_form c.selector) (len_in v cases c.shape) None ]
+    ≡ Some (elim (case_at cases n) as (λ _. ℕ) [ None ↦ 0 | Some c ↦ size_in v cases c.shape ])
 case_law cases n v f ih = go (case_at cases n) f
   where
-    at : (c : Found) (b : Bool) → elim b as (λ _. Type 0) [ true ↦ form_in v cases c.shape | false ↦ ⊥ ] → cond b (len_in v cases c.shape) None ≡ Some (size_in v cases c.shape)
+    at : (c : Found) (b : Bool) → elim b as
+        (λ _. Type 0) [ true ↦ form_in v cases c.shape | false ↦ ⊥ ]
+        → cond b (len_in v cases c.shape) None ≡ Some (size_in v cases c.shape)
     at c true f = ih c f
     at c false f = absurd f
 
-    go : (o : Option Found) → elim o as (λ _. Type 0) [ None ↦ ⊥ | Some c ↦ elim (has_wire_form c.selector) as (λ _. Type 0) [ true ↦ form_in v cases c.shape | false ↦ ⊥ ] ]
-        → elim o as (λ _. Option ℕ) [ None ↦ None | Some c ↦ cond (has_wire_form c.selector) (len_in v cases c.shape) None ] ≡ Some (elim o as (λ _. ℕ) [ None ↦ 0 | Some c ↦ size_in v cases c.shape ])
+    go : (o : Option Found) → elim o as
+        (λ _. Type 0) [
+          | None ↦ ⊥
+          | Some c ↦ elim (has_wire_form c.selector) as
+              (λ _. Type 0) [ true ↦ form_in v cases c.shape | false ↦ ⊥ ]
+        ]
+        → elim o as (λ _. Option ℕ) [
+          | None ↦ None
+          | Some c ↦ cond (has_wire_form c.selector)
+              (len_in v cases c.shape) None
+        ]
+        ≡ Some (elim o as (λ _. ℕ) [ None ↦ 0 | Some c ↦ size_in v cases c.shape ])
     go None f = absurd f
     go (Some c) f = at c (has_wire_form c.selector) f
 
 mutual
-  pub len_law : (v : Val) (around : Cases) (shape : Shape) → form_in v around shape → len_in v around shape ≡ Some (size_in v around shape)
+  pub len_law : (v : Val) (around : Cases) (shape : Shape) → form_in v around shape
+      → len_in v around shape ≡ Some (size_in v around shape)
   len_law (Number z) around shape f = maybe_law (leaf_at shape (Number z)) f
   len_law (Text z) around shape f = maybe_law (leaf_at shape (Text z)) f
   len_law (Bytes z) around shape f = maybe_law (leaf_at shape (Bytes z)) f
@@ -80,22 +120,27 @@ mutual
   len_law (Case n v) around (RowsOrBytes m k) f = absurd f
   len_law (Case n v) around Custom f = absurd f
 
-  pub fields_len_law : (fs : Fields) (rows : RowList) → fields_form fs rows → fields_size fs rows < 2 ^ 32 → fields_len fs rows ≡ Some (fields_size fs rows)
+  pub fields_len_law : (fs : Fields) (rows : RowList) → fields_form fs rows
+      → fields_size fs rows < 2 ^ 32 → fields_len fs rows ≡ Some (fields_size fs rows)
   fields_len_law NoField NoRow f h = refl
   fields_len_law NoField (AndRow name place mark role shape rows) f h = absurd f
   fields_len_law (AndField d fs) NoRow f h = absurd f
   fields_len_law (AndField d fs) (AndRow name place mark role shape rows) f h =
       let first : field_size d shape < 2 ^ 32 = omega arith in
       let rest : fields_size fs rows < 2 ^ 32 = omega arith in
-      plus_law (field_len d shape) (fields_len fs rows) (field_size d shape) (fields_size fs rows) (field_len_law d shape f.0 first) (fields_len_law fs rows f.1 rest) h
+      plus_law (field_len d shape) (fields_len fs rows) (field_size d shape) (fields_size fs rows)
+      (field_len_law d shape f.0 first) (fields_len_law fs rows f.1 rest) h
 
-  field_len_law : (d : Field) (shape : Shape) → field_form d shape → field_size d shape < 2 ^ 32 → field_len d shape ≡ Some (field_size d shape)
+  field_len_law : (d : Field) (shape : Shape) → field_form d shape → field_size d shape < 2 ^ 32
+      → field_len d shape ≡ Some (field_size d shape)
   field_len_law Absent shape f h = refl
   field_len_law (One v) shape f h = len_law v NoCase shape f
   field_len_law (Many vs) shape f h = list_len_law vs shape f h
 
-  pub list_len_law : (vs : Vals) (shape : Shape) → list_form vs shape → list_size vs shape < 2 ^ 32 → list_len vs shape ≡ Some (list_size vs shape)
+  pub list_len_law : (vs : Vals) (shape : Shape) → list_form vs shape → list_size vs shape < 2 ^ 32
+      → list_len vs shape ≡ Some (list_size vs shape)
   list_len_law NoVal shape f h = refl
   list_len_law (AndVal v vs) shape f h =
       let rest : list_size vs shape < 2 ^ 32 = omega arith in
-      plus_law (len_in v NoCase shape) (list_len vs shape) (size_in v NoCase shape) (list_size vs shape) (len_law v NoCase shape f.0) (list_len_law vs shape f.1 rest) h
+      plus_law (len_in v NoCase shape) (list_len vs shape) (size_in v NoCase shape)
+      (list_size vs shape) (len_law v NoCase shape f.0) (list_len_law vs shape f.1 rest) h

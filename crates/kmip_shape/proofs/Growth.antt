@@ -31,7 +31,9 @@ pub grown : {a b c : Growing} {x y : Style → List ℕ} → Grows a b x → Gro
 grown {a} {b} {c} {x} {y} p q = record {
   same = q.same ∙ p.same;
   stays = λ h. p.stays (q.stays h);
-  all = λ h. q.all h ∙ (ap (λ z. z ++ y b.style) (p.all (q.stays h)) ∙ (append_assoc a.text (x a.style) (y b.style) ∙ ap (λ z. a.text ++ (x a.style ++ y z)) p.same));
+  all = λ h. q.all h ∙ (ap (λ z. z ++ y b.style) (p.all (q.stays h))
+      ∙ (append_assoc a.text (x a.style) (y b.style)
+      ∙ ap (λ z. a.text ++ (x a.style ++ y z)) p.same));
   closed = λ h. q.closed (shut h) ∙ p.closed h;
   part = go b.live refl;
 }
@@ -61,46 +63,79 @@ grown {a} {b} {c} {x} {y} p q = record {
     }
 
 pub nothing : {a : Growing} → Grows a a (always [])
-nothing {a} = record { same = refl; stays = λ h. h; all = λ h. sym (append-nil a.text); closed = λ h. refl; part = none_added a.text [] }
+nothing {a} = record {
+  same = refl;
+  stays = λ h. h;
+  all = λ h. sym (append-nil a.text);
+  closed =
+      λ h. refl;
+  part = none_added a.text [];
+}
 
-pub put_all : {a b : Growing} {x : List ℕ} → b.style ≡ a.style → a.live ≡ true → b.text ≡ a.text ++ x → Grows a b (always x)
-put_all {a} {b} {x} s h e = record { same = s; stays = λ k. h; all = λ k. e; closed = λ k. cc; part = all_added a.text b.text x e }
+pub put_all : {a b : Growing} {x : List ℕ} → b.style ≡ a.style → a.live ≡ true
+    → b.text ≡ a.text ++ x → Grows a b (always x)
+put_all {a} {b} {x} s h e = record
+    { same = s; stays = λ k. h; all = λ k. e; closed = λ k. cc; part = all_added a.text b.text x e }
 
-pub put_none : {a b : Growing} {x : List ℕ} → b.style ≡ a.style → b.live ≡ false → b.text ≡ a.text → Grows a b (always x)
-put_none {a} {b} {x} s h e = record { same = s; stays = λ k. cc; all = λ k. cc; closed = λ k. e; part = subst (λ (z : List ℕ). AddsPart a.text z x) (sym e) (none_added a.text x) }
+pub put_none : {a b : Growing} {x : List ℕ} → b.style ≡ a.style → b.live ≡ false → b.text ≡ a.text
+    → Grows a b (always x)
+put_none {a} {b} {x} s h e = record {
+  same = s;
+  stays = λ k. cc;
+  all = λ k. cc;
+  closed = λ k. e;
+  part =
+      subst (λ (z : List ℕ). AddsPart a.text z x) (sym e) (none_added a.text x);
+}
 
 pub ruleset growth = (put_all, put_none, grown, nothing)
 
 -- a case: its opening, its value and its closing
-pub case_grown : {a b c d : Growing} (name : List ℕ) {text : Style → List ℕ} → Grows a b (case_opening name) → Grows b c text → Grows c d case_closing → Grows a d (beside name text)
-case_grown {a} {b} {c} {d} name {text} p q r = in_style {x = λ s. case_opening name s ++ (text s ++ case_closing s)} {y = beside name text} (same a.style) (grown p (grown q r))
+pub case_grown : {a b c d : Growing} (name : List ℕ) {text : Style → List ℕ}
+    → Grows a b (case_opening name) → Grows b c text → Grows c d case_closing
+    → Grows a d (beside name text)
+case_grown {a} {b} {c} {d} name {text} p q r =
+    in_style {x = λ s. case_opening name s ++ (text s ++ case_closing s)} {y = beside name text}
+    (same a.style) (grown p (grown q r))
   where
     same : (s : Style) → case_opening name s ++ (text s ++ case_closing s) ≡ beside name text s
     same Bare = ap (λ z. name ++ z) (append-nil (text Bare))
     same Json = ap (λ z. 123 ∷ z) (append_assoc (text_in_style name Json) (58 ∷ []) (text Json ++ 125 ∷ []))
 
-pub brackets_grown : {a b c d : Growing} (name : List ℕ) {text : Style → List ℕ} → Grows a b (brackets_opening name) → Grows b c text → Grows c d brackets_closing → Grows a d (in_brackets name text)
-brackets_grown {a} {b} {c} {d} name {text} p q r = in_style {x = λ s. brackets_opening name s ++ (text s ++ brackets_closing s)} {y = in_brackets name text} (same a.style) (grown p (grown q r))
+pub brackets_grown : {a b c d : Growing} (name : List ℕ) {text : Style → List ℕ}
+    → Grows a b (brackets_opening name) → Grows b c text → Grows c d brackets_closing
+    → Grows a d (in_brackets name text)
+brackets_grown {a} {b} {c} {d} name {text} p q r =
+    in_style {x = λ s. brackets_opening name s ++ (text s ++ brackets_closing s)}
+    {y = in_brackets name text} (same a.style) (grown p (grown q r))
   where
     same : (s : Style) → brackets_opening name s ++ (text s ++ brackets_closing s) ≡ in_brackets name text s
     same Bare = append_assoc name (40 ∷ []) (text Bare ++ 41 ∷ [])
     same Json = ap (λ z. 123 ∷ z) (append_assoc (text_in_style name Json) (58 ∷ []) (text Json ++ 125 ∷ []))
 
 -- a text of several parts: what shows the parts after the first shows all
-pub bytes_done : {a : Growing} (show : Style → ℕ → List ℕ) (xs : List ℕ) → length xs ≡ 0 → Grows a a (λ s. flat_map (show s) xs)
+pub bytes_done : {a : Growing} (show : Style → ℕ → List ℕ) (xs : List ℕ) → length xs ≡ 0
+    → Grows a a (λ s. flat_map (show s) xs)
 bytes_done show [] e = nothing
 bytes_done show (x ∷ xs) e = cc
 
 pub bytes_step : {a b c : Growing} (show : Style → ℕ → List ℕ) (xs first tail : List ℕ) → xs ≡ first ++ tail
-    → Grows a b (λ s. flat_map (show s) first) → Grows b c (λ s. flat_map (show s) tail) → Grows a c (λ s. flat_map (show s) xs)
+    → Grows a b (λ s. flat_map (show s) first) → Grows b c (λ s. flat_map (show s) tail)
+    → Grows a c (λ s. flat_map (show s) xs)
 bytes_step {a} {b} {c} show xs first tail e p q =
     in_style {x = λ s. flat_map (show s) first ++ flat_map (show s) tail} {y = λ s. flat_map (show s) xs}
     (sym (ap (flat_map (show a.style)) e ∙ flat_map-append (show a.style) first tail)) (grown p q)
 
-pub items_step : {A : Type 0} {a b c d : Growing} (f : A → Val) (shape : Shape) (xs : List A) (x : A) (tail : List A) (after : Bool) → xs ≡ x ∷ tail
-    → Grows a b (always (comma after)) → Grows b c (val_in_style (f x) NoCase shape) → Grows c d (list_in_style (vals f tail) NoCase shape true) → Grows a d (list_in_style (vals f xs) NoCase shape after)
+pub items_step : {A : Type 0} {a b c d : Growing} (f : A → Val) (shape : Shape) (xs : List A)
+    (x : A) (tail : List A) (after : Bool) → xs ≡ x ∷ tail
+    → Grows a b (always (comma after)) → Grows b c (val_in_style (f x) NoCase shape)
+    → Grows c d (list_in_style (vals f tail) NoCase shape true)
+    → Grows a d (list_in_style (vals f xs) NoCase shape after)
 items_step {A} {a} {b} {c} {d} f shape xs x tail after e p q r =
     subst (λ (ys : List A). Grows a d (list_in_style (vals f ys) NoCase shape after)) (sym e) (grown p (grown q r))
 
-pub items_done : {A : Type 0} {a : Growing} (f : A → Val) (shape : Shape) (xs : List A) (after : Bool) → xs ≡ [] → Grows a a (list_in_style (vals f xs) NoCase shape after)
-items_done {A} {a} f shape xs after h = subst (λ (ys : List A). Grows a a (list_in_style (vals f ys) NoCase shape after)) (sym h) nothing
+pub items_done : {A : Type 0} {a : Growing} (f : A → Val) (shape : Shape) (xs : List A)
+    (after : Bool) → xs ≡ [] → Grows a a (list_in_style (vals f xs) NoCase shape after)
+items_done {A} {a} f shape xs after h =
+    subst (λ (ys : List A). Grows a a (list_in_style (vals f ys) NoCase shape after))
+    (sym h) nothing

@@ -21,15 +21,20 @@ digit_is_hex m h = go (nat_lt m 10) refl
 coded : (n : ℕ) (s : List ℕ) → n < 256 → AreCharacters s → AreCharacters ((control_mark Json ++ hex_byte n) ++ s)
 coded n s l h =
     let zero : IsHexDigit 48 = inl (omega arith, omega arith) in
-    Coded 48 48 (hex_digit (n / 16)) (hex_digit (n % 16)) s zero zero (digit_is_hex (n / 16) (omega arith)) (digit_is_hex (n % 16) (omega arith)) h
+    Coded 48 48 (hex_digit (n / 16)) (hex_digit (n % 16)) s zero zero
+    (digit_is_hex (n / 16) (omega arith)) (digit_is_hex (n % 16) (omega arith)) h
 
 character_is : (n : ℕ) (s : List ℕ) → AreCharacters s → AreCharacters (escape Json n ++ s)
 character_is n s h = go (nat_eq n 34) (nat_eq n 92) (nat_lt n 32) (nat_eq n 127) refl refl refl refl
   where
     go : (a b c d : Bool) → nat_eq n 34 ≡ a → nat_eq n 92 ≡ b → nat_lt n 32 ≡ c → nat_eq n 127 ≡ d
         → AreCharacters (cond (a || b) (92 ∷ n ∷ []) (cond (c || d) (control_mark Json ++ hex_byte n) (n ∷ [])) ++ s)
-    go true b c d ea eb ec ed = let e : n ≡ 34 = grind (arith, nat_tests) in subst (λ (m : ℕ). AreCharacters (92 ∷ m ∷ s)) (sym e) (Quote s h)
-    go false true c d ea eb ec ed = let e : n ≡ 92 = grind (arith, nat_tests) in subst (λ (m : ℕ). AreCharacters (92 ∷ m ∷ s)) (sym e) (Backslash s h)
+    go true b c d ea eb ec ed =
+        let e : n ≡ 34 = grind (arith, nat_tests) in
+        subst (λ (m : ℕ). AreCharacters (92 ∷ m ∷ s)) (sym e) (Quote s h)
+    go false true c d ea eb ec ed =
+        let e : n ≡ 92 = grind (arith, nat_tests) in
+        subst (λ (m : ℕ). AreCharacters (92 ∷ m ∷ s)) (sym e) (Backslash s h)
     go false false true d ea eb ec ed = let l : n < 32 = grind (arith, nat_tests) in coded n s (omega arith) h
     go false false false true ea eb ec ed = let e : n ≡ 127 = grind (arith, nat_tests) in coded n s (omega arith) h
     go false false false false ea eb ec ed =
@@ -50,7 +55,8 @@ bytes_are : (b : List ℕ) → AreBytes b → AreCharacters (flat_map hex_byte b
 bytes_are [] h = NoCharacter
 bytes_are (n ∷ b) h =
     let l : n < 256 = h.0 in
-    digit_is (hex_digit (n / 16)) _ (digit_is_hex (n / 16) (omega arith)) (digit_is (hex_digit (n % 16)) _ (digit_is_hex (n % 16) (omega arith)) (bytes_are b h.1))
+    digit_is (hex_digit (n / 16)) _ (digit_is_hex (n / 16) (omega arith))
+    (digit_is (hex_digit (n % 16)) _ (digit_is_hex (n % 16) (omega arith)) (bytes_are b h.1))
 
 bytes_below : (shape : Shape) (b : List ℕ) → leaf_fits shape (Bytes b) → AreBytes b
 bytes_below (Scalar kind.BigInteger) b h = h
@@ -77,7 +83,8 @@ entry_is : (entries : List Entry) (n : ℕ) → IsJson (entry_in_style entries n
 entry_is [] n = ANumber (pos n)
 entry_is (entry ∷ entries) n = go (nat_eq entry.number n) (entry_is entries n)
   where
-    go : (t : Bool) → IsJson (entry_in_style entries n Json) → IsJson (cond t (word entry.name Json) (entry_in_style entries n Json))
+    go : (t : Bool) → IsJson (entry_in_style entries n Json)
+        → IsJson (cond t (word entry.name Json) (entry_in_style entries n Json))
     go true h = AString _ (text_is entry.name)
     go false h = h
 
@@ -94,13 +101,18 @@ leaf_is Custom z = ANumber z
 -- a name, a colon and a value
 member_is : (name value : List ℕ) → IsJson value → AreMembers (word name Json ++ (name_mark Json ++ value))
 member_is name value h =
-    subst AreMembers (ap (λ z. 34 ∷ z) (sym (append_assoc (flat_map (escape Json) name) (34 ∷ []) (58 ∷ value)))) (AMember _ value (text_is name) h)
+    subst AreMembers (ap (λ z. 34 ∷ z)
+    (sym (append_assoc (flat_map (escape Json) name) (34 ∷ []) (58 ∷ value))))
+    (AMember _ value (text_is name) h)
 
-case_is : (val : Val) (name : List ℕ) (text : Style → List ℕ) → IsJson (text Json) → IsJson (case_in_style val name text Json)
+case_is : (val : Val) (name : List ℕ) (text : Style → List ℕ) → IsJson (text Json)
+    → IsJson (case_in_style val name text Json)
 case_is val name text h = go val
   where
     one : IsJson (123 ∷ (text_in_style name Json ++ 58 ∷ (text Json ++ 125 ∷ [])))
-    one = subst (λ (z : List ℕ). IsJson (123 ∷ z)) (append_assoc (text_in_style name Json) (58 ∷ text Json) (125 ∷ [])) (AnObject _ (member_is name (text Json) h))
+    one = subst (λ (z : List ℕ). IsJson (123 ∷ z))
+        (append_assoc (text_in_style name Json) (58 ∷ text Json) (125 ∷ []))
+        (AnObject _ (member_is name (text Json) h))
 
     go : (v : Val) → IsJson (case_in_style v name text Json)
     go (Number z) = one
@@ -123,11 +135,13 @@ ends : (Parts : List ℕ → Type 0) (after : Bool) → Continues Parts after []
 ends Parts true = inl refl
 ends Parts false = inl refl
 
-then : (Parts : List ℕ → Type 0) (and : (s t : List ℕ) → Parts s → Parts t → Parts (s ++ 44 ∷ t)) (s t : List ℕ) → Parts s → Follows Parts t → Parts (s ++ t)
+then : (Parts : List ℕ → Type 0) (and : (s t : List ℕ) → Parts s → Parts t → Parts (s ++ 44 ∷ t))
+    (s t : List ℕ) → Parts s → Follows Parts t → Parts (s ++ t)
 then Parts and s t h (inl e) = subst Parts (sym (ap (λ z. s ++ z) e ∙ append-nil s)) h
 then Parts and s t h (inr p) = subst Parts (sym (ap (λ z. s ++ z) p.1)) (and s p.0 h p.2)
 
-continued : (Parts : List ℕ → Type 0) (and : (s t : List ℕ) → Parts s → Parts t → Parts (s ++ 44 ∷ t)) (after : Bool) (s t : List ℕ)
+continued : (Parts : List ℕ → Type 0)
+    (and : (s t : List ℕ) → Parts s → Parts t → Parts (s ++ 44 ∷ t)) (after : Bool) (s t : List ℕ)
     → Parts s → Follows Parts t → Continues Parts after (comma after ++ (s ++ t))
 continued Parts and true s t h k = inr (s ++ t, refl, then Parts and s t h k)
 continued Parts and false s t h k = inr (then Parts and s t h k)
@@ -141,21 +155,31 @@ array_is t (inl e) = subst (λ (z : List ℕ). IsJson (91 ∷ (z ++ 93 ∷ [])))
 array_is t (inr h) = AnArray t h
 
 -- a field that stands, before the others
-field_continues : (after : Bool) (s t : List ℕ) → AreMembers s → Follows AreMembers t → Continues AreMembers after ((comma after ++ s) ++ t)
-field_continues after s t h k = subst (Continues AreMembers after) (sym (append_assoc (comma after) s t)) (continued AreMembers AndMembers after s t h k)
+field_continues : (after : Bool) (s t : List ℕ) → AreMembers s → Follows AreMembers t
+    → Continues AreMembers after ((comma after ++ s) ++ t)
+field_continues after s t h k = subst (Continues AreMembers after)
+    (sym (append_assoc (comma after) s t)) (continued AreMembers AndMembers after s t h k)
 
-chosen_is : (cases : Cases) (n : ℕ) (val : Val) → elim (case_at cases n) as (λ _. Type 0) [ None ↦ ⊥ | Some c ↦ fits_in val cases c.shape ]
+chosen_is : (cases : Cases) (n : ℕ) (val : Val)
+    → elim (case_at cases n) as (λ _. Type 0) [ None ↦ ⊥ | Some c ↦ fits_in val cases c.shape ]
     → ((c : Found) → fits_in val cases c.shape → IsJson (val_in_style val cases c.shape Json))
-    → IsJson (elim (case_at cases n) as (λ _. List ℕ) [ None ↦ [] | Some c ↦ case_in_style val c.name (val_in_style val cases c.shape) Json ])
+    → IsJson (elim (case_at cases n) as
+    (λ _. List ℕ) [
+      | None ↦ []
+      | Some c ↦ case_in_style val c.name
+          (val_in_style val cases c.shape) Json
+    ])
 chosen_is cases n val h ih = go (case_at cases n) h
   where
     go : (o : Option Found) → elim o as (λ _. Type 0) [ None ↦ ⊥ | Some c ↦ fits_in val cases c.shape ]
-        → IsJson (elim o as (λ _. List ℕ) [ None ↦ [] | Some c ↦ case_in_style val c.name (val_in_style val cases c.shape) Json ])
+        → IsJson (elim o as (λ _. List ℕ)
+        [ None ↦ [] | Some c ↦ case_in_style val c.name (val_in_style val cases c.shape) Json ])
     go None k = absurd k
     go (Some c) k = case_is val c.name (val_in_style val cases c.shape) (ih c k)
 
 mutual
-  pub value_is : (val : Val) (around : Cases) (shape : Shape) → fits_in val around shape → IsJson (val_in_style val around shape Json)
+  pub value_is : (val : Val) (around : Cases) (shape : Shape) → fits_in val around shape
+      → IsJson (val_in_style val around shape Json)
   value_is (Number z) around shape h = leaf_is shape z
   value_is (Text s) around shape h = AString _ (text_is s)
   value_is (Bytes b) around shape h = AString _ (bytes_are b (bytes_below shape b h))
@@ -165,7 +189,8 @@ mutual
   value_is (Record NoField) around Custom h = absurd h
   value_is (Record (AndField Absent fields)) around Custom h = absurd h.0
   value_is (Record (AndField (One val) fields)) around Custom h = absurd h.0
-  value_is (Record (AndField (Many vals) fields)) around Custom h = array_is _ (vals_are vals NoCase (Choice OfName around) false h.1)
+  value_is (Record (AndField (Many vals) fields)) around Custom h =
+      array_is _ (vals_are vals NoCase (Choice OfName around) false h.1)
   value_is (Record fields) around (Scalar k) h = absurd h
   value_is (Record fields) around (OneOf entries) h = absurd h
   value_is (Record fields) around (Choice rule cases) h = absurd h
@@ -176,21 +201,32 @@ mutual
   value_is (Case n val) around (RowsOrBytes m rows) h = absurd h
   value_is (Case n val) around Custom h = absurd h
 
-  fields_are : (fields : Fields) (around : Cases) (rows : RowList) (after : Bool) → fields_fit fields around rows → Continues AreMembers after (fields_in_style fields around rows after Json)
+  fields_are : (fields : Fields) (around : Cases) (rows : RowList) (after : Bool)
+      → fields_fit fields around rows → Continues AreMembers after
+      (fields_in_style fields around rows after Json)
   fields_are NoField around rows after h = ends AreMembers after
   fields_are (AndField field fields) around NoRow after h = absurd h
-  fields_are (AndField Absent fields) around (AndRow name place mark role shape rows) true h = fields_are fields around rows true h.2
-  fields_are (AndField Absent fields) around (AndRow name place mark role shape rows) false h = fields_are fields around rows false h.2
+  fields_are (AndField Absent fields) around (AndRow name place mark role shape rows) true h =
+      fields_are fields around rows true h.2
+  fields_are (AndField Absent fields) around (AndRow name place mark role shape rows) false h =
+      fields_are fields around rows false h.2
   fields_are (AndField (One val) fields) around (AndRow name place mark role shape rows) true h =
-      field_continues true _ _ (member_is name _ (value_is val around shape h.1)) (fields_are fields around rows true h.2)
+      field_continues true _ _ (member_is name _ (value_is val around shape h.1))
+      (fields_are fields around rows true h.2)
   fields_are (AndField (One val) fields) around (AndRow name place mark role shape rows) false h =
-      field_continues false _ _ (member_is name _ (value_is val around shape h.1)) (fields_are fields around rows true h.2)
+      field_continues false _ _ (member_is name _ (value_is val around shape h.1))
+      (fields_are fields around rows true h.2)
   fields_are (AndField (Many vals) fields) around (AndRow name place mark role shape rows) true h =
-      field_continues true _ _ (member_is name _ (array_is _ (vals_are vals around shape false h.1))) (fields_are fields around rows true h.2)
+      field_continues true _ _ (member_is name _ (array_is _
+      (vals_are vals around shape false h.1))) (fields_are fields around rows true h.2)
   fields_are (AndField (Many vals) fields) around (AndRow name place mark role shape rows) false h =
-      field_continues false _ _ (member_is name _ (array_is _ (vals_are vals around shape false h.1))) (fields_are fields around rows true h.2)
+      field_continues false _ _ (member_is name _ (array_is _
+      (vals_are vals around shape false h.1))) (fields_are fields around rows true h.2)
 
-  vals_are : (vals : Vals) (around : Cases) (shape : Shape) (after : Bool) → vals_fit vals around shape → Continues AreElements after (list_in_style vals around shape after Json)
+  vals_are : (vals : Vals) (around : Cases) (shape : Shape) (after : Bool)
+      → vals_fit vals around shape → Continues AreElements after
+      (list_in_style vals around shape after Json)
   vals_are NoVal around shape after h = ends AreElements after
   vals_are (AndVal val vals) around shape after h =
-      continued AreElements AndElements after _ _ (AnElement _ (value_is val around shape h.0)) (vals_are vals around shape true h.1)
+      continued AreElements AndElements after _ _ (AnElement _ (value_is val around shape h.0))
+      (vals_are vals around shape true h.1)

@@ -14,7 +14,8 @@ leaf_known (integer z) h = omega arith
 leaf_known (long_integer z) h = omega arith
 leaf_known (big_integer b) h = go (nat_eq (length b % 8) 0) refl h
   where
-    go : (q : Bool) → nat_eq (length b % 8) 0 ≡ q → (q && nat_lt (length b) (2 ^ 32)) ≡ true → (length b < 2 ^ 32) × (length b % 8 ≡ 0)
+    go : (q : Bool) → nat_eq (length b % 8) 0 ≡ q → (q && nat_lt (length b) (2 ^ 32)) ≡ true
+        → (length b < 2 ^ 32) × (length b % 8 ≡ 0)
     go true e k = (ltb-true (length b) (2 ^ 32) k, eq_same (length b % 8) 0 e)
     go false e k = cc
 leaf_known (enumeration z) h = omega arith
@@ -32,12 +33,14 @@ maybe_known (Some l) n h = go (leaf_has_form l) refl h
     go true e k = (leaf_known l e, some_same (leaf_size l) n k)
     go false e k = none_some _ k
 
-plus_known : (a b : Option ℕ) (n : ℕ) → plus_len a b ≡ Some n → (x : ℕ) × (y : ℕ) × (a ≡ Some x) × (b ≡ Some y) × (x + y ≡ n) × (n < 2 ^ 32)
+plus_known : (a b : Option ℕ) (n : ℕ) → plus_len a b ≡ Some n → (x : ℕ) × (y : ℕ) × (a ≡ Some x)
+    × (b ≡ Some y) × (x + y ≡ n) × (n < 2 ^ 32)
 plus_known None b n h = none_some _ h
 plus_known (Some a) None n h = none_some _ h
 plus_known (Some a) (Some b) n h = go (nat_lt (a + b) (2 ^ 32)) refl h
   where
-    go : (q : Bool) → nat_lt (a + b) (2 ^ 32) ≡ q → cond q (Some (a + b)) None ≡ Some n → (x : ℕ) × (y : ℕ) × (Some a ≡ Some x) × (Some b ≡ Some y) × (x + y ≡ n) × (n < 2 ^ 32)
+    go : (q : Bool) → nat_lt (a + b) (2 ^ 32) ≡ q → cond q (Some (a + b)) None ≡ Some n → (x : ℕ)
+        × (y : ℕ) × (Some a ≡ Some x) × (Some b ≡ Some y) × (x + y ≡ n) × (n < 2 ^ 32)
     go true e k =
         let s : a + b ≡ n = some_same (a + b) n k in
         (a, b, refl, refl, s, subst (λ (m : ℕ). m < 2 ^ 32) s (ltb-true (a + b) (2 ^ 32) e))
@@ -47,7 +50,8 @@ structure_known : (o : Option ℕ) (n : ℕ) → structure_len o ≡ Some n → 
 structure_known None n h = none_some _ h
 structure_known (Some m) n h = (m, refl, some_same (8 + m) n h)
 
-plains_known : (around : Cases) (vs : Vals) (n : ℕ) → plains_len around vs ≡ Some n → plains_form around vs × (plains_size around vs ≡ n) × (n < 2 ^ 32)
+plains_known : (around : Cases) (vs : Vals) (n : ℕ) → plains_len around vs ≡ Some n
+    → plains_form around vs × (plains_size around vs ≡ n) × (n < 2 ^ 32)
 plains_known around NoVal n h = let e : 0 ≡ n = some_same 0 n h in (tt, e, omega arith)
 plains_known around (AndVal v vs) n h =
     let p = plus_known (maybe_len (plain_leaf around v)) (plains_len around vs) n h in
@@ -55,7 +59,8 @@ plains_known around (AndVal v vs) n h =
     let b = plains_known around vs p.1 p.3 in
     ((a.0, b.0), rw (a.1, b.1) p.4, p.5)
 
-custom_known : (around : Cases) (fs : Fields) (n : ℕ) → custom_len around fs ≡ Some n → custom_form around fs × (8 + plains_size around (many_of fs) ≡ n)
+custom_known : (around : Cases) (fs : Fields) (n : ℕ) → custom_len around fs ≡ Some n
+    → custom_form around fs × (8 + plains_size around (many_of fs) ≡ n)
 custom_known around (AndField (Many vs) NoField) n h =
     let s = structure_known (plains_len around vs) n h in
     let p = plains_known around vs s.0 s.1 in
@@ -65,32 +70,68 @@ custom_known around (AndField Absent fs) n h = none_some _ h
 custom_known around (AndField (One v) fs) n h = none_some _ h
 custom_known around (AndField (Many vs) (AndField d fs)) n h = none_some _ h
 
-bytes_known : (m : ℕ) (fs : Fields) (around : Cases) (rows : RowList) (n : ℕ) → len_in (Record fs) around (RowsOrBytes m rows) ≡ Some n
-    → (structure_len (fields_len fs rows) ≡ Some n → (fields_form fs rows × (fields_size fs rows < 2 ^ 32)) × (8 + fields_size fs rows ≡ n))
+bytes_known : (m : ℕ) (fs : Fields) (around : Cases) (rows : RowList) (n : ℕ)
+    → len_in (Record fs) around (RowsOrBytes m rows) ≡ Some n
+    → (structure_len (fields_len fs rows) ≡ Some n
+    → (fields_form fs rows × (fields_size fs rows < 2 ^ 32)) × (8 + fields_size fs rows ≡ n))
     → form_in (Record fs) around (RowsOrBytes m rows) × (size_in (Record fs) around (RowsOrBytes m rows) ≡ n)
 bytes_known m fs around rows n h ih = go (byte_form m fs) h
   where
-    go : (o : Option (List ℕ)) → elim o as (λ _. Option ℕ) [ None ↦ structure_len (fields_len fs rows) | Some b ↦ maybe_len (Some (byte_string b)) ] ≡ Some n
-        → elim o as (λ _. Type 0) [ None ↦ fields_form fs rows × (fields_size fs rows < 2 ^ 32) | Some b ↦ leaf_form (byte_string b) ] × (elim o as (λ _. ℕ) [ None ↦ 8 + fields_size fs rows | Some b ↦ leaf_size (byte_string b) ] ≡ n)
+    go : (o : Option (List ℕ)) → elim o as
+        (λ _. Option ℕ) [
+          | None ↦ structure_len (fields_len fs rows)
+          | Some b ↦ maybe_len
+              (Some (byte_string b))
+        ] ≡ Some n
+        → elim o as (λ _. Type 0) [
+          | None ↦ fields_form fs rows × (fields_size fs rows < 2 ^ 32)
+          | Some b ↦ leaf_form (byte_string b)
+        ]
+        × (elim o as (λ _. ℕ) [
+          | None ↦ 8
+              + fields_size fs rows
+          | Some b ↦ leaf_size (byte_string b)
+        ] ≡ n)
     go None h = ih h
     go (Some b) h = maybe_known (Some (byte_string b)) n h
 
-case_known : (cases : Cases) (m : ℕ) (v : Val) (n : ℕ) → elim (case_at cases m) as (λ _. Option ℕ) [ None ↦ None | Some c ↦ cond (has_wire_form c.selector) (len_in v cases c.shape) None ] ≡ Some n
+case_known : (cases : Cases) (m : ℕ) (v : Val) (n : ℕ)
+    → elim (case_at cases m) as (λ _. Option ℕ)
+    [ None ↦ None | Some c ↦ cond (has_wire_form c.selector) (len_in v cases c.shape) None ]
+    ≡ Some n
     → ((c : Found) → len_in v cases c.shape ≡ Some n → form_in v cases c.shape × (size_in v cases c.shape ≡ n))
-    → elim (case_at cases m) as (λ _. Type 0) [ None ↦ ⊥ | Some c ↦ elim (has_wire_form c.selector) as (λ _. Type 0) [ true ↦ form_in v cases c.shape | false ↦ ⊥ ] ] × (elim (case_at cases m) as (λ _. ℕ) [ None ↦ 0 | Some c ↦ size_in v cases c.shape ] ≡ n)
+    → elim (case_at cases m) as (λ _. Type 0) [
+      | None ↦ ⊥
+      | Some c ↦ elim (has_wire_form c.selector) as
+          (λ _. Type 0) [ true ↦ form_in v cases c.shape | false ↦ ⊥ ]
+    ]
+    × (elim (case_at cases m) as (λ _. ℕ) [ None ↦ 0 | Some c ↦ size_in v cases c.shape ] ≡ n)
 case_known cases m v n h ih = go (case_at cases m) h
   where
-    at : (c : Found) (q : Bool) → cond q (len_in v cases c.shape) None ≡ Some n → elim q as (λ _. Type 0) [ true ↦ form_in v cases c.shape | false ↦ ⊥ ] × (size_in v cases c.shape ≡ n)
+    at : (c : Found) (q : Bool) → cond q (len_in v cases c.shape) None ≡ Some n
+        → elim q as (λ _. Type 0) [ true ↦ form_in v cases c.shape | false ↦ ⊥ ]
+        × (size_in v cases c.shape ≡ n)
     at c true h = ih c h
     at c false h = none_some _ h
 
-    go : (o : Option Found) → elim o as (λ _. Option ℕ) [ None ↦ None | Some c ↦ cond (has_wire_form c.selector) (len_in v cases c.shape) None ] ≡ Some n
-        → elim o as (λ _. Type 0) [ None ↦ ⊥ | Some c ↦ elim (has_wire_form c.selector) as (λ _. Type 0) [ true ↦ form_in v cases c.shape | false ↦ ⊥ ] ] × (elim o as (λ _. ℕ) [ None ↦ 0 | Some c ↦ size_in v cases c.shape ] ≡ n)
+    go : (o : Option Found) → elim o as
+        (λ _. Option ℕ) [
+          | None ↦ None
+          | Some c ↦ cond (has_wire_form c.selector)
+              (len_in v cases c.shape) None
+        ] ≡ Some n
+        → elim o as (λ _. Type 0) [
+          | None ↦ ⊥
+          | Some c ↦ elim (has_wire_form c.selector) as
+              (λ _. Type 0) [ true ↦ form_in v cases c.shape | false ↦ ⊥ ]
+        ]
+        × (elim o as (λ _. ℕ) [ None ↦ 0 | Some c ↦ size_in v cases c.shape ] ≡ n)
     go None h = none_some _ h
     go (Some c) h = at c (has_wire_form c.selector) h
 
 mutual
-  pub value_known : (v : Val) (around : Cases) (shape : Shape) (n : ℕ) → len_in v around shape ≡ Some n → form_in v around shape × (size_in v around shape ≡ n)
+  pub value_known : (v : Val) (around : Cases) (shape : Shape) (n : ℕ)
+      → len_in v around shape ≡ Some n → form_in v around shape × (size_in v around shape ≡ n)
   value_known (Number z) around shape n h = maybe_known (leaf_at shape (Number z)) n h
   value_known (Text z) around shape n h = maybe_known (leaf_at shape (Text z)) n h
   value_known (Bytes z) around shape n h = maybe_known (leaf_at shape (Bytes z)) n h
@@ -108,14 +149,16 @@ mutual
   value_known (Record fs) around (Scalar k) n h = none_some _ h
   value_known (Record fs) around (OneOf k) n h = none_some _ h
   value_known (Record fs) around (Choice r k) n h = none_some _ h
-  value_known (Case m v) around (Choice rule cases) n h = case_known cases m v n h (λ c k. value_known v cases c.shape n k)
+  value_known (Case m v) around (Choice rule cases) n h =
+      case_known cases m v n h (λ c k. value_known v cases c.shape n k)
   value_known (Case m v) around (Scalar k) n h = none_some _ h
   value_known (Case m v) around (OneOf k) n h = none_some _ h
   value_known (Case m v) around (Rows k) n h = none_some _ h
   value_known (Case m v) around (RowsOrBytes j k) n h = none_some _ h
   value_known (Case m v) around Custom n h = none_some _ h
 
-  fields_known : (fs : Fields) (rows : RowList) (n : ℕ) → fields_len fs rows ≡ Some n → fields_form fs rows × (fields_size fs rows ≡ n) × (n < 2 ^ 32)
+  fields_known : (fs : Fields) (rows : RowList) (n : ℕ) → fields_len fs rows ≡ Some n
+      → fields_form fs rows × (fields_size fs rows ≡ n) × (n < 2 ^ 32)
   fields_known NoField NoRow n h = let e : 0 ≡ n = some_same 0 n h in (tt, e, omega arith)
   fields_known NoField (AndRow name place mark role shape rows) n h = none_some _ h
   fields_known (AndField d fs) NoRow n h = none_some _ h
@@ -125,12 +168,14 @@ mutual
       let b = fields_known fs rows p.1 p.3 in
       ((a.0, b.0), rw (a.1, b.1) p.4, p.5)
 
-  field_known : (d : Field) (shape : Shape) (n : ℕ) → field_len d shape ≡ Some n → field_form d shape × (field_size d shape ≡ n)
+  field_known : (d : Field) (shape : Shape) (n : ℕ) → field_len d shape ≡ Some n
+      → field_form d shape × (field_size d shape ≡ n)
   field_known Absent shape n h = (tt, some_same 0 n h)
   field_known (One v) shape n h = value_known v NoCase shape n h
   field_known (Many vs) shape n h = let p = list_known vs shape n h in (p.0, p.1)
 
-  list_known : (vs : Vals) (shape : Shape) (n : ℕ) → list_len vs shape ≡ Some n → list_form vs shape × (list_size vs shape ≡ n) × (n < 2 ^ 32)
+  list_known : (vs : Vals) (shape : Shape) (n : ℕ) → list_len vs shape ≡ Some n → list_form vs shape
+      × (list_size vs shape ≡ n) × (n < 2 ^ 32)
   list_known NoVal shape n h = let e : 0 ≡ n = some_same 0 n h in (tt, e, omega arith)
   list_known (AndVal v vs) shape n h =
       let p = plus_known (len_in v NoCase shape) (list_len vs shape) n h in

@@ -10,7 +10,8 @@ plus_zero None b = refl
 plus_zero (Some a) None = refl
 plus_zero (Some a) (Some b) = go (nat_lt (a + b) (2 ^ 32)) refl
   where
-    go : (q : Bool) → nat_lt (a + b) (2 ^ 32) ≡ q → plus_len (Some 0) (cond q (Some (a + b)) None) ≡ cond q (Some (a + b)) None
+    go : (q : Bool) → nat_lt (a + b) (2 ^ 32) ≡ q
+        → plus_len (Some 0) (cond q (Some (a + b)) None) ≡ cond q (Some (a + b)) None
     go true e = let z : 0 + (a + b) ≡ a + b = omega arith in rw (z, e) refl
     go false e = refl
 
@@ -24,7 +25,9 @@ plus_assoc (Some a) (Some b) None = go (nat_lt (a + b) (2 ^ 32))
     go false = refl
 plus_assoc (Some a) (Some b) (Some c) = go (nat_lt (b + c) (2 ^ 32)) (nat_lt (a + b) (2 ^ 32)) refl refl
   where
-    go : (p q : Bool) → nat_lt (b + c) (2 ^ 32) ≡ p → nat_lt (a + b) (2 ^ 32) ≡ q → plus_len (Some a) (cond p (Some (b + c)) None) ≡ plus_len (cond q (Some (a + b)) None) (Some c)
+    go : (p q : Bool) → nat_lt (b + c) (2 ^ 32) ≡ p → nat_lt (a + b) (2 ^ 32) ≡ q
+        → plus_len (Some a) (cond p (Some (b + c)) None)
+        ≡ plus_len (cond q (Some (a + b)) None) (Some c)
     go true true e f = rw (sym (add_assoc a b c)) refl
     go true false e f =
         let l : 2 ^ 32 ≤ a + b = ltb-false (a + b) (2 ^ 32) f in
@@ -45,7 +48,9 @@ list_len_zero NoVal shape = refl
 list_len_zero (AndVal v vs) shape = plus_zero (len_in v NoCase shape) (list_len vs shape)
 
 pub plus_end : (n : ℕ) → n < 2 ^ 32 → plus_len (Some n) (Some 0) ≡ Some n
-plus_end n h = let z : n + 0 ≡ n = omega arith in let e : nat_lt n (2 ^ 32) ≡ true = grind (arith, common_steps) in rw (z, e) refl
+plus_end n h =
+    let z : n + 0 ≡ n = omega arith in
+    let e : nat_lt n (2 ^ 32) ≡ true = grind (arith, common_steps) in rw (z, e) refl
 
 pub plains_len_zero : (around : Cases) (vs : Vals) → plus_len (Some 0) (plains_len around vs) ≡ plains_len around vs
 plains_len_zero around NoVal = refl

@@ -65,9 +65,12 @@ cond_append : (b : Bool) (t : Tree) (xs ys : List Tree) → cond b (t ∷ (xs ++
 cond_append true t xs ys = refl
 cond_append false t xs ys = refl
 
-pub with_tags-append : (tags : List ℕ) (ts us : List Tree) → with_tags tags (ts ++ us) ≡ with_tags tags ts ++ with_tags tags us
+pub with_tags-append : (tags : List ℕ) (ts us : List Tree)
+    → with_tags tags (ts ++ us) ≡ with_tags tags ts ++ with_tags tags us
 with_tags-append tags [] us = refl
-with_tags-append tags (t ∷ ts) us = rw (with_tags-append tags ts us) (cond_append (among (tag_of t) tags) t (with_tags tags ts) (with_tags tags us))
+with_tags-append tags (t ∷ ts) us =
+    rw (with_tags-append tags ts us)
+    (cond_append (among (tag_of t) tags) t (with_tags tags ts) (with_tags tags us))
 
 pub Outside-append : (tags : List ℕ) (ts us : List Tree) → Outside tags ts → Outside tags us → Outside tags (ts ++ us)
 Outside-append tags [] us h g = g
@@ -80,7 +83,8 @@ Inside-append tags (t ∷ ts) us h g = (h.0, Inside-append tags ts us h.1 g)
 pub among-left : (n : ℕ) (ns ms : List ℕ) → among n ns ≡ true → among n (ns ++ ms) ≡ true
 among-left n [] ms h = cc
 among-left n (m ∷ ns) ms h =
-    or_cases (nat_eq m n) (among n ns) (among n (m ∷ (ns ++ ms)) ≡ true) h (λ e. rw e refl) (λ e g. or_right (nat_eq m n) (among n (ns ++ ms)) (among-left n ns ms g))
+    or_cases (nat_eq m n) (among n ns) (among n (m ∷ (ns ++ ms)) ≡ true) h (λ e. rw e refl)
+    (λ e g. or_right (nat_eq m n) (among n (ns ++ ms)) (among-left n ns ms g))
 
 pub among-right : (n : ℕ) (ns ms : List ℕ) → among n ms ≡ true → among n (ns ++ ms) ≡ true
 among-right n [] ms h = h
@@ -89,7 +93,8 @@ among-right n (m ∷ ns) ms h = or_right (nat_eq m n) (among n (ns ++ ms)) (amon
 pub out_left : (n : ℕ) (ns ms : List ℕ) → among n (ns ++ ms) ≡ false → among n ns ≡ false
 out_left n [] ms h = refl
 out_left n (m ∷ ns) ms h =
-    or_false (nat_eq m n) (among n ns) (or_false_left (nat_eq m n) (among n (ns ++ ms)) h) (out_left n ns ms (or_false_right (nat_eq m n) (among n (ns ++ ms)) h))
+    or_false (nat_eq m n) (among n ns) (or_false_left (nat_eq m n) (among n (ns ++ ms)) h)
+    (out_left n ns ms (or_false_right (nat_eq m n) (among n (ns ++ ms)) h))
 
 pub out_right : (n : ℕ) (ns ms : List ℕ) → among n (ns ++ ms) ≡ false → among n ms ≡ false
 out_right n [] ms h = h
@@ -103,7 +108,8 @@ pub apart_out : (ns ms : List ℕ) (n : ℕ) → apart ns ms ≡ true → among 
 apart_out [] ms n h g = cc
 apart_out (m ∷ ns) ms n h g =
     or_cases (nat_eq m n) (among n ns) (among n ms ≡ false) g
-    (λ e. subst (λ (k : ℕ). among k ms ≡ false) (eq_same m n e) (not_true (among m ms) (and_left (not (among m ms)) (apart ns ms) h)))
+    (λ e. subst (λ (k : ℕ). among k ms ≡ false) (eq_same m n e)
+    (not_true (among m ms) (and_left (not (among m ms)) (apart ns ms) h)))
     (λ e k. apart_out ns ms n (and_right (not (among m ms)) (apart ns ms) h) k)
 
 -- and the other way
@@ -150,10 +156,16 @@ Inside-within ns ms [] w h = tt
 Inside-within ns ms (t ∷ ts) w h = (w (tag_of t) h.0, Inside-within ns ms ts w h.1)
 
 -- the trees of the tags, where what stands before and after is under other tags
-pub with_tags-between : (tags : List ℕ) (before ts after : List Tree) → Outside tags before → Inside tags ts → Outside tags after → with_tags tags (before ++ (ts ++ after)) ≡ ts
+pub with_tags-between : (tags : List ℕ) (before ts after : List Tree) → Outside tags before
+    → Inside tags ts → Outside tags after → with_tags tags (before ++ (ts ++ after)) ≡ ts
 with_tags-between tags before ts after b h a =
     with_tags-append tags before (ts ++ after)
-    ∙ rw (with_tags-outside tags before b, with_tags-append tags ts after, with_tags-inside tags ts h, with_tags-outside tags after a) (append-nil ts)
+    ∙ rw (
+      with_tags-outside tags before b,
+      with_tags-append tags ts after,
+      with_tags-inside tags ts h,
+      with_tags-outside tags after a,
+    ) (append-nil ts)
 
 -- the tags of a row's items
 abbrev pub row_tags : Place → Shape → OuterValue → List ℕ
@@ -169,14 +181,17 @@ turned m n = go (m == n) (n == m) refl refl
     go true false e f = let h : (n == m) ≡ true = eq-eqb n m (sym (eq_same m n e)) in cc
     go false true e f = let h : (m == n) ≡ true = eq-eqb m n (sym (eq_same n m f)) in cc
 
-pub filter_place : (place : Place) (shape : Shape) (outer : OuterValue) (ts : List Tree) → filter (in_place place shape outer) ts ≡ with_tags (row_tags place shape outer) ts
+pub filter_place : (place : Place) (shape : Shape) (outer : OuterValue) (ts : List Tree)
+    → filter (in_place place shape outer) ts ≡ with_tags (row_tags place shape outer) ts
 filter_place (Under tag) shape outer [] = refl
 filter_place (Under tag) shape outer (t ∷ ts) = rw (turned (tag_of t) tag, filter_place (Under tag) shape outer ts) refl
 filter_place ByCase shape outer [] = refl
 filter_place ByCase shape outer (t ∷ ts) = rw (filter_place ByCase shape outer ts) refl
 
 pub tag_first : (tag : ℕ) (rest : Bool) → (nat_lt tag (2 ^ 24) && rest) ≡ true → tag < 2 ^ 24
-tag_first tag rest h = let e : nat_lt tag (2 ^ 24) ≡ true = and_left (nat_lt tag (2 ^ 24)) rest h in ltb-true tag (2 ^ 24) e
+tag_first tag rest h =
+    let e : nat_lt tag (2 ^ 24) ≡ true = and_left (nat_lt tag (2 ^ 24)) rest h in
+    ltb-true tag (2 ^ 24) e
 
 pub tags_rest : (tag : ℕ) (rest : Bool) → (nat_lt tag (2 ^ 24) && rest) ≡ true → rest ≡ true
 tags_rest tag rest h = and_right (nat_lt tag (2 ^ 24)) rest h

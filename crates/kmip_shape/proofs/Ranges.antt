@@ -33,11 +33,13 @@ abbrev mutual
 
   pub rows_in_range : RowList → Bool
   rows_in_range NoRow = true
-  rows_in_range (AndRow name place mark role shape rows) = nat_lt (place_tag place) (2 ^ 24) && (tags_in_range shape && rows_in_range rows)
+  rows_in_range (AndRow name place mark role shape rows) =
+      nat_lt (place_tag place) (2 ^ 24) && (tags_in_range shape && rows_in_range rows)
 
   pub cases_in_range : Cases → Bool
   cases_in_range NoCase = true
-  cases_in_range (AndCase n name selector fixed shape cases) = nat_lt (tag_or fixed 0) (2 ^ 24) && (tags_in_range shape && cases_in_range cases)
+  cases_in_range (AndCase n name selector fixed shape cases) =
+      nat_lt (tag_or fixed 0) (2 ^ 24) && (tags_in_range shape && cases_in_range cases)
 
 -- how many levels the tree of a shape has at most
 abbrev mutual
@@ -73,17 +75,20 @@ pub keeps_more : (o : Option Tree) (m n : ℕ) → m ≤ n → Keeps o m → Kee
 keeps_more None m n h k = tt
 keeps_more (Some t) m n h k = (k.0, omega (arith, k.1))
 
-ranges_append : (xs ys : List Tree) → HaveRanges (trees_of xs) → HaveRanges (trees_of ys) → HaveRanges (trees_of (xs ++ ys))
+ranges_append : (xs ys : List Tree) → HaveRanges (trees_of xs) → HaveRanges (trees_of ys)
+    → HaveRanges (trees_of (xs ++ ys))
 ranges_append [] ys h k = k
 ranges_append (x ∷ xs) ys h k = (h.0, ranges_append xs ys h.1 k)
 
-levels_append : (xs ys : List Tree) (n : ℕ) → levels_of_all (trees_of xs) ≤ n → levels_of_all (trees_of ys) ≤ n → levels_of_all (trees_of (xs ++ ys)) ≤ n
+levels_append : (xs ys : List Tree) (n : ℕ) → levels_of_all (trees_of xs) ≤ n
+    → levels_of_all (trees_of ys) ≤ n → levels_of_all (trees_of (xs ++ ys)) ≤ n
 levels_append [] ys n h k = k
 levels_append (x ∷ xs) ys n h k =
     let rest : levels_of_all (trees_of (xs ++ ys)) ≤ n = levels_append xs ys n (omega arith) k in
     omega arith
 
-pub then_keeps : (a b : Option (List Tree)) (m n k : ℕ) → m ≤ k → n ≤ k → AllKeep a m → AllKeep b n → AllKeep (then_trees a b) k
+pub then_keeps : (a b : Option (List Tree)) (m n k : ℕ) → m ≤ k → n ≤ k → AllKeep a m → AllKeep b n
+    → AllKeep (then_trees a b) k
 then_keeps None b m n k p q h g = tt
 then_keeps (Some xs) None m n k p q h g = tt
 then_keeps (Some xs) (Some ys) m n k p q h g =
@@ -93,7 +98,8 @@ one_keeps : (o : Option Tree) (n : ℕ) → Keeps o n → AllKeep (one_tree o) n
 one_keeps None n h = tt
 one_keeps (Some t) n h = ((h.0, tt), omega (arith, h.1))
 
-structure_keeps : (tag : ℕ) (o : Option (List Tree)) (n : ℕ) → tag < 2 ^ 24 → AllKeep o n → Keeps (structure_of tag o) (n + 1)
+structure_keeps : (tag : ℕ) (o : Option (List Tree)) (n : ℕ) → tag < 2 ^ 24 → AllKeep o n
+    → Keeps (structure_of tag o) (n + 1)
 structure_keeps tag None n t h = tt
 structure_keeps tag (Some ts) n t h = ((t, h.0), omega (arith, h.1))
 
@@ -118,20 +124,24 @@ kind_keeps _ _ tag t h = absurd h
 
 number_in_range : (es : List Entry) (n : ℕ) → numbers_in_range es ≡ true → in_table n es ≡ true → n < 2 ^ 32
 number_in_range [] n r h = absurd (cc)
-number_in_range (e ∷ es) n r h = go (nat_eq e.number n) refl h (number_in_range es n (and_right (nat_lt e.number (2 ^ 32)) (numbers_in_range es) r))
+number_in_range (e ∷ es) n r h = go (nat_eq e.number n) refl h
+    (number_in_range es n (and_right (nat_lt e.number (2 ^ 32)) (numbers_in_range es) r))
   where
     first : e.number < 2 ^ 32
     first = ltb-true e.number (2 ^ 32) (and_left (nat_lt e.number (2 ^ 32)) (numbers_in_range es) r)
 
-    go : (q : Bool) → nat_eq e.number n ≡ q → (q || in_table n es) ≡ true → (in_table n es ≡ true → n < 2 ^ 32) → n < 2 ^ 32
+    go : (q : Bool) → nat_eq e.number n ≡ q → (q || in_table n es) ≡ true
+        → (in_table n es ≡ true → n < 2 ^ 32) → n < 2 ^ 32
     go true p k ih = subst (λ (m : ℕ). m < 2 ^ 32) (eq_same e.number n p) first
     go false p k ih = ih k
 
-entry_keeps : (es : List Entry) (v : Val) (tag : ℕ) → tag < 2 ^ 24 → numbers_in_range es ≡ true → leaf_fits (OneOf es) v → Keeps (item tag (leaf_of Enumeration v)) 1
+entry_keeps : (es : List Entry) (v : Val) (tag : ℕ) → tag < 2 ^ 24 → numbers_in_range es ≡ true
+    → leaf_fits (OneOf es) v → Keeps (item tag (leaf_of Enumeration v)) 1
 entry_keeps es (Number (pos n)) tag t r h = ((t, number_in_range es n r h), omega arith)
 entry_keeps es _ tag t r h = absurd h
 
-leaf_keeps : (shape : Shape) (v : Val) (tag : ℕ) → tag < 2 ^ 24 → tags_in_range shape ≡ true → leaf_fits shape v → Keeps (leaf_tree shape tag v) (depth shape)
+leaf_keeps : (shape : Shape) (v : Val) (tag : ℕ) → tag < 2 ^ 24 → tags_in_range shape ≡ true
+    → leaf_fits shape v → Keeps (leaf_tree shape tag v) (depth shape)
 leaf_keeps (Scalar k) v tag t r h = kind_keeps k v tag t h
 leaf_keeps (OneOf es) v tag t r h = entry_keeps es v tag t r h
 leaf_keeps (Rows rows) v tag t r h = tt
@@ -155,15 +165,25 @@ found_more m n (Some c) h k = (k.0, k.1, omega (arith, k.2))
 
 case_keeps : (cases : Cases) (n : ℕ) → cases_in_range cases ≡ true → FoundKeeps (cases_depth cases) (case_at cases n)
 case_keeps NoCase n r = tt
-case_keeps (AndCase m name selector fixed shape cases) n r = go (nat_eq m n) (found_more (cases_depth cases) (max (depth shape) (cases_depth cases)) (case_at cases n) (omega arith) (case_keeps cases n (and_right (tags_in_range shape) (cases_in_range cases) (and_right (nat_lt (tag_or fixed 0) (2 ^ 24)) (tags_in_range shape && cases_in_range cases) r))))
+case_keeps (AndCase m name selector fixed shape cases) n r =
+    go (nat_eq m n) (found_more (cases_depth cases) (max (depth shape) (cases_depth cases))
+    (case_at cases n) (omega arith)
+    (case_keeps cases n (and_right (tags_in_range shape) (cases_in_range cases)
+    (and_right (nat_lt (tag_or fixed 0) (2 ^ 24))
+    (tags_in_range shape && cases_in_range cases) r))))
   where
     found : Found
     found = record { name = name; selector = selector; tag = fixed; shape = shape }
 
-    go : (q : Bool) → FoundKeeps (max (depth shape) (cases_depth cases)) (case_at cases n) → FoundKeeps (max (depth shape) (cases_depth cases)) (cond q (Some found) (case_at cases n))
+    go : (q : Bool) → FoundKeeps (max (depth shape) (cases_depth cases)) (case_at cases n)
+        → FoundKeeps (max (depth shape) (cases_depth cases)) (cond q (Some found) (case_at cases n))
     go true k = (
-      ltb-true (tag_or fixed 0) (2 ^ 24) (and_left (nat_lt (tag_or fixed 0) (2 ^ 24)) (tags_in_range shape && cases_in_range cases) r),
-      and_left (tags_in_range shape) (cases_in_range cases) (and_right (nat_lt (tag_or fixed 0) (2 ^ 24)) (tags_in_range shape && cases_in_range cases) r),
+      ltb-true (tag_or fixed 0) (2 ^ 24)
+          (and_left (nat_lt (tag_or fixed 0) (2 ^ 24))
+          (tags_in_range shape && cases_in_range cases) r),
+      and_left (tags_in_range shape) (cases_in_range cases)
+          (and_right (nat_lt (tag_or fixed 0) (2 ^ 24))
+          (tags_in_range shape && cases_in_range cases) r),
       omega arith,
     )
     go false k = k
@@ -174,25 +194,41 @@ tag_kept (Some u) tag t h = h
 
 chosen_keeps : (cases : Cases) (n : ℕ) (v : Val) (tag : ℕ) → cases_in_range cases ≡ true → tag < 2 ^ 24
     → elim (case_at cases n) as (λ _. Type 0) [ None ↦ ⊥ | Some c ↦ fits_in v cases c.shape ]
-    → ((c : Found) → tags_in_range c.shape ≡ true → tag_or c.tag tag < 2 ^ 24 → fits_in v cases c.shape → Keeps (tree_in v cases c.shape (tag_or c.tag tag)) (depth c.shape))
-    → Keeps (elim (case_at cases n) as (λ _. Option Tree) [ None ↦ None | Some c ↦ cond (has_wire_form c.selector) (tree_in v cases c.shape (tag_or c.tag tag)) None ]) (cases_depth cases)
+    → ((c : Found) → tags_in_range c.shape ≡ true → tag_or c.tag tag < 2 ^ 24
+    → fits_in v cases c.shape → Keeps (tree_in v cases c.shape (tag_or c.tag tag))
+    (depth c.shape))
+    → Keeps (elim (case_at cases n) as
+    (λ _. Option Tree) [
+      | None ↦ None
+      | Some c ↦ cond (has_wire_form c.selector)
+          (tree_in v cases c.shape (tag_or c.tag tag)) None
+    ]) (cases_depth cases)
 chosen_keeps cases n v tag r t f ih = go (case_at cases n) (case_keeps cases n r) f
   where
-    at : (c : Found) (q : Bool) → Keeps (tree_in v cases c.shape (tag_or c.tag tag)) (cases_depth cases) → Keeps (cond q (tree_in v cases c.shape (tag_or c.tag tag)) None) (cases_depth cases)
+    at : (c : Found) (q : Bool) → Keeps (tree_in v cases c.shape (tag_or c.tag tag))
+        (cases_depth cases) → Keeps (cond q (tree_in v cases c.shape (tag_or c.tag tag)) None)
+        (cases_depth cases)
     at c true k = k
     at c false k = tt
 
-    go : (o : Option Found) → FoundKeeps (cases_depth cases) o → elim o as (λ _. Type 0) [ None ↦ ⊥ | Some c ↦ fits_in v cases c.shape ]
-        → Keeps (elim o as (λ _. Option Tree) [ None ↦ None | Some c ↦ cond (has_wire_form c.selector) (tree_in v cases c.shape (tag_or c.tag tag)) None ]) (cases_depth cases)
+    go : (o : Option Found) → FoundKeeps (cases_depth cases) o
+        → elim o as (λ _. Type 0) [ None ↦ ⊥ | Some c ↦ fits_in v cases c.shape ]
+        → Keeps (elim o as (λ _. Option Tree) [
+          | None ↦ None
+          | Some c ↦ cond (has_wire_form c.selector)
+              (tree_in v cases c.shape (tag_or c.tag tag)) None
+        ]) (cases_depth cases)
     go None k f = tt
     go (Some c) k f =
         at c (has_wire_form c.selector)
-        (keeps_more (tree_in v cases c.shape (tag_or c.tag tag)) (depth c.shape) (cases_depth cases) k.2 (ih c k.1 (tag_kept c.tag tag t k.0) f))
+        (keeps_more (tree_in v cases c.shape (tag_or c.tag tag)) (depth c.shape)
+        (cases_depth cases) k.2 (ih c k.1 (tag_kept c.tag tag t k.0) f))
 
 -- ---- custom structures
 
 -- a leaf of any value that fits
-plain_leaf : (shape : Shape) (v : Val) (around : Cases) (tag : ℕ) → tag < 2 ^ 24 → tags_in_range shape ≡ true → fits_in v around shape → Keeps (leaf_tree shape tag v) 1
+plain_leaf : (shape : Shape) (v : Val) (around : Cases) (tag : ℕ) → tag < 2 ^ 24
+    → tags_in_range shape ≡ true → fits_in v around shape → Keeps (leaf_tree shape tag v) 1
 plain_leaf (Scalar k) (Number z) around tag t r h = kind_keeps k (Number z) tag t h
 plain_leaf (Scalar k) (Text z) around tag t r h = kind_keeps k (Text z) tag t h
 plain_leaf (Scalar k) (Bytes z) around tag t r h = kind_keeps k (Bytes z) tag t h
@@ -210,10 +246,12 @@ plain_leaf (RowsOrBytes n rows) v around tag t r h = tt
 plain_leaf (Choice rule cases) v around tag t r h = tt
 plain_leaf Custom v around tag t r h = tt
 
-plain_keeps : (around : Cases) (v : Val) → cases_in_range around ≡ true → fits_in v NoCase (Choice OfName around) → Keeps (plain_tree around v) 1
+plain_keeps : (around : Cases) (v : Val) → cases_in_range around ≡ true
+    → fits_in v NoCase (Choice OfName around) → Keeps (plain_tree around v) 1
 plain_keeps around (Case n v) r f = go (case_at around n) (case_keeps around n r) f
   where
-    go : (o : Option Found) → FoundKeeps (cases_depth around) o → elim o as (λ _. Type 0) [ None ↦ ⊥ | Some c ↦ fits_in v around c.shape ]
+    go : (o : Option Found) → FoundKeeps (cases_depth around) o
+        → elim o as (λ _. Type 0) [ None ↦ ⊥ | Some c ↦ fits_in v around c.shape ]
         → Keeps (elim o as (λ _. Option Tree) [ None ↦ None | Some c ↦ leaf_tree c.shape attribute_value v ]) 1
     go None k f = tt
     go (Some c) k f = plain_leaf c.shape v around attribute_value (omega arith) k.1 f
@@ -223,15 +261,18 @@ plain_keeps around (Bytes z) r f = tt
 plain_keeps around (Truth z) r f = tt
 plain_keeps around (Record z) r f = tt
 
-plains_keep : (around : Cases) (vs : Vals) → cases_in_range around ≡ true → vals_fit vs NoCase (Choice OfName around) → AllKeep (plain_trees around vs) 1
+plains_keep : (around : Cases) (vs : Vals) → cases_in_range around ≡ true
+    → vals_fit vs NoCase (Choice OfName around) → AllKeep (plain_trees around vs) 1
 plains_keep around NoVal r f = (tt, omega arith)
 plains_keep around (AndVal v vs) r f =
     then_keeps (one_tree (plain_tree around v)) (plain_trees around vs) 1 1 1 (omega arith) (omega arith)
     (one_keeps (plain_tree around v) 1 (plain_keeps around v r f.0)) (plains_keep around vs r f.1)
 
 custom_keeps : (around : Cases) (fs : Fields) (tag : ℕ) → cases_in_range around ≡ true → tag < 2 ^ 24
-    → fields_fit fs NoCase (AndRow [] (Under attribute_value) AnyNumber Plain (Choice OfName around) NoRow) → Keeps (structure_of tag (custom_trees around fs)) 2
-custom_keeps around (AndField (Many vs) NoField) tag r t f = structure_keeps tag (plain_trees around vs) 1 t (plains_keep around vs r f.1)
+    → fields_fit fs NoCase (AndRow [] (Under attribute_value) AnyNumber Plain
+    (Choice OfName around) NoRow) → Keeps (structure_of tag (custom_trees around fs)) 2
+custom_keeps around (AndField (Many vs) NoField) tag r t f =
+    structure_keeps tag (plain_trees around vs) 1 t (plains_keep around vs r f.1)
 custom_keeps around NoField tag r t f = tt
 custom_keeps around (AndField Absent fs) tag r t f = tt
 custom_keeps around (AndField (One v) fs) tag r t f = tt
@@ -256,34 +297,44 @@ case_bytes (Rows rows) m b f = absurd f
 case_bytes (RowsOrBytes n rows) m b f = absurd f
 case_bytes Custom m b f = absurd f
 
-form_bytes : (n : ℕ) (fs : Fields) (rows : RowList) (b : List ℕ) → fields_fit fs NoCase rows → byte_form n fs ≡ Some b → AllBytes b
+form_bytes : (n : ℕ) (fs : Fields) (rows : RowList) (b : List ℕ) → fields_fit fs NoCase rows
+    → byte_form n fs ≡ Some b → AllBytes b
 form_bytes n (AndField (One (Case m (Bytes c))) fs) NoRow b f e = absurd f
-form_bytes n (AndField (One (Case m (Bytes c))) fs) (AndRow name place mark role shape rows) b f e = go (nat_eq m n && all_absent fs) e
+form_bytes n (AndField (One (Case m (Bytes c))) fs) (AndRow name place mark role shape rows) b f e =
+    go (nat_eq m n && all_absent fs) e
   where
     go : (q : Bool) → cond q (Some c) None ≡ Some b → AllBytes b
     go true k = subst AllBytes (some_same c b k) (case_bytes shape m c f.1)
     go false k = none_some _ k
 form_bytes n _ rows b f e = none_some _ e
 
-bytes_keep : (n : ℕ) (fs : Fields) (rows : RowList) (tag : ℕ) → tag < 2 ^ 24 → fields_fit fs NoCase rows → Keeps (structure_of tag (field_trees fs NoCase rows)) (rows_depth rows + 1)
+bytes_keep : (n : ℕ) (fs : Fields) (rows : RowList) (tag : ℕ) → tag < 2 ^ 24
+    → fields_fit fs NoCase rows → Keeps (structure_of tag (field_trees fs NoCase rows))
+    (rows_depth rows + 1)
     → Keeps (bytes_or tag (byte_form n fs) (structure_of tag (field_trees fs NoCase rows))) (rows_depth rows + 1)
 bytes_keep n fs rows tag t f ih = go (byte_form n fs) refl
   where
-    go : (o : Option (List ℕ)) → byte_form n fs ≡ o → Keeps (bytes_or tag o (structure_of tag (field_trees fs NoCase rows))) (rows_depth rows + 1)
+    go : (o : Option (List ℕ)) → byte_form n fs ≡ o
+        → Keeps (bytes_or tag o (structure_of tag (field_trees fs NoCase rows)))
+        (rows_depth rows + 1)
     go None e = ih
     go (Some b) e = ((t, are_bytes b (form_bytes n fs rows b f e)), omega arith)
 
 -- ---- values of a shape
 
 mutual
-  pub value_keeps : (v : Val) (around : Cases) (shape : Shape) (tag : ℕ) → cases_in_range around ≡ true → tags_in_range shape ≡ true → tag < 2 ^ 24 → fits_in v around shape → Keeps (tree_in v around shape tag) (depth shape)
+  pub value_keeps : (v : Val) (around : Cases) (shape : Shape) (tag : ℕ)
+      → cases_in_range around ≡ true → tags_in_range shape ≡ true → tag < 2 ^ 24
+      → fits_in v around shape → Keeps (tree_in v around shape tag) (depth shape)
   value_keeps (Number z) around shape tag a r t f = leaf_keeps shape (Number z) tag t r f
   value_keeps (Text z) around shape tag a r t f = leaf_keeps shape (Text z) tag t r f
   value_keeps (Bytes z) around shape tag a r t f = leaf_keeps shape (Bytes z) tag t r f
   value_keeps (Truth z) around shape tag a r t f = leaf_keeps shape (Truth z) tag t r f
-  value_keeps (Record fs) around (Rows rows) tag a r t f = structure_keeps tag (field_trees fs NoCase rows) (rows_depth rows) t (fields_keep fs rows r f)
+  value_keeps (Record fs) around (Rows rows) tag a r t f =
+      structure_keeps tag (field_trees fs NoCase rows) (rows_depth rows) t (fields_keep fs rows r f)
   value_keeps (Record fs) around (RowsOrBytes n rows) tag a r t f =
-      bytes_keep n fs rows tag t f (structure_keeps tag (field_trees fs NoCase rows) (rows_depth rows) t (fields_keep fs rows r f))
+      bytes_keep n fs rows tag t f (structure_keeps tag (field_trees fs NoCase rows)
+      (rows_depth rows) t (fields_keep fs rows r f))
   value_keeps (Record fs) around Custom tag a r t f = custom_keeps around fs tag a t f
   value_keeps (Record fs) around (Scalar k) tag a r t f = tt
   value_keeps (Record fs) around (OneOf k) tag a r t f = tt
@@ -296,27 +347,43 @@ mutual
   value_keeps (Case n v) around (RowsOrBytes m k) tag a r t f = tt
   value_keeps (Case n v) around Custom tag a r t f = tt
 
-  fields_keep : (fs : Fields) (rows : RowList) → rows_in_range rows ≡ true → fields_fit fs NoCase rows → AllKeep (field_trees fs NoCase rows) (rows_depth rows)
+  fields_keep : (fs : Fields) (rows : RowList) → rows_in_range rows ≡ true
+      → fields_fit fs NoCase rows → AllKeep (field_trees fs NoCase rows) (rows_depth rows)
   fields_keep NoField NoRow r f = (tt, omega arith)
   fields_keep NoField (AndRow name place mark role shape rows) r f = tt
   fields_keep (AndField d fs) NoRow r f = tt
   fields_keep (AndField d fs) (AndRow name place mark role shape rows) r f =
-      let tail : (tags_in_range shape && rows_in_range rows) ≡ true = and_right (nat_lt (place_tag place) (2 ^ 24)) (tags_in_range shape && rows_in_range rows) r in
-      then_keeps (trees_in d NoCase shape (place_tag place)) (field_trees fs NoCase rows) (depth shape) (rows_depth rows) (max (depth shape) (rows_depth rows)) (omega arith) (omega arith)
-      (field_keeps d shape (place_tag place) (and_left (tags_in_range shape) (rows_in_range rows) tail) (ltb-true (place_tag place) (2 ^ 24) (and_left (nat_lt (place_tag place) (2 ^ 24)) (tags_in_range shape && rows_in_range rows) r)) f.1)
+      let tail : (tags_in_range shape && rows_in_range rows) ≡ true =
+      and_right (nat_lt (place_tag place) (2 ^ 24))
+      (tags_in_range shape && rows_in_range rows) r in
+      then_keeps (trees_in d NoCase shape (place_tag place)) (field_trees fs NoCase rows)
+      (depth shape) (rows_depth rows) (max (depth shape) (rows_depth rows)) (omega arith)
+      (omega arith)
+      (field_keeps d shape (place_tag place)
+      (and_left (tags_in_range shape) (rows_in_range rows) tail)
+      (ltb-true (place_tag place) (2 ^ 24)
+      (and_left (nat_lt (place_tag place) (2 ^ 24))
+      (tags_in_range shape && rows_in_range rows) r)) f.1)
       (fields_keep fs rows (and_right (tags_in_range shape) (rows_in_range rows) tail) f.2)
 
-  field_keeps : (d : Field) (shape : Shape) (tag : ℕ) → tags_in_range shape ≡ true → tag < 2 ^ 24 → field_fits d NoCase shape → AllKeep (trees_in d NoCase shape tag) (depth shape)
+  field_keeps : (d : Field) (shape : Shape) (tag : ℕ) → tags_in_range shape ≡ true → tag < 2 ^ 24
+      → field_fits d NoCase shape → AllKeep (trees_in d NoCase shape tag) (depth shape)
   field_keeps Absent shape tag r t f = (tt, omega arith)
-  field_keeps (One v) shape tag r t f = one_keeps (tree_in v NoCase shape tag) (depth shape) (value_keeps v NoCase shape tag refl r t f)
+  field_keeps (One v) shape tag r t f =
+      one_keeps (tree_in v NoCase shape tag) (depth shape)
+      (value_keeps v NoCase shape tag refl r t f)
   field_keeps (Many vs) shape tag r t f = list_keeps vs shape tag r t f
 
-  list_keeps : (vs : Vals) (shape : Shape) (tag : ℕ) → tags_in_range shape ≡ true → tag < 2 ^ 24 → vals_fit vs NoCase shape → AllKeep (list_trees vs NoCase shape tag) (depth shape)
+  list_keeps : (vs : Vals) (shape : Shape) (tag : ℕ) → tags_in_range shape ≡ true → tag < 2 ^ 24
+      → vals_fit vs NoCase shape → AllKeep (list_trees vs NoCase shape tag) (depth shape)
   list_keeps NoVal shape tag r t f = (tt, omega arith)
   list_keeps (AndVal v vs) shape tag r t f =
-      then_keeps (one_tree (tree_in v NoCase shape tag)) (list_trees vs NoCase shape tag) (depth shape) (depth shape) (depth shape) (omega arith) (omega arith)
-      (one_keeps (tree_in v NoCase shape tag) (depth shape) (value_keeps v NoCase shape tag refl r t f.0)) (list_keeps vs shape tag r t f.1)
+      then_keeps (one_tree (tree_in v NoCase shape tag)) (list_trees vs NoCase shape tag)
+      (depth shape) (depth shape) (depth shape) (omega arith) (omega arith)
+      (one_keeps (tree_in v NoCase shape tag) (depth shape)
+      (value_keeps v NoCase shape tag refl r t f.0)) (list_keeps vs shape tag r t f.1)
 
 -- the tree of a value that fits its shape
-pub fits_ranges : (shape : Shape) (v : Val) (tag : ℕ) → tags_in_range shape ≡ true → tag < 2 ^ 24 → Fits shape v → Keeps (tree_of shape tag v) (depth shape)
+pub fits_ranges : (shape : Shape) (v : Val) (tag : ℕ) → tags_in_range shape ≡ true → tag < 2 ^ 24
+    → Fits shape v → Keeps (tree_of shape tag v) (depth shape)
 fits_ranges shape v tag r t f = value_keeps v NoCase shape tag refl r t f

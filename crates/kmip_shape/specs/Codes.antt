@@ -30,8 +30,12 @@ abbrev mutual
 mutual
   pub val_inj : (v w : Val) → val_code v ≡ val_code w → v ≡ w
   val_inj (Number x) (Number y) e = let f : coded_ℤ.code x ≡ coded_ℤ.code y = cc in ap Number (coded_ℤ.inj x y f)
-  val_inj (Text x) (Text y) e = let f : (coded_list coded_ℕ).code x ≡ (coded_list coded_ℕ).code y = cc in ap Text ((coded_list coded_ℕ).inj x y f)
-  val_inj (Bytes x) (Bytes y) e = let f : (coded_list coded_ℕ).code x ≡ (coded_list coded_ℕ).code y = cc in ap Bytes ((coded_list coded_ℕ).inj x y f)
+  val_inj (Text x) (Text y) e =
+      let f : (coded_list coded_ℕ).code x ≡ (coded_list coded_ℕ).code y = cc in
+      ap Text ((coded_list coded_ℕ).inj x y f)
+  val_inj (Bytes x) (Bytes y) e =
+      let f : (coded_list coded_ℕ).code x ≡ (coded_list coded_ℕ).code y = cc in
+      ap Bytes ((coded_list coded_ℕ).inj x y f)
   val_inj (Truth x) (Truth y) e = let f : coded_bool.code x ≡ coded_bool.code y = cc in ap Truth (coded_bool.inj x y f)
   val_inj (Record x) (Record y) e = let f : fields_code x ≡ fields_code y = cc in ap Record (fields_inj x y f)
   val_inj (Case m v) (Case n w) e =

@@ -8,13 +8,17 @@ module _ {X : Type 0} (v : X → List ℕ) where
   entries_count tag [] = refl
   entries_count tag (x ∷ xs) = omega (arith, entries_count (tag + 1) xs)
 
-  entry_at : (tag n i : ℕ) (xs : List X) → n ≡ tag + i → slice_get (entries_from tag (map v xs)) i ≡ option_map (λ x. (n, v x)) (slice_get xs i)
+  entry_at : (tag n i : ℕ) (xs : List X) → n ≡ tag + i
+      → slice_get (entries_from tag (map v xs)) i ≡ option_map (λ x. (n, v x)) (slice_get xs i)
   entry_at tag n i [] e = refl
   entry_at tag n zero (x ∷ xs) e = let same : tag ≡ n = omega (arith, e) in ap (λ m. Some (m, v x)) same
   entry_at tag n (suc i) (x ∷ xs) e = entry_at (tag + 1) n i xs (omega (arith, e))
 
-  pub entry_within : (tag i : ℕ) (xs : List X) (d : X) → i < length xs → slice_get (entries_from tag (map v xs)) i ≡ Some (tag + i, v (get_or xs i d))
-  entry_within tag i xs d h = entry_at tag (tag + i) i xs refl ∙ ap (option_map (λ x. (tag + i, v x))) (slice_get-get_or xs i d h)
+  pub entry_within : (tag i : ℕ) (xs : List X) (d : X) → i < length xs
+      → slice_get (entries_from tag (map v xs)) i ≡ Some (tag + i, v (get_or xs i d))
+  entry_within tag i xs d h = entry_at tag (tag + i) i xs refl
+      ∙ ap (option_map (λ x. (tag + i, v x))) (slice_get-get_or xs i d h)
 
   pub entry_past : (tag i : ℕ) (xs : List X) → length xs ≤ i → slice_get (entries_from tag (map v xs)) i ≡ None
-  entry_past tag i xs h = entry_at tag (tag + i) i xs refl ∙ ap (option_map (λ x. (tag + i, v x))) (slice_get_past xs i h)
+  entry_past tag i xs h = entry_at tag (tag + i) i xs refl
+      ∙ ap (option_map (λ x. (tag + i, v x))) (slice_get_past xs i h)

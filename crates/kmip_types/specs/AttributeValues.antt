@@ -185,7 +185,8 @@ attribute_value_same (ApplicationSpecificInformation n d) (ApplicationSpecificIn
     (same_record (same_case h).1))
 attribute_value_same (ContactInformation x) (ContactInformation y) h =
     ap ContactInformation (same_text (same_case h).1)
-attribute_value_same (Structure x) (Structure y) h = let g : vals_of x ≡ vals_of y = cc in ap Structure (same_vals_of x y g)
+attribute_value_same (Structure x) (Structure y) h =
+    let g : vals_of x ≡ vals_of y = cc in ap Structure (same_vals_of x y g)
 attribute_value_same (Integer x) (Integer y) h = ap Integer (same_number (same_case h).1)
 attribute_value_same (LongInteger x) (LongInteger y) h =
     ap LongInteger (same_number (same_case h).1)

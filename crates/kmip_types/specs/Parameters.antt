@@ -126,5 +126,65 @@ cryptographic_parameters_same x y h =
     (and_row (optional_row fixed_field_length_same)
     (and_row (optional_row invocation_field_length_same)
     (and_row (optional_row counter_length_same)
-    (and_row (optional_row initial_counter_value_same) no_row))))))))))))
-    (x.block_cipher_mode, (x.padding_method, (x.hashing_algorithm, (x.key_role_type, (x.digital_signature_algorithm, (x.cryptographic_algorithm, (x.random_iv, (x.iv_length, (x.tag_length, (x.fixed_field_length, (x.invocation_field_length, (x.counter_length, (x.initial_counter_value, tt))))))))))))) (y.block_cipher_mode, (y.padding_method, (y.hashing_algorithm, (y.key_role_type, (y.digital_signature_algorithm, (y.cryptographic_algorithm, (y.random_iv, (y.iv_length, (y.tag_length, (y.fixed_field_length, (y.invocation_field_length, (y.counter_length, (y.initial_counter_value, tt))))))))))))) (same_record h))
+    (and_row (optional_row initial_counter_value_same) no_row)))))))))))) (
+      x.block_cipher_mode,
+      (
+        x.padding_method,
+        (
+          x.hashing_algorithm,
+          (
+            x.key_role_type,
+            (
+              x.digital_signature_algorithm,
+              (
+                x.cryptographic_algorithm,
+                (
+                  x.random_iv,
+                  (
+                    x.iv_length,
+                    (
+                      x.tag_length,
+                      (
+                        x.fixed_field_length,
+                        (x.invocation_field_length, (x.counter_length, (x.initial_counter_value, tt))),
+                      ),
+                    ),
+                  ),
+                ),
+              ),
+            ),
+          ),
+        ),
+      ),
+    ) (
+      y.block_cipher_mode,
+      (
+        y.padding_method,
+        (
+          y.hashing_algorithm,
+          (
+            y.key_role_type,
+            (
+              y.digital_signature_algorithm,
+              (
+                y.cryptographic_algorithm,
+                (
+                  y.random_iv,
+                  (
+                    y.iv_length,
+                    (
+                      y.tag_length,
+                      (
+                        y.fixed_field_length,
+                        (y.invocation_field_length, (y.counter_length, (y.initial_counter_value, tt))),
+                      ),
+                    ),
+                  ),
+                ),
+              ),
+            ),
+          ),
+        ),
+      ),
+    )
+    (same_record h))

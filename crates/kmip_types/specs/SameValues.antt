@@ -52,13 +52,15 @@ mutual
   same_val-sound (Truth x) (Truth y) p = ap Truth ((booleans_Decides x y).0 p)
   same_val-sound (Record xs) (Record ys) p = ap Record (same_fields-sound xs ys p)
   same_val-sound (Case n x) (Case m y) p =
-      let q = both (nat_eq n m) (same_val x y) (unsigned_Decides n m).0 (same_val-sound x y) p in λ i. Case (q.0 i) (q.1 i)
+      let q = both (nat_eq n m) (same_val x y) (unsigned_Decides n m).0 (same_val-sound x y) p in
+      λ i. Case (q.0 i) (q.1 i)
   same_val-sound _ _ p = absurd (false≢true p)
 
   pub same_fields-sound : (xs ys : Fields) → same_fields xs ys ≡ true → xs ≡ ys
   same_fields-sound NoField NoField p = refl
   same_fields-sound (AndField x xs) (AndField y ys) p =
-      let q = both (same_field x y) (same_fields xs ys) (same_field-sound x y) (same_fields-sound xs ys) p in λ i. AndField (q.0 i) (q.1 i)
+      let q = both (same_field x y) (same_fields xs ys) (same_field-sound x y)
+      (same_fields-sound xs ys) p in λ i. AndField (q.0 i) (q.1 i)
   same_fields-sound _ _ p = absurd (false≢true p)
 
   pub same_field-sound : (x y : Field) → same_field x y ≡ true → x ≡ y
@@ -70,7 +72,8 @@ mutual
   pub same_vals-sound : (xs ys : Vals) → same_vals xs ys ≡ true → xs ≡ ys
   same_vals-sound NoVal NoVal p = refl
   same_vals-sound (AndVal x xs) (AndVal y ys) p =
-      let q = both (same_val x y) (same_vals xs ys) (same_val-sound x y) (same_vals-sound xs ys) p in λ i. AndVal (q.0 i) (q.1 i)
+      let q = both (same_val x y) (same_vals xs ys) (same_val-sound x y)
+      (same_vals-sound xs ys) p in λ i. AndVal (q.0 i) (q.1 i)
   same_vals-sound _ _ p = absurd (false≢true p)
 
 mutual

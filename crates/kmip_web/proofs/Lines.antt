@@ -11,32 +11,42 @@ abbrev pub is_feed : ℕ → Bool
 is_feed c = eqb c 10
 
 -- the first line ends at the first line feed
-pub lines_first : (text : List ℕ) → position_or_len is_feed text < length text → lines_of text ≡ before_first is_feed text ∷ lines_of (after_first is_feed text)
+pub lines_first : (text : List ℕ) → position_or_len is_feed text < length text
+    → lines_of text ≡ before_first is_feed text ∷ lines_of (after_first is_feed text)
 lines_first [] within = absurd (omega arith)
-lines_first (c ∷ text) within = elim (eqb c 10) as (λ b. eqb c 10 ≡ b → cond b ([] ∷ lines_of text) (onto_first c (lines_of text)) ≡ before_first is_feed (c ∷ text) ∷ lines_of (after_first is_feed (c ∷ text))) [
-  | true ↦ λ e. rw e refl
-  | false ↦ λ e.
-      let inner : position_or_len is_feed text < length text = (let w = rw e at within in omega arith) in
-      rw (e, lines_first text inner) (grind (arith, common_steps))
-] refl
+lines_first (c ∷ text) within = elim (eqb c 10) as
+    (λ b. eqb c 10 ≡ b → cond b ([] ∷ lines_of text) (onto_first c (lines_of text))
+    ≡ before_first is_feed (c ∷ text) ∷ lines_of (after_first is_feed (c ∷ text))) [
+      | true ↦ λ e. rw e refl
+      | false ↦ λ e.
+          let inner : position_or_len is_feed text < length text = (let w = rw e at within in omega arith) in
+          rw (e, lines_first text inner) (grind (arith, common_steps))
+    ] refl
 
 -- a first byte before a line without a line feed
-one_more : (c : ℕ) (text : List ℕ) → length text ≤ position_or_len is_feed text → onto_first c (lines_of text) ≡ (c ∷ text) ∷ []
+one_more : (c : ℕ) (text : List ℕ) → length text ≤ position_or_len is_feed text
+    → onto_first c (lines_of text) ≡ (c ∷ text) ∷ []
 one_more c [] none = refl
-one_more c (d ∷ text) none = elim (eqb d 10) as (λ b. eqb d 10 ≡ b → onto_first c (cond b ([] ∷ lines_of text) (onto_first d (lines_of text))) ≡ (c ∷ d ∷ text) ∷ []) [
-  | true ↦ λ e. (let w = rw e at none in absurd (omega arith))
-  | false ↦ λ e. (let w = rw e at none in rw (one_more d text (omega arith)) refl)
-] refl
+one_more c (d ∷ text) none = elim (eqb d 10) as
+    (λ b. eqb d 10 ≡ b → onto_first c (cond b ([] ∷ lines_of text) (onto_first d (lines_of text)))
+    ≡ (c ∷ d ∷ text) ∷ []) [
+      | true ↦ λ e. (let w = rw e at none in absurd (omega arith))
+      | false ↦ λ e. (let w = rw e at none in rw (one_more d text (omega arith)) refl)
+    ] refl
 
 -- without a line feed it is the whole text
-pub lines_one : (text : List ℕ) → 0 < length text → length text ≤ position_or_len is_feed text → lines_of text ≡ text ∷ []
+pub lines_one : (text : List ℕ) → 0 < length text → length text ≤ position_or_len is_feed text
+    → lines_of text ≡ text ∷ []
 lines_one [] some none = absurd (omega arith)
-lines_one (c ∷ text) some none = elim (eqb c 10) as (λ b. eqb c 10 ≡ b → cond b ([] ∷ lines_of text) (onto_first c (lines_of text)) ≡ (c ∷ text) ∷ []) [
-  | true ↦ λ e. (let w = rw e at none in absurd (omega arith))
-  | false ↦ λ e. (let w = rw e at none in one_more c text (omega arith))
-] refl
+lines_one (c ∷ text) some none = elim (eqb c 10) as
+    (λ b. eqb c 10 ≡ b → cond b ([] ∷ lines_of text) (onto_first c (lines_of text))
+    ≡ (c ∷ text) ∷ []) [
+      | true ↦ λ e. (let w = rw e at none in absurd (omega arith))
+      | false ↦ λ e. (let w = rw e at none in one_more c text (omega arith))
+    ] refl
 
-pub found : (place size : ℕ) (end : ℕ) (r : Option ℕ) → r ≡ cond (ltb place size) (Some place) None → r ≡ Some end → (place < size) × (end ≡ place)
+pub found : (place size : ℕ) (end : ℕ) (r : Option ℕ) → r ≡ cond (ltb place size) (Some place) None
+    → r ≡ Some end → (place < size) × (end ≡ place)
 found place size end r is some = grind (arith, nat_tests)
 
 pub not_found : (place size : ℕ) (r : Option ℕ) → r ≡ cond (ltb place size) (Some place) None → r ≡ None → size ≤ place

@@ -33,7 +33,8 @@ mutual
       let inner = parsed_sizes ts (level + 1) (value_of b) h.value in
       (omega (arith, h.whole, n, inner.0, inner.1), omega (arith, h.whole))
 
-  parsed_sizes : (ts : Trees) (level : ℕ) (b : List ℕ) → ParseAll ts level b → (sizes_of ts ≡ length b) × (length b % 8 ≡ 0)
+  parsed_sizes : (ts : Trees) (level : ℕ) (b : List ℕ) → ParseAll ts level b
+      → (sizes_of ts ≡ length b) × (length b % 8 ≡ 0)
   parsed_sizes none level b h = (sym (ap length h), omega (arith, ap length h))
   parsed_sizes (more t ts) level b (n, le, p, q) =
       let first = parsed_size t level (take n b) p in

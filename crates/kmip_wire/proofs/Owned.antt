@@ -24,23 +24,36 @@ trees_of-list_of : (ts : Trees) → trees_of (list_of ts) ≡ ts
 trees_of-list_of none = refl
 trees_of-list_of (more t ts) = ap (more t) (trees_of-list_of ts)
 
-pub children_smaller : (t : Tree) (ts : List Tree) → children_in t ≡ Some ts → trees_size (trees_of ts) + 1 ≤ tree_size t
+pub children_smaller : (t : Tree) (ts : List Tree) → children_in t ≡ Some ts
+    → trees_size (trees_of ts) + 1 ≤ tree_size t
 children_smaller (scalar tag s) ts e = absurd (none-some ts e)
-children_smaller (structure tag us) ts e = omega (arith, ap trees_size (sym (trees_of-list_of us) ∙ ap trees_of (same_Some (list_of us) ts e)))
+children_smaller (structure tag us) ts e =
+    omega (
+      arith,
+      ap trees_size (sym (trees_of-list_of us) ∙ ap trees_of
+          (same_Some (list_of us) ts e)),
+    )
 
 pub is_structure : (t : Tree) (ts : List Tree) → children_in t ≡ Some ts → structure (tag_of t) (trees_of ts) ≡ t
 is_structure (scalar tag s) ts e = absurd (none-some ts e)
-is_structure (structure tag us) ts e = ap (structure tag) (ap trees_of (sym (same_Some (list_of us) ts e)) ∙ trees_of-list_of us)
+is_structure (structure tag us) ts e =
+    ap (structure tag) (ap trees_of (sym (same_Some (list_of us) ts e)) ∙ trees_of-list_of us)
 
-scalar_value : (t : Tree) (b : List ℕ) → Parses t 1 b → children_in t ≡ None → (s : Scalar) × (t ≡ scalar (tag_of t) s) × (scalar_at (kind_of_tree t) (value_of b) ≡ Some s)
+scalar_value : (t : Tree) (b : List ℕ) → Parses t 1 b → children_in t ≡ None → (s : Scalar)
+    × (t ≡ scalar (tag_of t) s) × (scalar_at (kind_of_tree t) (value_of b) ≡ Some s)
 scalar_value (scalar tag s) b h e = (s, refl, scalar_at-complete s (value_of b) h.value)
 scalar_value (structure tag ts) b h e = absurd (none-some (list_of ts) (sym e))
 
-pub is_scalar : (b : List ℕ) → is_tree b ≡ true → children_in (the_tree b) ≡ None → (s : Scalar) × (the_tree b ≡ scalar (tag_of (the_tree b)) s) × (scalar_at (kind_of_tree (the_tree b)) (value_of b) ≡ Some s)
+pub is_scalar : (b : List ℕ) → is_tree b ≡ true → children_in (the_tree b) ≡ None → (s : Scalar)
+    × (the_tree b ≡ scalar (tag_of (the_tree b)) s)
+    × (scalar_at (kind_of_tree (the_tree b)) (value_of b) ≡ Some s)
 is_scalar b h e = scalar_value (the_tree b) b (opened b h) e
 
-pub a_scalar : (b v : List ℕ) (k : Kind) → is_tree b ≡ true → children_in (the_tree b) ≡ None → k ≡ kind_of_tree (the_tree b) → v ≡ value_of b → is_some (scalar_at k v) ≡ true
-a_scalar b v k h e kind value = ap (λ j. is_some (scalar_at j v)) kind ∙ ap (λ w. is_some (scalar_at (kind_of_tree (the_tree b)) w)) value ∙ ap is_some (is_scalar b h e).2
+pub a_scalar : (b v : List ℕ) (k : Kind) → is_tree b ≡ true → children_in (the_tree b) ≡ None
+    → k ≡ kind_of_tree (the_tree b) → v ≡ value_of b → is_some (scalar_at k v) ≡ true
+a_scalar b v k h e kind value = ap (λ j. is_some (scalar_at j v)) kind
+    ∙ ap (λ w. is_some (scalar_at (kind_of_tree (the_tree b)) w)) value
+    ∙ ap is_some (is_scalar b h e).2
 
 retagged : ℕ → Tree → Tree
 retagged n (scalar tag s) = scalar n s
@@ -59,24 +72,40 @@ retag n (nodes.ByteString x) = refl
 retag n (nodes.DateTime x) = refl
 retag n (nodes.Interval x) = refl
 
-pub made_scalar : (b v : List ℕ) (k : Kind) (tag : ℕ) (node : Node) → is_tree b ≡ true → children_in (the_tree b) ≡ None → k ≡ kind_of_tree (the_tree b) → v ≡ value_of b → tag ≡ tag_of (the_tree b)
+pub made_scalar : (b v : List ℕ) (k : Kind) (tag : ℕ) (node : Node) → is_tree b ≡ true
+    → children_in (the_tree b) ≡ None → k ≡ kind_of_tree (the_tree b) → v ≡ value_of b
+    → tag ≡ tag_of (the_tree b)
     → option_map (scalar 0) (scalar_at k v) ≡ Some (tree_of_node 0 node) → tree_of_node tag node ≡ the_tree b
 unfolding retagged
 made_scalar b v k tag node h e kind value t made =
     let s = is_scalar b h e in
-    let at : scalar_at k v ≡ Some s.0 = ap (λ j. scalar_at j v) kind ∙ ap (λ w. scalar_at (kind_of_tree (the_tree b)) w) value ∙ s.2 in
-    let same : scalar 0 s.0 ≡ tree_of_node 0 node = same_Some (scalar 0 s.0) (tree_of_node 0 node) (ap (option_map (scalar 0)) (sym at) ∙ made) in
+    let at : scalar_at k v ≡ Some s.0 =
+    ap (λ j. scalar_at j v) kind ∙ ap (λ w. scalar_at (kind_of_tree (the_tree b)) w) value
+    ∙ s.2 in
+    let same : scalar 0 s.0 ≡ tree_of_node 0 node =
+    same_Some (scalar 0 s.0) (tree_of_node 0 node)
+    (ap (option_map (scalar 0)) (sym at) ∙ made) in
     retag tag node ∙ ap (retagged tag) (sym same) ∙ ap (λ n. scalar n s.0) t ∙ sym s.1
 
-pub made_structure : (b : List ℕ) (tag : ℕ) (ts us : List Tree) → children_in (the_tree b) ≡ Some us → tag ≡ tag_of (the_tree b) → ts ≡ us → structure tag (trees_of ts) ≡ the_tree b
-made_structure b tag ts us e t same = ap (λ n. structure n (trees_of ts)) t ∙ ap (λ x. structure (tag_of (the_tree b)) (trees_of x)) same ∙ is_structure (the_tree b) us e
+pub made_structure : (b : List ℕ) (tag : ℕ) (ts us : List Tree) → children_in (the_tree b) ≡ Some us
+    → tag ≡ tag_of (the_tree b) → ts ≡ us → structure tag (trees_of ts) ≡ the_tree b
+made_structure b tag ts us e t same =
+    ap (λ n. structure n (trees_of ts)) t
+    ∙ ap (λ x. structure (tag_of (the_tree b)) (trees_of x)) same ∙ is_structure (the_tree b) us e
 
 suffix_smaller : (xs ys : List Tree) → trees_size (trees_of ys) ≤ trees_size (trees_of (xs ++ ys))
 suffix_smaller [] ys = omega arith
 suffix_smaller (x ∷ xs) ys = omega (arith, suffix_smaller xs ys)
 
-pub next_smaller : (done all now rest : List Tree) (t : Tree) → done ++ now ≡ all → now ≡ t ∷ rest → tree_size t + 1 ≤ trees_size (trees_of all)
-next_smaller done all now rest t e n = omega (arith, suffix_smaller done now, ap (λ ts. trees_size (trees_of ts)) e, ap (λ ts. trees_size (trees_of ts)) n)
+pub next_smaller : (done all now rest : List Tree) (t : Tree) → done ++ now ≡ all → now ≡ t ∷ rest
+    → tree_size t + 1 ≤ trees_size (trees_of all)
+next_smaller done all now rest t e n =
+    omega (
+      arith,
+      suffix_smaller done now,
+      ap (λ ts. trees_size (trees_of ts)) e,
+      ap (λ ts. trees_size (trees_of ts)) n,
+    )
 
 pub text_only : (v : List ℕ) (k : Kind) → k ≡ TextString → is_some (scalar_at k v) ≡ true → IsUtf8 v
 text_only v k e h =

@@ -42,22 +42,34 @@ tag_range b h = omega (arith, h 0, h 1, h 2)
 
 mutual
   pub parsed_ranges : (t : Tree) (level : ℕ) (b : List ℕ) → AreBytes b → Parses t level b → HasRanges t
-  parsed_ranges (scalar tag s) level b h p =
-      (omega (arith, p.tag_is, tag_range b h), value_range s (value_of b) (bytes_take (head_length b) (drop 8 b) (bytes_drop 8 b h)) p.value)
-  parsed_ranges (structure tag ts) level b h p =
-      (omega (arith, p.tag_is, tag_range b h), all_ranges ts (level + 1) (value_of b) (bytes_take (head_length b) (drop 8 b) (bytes_drop 8 b h)) p.value)
+  parsed_ranges (scalar tag s) level b h p = (
+    omega (arith, p.tag_is, tag_range b h),
+    value_range s (value_of b) (bytes_take (head_length b) (drop 8 b) (bytes_drop 8 b h))
+        p.value,
+  )
+  parsed_ranges (structure tag ts) level b h p = (
+    omega (arith, p.tag_is, tag_range b h),
+    all_ranges ts (level + 1) (value_of b)
+        (bytes_take (head_length b) (drop 8 b) (bytes_drop 8 b h)) p.value,
+  )
 
   all_ranges : (ts : Trees) (level : ℕ) (b : List ℕ) → AreBytes b → ParseAll ts level b → HaveRanges ts
   all_ranges none level b h p = tt
-  all_ranges (more t ts) level b h (n, le, p, q) = (parsed_ranges t level (take n b) (bytes_take n b h) p, all_ranges ts level (drop n b) (bytes_drop n b h) q)
+  all_ranges (more t ts) level b h (n, le, p, q) = (
+    parsed_ranges t level (take n b) (bytes_take n b h) p,
+    all_ranges ts level (drop n b) (bytes_drop n b h) q,
+  )
 
 -- ---- one tree more
 
-ranges_append : (xs : List Tree) (t : Tree) → HaveRanges (trees_of xs) → HasRanges t → HaveRanges (trees_of (xs ++ t ∷ []))
+ranges_append : (xs : List Tree) (t : Tree) → HaveRanges (trees_of xs) → HasRanges t
+    → HaveRanges (trees_of (xs ++ t ∷ []))
 ranges_append [] t h r = (r, tt)
 ranges_append (x ∷ xs) t h r = (h.0, ranges_append xs t h.1 r)
 
-pub ranges_more : (xs ts : List Tree) (i : ℕ) (t : Tree) → xs ≡ ts → i < length xs → get_or xs i t ≡ t → HaveRanges (trees_of (take i ts)) → HasRanges t → HaveRanges (trees_of (take (i + 1) ts))
+pub ranges_more : (xs ts : List Tree) (i : ℕ) (t : Tree) → xs ≡ ts → i < length xs
+    → get_or xs i t ≡ t → HaveRanges (trees_of (take i ts)) → HasRanges t
+    → HaveRanges (trees_of (take (i + 1) ts))
 ranges_more xs ts i t same h e before r =
     let P : List Tree → Type 0 = λ us. HaveRanges (trees_of us) in
     let Q : List Tree → Type 0 = λ us. (i < length us) × (get_or us i t ≡ t) in

@@ -27,7 +27,8 @@ kind_of-code_of DateTime = refl
 kind_of-code_of Interval = refl
 
 -- one number of a chain: it is this one, or the rest of the chain decides
-one_more : (n c : ℕ) (k x : Kind) (rest : Option Kind) → c ≡ code_of k → (rest ≡ Some x → n ≡ code_of x) → cond (eqb n c) (Some k) rest ≡ Some x → n ≡ code_of x
+one_more : (n c : ℕ) (k x : Kind) (rest : Option Kind) → c ≡ code_of k
+    → (rest ≡ Some x → n ≡ code_of x) → cond (eqb n c) (Some k) rest ≡ Some x → n ≡ code_of x
 one_more n c k x rest at below e =
     let P : Bool → Type 0 = λ b. eqb n c ≡ b → cond b (Some k) rest ≡ Some x → n ≡ code_of x in
     let Q = elim (eqb n c) as P [
@@ -37,7 +38,16 @@ one_more n c k x rest at below e =
 
 pub code_of-kind_of : (n : ℕ) (k : Kind) → kind_of n ≡ Some k → n ≡ code_of k
 code_of-kind_of n x e =
-    one_more n 1 Structure x _ refl (one_more n 2 Integer x _ refl (one_more n 3 LongInteger x _ refl (one_more n 4 BigInteger x _ refl (one_more n 5 Enumeration x _ refl (one_more n 6 Boolean x _ refl (one_more n 7 TextString x _ refl (one_more n 8 ByteString x _ refl (one_more n 9 DateTime x _ refl (one_more n 10 Interval x None refl (λ f. absurd cc)))))))))) e
+    one_more n 1 Structure x _ refl
+    (one_more n 2 Integer x _ refl
+    (one_more n 3 LongInteger x _ refl
+    (one_more n 4 BigInteger x _ refl
+    (one_more n 5 Enumeration x _ refl
+    (one_more n 6 Boolean x _ refl
+    (one_more n 7 TextString x _ refl
+    (one_more n 8 ByteString x _ refl
+    (one_more n 9 DateTime x _ refl
+    (one_more n 10 Interval x None refl (λ f. absurd cc)))))))))) e
 
 pub chosen : {A : Type 0} (b : Bool) (x y z : A) → cond b x y ≡ z → ((b ≡ true) × (x ≡ z)) ⊎ ((b ≡ false) × (y ≡ z))
 chosen true x y z e = inl (refl, e)
@@ -59,7 +69,8 @@ truth_at-complete : (b : Bool) (n : ℕ) → n ≡ cond b 1 0 → truth_at n ≡
 truth_at-complete true n e = rw e refl
 truth_at-complete false n e = rw e refl
 
-pub scalar_at-sound : (k : Kind) (v : List ℕ) (s : Scalar) → scalar_at k v ≡ Some s → (kind_of_scalar s ≡ k) × IsValue s v
+pub scalar_at-sound : (k : Kind) (v : List ℕ) (s : Scalar) → scalar_at k v ≡ Some s
+    → (kind_of_scalar s ≡ k) × IsValue s v
 scalar_at-sound Structure v s e = absurd cc
 scalar_at-sound Integer v s e =
     let p = cond_some (eqb (length v) 4) (integer (cast_signed w32 (from_be_bytes w32 v))) s e in
@@ -105,10 +116,12 @@ flag_at : (b : Bool) (n : ℕ) → n ≡ cond b 1 0 → b ≡ eqb n 1
 flag_at true n e = rw e refl
 flag_at false n e = rw e refl
 
-pub boolean_at : (v : List ℕ) (s : Scalar) → scalar_at Boolean v ≡ Some s → (length v ≡ 8) × (s ≡ boolean (eqb (from_be_bytes w64 v) 1))
+pub boolean_at : (v : List ℕ) (s : Scalar) → scalar_at Boolean v ≡ Some s → (length v ≡ 8)
+    × (s ≡ boolean (eqb (from_be_bytes w64 v) 1))
 boolean_at v s e =
     elim (chosen (eqb (length v) 8) (truth_at (from_be_bytes w64 v)) None (Some s) e) [
-      | inl p ↦ let t = truth_at-sound (from_be_bytes w64 v) s p.1 in (eqb-true _ _ p.0, t.1 ∙ ap boolean (flag_at t.0 (from_be_bytes w64 v) t.2))
+      | inl p ↦ let t = truth_at-sound (from_be_bytes w64 v) s p.1 in
+          (eqb-true _ _ p.0, t.1 ∙ ap boolean (flag_at t.0 (from_be_bytes w64 v) t.2))
       | inr p ↦ absurd (none-some s p.1)
     ]
 
@@ -140,4 +153,5 @@ says_utf8 false v h =
     ]
 
 pub says_text : (r : Bool) (v : List ℕ) (k : Kind) → k ≡ TextString → IsTrue r ↔ IsUtf8 v → r ≡ is_some (scalar_at k v)
-says_text r v k e h = says_utf8 r v h ∙ sym (if_some (is_utf8 v) (text_string v)) ∙ ap (λ j. is_some (scalar_at j v)) (sym e)
+says_text r v k e h = says_utf8 r v h ∙ sym (if_some (is_utf8 v) (text_string v))
+    ∙ ap (λ j. is_some (scalar_at j v)) (sym e)

@@ -36,7 +36,8 @@ parses-whole_tree b t h = item_of-complete t 1 64 b refl h
 
 pub whole_trees-parse : (b : List ℕ) (ts : Trees) → whole_trees b ≡ Some ts → ParseAll ts 1 b
 unfolding whole_trees
-whole_trees-parse b ts e = items_by-sound (item_of 64) 1 (λ c t f. item_of-sound 64 1 (omega arith) refl c t f) (length b) b ts e
+whole_trees-parse b ts e = items_by-sound (item_of 64) 1
+    (λ c t f. item_of-sound 64 1 (omega arith) refl c t f) (length b) b ts e
 
 pub parse-whole_trees : (b : List ℕ) (ts : Trees) → ParseAll ts 1 b → whole_trees b ≡ Some ts
 unfolding whole_trees
@@ -77,13 +78,31 @@ all_opened b h = let ts = some_of (whole_trees b) h in (ts.0, whole_trees-parse 
 mutual
   pub lower : (t : Tree) (level : ℕ) (b : List ℕ) → 1 ≤ level → Parses t (level + 1) b → Parses t level b
   lower (scalar tag s) level b low h =
-      record { level_is = (low, omega (arith, h.level_is.1)); head = h.head; tag_is = h.tag_is; kind_is = h.kind_is; whole = h.whole; value = h.value }
+      record {
+        level_is = (low, omega (arith, h.level_is.1));
+        head = h.head;
+        tag_is =
+            h.tag_is;
+        kind_is = h.kind_is;
+        whole = h.whole;
+        value = h.value;
+      }
   lower (structure tag ts) level b low h =
-      record { level_is = (low, omega (arith, h.level_is.1)); head = h.head; tag_is = h.tag_is; kind_is = h.kind_is; whole = h.whole; value = lower_all ts (level + 1) (value_of b) (omega arith) h.value }
+      record {
+        level_is = (low, omega (arith, h.level_is.1));
+        head = h.head;
+        tag_is =
+            h.tag_is;
+        kind_is = h.kind_is;
+        whole = h.whole;
+        value =
+            lower_all ts (level + 1) (value_of b) (omega arith) h.value;
+      }
 
   pub lower_all : (ts : Trees) (level : ℕ) (b : List ℕ) → 1 ≤ level → ParseAll ts (level + 1) b → ParseAll ts level b
   lower_all none level b low h = h
-  lower_all (more t ts) level b low (n, le, p, q) = (n, le, lower t level (take n b) low p, lower_all ts level (drop n b) low q)
+  lower_all (more t ts) level b low (n, le, p, q) =
+      (n, le, lower t level (take n b) low p, lower_all ts level (drop n b) low q)
 
 none_of : {A B : Type 0} (o : Option A) (x : B) → cond (is_some o) (Some x) None ≡ None → o ≡ None
 none_of None x e = refl
@@ -93,16 +112,20 @@ pub lowest : (level : ℕ) (t : Tree) (b : List ℕ) → 1 ≤ level → Parses 
 lowest zero t b low h = absurd (omega (arith, low))
 lowest (suc zero) t b low h = h
 lowest (suc (suc n)) t b low h =
-    let P : ℕ → Type 0 = λ k. Parses t k b in lowest (suc n) t b (omega arith) (lower t (suc n) b (omega arith) (subst P (omega arith) h))
+    let P : ℕ → Type 0 = λ k. Parses t k b in
+    lowest (suc n) t b (omega arith) (lower t (suc n) b (omega arith) (subst P (omega arith) h))
 
 -- the front at a level is a tree of its own
 pub a_front : (level n : ℕ) (b : List ℕ) → IsLevel level → front_of (65 - level) b ≡ Some n
-    → (is_tree (take n b) ≡ true) × (Some (the_tree (take n b)) ≡ front_at level b) × (n ≡ size_at b) × (n ≤ length b) × Parses (the_tree (take n b)) level (take n b)
+    → (is_tree (take n b) ≡ true) × (Some (the_tree (take n b)) ≡ front_at level b)
+    × (n ≡ size_at b) × (n ≤ length b) × Parses (the_tree (take n b)) level (take n b)
 a_front level n b l e =
     let f = front_of-sound level n b l e in
     let p : Parses f.1.0 1 (take n b) = lowest level f.1.0 (take n b) l.0 f.1.1 in
-    let same : n ≡ size_at b = sym (cond_some (is_some (item_of (65 - level) (take (size_at b) b))) (size_at b) n e).1 in
-    let there : item_of (65 - level) (take n b) ≡ Some f.1.0 = item_of-complete f.1.0 level (65 - level) (take n b) (omega (arith, l.0, l.1)) f.1.1 in (
+    let same : n ≡ size_at b = sym
+    (cond_some (is_some (item_of (65 - level) (take (size_at b) b))) (size_at b) n e).1 in
+    let there : item_of (65 - level) (take n b) ≡ Some f.1.0 =
+    item_of-complete f.1.0 level (65 - level) (take n b) (omega (arith, l.0, l.1)) f.1.1 in (
       a_tree (take n b) f.1.0 p,
       ap (λ t. Some t) (the_tree-is (take n b) f.1.0 p) ∙ sym there ∙ ap (λ k. item_of (65 - level) (take k b)) same,
       same,
@@ -119,7 +142,8 @@ pub kind_at : (t : Tree) (b : List ℕ) → Parses t 1 b → kind_of (head_code 
 kind_at (scalar tag s) b h = ap kind_of h.kind_is ∙ kind_of-code_of (kind_of_scalar s)
 kind_at (structure tag ts) b h = ap kind_of h.kind_is
 
-pub kind_is : (b : List ℕ) (k : Kind) → is_tree b ≡ true → Some k ≡ kind_of (head_code b) → k ≡ kind_of_tree (the_tree b)
+pub kind_is : (b : List ℕ) (k : Kind) → is_tree b ≡ true → Some k ≡ kind_of (head_code b)
+    → k ≡ kind_of_tree (the_tree b)
 kind_is b k h e = same_Some k (kind_of_tree (the_tree b)) (e ∙ kind_at (the_tree b) b (opened b h))
 
 pub has_kind : (b : List ℕ) → is_tree b ≡ true → None ≡ kind_of (head_code b) → ⊥
@@ -129,67 +153,88 @@ pub long_enough : (b : List ℕ) → is_tree b ≡ true → (8 ≤ length b) × 
 long_enough b h = let s = sized (the_tree b) 1 b (opened b h) in (s.head, s.whole)
 
 -- the scalar that the value of a view stands for
-the_scalar_at : (t : Tree) (b : List ℕ) → Parses t 1 b → (k : Kind) → k ≡ kind_of_tree t → (k ≡ Structure → ⊥) → (s : Scalar) × (t ≡ scalar (tag_of t) s) × (scalar_at k (value_of b) ≡ Some s)
-the_scalar_at (scalar tag s) b h k e n = (s, refl, ap (λ j. scalar_at j (value_of b)) e ∙ scalar_at-complete s (value_of b) h.value)
+the_scalar_at : (t : Tree) (b : List ℕ) → Parses t 1 b → (k : Kind) → k ≡ kind_of_tree t
+    → (k ≡ Structure → ⊥) → (s : Scalar) × (t ≡ scalar (tag_of t) s)
+    × (scalar_at k (value_of b) ≡ Some s)
+the_scalar_at (scalar tag s) b h k e n =
+    (s, refl, ap (λ j. scalar_at j (value_of b)) e ∙ scalar_at-complete s (value_of b) h.value)
 the_scalar_at (structure tag ts) b h k e n = absurd (n e)
 
-pub the_scalar : (b : List ℕ) (k : Kind) → is_tree b ≡ true → k ≡ kind_of_tree (the_tree b) → (k ≡ Structure → ⊥) → (s : Scalar) × (the_tree b ≡ scalar (tag_of (the_tree b)) s) × (scalar_at k (value_of b) ≡ Some s)
+pub the_scalar : (b : List ℕ) (k : Kind) → is_tree b ≡ true → k ≡ kind_of_tree (the_tree b)
+    → (k ≡ Structure → ⊥) → (s : Scalar) × (the_tree b ≡ scalar (tag_of (the_tree b)) s)
+    × (scalar_at k (value_of b) ≡ Some s)
 the_scalar b k h e n = the_scalar_at (the_tree b) b (opened b h) k e n
 
-pub int_is : (b : List ℕ) → is_tree b ≡ true → Integer ≡ kind_of_tree (the_tree b) → (length (value_of b) ≡ 4) × (int_in (the_tree b) ≡ Some (cast_signed w32 (from_be_bytes w32 (value_of b))))
+pub int_is : (b : List ℕ) → is_tree b ≡ true → Integer ≡ kind_of_tree (the_tree b)
+    → (length (value_of b) ≡ 4) × (int_in (the_tree b) ≡ Some
+    (cast_signed w32 (from_be_bytes w32 (value_of b))))
 int_is b h e =
     let s = the_scalar b Integer h e (λ q. cc) in
-    let p = cond_some (eqb (length (value_of b)) 4) (integer (cast_signed w32 (from_be_bytes w32 (value_of b)))) s.0 s.2 in
+    let p = cond_some (eqb (length (value_of b)) 4)
+    (integer (cast_signed w32 (from_be_bytes w32 (value_of b)))) s.0 s.2 in
     (eqb-true _ _ p.0, ap int_in (s.1 ∙ ap (scalar (tag_of (the_tree b))) (sym p.1)))
 
-pub long_is : (b : List ℕ) → is_tree b ≡ true → LongInteger ≡ kind_of_tree (the_tree b) → (length (value_of b) ≡ 8) × (long_in (the_tree b) ≡ Some (cast_signed w64 (from_be_bytes w64 (value_of b))))
+pub long_is : (b : List ℕ) → is_tree b ≡ true → LongInteger ≡ kind_of_tree (the_tree b)
+    → (length (value_of b) ≡ 8) × (long_in (the_tree b) ≡ Some
+    (cast_signed w64 (from_be_bytes w64 (value_of b))))
 long_is b h e =
     let s = the_scalar b LongInteger h e (λ q. cc) in
-    let p = cond_some (eqb (length (value_of b)) 8) (long_integer (cast_signed w64 (from_be_bytes w64 (value_of b)))) s.0 s.2 in
+    let p = cond_some (eqb (length (value_of b)) 8)
+    (long_integer (cast_signed w64 (from_be_bytes w64 (value_of b)))) s.0 s.2 in
     (eqb-true _ _ p.0, ap long_in (s.1 ∙ ap (scalar (tag_of (the_tree b))) (sym p.1)))
 
-pub enumeration_is : (b : List ℕ) → is_tree b ≡ true → Enumeration ≡ kind_of_tree (the_tree b) → (length (value_of b) ≡ 4) × (enumeration_in (the_tree b) ≡ Some (from_be_bytes w32 (value_of b)))
+pub enumeration_is : (b : List ℕ) → is_tree b ≡ true → Enumeration ≡ kind_of_tree (the_tree b)
+    → (length (value_of b) ≡ 4) × (enumeration_in (the_tree b) ≡ Some
+    (from_be_bytes w32 (value_of b)))
 enumeration_is b h e =
     let s = the_scalar b Enumeration h e (λ q. cc) in
     let p = cond_some (eqb (length (value_of b)) 4) (enumeration (from_be_bytes w32 (value_of b))) s.0 s.2 in
     (eqb-true _ _ p.0, ap enumeration_in (s.1 ∙ ap (scalar (tag_of (the_tree b))) (sym p.1)))
 
-pub date_is : (b : List ℕ) → is_tree b ≡ true → DateTime ≡ kind_of_tree (the_tree b) → (length (value_of b) ≡ 8) × (date_in (the_tree b) ≡ Some (from_be_bytes w64 (value_of b)))
+pub date_is : (b : List ℕ) → is_tree b ≡ true → DateTime ≡ kind_of_tree (the_tree b)
+    → (length (value_of b) ≡ 8) × (date_in (the_tree b) ≡ Some (from_be_bytes w64 (value_of b)))
 date_is b h e =
     let s = the_scalar b DateTime h e (λ q. cc) in
     let p = cond_some (eqb (length (value_of b)) 8) (date_time (from_be_bytes w64 (value_of b))) s.0 s.2 in
     (eqb-true _ _ p.0, ap date_in (s.1 ∙ ap (scalar (tag_of (the_tree b))) (sym p.1)))
 
-pub interval_is : (b : List ℕ) → is_tree b ≡ true → Interval ≡ kind_of_tree (the_tree b) → (length (value_of b) ≡ 4) × (interval_in (the_tree b) ≡ Some (from_be_bytes w32 (value_of b)))
+pub interval_is : (b : List ℕ) → is_tree b ≡ true → Interval ≡ kind_of_tree (the_tree b)
+    → (length (value_of b) ≡ 4) × (interval_in (the_tree b) ≡ Some (from_be_bytes w32 (value_of b)))
 interval_is b h e =
     let s = the_scalar b Interval h e (λ q. cc) in
     let p = cond_some (eqb (length (value_of b)) 4) (interval (from_be_bytes w32 (value_of b))) s.0 s.2 in
     (eqb-true _ _ p.0, ap interval_in (s.1 ∙ ap (scalar (tag_of (the_tree b))) (sym p.1)))
 
-pub flag_is : (b : List ℕ) → is_tree b ≡ true → Boolean ≡ kind_of_tree (the_tree b) → (length (value_of b) ≡ 8) × (flag_in (the_tree b) ≡ Some (eqb (from_be_bytes w64 (value_of b)) 1))
+pub flag_is : (b : List ℕ) → is_tree b ≡ true → Boolean ≡ kind_of_tree (the_tree b)
+    → (length (value_of b) ≡ 8) × (flag_in (the_tree b) ≡ Some
+    (eqb (from_be_bytes w64 (value_of b)) 1))
 flag_is b h e =
     let s = the_scalar b Boolean h e (λ q. cc) in
     let p = boolean_at (value_of b) s.0 s.2 in
     (p.0, ap flag_in (s.1 ∙ ap (scalar (tag_of (the_tree b))) p.1))
 
-pub big_is : (b : List ℕ) → is_tree b ≡ true → BigInteger ≡ kind_of_tree (the_tree b) → big_in (the_tree b) ≡ Some (value_of b)
+pub big_is : (b : List ℕ) → is_tree b ≡ true → BigInteger ≡ kind_of_tree (the_tree b)
+    → big_in (the_tree b) ≡ Some (value_of b)
 big_is b h e =
     let s = the_scalar b BigInteger h e (λ q. cc) in
     let p = cond_some (eqb (length (value_of b) % 8) 0) (big_integer (value_of b)) s.0 s.2 in
     ap big_in (s.1 ∙ ap (scalar (tag_of (the_tree b))) (sym p.1))
 
-pub bytes_is : (b : List ℕ) → is_tree b ≡ true → ByteString ≡ kind_of_tree (the_tree b) → bytes_in (the_tree b) ≡ Some (value_of b)
+pub bytes_is : (b : List ℕ) → is_tree b ≡ true → ByteString ≡ kind_of_tree (the_tree b)
+    → bytes_in (the_tree b) ≡ Some (value_of b)
 bytes_is b h e =
     let s = the_scalar b ByteString h e (λ q. cc) in
     ap bytes_in (s.1 ∙ ap (scalar (tag_of (the_tree b))) (sym (same_Some (byte_string (value_of b)) s.0 s.2)))
 
-pub text_is : (b : List ℕ) → is_tree b ≡ true → TextString ≡ kind_of_tree (the_tree b) → IsUtf8 (value_of b) × (text_in (the_tree b) ≡ Some (value_of b))
+pub text_is : (b : List ℕ) → is_tree b ≡ true → TextString ≡ kind_of_tree (the_tree b)
+    → IsUtf8 (value_of b) × (text_in (the_tree b) ≡ Some (value_of b))
 text_is b h e =
     let s = the_scalar b TextString h e (λ q. cc) in
     let p = cond_some (is_utf8 (value_of b)) (text_string (value_of b)) s.0 s.2 in
     (IsUtf8-from_is_utf8 (value_of b) p.0, ap text_in (s.1 ∙ ap (scalar (tag_of (the_tree b))) (sym p.1)))
 
-children_at : (t : Tree) (b : List ℕ) → Parses t 1 b → Structure ≡ kind_of_tree t → (ts : Trees) × ParseAll ts 1 (value_of b) × (children_in t ≡ Some (list_of ts))
+children_at : (t : Tree) (b : List ℕ) → Parses t 1 b → Structure ≡ kind_of_tree t → (ts : Trees)
+    × ParseAll ts 1 (value_of b) × (children_in t ≡ Some (list_of ts))
 children_at (structure tag ts) b h e = (ts, lower_all ts 1 (value_of b) (omega arith) h.value, refl)
 children_at (scalar tag (text_string z)) b h e = absurd cc
 children_at (scalar tag (integer z)) b h e = absurd cc
@@ -201,7 +246,8 @@ children_at (scalar tag (byte_string z)) b h e = absurd cc
 children_at (scalar tag (date_time z)) b h e = absurd cc
 children_at (scalar tag (interval z)) b h e = absurd cc
 
-pub children_are : (b : List ℕ) → is_tree b ≡ true → Structure ≡ kind_of_tree (the_tree b) → (are_trees (value_of b) ≡ true) × (children_in (the_tree b) ≡ Some (the_trees (value_of b)))
+pub children_are : (b : List ℕ) → is_tree b ≡ true → Structure ≡ kind_of_tree (the_tree b)
+    → (are_trees (value_of b) ≡ true) × (children_in (the_tree b) ≡ Some (the_trees (value_of b)))
 children_are b h e =
     let c = children_at (the_tree b) b (opened b h) e in
     (some_trees (value_of b) c.0 c.1, c.2 ∙ ap (λ x. Some x) (sym (the_trees-are (value_of b) c.0 c.1)))
@@ -231,7 +277,10 @@ first_at (more t ts) b lt (n, le, p, q) =
       within = omega (arith, same);
       item = a_tree (take (size_at b) b) t first;
       rest = some_trees (drop (size_at b) b) ts rest;
-      order = the_trees-are b (more t ts) (n, le, p, q) ∙ ap (λ u. u ∷ list_of ts) (sym (the_tree-is (take (size_at b) b) t first)) ∙ ap (λ us. the_tree (take (size_at b) b) ∷ us) (sym (the_trees-are (drop (size_at b) b) ts rest));
+      order = the_trees-are b (more t ts) (n, le, p, q)
+          ∙ ap (λ u. u ∷ list_of ts) (sym (the_tree-is (take (size_at b) b) t first))
+          ∙ ap (λ us. the_tree (take (size_at b) b) ∷ us)
+          (sym (the_trees-are (drop (size_at b) b) ts rest));
     }
 
 pub first_child : (b : List ℕ) → are_trees b ≡ true → 1 ≤ length b → FirstChild b
@@ -255,6 +304,8 @@ tag_at (structure tag ts) b h = h.tag_is
 pub tag_is : (b : List ℕ) → is_tree b ≡ true → tag_of (the_tree b) ≡ head_tag b
 tag_is b h = tag_at (the_tree b) b (opened b h)
 
-pub tag_is_bytes : (b : List ℕ) (n : ℕ) → is_tree b ≡ true → n ≡ from_be_bytes w32 (0 ∷ slice_index b 0 ∷ slice_index b 1 ∷ slice_index b 2 ∷ []) → n ≡ tag_of (the_tree b)
+pub tag_is_bytes : (b : List ℕ) (n : ℕ) → is_tree b ≡ true
+    → n ≡ from_be_bytes w32 (0 ∷ slice_index b 0 ∷ slice_index b 1 ∷ slice_index b 2 ∷ [])
+    → n ≡ tag_of (the_tree b)
 unfolding head_tag
 tag_is_bytes b n h e = e ∙ sym (tag_is b h)

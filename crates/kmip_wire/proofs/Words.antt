@@ -14,24 +14,31 @@ use Rattle.kmip_wire.proofs.Steps.{tells_value, value_length}
 -- of each type, by its number, the length of the values that any bytes are
 abbrev pub word_sizes : List ℕ
 word_sizes =
-    18446744073709551615 ∷ 18446744073709551615 ∷ 4 ∷ 8 ∷ 18446744073709551615 ∷ 4 ∷ 18446744073709551615 ∷ 18446744073709551615 ∷ 18446744073709551615 ∷ 8 ∷ 4 ∷ []
+    18446744073709551615 ∷ 18446744073709551615 ∷ 4 ∷ 8 ∷ 18446744073709551615 ∷ 4
+    ∷ 18446744073709551615 ∷ 18446744073709551615 ∷ 18446744073709551615 ∷ 8 ∷ 4 ∷ []
 
-any : (k : Kind) (m n : ℕ) → m ≡ n → 0 < m → m ≤ 8 → ((v : List ℕ) → eqb (length v) m ≡ is_some (scalar_at k v)) → IsWord (code_of k) n
+any : (k : Kind) (m n : ℕ) → m ≡ n → 0 < m → m ≤ 8
+    → ((v : List ℕ) → eqb (length v) m ≡ is_some (scalar_at k v)) → IsWord (code_of k) n
 any k m n e some small all =
     subst (IsWord (code_of k)) e (some, small, (k, sym (kind_of-code_of k), λ v h. sym (all v) ∙ eq-eqb (length v) m h))
 
 pub words : (code n : ℕ) → code < 11 → n < 2 ^ 32 → slice_index_or word_sizes code 0 ≡ n → IsWord code n
 words zero n lt fits e = absurd (omega (arith, fits, e))
 words (suc zero) n lt fits e = absurd (omega (arith, fits, e))
-words (suc (suc zero)) n lt fits e = any Integer 4 n e (omega arith) (omega arith) (λ v. sym (if_some (eqb (length v) 4) _))
-words (suc (suc (suc zero))) n lt fits e = any LongInteger 8 n e (omega arith) (omega arith) (λ v. sym (if_some (eqb (length v) 8) _))
+words (suc (suc zero)) n lt fits e =
+    any Integer 4 n e (omega arith) (omega arith) (λ v. sym (if_some (eqb (length v) 4) _))
+words (suc (suc (suc zero))) n lt fits e =
+    any LongInteger 8 n e (omega arith) (omega arith) (λ v. sym (if_some (eqb (length v) 8) _))
 words (suc (suc (suc (suc zero)))) n lt fits e = absurd (omega (arith, fits, e))
-words (suc (suc (suc (suc (suc zero))))) n lt fits e = any Enumeration 4 n e (omega arith) (omega arith) (λ v. sym (if_some (eqb (length v) 4) _))
+words (suc (suc (suc (suc (suc zero))))) n lt fits e =
+    any Enumeration 4 n e (omega arith) (omega arith) (λ v. sym (if_some (eqb (length v) 4) _))
 words (suc (suc (suc (suc (suc (suc zero)))))) n lt fits e = absurd (omega (arith, fits, e))
 words (suc (suc (suc (suc (suc (suc (suc zero))))))) n lt fits e = absurd (omega (arith, fits, e))
 words (suc (suc (suc (suc (suc (suc (suc (suc zero)))))))) n lt fits e = absurd (omega (arith, fits, e))
-words (suc (suc (suc (suc (suc (suc (suc (suc (suc zero))))))))) n lt fits e = any DateTime 8 n e (omega arith) (omega arith) (λ v. sym (if_some (eqb (length v) 8) _))
-words (suc (suc (suc (suc (suc (suc (suc (suc (suc (suc zero)))))))))) n lt fits e = any Interval 4 n e (omega arith) (omega arith) (λ v. sym (if_some (eqb (length v) 4) _))
+words (suc (suc (suc (suc (suc (suc (suc (suc (suc zero))))))))) n lt fits e =
+    any DateTime 8 n e (omega arith) (omega arith) (λ v. sym (if_some (eqb (length v) 8) _))
+words (suc (suc (suc (suc (suc (suc (suc (suc (suc (suc zero)))))))))) n lt fits e =
+    any Interval 4 n e (omega arith) (omega arith) (λ v. sym (if_some (eqb (length v) 4) _))
 words (suc (suc (suc (suc (suc (suc (suc (suc (suc (suc (suc m))))))))))) n lt fits e = absurd (omega (arith, lt))
 
 word_size : (n : ℕ) → 0 < n → n ≤ 8 → 8 + n + (8 - n % 8) % 8 ≡ 16
@@ -63,4 +70,6 @@ module _ (b : List ℕ) (some : 0 < length b) where
         let here : size_at b ≤ length b = omega (arith, le, size) in
         let k = w.2.0 in
         let says : is_some (scalar_at k (value_of b)) ≡ true = w.2.2 (value_of b) (value_length b here) in
-        tells_value b some here k w.2.1 (λ e. false≢true (ap (λ j. is_some (scalar_at j (value_of b))) (sym e) ∙ says)) (sym says) 16 (sym size)
+        tells_value b some here k w.2.1
+        (λ e. false≢true (ap (λ j. is_some (scalar_at j (value_of b))) (sym e) ∙ says))
+        (sym says) 16 (sym size)

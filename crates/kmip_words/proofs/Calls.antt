@@ -24,7 +24,8 @@ unfolding call_alone
 call_alone_other line not = rw (not_utf8 line not) refl
 
 -- there is no call of fewer words than two, or of more than five
-pub no_call : (words : List (Bor (List ℕ))) → length words ≢ 2 → length words ≢ 3 → length words ≢ 4 → length words ≢ 5 → call_of_words (map (λ word. word.now) words) ≡ None
+pub no_call : (words : List (Bor (List ℕ))) → length words ≢ 2 → length words ≢ 3 → length words ≢ 4
+    → length words ≢ 5 → call_of_words (map (λ word. word.now) words) ≡ None
 no_call [] not2 not3 not4 not5 = refl
 no_call (a ∷ []) not2 not3 not4 not5 = refl
 no_call (a ∷ b ∷ []) not2 not3 not4 not5 = absurd (not2 refl)

@@ -27,19 +27,24 @@ message_read operation (Message.Whole m) = message_says shows_reading operation 
 
 -- the texts that a client keeps after an answer that is not out of memory
 
-request_kept : (buffered : Bool) (request : Option (List ℕ)) (answer : Answer) (text : Option (List ℕ)) → answer ≢ Err OutOfMemory → IsRequestText buffered request answer text → text ≡ diagnostic_of buffered request
+request_kept : (buffered : Bool) (request : Option (List ℕ)) (answer : Answer)
+    (text : Option (List ℕ)) → answer ≢ Err OutOfMemory → IsRequestText buffered request answer text
+    → text ≡ diagnostic_of buffered request
 request_kept buffered request (Ok payload) text some is = is
 request_kept buffered request (Err OutOfMemory) text some is = absurd (some refl)
 request_kept buffered request (Err error) text some is = is
 
-response_kept : (buffered : Bool) (taken : List ℕ) (answer : Answer) (text : Option (List ℕ)) → has_response answer ≡ true → IsResponseText buffered taken answer text → text ≡ diagnostic_for buffered taken
+response_kept : (buffered : Bool) (taken : List ℕ) (answer : Answer) (text : Option (List ℕ))
+    → has_response answer ≡ true → IsResponseText buffered taken answer text
+    → text ≡ diagnostic_for buffered taken
 response_kept buffered taken (Ok payload) text read is = is
 response_kept buffered taken (Err OutOfMemory) text read is = cc
 response_kept buffered taken (Err (SerializeError reason)) text read is = cc
 response_kept buffered taken (Err (RequestWriteError reason)) text read is = cc
 response_kept buffered taken (Err error) text read is = is
 
-response_none : (buffered : Bool) (taken reason : List ℕ) (answer : Answer) (text : Option (List ℕ)) → answer ≡ Err (SerializeError reason) → IsResponseText buffered taken answer text → text ≡ None
+response_none : (buffered : Bool) (taken reason : List ℕ) (answer : Answer) (text : Option (List ℕ))
+    → answer ≡ Err (SerializeError reason) → IsResponseText buffered taken answer text → text ≡ None
 response_none buffered taken reason answer text was is = rw was at is
 
 no_diagnostic : diagnostic (Some 0x4200) [] ≡ []
@@ -47,18 +52,26 @@ unfolding diagnostic shown_within
 no_diagnostic = refl
 
 -- they are the diagnostics of what was sent and taken
-pub told_of : (buffered : Bool) (request : Option (List ℕ)) (operation : Operation) (limit : Option ℕ) (rest : List ℕ) (n : ℕ) (answer : Answer) (sent_text taken_text : Option (List ℕ)) →
-    answer ≡ (outcome_of request operation limit rest).answer → answer ≢ Err OutOfMemory → n ≡ (outcome_of request operation limit rest).taken →
+pub told_of : (buffered : Bool) (request : Option (List ℕ)) (operation : Operation)
+    (limit : Option ℕ) (rest : List ℕ) (n : ℕ) (answer : Answer)
+    (sent_text taken_text : Option (List ℕ)) →
+    answer ≡ (outcome_of request operation limit rest).answer → answer ≢ Err OutOfMemory
+    → n ≡ (outcome_of request operation limit rest).taken →
     IsRequestText buffered request answer sent_text → IsResponseText buffered (take n rest) answer taken_text →
     told_lines buffered sent_text taken_text
-    ≡ told_lines buffered (Some (diagnostic (Some 0x4200) (outcome_of request operation limit rest).sent)) (Some (diagnostic (Some 0x4200) (take (outcome_of request operation limit rest).taken rest)))
+    ≡ told_lines buffered (Some (diagnostic (Some 0x4200)
+    (outcome_of request operation limit rest).sent))
+    (Some (diagnostic (Some 0x4200)
+    (take (outcome_of request operation limit rest).taken rest)))
 told_of false request operation limit rest n answer sent_text taken_text was some count sent_is taken_is = refl
 told_of true None operation limit rest n answer sent_text taken_text was some count sent_is taken_is =
     let sent : sent_text ≡ None = request_kept true None answer sent_text some sent_is in
     let taken : taken_text ≡ None = response_none true (take n rest) _ answer taken_text was taken_is in
     rw (sent, taken, no_diagnostic) refl
 told_of true (Some bytes) operation limit rest n answer sent_text taken_text was some count sent_is taken_is =
-    let sent : sent_text ≡ Some (diagnostic (Some 0x4200) bytes) = request_kept true (Some bytes) answer sent_text some sent_is in
+    let sent : sent_text ≡ Some (diagnostic (Some 0x4200) bytes) =
+    request_kept true (Some bytes) answer sent_text some sent_is in
     let read : has_response answer ≡ true = ap has_response was ∙ message_read operation (message_at rest limit) in
-    let taken : taken_text ≡ Some (diagnostic (Some 0x4200) (take n rest)) = response_kept true (take n rest) answer taken_text read taken_is in
+    let taken : taken_text ≡ Some (diagnostic (Some 0x4200) (take n rest)) =
+    response_kept true (take n rest) answer taken_text read taken_is in
     rw (sent, taken, count) refl

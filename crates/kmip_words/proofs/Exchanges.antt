@@ -23,7 +23,8 @@ use Rattle.kmip_words.specs.declared.call.Call.{Call}
 use Rattle.kmip_words.proofs.Diagnostics.{told_of}
 
 -- over a link in memory each answer but out of memory is the outcome's
-finished : (o : Outcome) (before after : MemoryState) (answer : Answer) → Exchanged o (memory_state before) (memory_state after) answer → answer ≢ Err OutOfMemory →
+finished : (o : Outcome) (before after : MemoryState) (answer : Answer)
+    → Exchanged o (memory_state before) (memory_state after) answer → answer ≢ Err OutOfMemory →
     (answer ≡ o.answer) × Moves (memory_state before) (memory_state after) o.sent o.taken
 finished o before after answer (Exchanged.completed is moves) some = (is, moves)
 finished o before after answer (Exchanged.write_failed is rose n below moves) some = absurd (omega arith)
@@ -46,29 +47,40 @@ abbrev told_in : Style → Call → Val → List ℕ
 told_in style call payload = value_in_style call payload style
 
 -- so a call that makes this request did what its step says
-answered : {before after : ClientState MemoryState} (style : Style) (call : Call) (payload : RequestPayload) (answer : Answer) (ending : Ending) (old new : List ℕ) → IsRequestOf payload call →
+answered : {before after : ClientState MemoryState} (style : Style) (call : Call)
+    (payload : RequestPayload) (answer : Answer) (ending : Ending) (old new : List ℕ)
+    → IsRequestOf payload call →
     IsCall memory_state payload before after answer → answer ≢ Err OutOfMemory →
     new ≡ old ++ answer_line (told_in style call) style answer → ending ≡ ending_of answer →
-    Answers (step_in style (settings_of before) call (drop before.link.pos before.link.ever)) before after ending old new
+    Answers (step_in style (settings_of before) call (drop before.link.pos before.link.ever))
+    before after ending old new
 answered {before = before} {after = after} style call payload answer ending old new makes is_call some text ending_is =
     let o : List ℕ → Outcome = λ rest. outcome payload before.credential before.limit rest in
     let rest : List ℕ = drop before.link.pos after.link.ever in
     let left : List ℕ = drop before.link.pos before.link.ever in
-    let done : (answer ≡ (o rest).answer) × Moves (memory_state before.link) (memory_state after.link) (o rest).sent (o rest).taken =
+    let done : (answer ≡ (o rest).answer)
+    × Moves (memory_state before.link) (memory_state after.link) (o rest).sent (o rest).taken =
     finished (o rest) before.link after.link answer (is_call.exchange refl) some in
     let moves : Moves (memory_state before.link) (memory_state after.link) (o rest).sent (o rest).taken = done.1 in
     let same : after.link.ever ≡ before.link.ever = moves.still refl in
     let here : rest ≡ left = ap (λ (l : List ℕ). drop before.link.pos l) same in
     let is : answer ≡ (o left).answer = done.0 ∙ ap (λ (l : List ℕ). (o l).answer) here in
-    let pos : after.link.pos ≡ before.link.pos + (o left).taken = moves.pos ∙ ap (λ (l : List ℕ). before.link.pos + (o l).taken) here in
+    let pos : after.link.pos ≡ before.link.pos + (o left).taken =
+    moves.pos ∙ ap (λ (l : List ℕ). before.link.pos + (o l).taken) here in
     let taken : after.link.pos - before.link.pos ≡ (o rest).taken = omega (arith, moves.pos) in
-    let told = told_of before.buffered (request_bytes payload before.credential) (operation_of payload) before.limit rest (after.link.pos - before.link.pos) answer after.request_text after.response_text
+    let told = told_of before.buffered (request_bytes payload before.credential)
+    (operation_of payload) before.limit rest
+    (after.link.pos - before.link.pos) answer after.request_text after.response_text
     done.0 some taken is_call.request_text (is_call.response_text refl) in
     let ends : ending ≡ ending_of (o left).answer = ending_is ∙ ap ending_of is in
-    let P : Asked → Type 0 = λ it. Answers (step_of (told_in style call) style before.buffered left (outcome_of it.message it.operation before.limit left)) before after ending old new in
+    let P : Asked → Type 0 = λ it. Answers
+    (step_of (told_in style call) style before.buffered left
+    (outcome_of it.message it.operation before.limit left)) before after ending old new in
     subst P (makes before.credential) (record {
       settings = rw (is_call.credential, is_call.limit, is_call.buffered) refl;
-      told = rw is_call.buffered (subst (λ (l : List ℕ). told_lines before.buffered after.request_text after.response_text ≡ (step_of (told_in style call) style before.buffered l (o l)).told) here told);
+      told = rw is_call.buffered (subst (λ (l : List ℕ).
+          told_lines before.buffered after.request_text after.response_text
+          ≡ (step_of (told_in style call) style before.buffered l (o l)).told) here told);
       shown = text ∙ ap (λ (a : Answer). old ++ answer_line (told_in style call) style a) is;
       failed_is = ap fails ends ∙ fails_is (o left).answer;
       ending_is = ends;
@@ -79,7 +91,9 @@ answered {before = before} {after = after} style call payload answer ending old 
     })
 
 -- the payload of an operation is a case of its number
-pub of_case : (operation : Operation) (payload : Val) (P : Val → Type 0) → ((n : ℕ) (v : Val) → n ≡ (operation_line operation).number → P (Case n v)) → IsOfOperation operation payload → P payload
+pub of_case : (operation : Operation) (payload : Val) (P : Val → Type 0)
+    → ((n : ℕ) (v : Val) → n ≡ (operation_line operation).number → P (Case n v))
+    → IsOfOperation operation payload → P payload
 of_case operation (Case n v) P f own = f n v own
 of_case operation (Number z) P f own = absurd own
 of_case operation (Text s) P f own = absurd own
@@ -88,11 +102,16 @@ of_case operation (Truth t) P f own = absurd own
 of_case operation (Record fields) P f own = absurd own
 
 -- the answer of a call was shown, unless memory ran out
-pub answer_shown : {E : Type 0} {before after : ClientState MemoryState} (style : Style) (call : Call) (payload : RequestPayload) (answer : Answer) (shown : Result Ending E) (old new : List ℕ) →
+pub answer_shown : {E : Type 0} {before after : ClientState MemoryState} (style : Style)
+    (call : Call) (payload : RequestPayload) (answer : Answer) (shown : Result Ending E)
+    (old new : List ℕ) →
     IsRequestOf payload call → IsCall memory_state payload before after answer →
     IfOk shown (λ ending. Shows (told_in style call) style answer ending old new) →
-    IfOk shown (λ ending. Answers (step_in style (settings_of before) call (drop before.link.pos before.link.ever)) before after ending old new)
-answer_shown style call payload answer (Ok ending) old new makes did shows = answered style call payload answer ending old new makes did shows.some shows.shown shows.ending_is
+    IfOk shown (λ ending. Answers
+    (step_in style (settings_of before) call (drop before.link.pos before.link.ever))
+    before after ending old new)
+answer_shown style call payload answer (Ok ending) old new makes did shows =
+    answered style call payload answer ending old new makes did shows.some shows.shown shows.ending_is
 answer_shown style call payload answer (Err error) old new makes did shows = tt
 
 -- what was taken of some bytes, by how many are left
@@ -102,17 +121,20 @@ taken_is zero bytes =
     rw none refl
 taken_is (suc n) [] = refl
 taken_is (suc n) (byte ∷ bytes) =
-    let one : suc (length bytes) - length (drop n bytes) ≡ suc (length bytes - length (drop n bytes)) = omega (arith, length-drop n bytes) in
+    let one : suc (length bytes) - length (drop n bytes)
+    ≡ suc (length bytes - length (drop n bytes)) = omega (arith, length-drop n bytes) in
     rw one (ap (λ (l : List ℕ). byte ∷ l) (taken_is n bytes))
 
 -- the request that was made is that of a call
-pub request_made : {E : Type 0} (result : Result RequestPayload E) (wanted : RequestPayload) (call : Call) → IsRequestOf wanted call → IfOk result (λ made. made ≡ wanted) →
+pub request_made : {E : Type 0} (result : Result RequestPayload E) (wanted : RequestPayload)
+    (call : Call) → IsRequestOf wanted call → IfOk result (λ made. made ≡ wanted) →
     IfOk result (λ made. IsRequestOf made call)
 request_made (Ok made) wanted call same is = λ credential. ap (λ p. asked_of p credential) is ∙ same credential
 request_made (Err error) wanted call same is = tt
 
 -- nothing comes to a link in memory by itself
-pub ever_kept : (o : Outcome) (before after : MemoryState) (answer : Answer) → Exchanged o (memory_state before) (memory_state after) answer → after.ever ≡ before.ever
+pub ever_kept : (o : Outcome) (before after : MemoryState) (answer : Answer)
+    → Exchanged o (memory_state before) (memory_state after) answer → after.ever ≡ before.ever
 ever_kept o before after answer (Exchanged.completed is moves) = moves.still refl
 ever_kept o before after answer (Exchanged.write_failed is rose n below moves) = moves.still refl
 ever_kept o before after answer (Exchanged.read_failed is rose n within moves) = moves.still refl
@@ -120,13 +142,18 @@ ever_kept o before after answer (Exchanged.sending_cut is n within moves) = move
 ever_kept o before after answer (Exchanged.reading_cut is n within moves) = moves.still refl
 
 -- over a link that has these bytes to read, the answer and the bytes taken are the outcome's, unless memory ran out
-pub outcome_given : {before after : ClientState MemoryState} (settings : Settings) (call : Call) (payload : RequestPayload) (response : List ℕ) (answer : Answer) →
-    settings_of before ≡ settings → before.link.ever ≡ response → before.link.pos ≡ 0 → IsRequestOf payload call → IsCall memory_state payload before after answer → answer ≢ Err OutOfMemory →
-    (answer ≡ (call_outcome settings call response).answer) × (after.link.pos ≡ (call_outcome settings call response).taken)
+pub outcome_given : {before after : ClientState MemoryState} (settings : Settings) (call : Call)
+    (payload : RequestPayload) (response : List ℕ) (answer : Answer) →
+    settings_of before ≡ settings → before.link.ever ≡ response → before.link.pos ≡ 0
+    → IsRequestOf payload call → IsCall memory_state payload before after answer
+    → answer ≢ Err OutOfMemory →
+    (answer ≡ (call_outcome settings call response).answer)
+    × (after.link.pos ≡ (call_outcome settings call response).taken)
 outcome_given {before = before} {after = after} settings call payload response answer same ever pos makes did some =
     let o : List ℕ → Outcome = λ rest. outcome payload before.credential before.limit rest in
     let rest : List ℕ = drop before.link.pos after.link.ever in
-    let done : (answer ≡ (o rest).answer) × Moves (memory_state before.link) (memory_state after.link) (o rest).sent (o rest).taken =
+    let done : (answer ≡ (o rest).answer)
+    × Moves (memory_state before.link) (memory_state after.link) (o rest).sent (o rest).taken =
     finished (o rest) before.link after.link answer (did.exchange refl) some in
     let moves : Moves (memory_state before.link) (memory_state after.link) (o rest).sent (o rest).taken = done.1 in
     let all : after.link.ever ≡ response = moves.still refl ∙ ever in
@@ -134,22 +161,39 @@ outcome_given {before = before} {after = after} settings call payload response a
     let is : o rest ≡ call_outcome settings call response =
     ap o here
     ∙ ap (λ (it : Asked). outcome_of it.message it.operation before.limit response) (makes before.credential)
-    ∙ ap (λ (s : Settings). call_outcome s call response) same in
-    (done.0 ∙ ap (λ (it : Outcome). it.answer) is, moves.pos ∙ ap (λ n. n + (o rest).taken) pos ∙ zero-add (o rest).taken ∙ ap (λ (it : Outcome). it.taken) is)
+    ∙ ap (λ (s : Settings). call_outcome s call response) same in (
+      done.0 ∙ ap (λ (it : Outcome). it.answer) is,
+      moves.pos ∙ ap (λ n. n + (o rest).taken) pos
+          ∙ zero-add (o rest).taken ∙ ap (λ (it : Outcome). it.taken) is,
+    )
 
 -- and its payload is of the call's operation
-pub of_call : {E : Type 0} (payload : RequestPayload) (call : Call) (result : Result ResponsePayload E) → IsRequestOf payload call →
-    IfOk result (λ answer. IsOfOperation (operation_of payload) (response_payload_val answer)) → IfOk result (λ answer. IsOfOperation (operation_asked call) (response_payload_val answer))
+pub of_call : {E : Type 0} (payload : RequestPayload) (call : Call)
+    (result : Result ResponsePayload E) → IsRequestOf payload call →
+    IfOk result (λ answer. IsOfOperation (operation_of payload) (response_payload_val answer))
+    → IfOk result (λ answer. IsOfOperation (operation_asked call) (response_payload_val answer))
 of_call {E} payload call result makes own =
-    let P : Operation → Type 0 = λ operation. IfOk {E = E} result (λ answer. IsOfOperation operation (response_payload_val answer)) in
+    let P : Operation → Type 0 = λ operation.
+    IfOk {E = E} result (λ answer. IsOfOperation operation (response_payload_val answer)) in
     subst P (ap (λ (it : Asked). it.operation) (makes None)) own
 
 -- so the answer, and the bytes that were taken, are those of the outcome
-pub reply_given : {before after : ClientState MemoryState} (settings : Settings) (call : Call) (payload : RequestPayload) (response : List ℕ) (answer : Answer) (left : ℕ) →
-    settings_of before ≡ settings → before.link.ever ≡ response → before.link.pos ≡ 0 → IsRequestOf payload call → IsCall memory_state payload before after answer →
-    left ≡ length (drop after.link.pos after.link.ever) → IsReply answer (take (length response - left) response) (call_outcome settings call response) response
-reply_given {before = before} {after = after} settings call payload response answer left same ever pos makes did left_is = λ some.
-    let all : after.link.ever ≡ response = ever_kept (outcome payload before.credential before.limit (drop before.link.pos after.link.ever)) before.link after.link answer (did.exchange refl) ∙ ever in
+pub reply_given : {before after : ClientState MemoryState} (settings : Settings) (call : Call)
+    (payload : RequestPayload) (response : List ℕ) (answer : Answer) (left : ℕ) →
+    settings_of before ≡ settings → before.link.ever ≡ response → before.link.pos ≡ 0
+    → IsRequestOf payload call → IsCall memory_state payload before after answer →
+    left ≡ length (drop after.link.pos after.link.ever)
+    → IsReply answer (take (length response - left) response)
+    (call_outcome settings call response) response
+reply_given {before = before} {after = after}
+    settings call payload response answer left same ever pos makes did left_is = λ some.
+    let all : after.link.ever ≡ response =
+    ever_kept (outcome payload before.credential before.limit
+    (drop before.link.pos after.link.ever)) before.link after.link answer (did.exchange refl)
+    ∙ ever in
     let given = outcome_given settings call payload response answer same ever pos makes did some in
-    let there : left ≡ length (drop after.link.pos response) = rw all at left_is in
-    (given.0, ap (λ (n : ℕ). take (length response - n) response) there ∙ taken_is after.link.pos response ∙ ap (λ (n : ℕ). take n response) given.1)
+    let there : left ≡ length (drop after.link.pos response) = rw all at left_is in (
+      given.0,
+      ap (λ (n : ℕ). take (length response - n) response) there
+          ∙ taken_is after.link.pos response ∙ ap (λ (n : ℕ). take n response) given.1,
+    )

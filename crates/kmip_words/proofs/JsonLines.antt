@@ -37,7 +37,8 @@ are_plain : (s : List ℕ) → plain s ≡ true → AreCharacters s
 are_plain [] e = NoCharacter
 are_plain (c ∷ s) e = go (nat_lt 34 c) (nat_eq c 92) (plain s) refl refl refl e (are_plain s)
   where
-    go : (a b p : Bool) → nat_lt 34 c ≡ a → nat_eq c 92 ≡ b → plain s ≡ p → a && (not b && p) ≡ true → (plain s ≡ true → AreCharacters s) → AreCharacters (c ∷ s)
+    go : (a b p : Bool) → nat_lt 34 c ≡ a → nat_eq c 92 ≡ b → plain s ≡ p → a && (not b && p) ≡ true
+        → (plain s ≡ true → AreCharacters s) → AreCharacters (c ∷ s)
     go true false true ea eb ep h rest =
         let l : 34 < c = grind (arith, nat_tests) in
         let k : c ≡ 92 → ⊥ = grind (arith, nat_tests) in
@@ -59,14 +60,20 @@ value_line_is value is = (
 )
 
 -- the members of an error: its name, and its text
-members_of : (name text : List ℕ) → plain name ≡ true → AreMembers (codes "\"error\":\"" ++ (name ++ (codes "\",\"text\":" ++ text_in_style text Json)))
+members_of : (name text : List ℕ) → plain name ≡ true
+    → AreMembers (codes "\"error\":\"" ++ (name ++ (codes "\",\"text\":"
+    ++ text_in_style text Json)))
 members_of name text e =
-    subst AreMembers (ap (λ (t : List ℕ). codes "\"error\":\"" ++ t) (append_assoc name (34 ∷ []) (codes ",\"text\":" ++ text_in_style text Json)))
+    subst AreMembers (ap (λ (t : List ℕ).
+    codes "\"error\":\"" ++ t) (append_assoc name (34 ∷ []) (codes ",\"text\":" ++ text_in_style text Json)))
     (AndMembers (codes "\"error\":\"" ++ (name ++ 34 ∷ [])) (codes "\"text\":" ++ text_in_style text Json)
-    (AMember (codes "error") (34 ∷ (name ++ 34 ∷ [])) (are_plain (codes "error") refl) (AString name (are_plain name e)))
+    (AMember (codes "error") (34 ∷ (name ++ 34 ∷ [])) (are_plain (codes "error") refl)
+    (AString name (are_plain name e)))
     (AMember (codes "text") (text_in_style text Json) (are_plain (codes "text") refl) (string_is text)))
 
-error_line_by : (name text : List ℕ) → plain name ≡ true → IsJsonLine (codes "{\"error\":\"" ++ (name ++ (codes "\",\"text\":" ++ (text_in_style text Json ++ codes "}\n"))))
+error_line_by : (name text : List ℕ) → plain name ≡ true
+    → IsJsonLine (codes "{\"error\":\"" ++ (name ++ (codes "\",\"text\":"
+    ++ (text_in_style text Json ++ codes "}\n"))))
 error_line_by name text e =
     let inner : List ℕ = codes "\"error\":\"" ++ (name ++ (codes "\",\"text\":" ++ text_in_style text Json)) in
     (123 ∷ (inner ++ 125 ∷ []), AnObject inner (members_of name text e), simp append_assoc)
@@ -84,7 +91,8 @@ error_line_is (Unknown text) = error_line_by (codes "Unknown") text refl
 error_line_is OutOfMemory = error_line_by (codes "OutOfMemory") [] refl
 
 -- a record is shown the same, whatever choice is around it
-record_is : (v : Val) (around : Cases) (rows : RowList) → fits_in v around (Rows rows) → IsJson (shown_in_style (Rows rows) v Json)
+record_is : (v : Val) (around : Cases) (rows : RowList) → fits_in v around (Rows rows)
+    → IsJson (shown_in_style (Rows rows) v Json)
 record_is (Record fields) around rows h = value_is (Record fields) NoCase (Rows rows) h
 record_is (Number z) around rows h = absurd h
 record_is (Text s) around rows h = absurd h
@@ -93,15 +101,20 @@ record_is (Truth t) around rows h = absurd h
 record_is (Case n v) around rows h = absurd h
 
 -- the identifiers of a pair
-pair_is : (a b : List ℕ) → IsJson (codes "{\"private_key\":" ++ (text_in_style a Json ++ (codes ",\"public_key\":" ++ (text_in_style b Json ++ codes "}"))))
+pair_is : (a b : List ℕ) → IsJson (codes "{\"private_key\":" ++
+    (text_in_style a Json ++ (codes ",\"public_key\":" ++ (text_in_style b Json ++ codes "}"))))
 pair_is a b =
-    let inner : List ℕ = (codes "\"private_key\":" ++ text_in_style a Json) ++ (codes ",\"public_key\":" ++ text_in_style b Json) in
-    subst IsJson (simp append_assoc) (AnObject inner (AndMembers (codes "\"private_key\":" ++ text_in_style a Json) (codes "\"public_key\":" ++ text_in_style b Json)
+    let inner : List ℕ = (codes "\"private_key\":" ++ text_in_style a Json)
+    ++ (codes ",\"public_key\":" ++ text_in_style b Json) in
+    subst IsJson (simp append_assoc)
+    (AnObject inner (AndMembers (codes "\"private_key\":" ++ text_in_style a Json)
+    (codes "\"public_key\":" ++ text_in_style b Json)
     (AMember (codes "private_key") (text_in_style a Json) (are_plain (codes "private_key") refl) (string_is a))
     (AMember (codes "public_key") (text_in_style b Json) (are_plain (codes "public_key") refl) (string_is b))))
 
 -- a required text
-text_in_field : (f : Field) → mark_fits Required f → field_fits f NoCase (Scalar TextString) → (s : List ℕ) × (f ≡ One (Text s))
+text_in_field : (f : Field) → mark_fits Required f → field_fits f NoCase (Scalar TextString)
+    → (s : List ℕ) × (f ≡ One (Text s))
 text_in_field (One (Text s)) m h = (s, refl)
 text_in_field (One (Number z)) m h = absurd h
 text_in_field (One (Bytes b)) m h = absurd h
@@ -111,11 +124,13 @@ text_in_field (One (Case n v)) m h = absurd h
 text_in_field Absent m h = absurd m
 text_in_field (Many vals) m h = absurd m
 
-texts_are : (n : ℕ) (v : Val) (around : Cases) → fits_in v around create_key_pair_payload → IsJson (texts_in_style (Case n v) Json)
+texts_are : (n : ℕ) (v : Val) (around : Cases) → fits_in v around create_key_pair_payload
+    → IsJson (texts_in_style (Case n v) Json)
 texts_are n (Record (AndField f (AndField g NoField))) around h =
     let first = text_in_field f h.0 h.1 in
     let second = text_in_field g h.2.0 h.2.1 in
-    let P : Field → Field → Type 0 = λ a b. IsJson (texts_in_style (Case n (Record (AndField a (AndField b NoField)))) Json) in
+    let P : Field → Field → Type 0 = λ a b.
+    IsJson (texts_in_style (Case n (Record (AndField a (AndField b NoField)))) Json) in
     subst (λ a. P a g) (sym first.1) (subst (λ b. P (One (Text first.0)) b) (sym second.1) (pair_is first.0 second.0))
 texts_are n (Record NoField) around h = absurd h
 texts_are n (Record (AndField f NoField)) around h = absurd h.2
@@ -131,64 +146,123 @@ rows_in (Rows rows) = rows
 rows_in _ = NoRow
 
 -- the payload of an operation is JSON, where each of its cases is
-by_number : (operation : Operation) (text : Val → List ℕ) → ((v : Val) → Fits response_payload (Case (operation_line operation).number v) → IsJson (text (Case (operation_line operation).number v))) →
+by_number : (operation : Operation) (text : Val → List ℕ)
+    → ((v : Val) → Fits response_payload (Case (operation_line operation).number v)
+    → IsJson (text (Case (operation_line operation).number v))) →
     (payload : Val) → Fits response_payload payload → IsOfOperation operation payload → IsJson (text payload)
 by_number operation text each payload fits own =
-    of_case operation payload (λ v. Fits response_payload v → IsJson (text v)) (λ n v is. (let P : ℕ → Type 0 = λ m. Fits response_payload (Case m v) → IsJson (text (Case m v)) in subst P (sym is) (each v))) own fits
+    of_case operation payload (λ v. Fits response_payload v → IsJson (text v))
+    (λ n v is. (let P : ℕ → Type 0 = λ m. Fits response_payload (Case m v)
+    → IsJson (text (Case m v)) in subst P (sym is) (each v))) own fits
 
 -- the answer to a request with options
-request_is_json : (request : RequestPayload) (payload : Val) → Fits response_payload payload → IsOfOperation (operation_of request) payload → IsJson (request_in_style request payload Json)
-request_is_json (payloads.CreateKeyPair common private public) payload fits own = by_number operations.CreateKeyPair (λ v. texts_in_style v Json) (λ v h. texts_are 2 v response_payloads h) payload fits own
+request_is_json : (request : RequestPayload) (payload : Val) → Fits response_payload payload
+    → IsOfOperation (operation_of request) payload → IsJson (request_in_style request payload Json)
+request_is_json (payloads.CreateKeyPair common private public) payload fits own =
+    by_number operations.CreateKeyPair (λ v. texts_in_style v Json)
+    (λ v h. texts_are 2 v response_payloads h) payload fits own
 request_is_json (payloads.Activate id) payload fits own = NoMember
 request_is_json (payloads.Revoke id reason date) payload fits own = NoMember
 request_is_json (payloads.Destroy id) payload fits own = NoMember
-request_is_json (payloads.Create type template) payload fits own = by_number operations.Create (λ v. payload_in_style v Json) (λ v h. record_is v response_payloads (rows_in create_payload) h) payload fits own
-request_is_json (payloads.Register type template object) payload fits own = by_number operations.Register (λ v. payload_in_style v Json) (λ v h. record_is v response_payloads (rows_in register_payload) h) payload fits own
-request_is_json (payloads.Locate attributes) payload fits own = by_number operations.Locate (λ v. payload_in_style v Json) (λ v h. record_is v response_payloads (rows_in locate_payload) h) payload fits own
-request_is_json (payloads.Get id format compression wrapping) payload fits own = by_number operations.Get (λ v. payload_in_style v Json) (λ v h. record_is v response_payloads (rows_in get_payload) h) payload fits own
-request_is_json (payloads.GetAttributes id names) payload fits own = by_number operations.GetAttributes (λ v. payload_in_style v Json) (λ v h. record_is v response_payloads (rows_in get_attributes_payload) h) payload fits own
-request_is_json (payloads.GetAttributeList id) payload fits own = by_number operations.GetAttributeList (λ v. payload_in_style v Json) (λ v h. record_is v response_payloads (rows_in get_attribute_list_payload) h) payload fits own
-request_is_json (payloads.AddAttribute id attribute) payload fits own = by_number operations.AddAttribute (λ v. payload_in_style v Json) (λ v h. record_is v response_payloads (rows_in attribute_edit_payload) h) payload fits own
-request_is_json (payloads.ModifyAttribute id attribute) payload fits own = by_number operations.ModifyAttribute (λ v. payload_in_style v Json) (λ v h. record_is v response_payloads (rows_in attribute_edit_payload) h) payload fits own
-request_is_json (payloads.DeleteAttribute id name index) payload fits own = by_number operations.DeleteAttribute (λ v. payload_in_style v Json) (λ v h. record_is v response_payloads (rows_in attribute_edit_payload) h) payload fits own
-request_is_json (payloads.Query functions) payload fits own = by_number operations.Query (λ v. payload_in_style v Json) (λ v h. record_is v response_payloads (rows_in query_payload) h) payload fits own
-request_is_json (payloads.DiscoverVersions versions) payload fits own = by_number operations.DiscoverVersions (λ v. payload_in_style v Json) (λ v h. record_is v response_payloads (rows_in discover_versions_payload) h) payload fits own
-request_is_json (payloads.Sign id parameters contents) payload fits own = by_number operations.Sign (λ v. payload_in_style v Json) (λ v h. record_is v response_payloads (rows_in sign_payload) h) payload fits own
-request_is_json (payloads.RNGRetrieve length) payload fits own = by_number operations.RNGRetrieve (λ v. payload_in_style v Json) (λ v h. record_is v response_payloads (rows_in rng_retrieve_payload) h) payload fits own
+request_is_json (payloads.Create type template) payload fits own =
+    by_number operations.Create (λ v. payload_in_style v Json)
+    (λ v h. record_is v response_payloads (rows_in create_payload) h) payload fits own
+request_is_json (payloads.Register type template object) payload fits own =
+    by_number operations.Register (λ v. payload_in_style v Json)
+    (λ v h. record_is v response_payloads (rows_in register_payload) h) payload fits own
+request_is_json (payloads.Locate attributes) payload fits own =
+    by_number operations.Locate (λ v. payload_in_style v Json)
+    (λ v h. record_is v response_payloads (rows_in locate_payload) h) payload fits own
+request_is_json (payloads.Get id format compression wrapping) payload fits own =
+    by_number operations.Get (λ v. payload_in_style v Json)
+    (λ v h. record_is v response_payloads (rows_in get_payload) h) payload fits own
+request_is_json (payloads.GetAttributes id names) payload fits own =
+    by_number operations.GetAttributes (λ v. payload_in_style v Json)
+    (λ v h. record_is v response_payloads (rows_in get_attributes_payload) h) payload fits own
+request_is_json (payloads.GetAttributeList id) payload fits own =
+    by_number operations.GetAttributeList (λ v. payload_in_style v Json)
+    (λ v h. record_is v response_payloads (rows_in get_attribute_list_payload) h) payload fits own
+request_is_json (payloads.AddAttribute id attribute) payload fits own =
+    by_number operations.AddAttribute (λ v. payload_in_style v Json)
+    (λ v h. record_is v response_payloads (rows_in attribute_edit_payload) h) payload fits own
+request_is_json (payloads.ModifyAttribute id attribute) payload fits own =
+    by_number operations.ModifyAttribute (λ v. payload_in_style v Json)
+    (λ v h. record_is v response_payloads (rows_in attribute_edit_payload) h) payload fits own
+request_is_json (payloads.DeleteAttribute id name index) payload fits own =
+    by_number operations.DeleteAttribute (λ v. payload_in_style v Json)
+    (λ v h. record_is v response_payloads (rows_in attribute_edit_payload) h) payload fits own
+request_is_json (payloads.Query functions) payload fits own =
+    by_number operations.Query (λ v. payload_in_style v Json)
+    (λ v h. record_is v response_payloads (rows_in query_payload) h) payload fits own
+request_is_json (payloads.DiscoverVersions versions) payload fits own =
+    by_number operations.DiscoverVersions (λ v. payload_in_style v Json)
+    (λ v h. record_is v response_payloads (rows_in discover_versions_payload) h) payload fits own
+request_is_json (payloads.Sign id parameters contents) payload fits own =
+    by_number operations.Sign (λ v. payload_in_style v Json)
+    (λ v h. record_is v response_payloads (rows_in sign_payload) h) payload fits own
+request_is_json (payloads.RNGRetrieve length) payload fits own =
+    by_number operations.RNGRetrieve (λ v. payload_in_style v Json)
+    (λ v h. record_is v response_payloads (rows_in rng_retrieve_payload) h) payload fits own
 
-value_is_json : (call : Call) (payload : Val) → Fits response_payload payload → IsOfOperation (operation_asked call) payload → IsJson (value_in_style call payload Json)
-value_is_json Query payload fits own = by_number operations.Query (λ v. record_in_style query_payload v Json) (λ v h. record_is v response_payloads (rows_in query_payload) h) payload fits own
-value_is_json (CreateRsa length private public) payload fits own = by_number operations.CreateKeyPair (λ v. texts_in_style v Json) (λ v h. texts_are 2 v response_payloads h) payload fits own
-value_is_json (Rng n) payload fits own = by_number operations.RNGRetrieve (λ v. record_in_style rng_retrieve_payload v Json) (λ v h. record_is v response_payloads (rows_in rng_retrieve_payload) h) payload fits own
-value_is_json (Sign id bytes) payload fits own = by_number operations.Sign (λ v. record_in_style sign_payload v Json) (λ v h. record_is v response_payloads (rows_in sign_payload) h) payload fits own
+value_is_json : (call : Call) (payload : Val) → Fits response_payload payload
+    → IsOfOperation (operation_asked call) payload → IsJson (value_in_style call payload Json)
+value_is_json Query payload fits own =
+    by_number operations.Query (λ v. record_in_style query_payload v Json)
+    (λ v h. record_is v response_payloads (rows_in query_payload) h) payload fits own
+value_is_json (CreateRsa length private public) payload fits own =
+    by_number operations.CreateKeyPair (λ v. texts_in_style v Json)
+    (λ v h. texts_are 2 v response_payloads h) payload fits own
+value_is_json (Rng n) payload fits own =
+    by_number operations.RNGRetrieve (λ v. record_in_style rng_retrieve_payload v Json)
+    (λ v h. record_is v response_payloads (rows_in rng_retrieve_payload) h) payload fits own
+value_is_json (Sign id bytes) payload fits own =
+    by_number operations.Sign (λ v. record_in_style sign_payload v Json)
+    (λ v h. record_is v response_payloads (rows_in sign_payload) h) payload fits own
 value_is_json (Activate id) payload fits own = NoMember
 value_is_json (Revoke id) payload fits own = NoMember
 value_is_json (Destroy id) payload fits own = NoMember
-value_is_json (Rename id name) payload fits own = by_number operations.ModifyAttribute (λ v. record_in_style attribute_edit_payload v Json) (λ v h. record_is v response_payloads (rows_in attribute_edit_payload) h) payload fits own
-value_is_json (Get id) payload fits own = by_number operations.Get (λ v. record_in_style get_payload v Json) (λ v h. record_is v response_payloads (rows_in get_payload) h) payload fits own
+value_is_json (Rename id name) payload fits own =
+    by_number operations.ModifyAttribute (λ v. record_in_style attribute_edit_payload v Json)
+    (λ v h. record_is v response_payloads (rows_in attribute_edit_payload) h) payload fits own
+value_is_json (Get id) payload fits own =
+    by_number operations.Get (λ v. record_in_style get_payload v Json)
+    (λ v h. record_is v response_payloads (rows_in get_payload) h) payload fits own
 value_is_json (Raw request) payload fits own = value_is payload NoCase response_payload fits
-value_is_json (Locate name) payload fits own = by_number operations.Locate (λ v. record_in_style locate_payload v Json) (λ v h. record_is v response_payloads (rows_in locate_payload) h) payload fits own
-value_is_json (Attributes id) payload fits own = by_number operations.GetAttributes (λ v. record_in_style get_attributes_payload v Json) (λ v h. record_is v response_payloads (rows_in get_attributes_payload) h) payload fits own
-value_is_json (CreateAes length name) payload fits own = by_number operations.Create (λ v. record_in_style create_payload v Json) (λ v h. record_is v response_payloads (rows_in create_payload) h) payload fits own
+value_is_json (Locate name) payload fits own =
+    by_number operations.Locate (λ v. record_in_style locate_payload v Json)
+    (λ v h. record_is v response_payloads (rows_in locate_payload) h) payload fits own
+value_is_json (Attributes id) payload fits own =
+    by_number operations.GetAttributes (λ v. record_in_style get_attributes_payload v Json)
+    (λ v h. record_is v response_payloads (rows_in get_attributes_payload) h) payload fits own
+value_is_json (CreateAes length name) payload fits own =
+    by_number operations.Create (λ v. record_in_style create_payload v Json)
+    (λ v h. record_is v response_payloads (rows_in create_payload) h) payload fits own
 value_is_json (Request request) payload fits own = request_is_json request payload fits own
-value_is_json Discover payload fits own = by_number operations.DiscoverVersions (λ v. record_in_style discover_versions_payload v Json) (λ v h. record_is v response_payloads (rows_in discover_versions_payload) h) payload fits own
+value_is_json Discover payload fits own =
+    by_number operations.DiscoverVersions (λ v. record_in_style discover_versions_payload v Json)
+    (λ v h. record_is v response_payloads (rows_in discover_versions_payload) h) payload fits own
 
-pub payload_line_is : (call : Call) (payload : Val) → Fits response_payload payload → IsOfOperation (operation_asked call) payload → IsJsonLine (json_line call (Ok payload))
-payload_line_is call payload fits own = value_line_is (value_in_style call payload Json) (value_is_json call payload fits own)
+pub payload_line_is : (call : Call) (payload : Val) → Fits response_payload payload
+    → IsOfOperation (operation_asked call) payload → IsJsonLine (json_line call (Ok payload))
+payload_line_is call payload fits own =
+    value_line_is (value_in_style call payload Json) (value_is_json call payload fits own)
 
 pub failure_line_is : (call : Call) (error : Error) → IsJsonLine (json_line call (Err error))
 failure_line_is call error = error_line_is error
 
 -- members, and one more
-and_member : (m : List ℕ) → AreMembers m → (name value : List ℕ) → plain name ≡ true → IsJson value → AreMembers (m ++ 44 ∷ 34 ∷ (name ++ 34 ∷ 58 ∷ value))
-and_member m are name value e is = AndMembers m (34 ∷ (name ++ 34 ∷ 58 ∷ value)) are (AMember name value (are_plain name e) is)
+and_member : (m : List ℕ) → AreMembers m → (name value : List ℕ) → plain name ≡ true → IsJson value
+    → AreMembers (m ++ 44 ∷ 34 ∷ (name ++ 34 ∷ 58 ∷ value))
+and_member m are name value e is = AndMembers m (34 ∷ (name ++ 34 ∷ 58 ∷ value)) are
+    (AMember name value (are_plain name e) is)
 
 and_reason : (m : List ℕ) → AreMembers m → (reason : Option ℕ) → AreMembers (m ++ reason_member reason)
 and_reason m are (Some reason) = and_member m are (codes "reason") (decimal reason) refl (ANumber (pos reason))
 and_reason m are None = subst AreMembers (sym (append-nil m)) are
 
 and_message : (m : List ℕ) → AreMembers m → (message : Option (List ℕ)) → AreMembers (m ++ message_member message)
-and_message m are (Some message) = and_member m are (codes "message") (text_in_style message Json) refl (string_is message)
+and_message m are (Some message) = and_member m are (codes "message")
+    (text_in_style message Json) refl (string_is message)
 and_message m are None = subst AreMembers (sym (append-nil m)) are
 
 pub internal_error_line_is : (text response : List ℕ) → IsJsonLine (internal_error_line text response)
@@ -199,7 +273,9 @@ internal_error_line_is text response =
     let all : List ℕ = (shown ++ reason_member (reason_of response)) ++ message_member (message_of response) in (
       123 ∷ (all ++ 125 ∷ []),
       AnObject all (and_message (shown ++ reason_member (reason_of response))
-          (and_reason shown (and_member error (members_of (codes "InternalError") text refl) (codes "response") skeleton refl (string_is (diagnostic (Some 0x4200) response))) (reason_of response))
+          (and_reason shown (and_member error (members_of (codes "InternalError") text refl)
+          (codes "response") skeleton refl (string_is (diagnostic (Some 0x4200) response)))
+          (reason_of response))
           (message_of response)),
       simp append_assoc,
     )

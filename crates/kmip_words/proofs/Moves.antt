@@ -13,8 +13,10 @@ pub source_keeps_on : {a b c : SourceState} → SourceKeeps a b → SourceKeeps 
 source_keeps_on ab bc = record { tells = bc.tells ∙ ab.tells; faults = omega arith }
 
 -- the text so far and what is written next
-pub text_on : (old : List ℕ) (n m : ℕ) (xs : List ℕ) → (old ++ take n xs) ++ take m (take (length xs - n) (drop n xs)) ≡ old ++ take (n + m) xs
-text_on old n m xs = rw rest_is (append_assoc old (take n xs) (take m (drop n xs)) ∙ ap (λ l. old ++ l) (sym (take-add n m xs)))
+pub text_on : (old : List ℕ) (n m : ℕ) (xs : List ℕ)
+    → (old ++ take n xs) ++ take m (take (length xs - n) (drop n xs)) ≡ old ++ take (n + m) xs
+text_on old n m xs = rw rest_is
+    (append_assoc old (take n xs) (take m (drop n xs)) ∙ ap (λ l. old ++ l) (sym (take-add n m xs)))
 
 pub left_after : {a b : SourceState} {n : ℕ} → Gives a b n → source_left b ≡ drop n (source_left a)
 left_after {a = a} {n = n} ab = rw (ab.pos, ab.ever) (sym (drop-drop n a.pos a.ever))
@@ -22,17 +24,23 @@ left_after {a = a} {n = n} ab = rw (ab.pos, ab.ever) (sym (drop-drop n a.pos a.e
 pub gives_on : {a b c : SourceState} {n m : ℕ} → Gives a b n → Gives b c m → Gives a c (n + m)
 gives_on {a = a} {b = b} {n = n} ab bc = record {
   within =
-      let e : length (source_left b) ≡ length (source_left a) - n = ap length (left_after ab) ∙ length-drop n (source_left a) in
+      let e : length (source_left b) ≡ length (source_left a) - n =
+      ap length (left_after ab) ∙ length-drop n (source_left a) in
       omega (arith, bc.within, ab.within);
   pos = omega arith;
   ever = bc.ever ∙ ab.ever;
 }
 
-pub bytes_on : {a b : SourceState} {n : ℕ} (m : ℕ) (old : List ℕ) → Gives a b n → (old ++ take n (source_left a)) ++ take m (source_left b) ≡ old ++ take (n + m) (source_left a)
+pub bytes_on : {a b : SourceState} {n : ℕ} (m : ℕ) (old : List ℕ) → Gives a b n
+    → (old ++ take n (source_left a)) ++ take m (source_left b)
+    ≡ old ++ take (n + m) (source_left a)
 bytes_on {a = a} {b = b} {n = n} m old ab =
-    append_assoc old (take n (source_left a)) (take m (source_left b)) ∙ ap (λ l. old ++ l) (ap (λ l. take n (source_left a) ++ take m l) (left_after ab) ∙ sym (take-add n m (source_left a)))
+    append_assoc old (take n (source_left a)) (take m (source_left b))
+    ∙ ap (λ l. old ++ l) (ap (λ l. take n (source_left a) ++ take m l) (left_after ab)
+    ∙ sym (take-add n m (source_left a)))
 
-pub gives_part_on : {a b c : SourceState} {n : ℕ} (m most : ℕ) → Gives a b n → GivesPart b c m → n + m ≤ most → GivesPart a c most
+pub gives_part_on : {a b c : SourceState} {n : ℕ} (m most : ℕ) → Gives a b n → GivesPart b c m
+    → n + m ≤ most → GivesPart a c most
 gives_part_on {n = n} m most ab bc h = (n + bc.0, omega (arith, bc.1), gives_on ab bc.2)
 
 -- a list that begins with one that begins with a third begins with the third
@@ -44,6 +52,7 @@ kept_on xs ys zs a b =
 -- at the end all was read
 pub at_end : {a b : SourceState} {n : ℕ} → Gives a b n → source_left b ≡ [] → n ≡ length (source_left a)
 at_end {a = a} {b = b} {n = n} ab none =
-    let e : length (source_left b) ≡ length (source_left a) - n = ap length (left_after ab) ∙ length-drop n (source_left a) in
+    let e : length (source_left b) ≡ length (source_left a) - n =
+    ap length (left_after ab) ∙ length-drop n (source_left a) in
     let z : length (source_left b) ≡ 0 = ap length none in
     omega (arith, ab.within)

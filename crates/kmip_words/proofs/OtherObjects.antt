@@ -15,7 +15,9 @@ some call (Ok payload) another none = absurd (cc)
 some call (Err error) another none = absurd (cc)
 
 pub another_told : (call : Call) (given : Answer) (first old new : List ℕ) → is_about_another call given ≡ true →
-    new ≡ old ++ internal_error_line (codes "answer for another object") first → IsJsonLine (internal_error_line (codes "answer for another object") first) → Tells call given first Lost old new
+    new ≡ old ++ internal_error_line (codes "answer for another object") first
+    → IsJsonLine (internal_error_line (codes "answer for another object") first)
+    → Tells call given first Lost old new
 another_told call given first old new another line json = record {
   told = rw another line;
   ending_is = rw another refl;
@@ -24,7 +26,8 @@ another_told call given first old new another line json = record {
 }
 
 pub error_told : (call : Call) (given : Answer) (first old new text : List ℕ) → given ≡ Err (InternalError text) →
-    new ≡ old ++ internal_error_line text first → IsJsonLine (internal_error_line text first) → Tells call given first Refused old new
+    new ≡ old ++ internal_error_line text first → IsJsonLine (internal_error_line text first)
+    → Tells call given first Refused old new
 error_told call given first old new text is line json = rw is (record {
   told = line;
   ending_is = refl;
@@ -34,8 +37,12 @@ error_told call given first old new text is line json = rw is (record {
 
 -- what is told of the answer that was given is told of the one that is due
 
-pub due_line : {E : Type 0} (result : Result Ending E) (call : Call) (given : Answer) (first : List ℕ) (due : Outcome) (response old new : List ℕ) → IsReply given first due response →
-    IfOk result (λ ending. Tells call given first ending old new) → OnOk result (new ≡ old ++ line_with call (answer_about call due.answer) (take due.taken response))
+pub due_line : {E : Type 0} (result : Result Ending E) (call : Call) (given : Answer)
+    (first : List ℕ) (due : Outcome) (response old new : List ℕ)
+    → IsReply given first due response →
+    IfOk result (λ ending. Tells call given first ending old new)
+    → OnOk result (new ≡ old ++ line_with call (answer_about call due.answer)
+    (take due.taken response))
 due_line (Ok ending) call given first due response old new reply tells =
     let is = reply tells.some in
     tells.told
@@ -43,13 +50,21 @@ due_line (Ok ending) call given first due response old new reply tells =
     ∙ ap (λ (f : List ℕ). old ++ line_with call (answer_about call due.answer) f) is.1
 due_line (Err error) call given first due response old new reply tells = tt
 
-pub due_ending : {E : Type 0} (result : Result Ending E) (call : Call) (given : Answer) (first : List ℕ) (due : Outcome) (response old new : List ℕ) → IsReply given first due response →
-    IfOk result (λ ending. Tells call given first ending old new) → IfOk result (λ ending. ending ≡ ending_about call due.answer)
-due_ending (Ok ending) call given first due response old new reply tells = tells.ending_is ∙ ap (ending_about call) (reply tells.some).0
+pub due_ending : {E : Type 0} (result : Result Ending E) (call : Call) (given : Answer)
+    (first : List ℕ) (due : Outcome) (response old new : List ℕ)
+    → IsReply given first due response →
+    IfOk result (λ ending. Tells call given first ending old new)
+    → IfOk result (λ ending. ending ≡ ending_about call due.answer)
+due_ending (Ok ending) call given first due response old new reply tells =
+    tells.ending_is ∙ ap (ending_about call) (reply tells.some).0
 due_ending (Err error) call given first due response old new reply tells = tt
 
-pub due_json : {E : Type 0} (result : Result Ending E) (call : Call) (given : Answer) (first : List ℕ) (due : Outcome) (response old new : List ℕ) → IsReply given first due response →
-    IfOk result (λ ending. Tells call given first ending old new) → OnOk result (IsJsonLine (line_with call (answer_about call due.answer) (take due.taken response)))
+pub due_json : {E : Type 0} (result : Result Ending E) (call : Call) (given : Answer)
+    (first : List ℕ) (due : Outcome) (response old new : List ℕ)
+    → IsReply given first due response →
+    IfOk result (λ ending. Tells call given first ending old new)
+    → OnOk result (IsJsonLine (line_with call (answer_about call due.answer)
+    (take due.taken response)))
 due_json (Ok ending) call given first due response old new reply tells =
     let is = reply tells.some in
     let P : Answer → List ℕ → Type 0 = λ a f. IsJsonLine (line_with call (answer_about call a) f) in

@@ -16,9 +16,11 @@ returns-in-Ok-Some-clause-answer c = λ some.
     let says = rw c.in-Ok-Some.field-0-is at c.in-Ok-Some.ensures.answer in
     rw (to_z-of_z w32 c.status_of.result status)
     (rw (to_z-of_z w64 c.copy_out.result told)
-    (answered (call_of c.args.call.now) c.args.response.now c.args.into.now c.copy_out.new.room line c.in-Ok-Some.answer.ending c.status_of.result c.copy_out.result
+    (answered (call_of c.args.call.now)
+    c.args.response.now c.args.into.now c.copy_out.new.room line c.in-Ok-Some.answer.ending c.status_of.result c.copy_out.result
     (λ e. none-some c.in-Ok-Some.answer (sym (none e))) says c.status_of.ensures
-    (c.copy_out.ensures.len ∙ ap (λ (x : List ℕ). pos (length x)) text) (c.copy_out.ensures.room ∙ ap (λ (x : List ℕ). room_with x c.args.into.now) text)))
+    (c.copy_out.ensures.len ∙ ap (λ (x : List ℕ). pos (length x)) text)
+    (c.copy_out.ensures.room ∙ ap (λ (x : List ℕ). room_with x c.args.into.now) text)))
 
 pub returns-in-Ok-None-clause-answer : goal.returns-in-Ok-None-clause-answer
 returns-in-Ok-None-clause-answer c = λ some.

@@ -13,14 +13,19 @@ returns-in-Ok-Some-operation_request-clause-request c = λ some.
     let asks = rw c.in-Ok-Some-operation_of.field-0-is at c.in-Ok-Some-operation_of.ensures in
     let made = rw c.in-Ok-Some-operation_request.field-0-is at c.in-Ok-Some-operation_request.ensures in
     rw (to_z-of_z w64 c.copy_out.result told)
-    (operation_requested (settings_of c.args.has_credential c.args.user.now c.args.password.now) (settings_with c.in-Ok-Some.credential) (request_of c.in-Ok-Some-operation_of.call)
-    c.args.name.now c.args.version.now c.args.payload.now c.args.into.now c.copy_out.new.room c.copy_out.result (Some c.in-Ok-Some-operation_request.request.items) (sym settings) asks made
-    (c.copy_out.ensures.len ∙ ap (λ (x : List ℕ). pos (length x)) c.deref.ensures.value, c.copy_out.ensures.room ∙ ap (λ (x : List ℕ). room_with x c.args.into.now) c.deref.ensures.value))
+    (operation_requested (settings_of c.args.has_credential c.args.user.now c.args.password.now)
+    (settings_with c.in-Ok-Some.credential) (request_of c.in-Ok-Some-operation_of.call)
+    c.args.name.now c.args.version.now c.args.payload.now c.args.into.now c.copy_out.new.room c.copy_out.result (Some c.in-Ok-Some-operation_request.request.items) (sym settings) asks made (
+      c.copy_out.ensures.len ∙ ap (λ (x : List ℕ). pos (length x)) c.deref.ensures.value,
+      c.copy_out.ensures.room ∙ ap (λ (x : List ℕ). room_with x c.args.into.now)
+          c.deref.ensures.value,
+    ))
 
 pub returns-in-Ok-None-operation_request-clause-request : goal.returns-in-Ok-None-operation_request-clause-request
 returns-in-Ok-None-operation_request-clause-request c = λ some.
     let settings = rw c.in-Ok-Some.field-0-is at c.in-Ok-Some.ensures in
     let asks = rw c.in-Ok-Some-operation_of.field-0-is at c.in-Ok-Some-operation_of.ensures in
     let made = rw c.in-Ok-None-operation_request.field-0-is at c.in-Ok-None-operation_request.ensures in
-    operation_requested (settings_of c.args.has_credential c.args.user.now c.args.password.now) (settings_with c.in-Ok-Some.credential) (request_of c.in-Ok-Some-operation_of.call)
+    operation_requested (settings_of c.args.has_credential c.args.user.now c.args.password.now)
+    (settings_with c.in-Ok-Some.credential) (request_of c.in-Ok-Some-operation_of.call)
     c.args.name.now c.args.version.now c.args.payload.now c.args.into.now c.args.into.now no_form None (sym settings) asks made (refl, refl)

@@ -4,7 +4,9 @@ use Rattle.kmip_call.proofs.program.make_call.Goals as goal
 
 pub returns-in_err-request-clause-broken_off : goal.returns-in_err-request-clause-broken_off
 returns-in_err-request-clause-broken_off g c =
-    on_err c.from_residual.result (λ call is. part_unsent c.args.order.now.settings call (g.W.Sink.state c.args.wire.now) (g.S.Source.state c.args.source.now))
+    on_err c.from_residual.result
+    (λ call is. part_unsent c.args.order.now.settings call (g.W.Sink.state c.args.wire.now)
+    (g.S.Source.state c.args.source.now))
 
 pub returns-in_err-end-clause-broken_off : goal.returns-in_err-end-clause-broken_off
 returns-in_err-end-clause-broken_off g c =

@@ -7,7 +7,10 @@ use Rattle.kmip_client.proofs.call.call.Goals as goal
 
 pub returns-in-Err-clause-exchange : goal.returns-in-Err-clause-exchange
 returns-in-Err-clause-exchange g c = λ tells.
-    serialize_stopped (g.R.CallRequest.kind.bytes_of (g.R.CallRequest.request c.args.request.now) (option_map credential_of c.args.settings.now.authentication)) (g.R.CallRequest.kind.reads (g.R.CallRequest.request c.args.request.now)) c.args.settings.now.config.max_bytes _ _ c.in-Err.error c.in-Err.ensures.err
+    serialize_stopped (g.R.CallRequest.kind.bytes_of (g.R.CallRequest.request c.args.request.now)
+    (option_map credential_of c.args.settings.now.authentication))
+    (g.R.CallRequest.kind.reads (g.R.CallRequest.request c.args.request.now))
+    c.args.settings.now.config.max_bytes _ _ c.in-Err.error c.in-Err.ensures.err
 
 pub returns-in_err-diagnostics-clause-exchange : goal.returns-in_err-diagnostics-clause-exchange
 returns-in_err-diagnostics-clause-exchange g c = λ tells.
@@ -21,24 +24,44 @@ returns-in_err-reserve-clause-exchange g c = λ tells.
 
 pub returns-then-not-has_response-clause-exchange : goal.returns-then-not-has_response-clause-exchange
 returns-then-not-has_response-clause-exchange g c = λ tells.
-    of_request (g.R.CallRequest.kind.reads (g.R.CallRequest.request c.args.request.now)) (seen_by (g.R.CallRequest.seen c.args.request.now) c.exchange-answer.result) (g.R.CallRequest.kind.bytes_of (g.R.CallRequest.request c.args.request.now) (option_map credential_of c.args.settings.now.authentication)) c.serialize.new.out.bytes c.as_slice-2.result.now c.args.settings.now.config.max_bytes _
+    of_request (g.R.CallRequest.kind.reads (g.R.CallRequest.request c.args.request.now))
+    (seen_by (g.R.CallRequest.seen c.args.request.now) c.exchange-answer.result)
+    (g.R.CallRequest.kind.bytes_of (g.R.CallRequest.request c.args.request.now)
+    (option_map credential_of c.args.settings.now.authentication))
+    c.serialize.new.out.bytes c.as_slice-2.result.now c.args.settings.now.config.max_bytes _
     c.in-Ok.ensures.ok c.as_slice-2.ensures (c.exchange-answer.ensures.exchange tells)
 
 pub returns-then-not-has_response-clause-caused : goal.returns-then-not-has_response-clause-caused
 returns-then-not-has_response-clause-caused g c =
-    caused_by (g.R.CallRequest.kind.reads (g.R.CallRequest.request c.args.request.now)) (seen_by (g.R.CallRequest.seen c.args.request.now) c.exchange-answer.result) (g.R.CallRequest.kind.bytes_of (g.R.CallRequest.request c.args.request.now) (option_map credential_of c.args.settings.now.authentication)) c.serialize.new.out.bytes c.as_slice-2.result.now c.args.settings.now.config.max_bytes
+    caused_by (g.R.CallRequest.kind.reads (g.R.CallRequest.request c.args.request.now))
+    (seen_by (g.R.CallRequest.seen c.args.request.now) c.exchange-answer.result)
+    (g.R.CallRequest.kind.bytes_of (g.R.CallRequest.request c.args.request.now)
+    (option_map credential_of c.args.settings.now.authentication))
+    c.serialize.new.out.bytes c.as_slice-2.result.now c.args.settings.now.config.max_bytes
     c.in-Ok.ensures.ok c.as_slice-2.ensures c.exchange-answer.ensures.caused
 
 pub returns-clause-exchange : goal.returns-clause-exchange
 returns-clause-exchange g c = λ tells.
-    kept_exchanged (seen_by (g.R.CallRequest.seen c.args.request.now) c.exchange-answer.result) (seen_by (g.R.CallRequest.seen c.args.request.now) c.keep.result) (kept_is (g.R.CallRequest.seen c.args.request.now) _ _ c.keep.ensures)
-    (of_request (g.R.CallRequest.kind.reads (g.R.CallRequest.request c.args.request.now)) (seen_by (g.R.CallRequest.seen c.args.request.now) c.exchange-answer.result) (g.R.CallRequest.kind.bytes_of (g.R.CallRequest.request c.args.request.now) (option_map credential_of c.args.settings.now.authentication)) c.serialize.new.out.bytes c.as_slice-2.result.now c.args.settings.now.config.max_bytes _
+    kept_exchanged (seen_by (g.R.CallRequest.seen c.args.request.now) c.exchange-answer.result)
+    (seen_by (g.R.CallRequest.seen c.args.request.now) c.keep.result)
+    (kept_is (g.R.CallRequest.seen c.args.request.now) _ _ c.keep.ensures)
+    (of_request (g.R.CallRequest.kind.reads (g.R.CallRequest.request c.args.request.now))
+    (seen_by (g.R.CallRequest.seen c.args.request.now) c.exchange-answer.result)
+    (g.R.CallRequest.kind.bytes_of (g.R.CallRequest.request c.args.request.now)
+    (option_map credential_of c.args.settings.now.authentication))
+    c.serialize.new.out.bytes c.as_slice-2.result.now c.args.settings.now.config.max_bytes _
     c.in-Ok.ensures.ok c.as_slice-2.ensures (c.exchange-answer.ensures.exchange tells))
 
 pub returns-clause-caused : goal.returns-clause-caused
 returns-clause-caused g c =
-    kept_caused (seen_by (g.R.CallRequest.seen c.args.request.now) c.exchange-answer.result) (seen_by (g.R.CallRequest.seen c.args.request.now) c.keep.result) (kept_is (g.R.CallRequest.seen c.args.request.now) _ _ c.keep.ensures)
-    (caused_by (g.R.CallRequest.kind.reads (g.R.CallRequest.request c.args.request.now)) (seen_by (g.R.CallRequest.seen c.args.request.now) c.exchange-answer.result) (g.R.CallRequest.kind.bytes_of (g.R.CallRequest.request c.args.request.now) (option_map credential_of c.args.settings.now.authentication)) c.serialize.new.out.bytes c.as_slice-2.result.now c.args.settings.now.config.max_bytes
+    kept_caused (seen_by (g.R.CallRequest.seen c.args.request.now) c.exchange-answer.result)
+    (seen_by (g.R.CallRequest.seen c.args.request.now) c.keep.result)
+    (kept_is (g.R.CallRequest.seen c.args.request.now) _ _ c.keep.ensures)
+    (caused_by (g.R.CallRequest.kind.reads (g.R.CallRequest.request c.args.request.now))
+    (seen_by (g.R.CallRequest.seen c.args.request.now) c.exchange-answer.result)
+    (g.R.CallRequest.kind.bytes_of (g.R.CallRequest.request c.args.request.now)
+    (option_map credential_of c.args.settings.now.authentication))
+    c.serialize.new.out.bytes c.as_slice-2.result.now c.args.settings.now.config.max_bytes
     c.in-Ok.ensures.ok c.as_slice-2.ensures c.exchange-answer.ensures.caused)
 
 pub returns-in-Err-clause-reading : goal.returns-in-Err-clause-reading
@@ -46,11 +69,23 @@ returns-in-Err-clause-reading g c = λ tells is. absurd (serialize_not_reading c
 
 pub returns-then-not-has_response-clause-reading : goal.returns-then-not-has_response-clause-reading
 returns-then-not-has_response-clause-reading g c = λ tells.
-    reading_of g.L.Link.state c.args.link.now c.exchange-answer.new.link (g.R.CallRequest.kind.reads (g.R.CallRequest.request c.args.request.now)) (seen_by (g.R.CallRequest.seen c.args.request.now) c.exchange-answer.result) (g.R.CallRequest.kind.bytes_of (g.R.CallRequest.request c.args.request.now) (option_map credential_of c.args.settings.now.authentication)) c.serialize.new.out.bytes c.as_slice-2.result.now c.args.settings.now.config.max_bytes _
+    reading_of g.L.Link.state c.args.link.now c.exchange-answer.new.link
+    (g.R.CallRequest.kind.reads (g.R.CallRequest.request c.args.request.now))
+    (seen_by (g.R.CallRequest.seen c.args.request.now) c.exchange-answer.result)
+    (g.R.CallRequest.kind.bytes_of (g.R.CallRequest.request c.args.request.now)
+    (option_map credential_of c.args.settings.now.authentication))
+    c.serialize.new.out.bytes c.as_slice-2.result.now c.args.settings.now.config.max_bytes _
     c.in-Ok.ensures.ok c.as_slice-2.ensures (c.exchange-answer.ensures.reading tells)
 
 pub returns-clause-reading : goal.returns-clause-reading
 returns-clause-reading g c = λ tells.
-    kept_reading (seen_by (g.R.CallRequest.seen c.args.request.now) c.exchange-answer.result) (seen_by (g.R.CallRequest.seen c.args.request.now) c.keep.result) (kept_is (g.R.CallRequest.seen c.args.request.now) _ _ c.keep.ensures)
-    (reading_of g.L.Link.state c.args.link.now c.exchange-answer.new.link (g.R.CallRequest.kind.reads (g.R.CallRequest.request c.args.request.now)) (seen_by (g.R.CallRequest.seen c.args.request.now) c.exchange-answer.result) (g.R.CallRequest.kind.bytes_of (g.R.CallRequest.request c.args.request.now) (option_map credential_of c.args.settings.now.authentication)) c.serialize.new.out.bytes c.as_slice-2.result.now c.args.settings.now.config.max_bytes _
+    kept_reading (seen_by (g.R.CallRequest.seen c.args.request.now) c.exchange-answer.result)
+    (seen_by (g.R.CallRequest.seen c.args.request.now) c.keep.result)
+    (kept_is (g.R.CallRequest.seen c.args.request.now) _ _ c.keep.ensures)
+    (reading_of g.L.Link.state c.args.link.now c.exchange-answer.new.link
+    (g.R.CallRequest.kind.reads (g.R.CallRequest.request c.args.request.now))
+    (seen_by (g.R.CallRequest.seen c.args.request.now) c.exchange-answer.result)
+    (g.R.CallRequest.kind.bytes_of (g.R.CallRequest.request c.args.request.now)
+    (option_map credential_of c.args.settings.now.authentication))
+    c.serialize.new.out.bytes c.as_slice-2.result.now c.args.settings.now.config.max_bytes _
     c.in-Ok.ensures.ok c.as_slice-2.ensures (c.exchange-answer.ensures.reading tells))

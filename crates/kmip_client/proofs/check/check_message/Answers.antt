@@ -9,8 +9,10 @@ use Rattle.kmip_client.proofs.check.check_message.Goals as goal
 
 pub returns-then-not-counts_one : goal.returns-then-not-counts_one
 returns-then-not-counts_one c =
-    let e : check_response c.args.operation (response_message_val c.args.message) ≡ Err (ServerError (count_text c.len-count.result)) =
-    ap (λ told. check_items c.args.operation told (vals batch_item_val c.args.message.batch_items)) (sym c.counts_one.ensures ∙ c.if-not-counts_one.true)
+    let e : check_response c.args.operation (response_message_val c.args.message)
+    ≡ Err (ServerError (count_text c.len-count.result)) =
+    ap (λ told. check_items c.args.operation told (vals batch_item_val c.args.message.batch_items))
+    (sym c.counts_one.ensures ∙ c.if-not-counts_one.true)
     ∙ not_told c.args.operation batch_item_val c.args.message.batch_items
     ∙ ap (λ n. Err (ServerError (count_text n))) (sym c.len-count.ensures) in
     let P : Answer → Type 0 = λ expected. Gives expected (answer_with_payload c.not_single.result) in
@@ -19,7 +21,8 @@ returns-then-not-counts_one c =
 pub returns-then-count-ne1 : goal.returns-then-count-ne1
 returns-then-count-ne1 c =
     let other : length c.args.message.batch_items ≡ 1 → ⊥ = λ one. c.if-count-ne1.true (c.len-count.ensures ∙ one) in
-    let e : check_response c.args.operation (response_message_val c.args.message) ≡ Err (ServerError (count_text c.len-count.result)) =
+    let e : check_response c.args.operation (response_message_val c.args.message)
+    ≡ Err (ServerError (count_text c.len-count.result)) =
     not_one c.args.operation _ batch_item_val c.args.message.batch_items other
     ∙ ap (λ n. Err (ServerError (count_text n))) (sym c.len-count.ensures) in
     let P : Answer → Type 0 = λ expected. Gives expected (answer_with_payload c.not_single-then-count-ne1.result) in

@@ -4,17 +4,27 @@ use Rattle.kmip_client.proofs.exchange.exchange.Goals as goal
 
 pub returns-in-Err-clause-exchange : goal.returns-in-Err-clause-exchange
 returns-in-Err-clause-exchange g c = λ tells.
-    send_stopped c.args.bytes.now (g.R.CallRequest.kind.reads (g.R.CallRequest.request c.args.request.now)) c.args.config.now.max_bytes _ c.in-Err.error (c.in-Err.ensures.part tells) c.in-Err.ensures.err
+    send_stopped c.args.bytes.now
+    (g.R.CallRequest.kind.reads (g.R.CallRequest.request c.args.request.now))
+    c.args.config.now.max_bytes _ c.in-Err.error
+    (c.in-Err.ensures.part tells) c.in-Err.ensures.err
 
 pub returns-clause-exchange : goal.returns-clause-exchange
 returns-clause-exchange g c = λ tells.
-    read_ended c.args.bytes.now (g.R.CallRequest.kind.reads (g.R.CallRequest.request c.args.request.now)) c.args.config.now.max_bytes c.read_message-read.new.taken.items c.read_message-read.result _
-    c.send.ensures.keeps (c.in-Ok.ensures.ok tells) (c.read_message-read.ensures.reads (rw c.send.ensures.keeps.tells tells)) c.read_message-read.ensures.fault
+    read_ended c.args.bytes.now (g.R.CallRequest.kind.reads
+    (g.R.CallRequest.request c.args.request.now))
+    c.args.config.now.max_bytes c.read_message-read.new.taken.items c.read_message-read.result _
+    c.send.ensures.keeps (c.in-Ok.ensures.ok tells)
+    (c.read_message-read.ensures.reads (rw c.send.ensures.keeps.tells tells))
+    c.read_message-read.ensures.fault
     (rw c.deref.ensures.value at c.answer.ensures)
 
 pub returns-clause-caused : goal.returns-clause-caused
 returns-clause-caused g c =
-    read_caused (g.L.Link.state c.args.link.now).faults (g.L.Link.state c.read_message-read.new.link).faults c.args.bytes.now (g.R.CallRequest.kind.reads (g.R.CallRequest.request c.args.request.now)) c.args.config.now.max_bytes c.read_message-read.new.taken.items c.read_message-read.result _
+    read_caused (g.L.Link.state c.args.link.now).faults
+    (g.L.Link.state c.read_message-read.new.link).faults c.args.bytes.now
+    (g.R.CallRequest.kind.reads (g.R.CallRequest.request c.args.request.now))
+    c.args.config.now.max_bytes c.read_message-read.new.taken.items c.read_message-read.result _
     c.read_message-read.ensures.read
     (λ is. omega (arith, c.send.ensures.keeps.faults, c.read_message-read.ensures.fault is))
     (rw c.deref.ensures.value at c.answer.ensures)
@@ -25,5 +35,7 @@ returns-in-Err-clause-reading g c = λ tells is. absurd (send_not_reading c.in-E
 pub returns-clause-reading : goal.returns-clause-reading
 returns-clause-reading g c = λ tells is.
     fails_reading g.L.Link.state c.args.link.now c.send.new.link c.read_message-read.new.link c.args.bytes.now (g.R.CallRequest.kind.reads (g.R.CallRequest.request c.args.request.now)) c.args.config.now.max_bytes c.read_message-read.new.taken.items c.read_message-read.result _
-    (c.readings_hold.ensures.never_fails (g.R.CallRequest.request c.args.request.now)) c.send.ensures.keeps (c.in-Ok.ensures.ok tells) c.read_message-read.ensures.keeps (c.read_message-read.ensures.reads (rw c.send.ensures.keeps.tells tells))
+    (c.readings_hold.ensures.never_fails (g.R.CallRequest.request c.args.request.now))
+    c.send.ensures.keeps (c.in-Ok.ensures.ok tells) c.read_message-read.ensures.keeps
+    (c.read_message-read.ensures.reads (rw c.send.ensures.keeps.tells tells))
     c.read_message-read.ensures.fault (rw c.deref.ensures.value at c.answer.ensures) is

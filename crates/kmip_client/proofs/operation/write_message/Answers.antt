@@ -6,9 +6,13 @@ use Rattle.kmip_client.proofs.operation.write_message.Goals as goal
 
 pub returns-in_default-contents_lens-clause-no_form : goal.returns-in_default-contents_lens-clause-no_form
 returns-in_default-contents_lens-clause-no_form c = λ is.
-    message_no_form (lent_header_val c.args.version.now c.args.authentication.now) (operation_line c.args.operation).number c.args.payload.now c.in-Some.header c.in-Some.ensures.form c.requires c.in-Some.ensures.size c.in_default-contents_lens.ensures
+    message_no_form (lent_header_val c.args.version.now c.args.authentication.now)
+    (operation_line c.args.operation).number c.args.payload.now c.in-Some.header c.in-Some.ensures.form c.requires c.in-Some.ensures.size c.in_default-contents_lens.ensures
 
 pub returns-clause-ok : goal.returns-clause-ok
 returns-clause-ok c =
-    message_ok (lent_header_val c.args.version.now c.args.authentication.now) (operation_line c.args.operation).number c.args.payload.now c.in-Some-contents_lens.lens.0 c.in-Some-contents_lens.lens.1 _ c.reset.new.self c.write_parts.new.out c.in-Some.ensures.form c.requires
-    (c.in-Some-contents_lens.ensures.0 ∙ ap (λ header. header + (8 + (16 + length c.args.payload.now))) c.in-Some.ensures.size) c.in-Some-contents_lens.ensures.2 c.in-Some-contents_lens.ensures.1 c.reset.ensures.bytes c.write_parts.ensures
+    message_ok (lent_header_val c.args.version.now c.args.authentication.now)
+    (operation_line c.args.operation).number c.args.payload.now c.in-Some-contents_lens.lens.0 c.in-Some-contents_lens.lens.1 _ c.reset.new.self c.write_parts.new.out c.in-Some.ensures.form c.requires
+    (c.in-Some-contents_lens.ensures.0
+    ∙ ap (λ header. header + (8 + (16 + length c.args.payload.now))) c.in-Some.ensures.size)
+    c.in-Some-contents_lens.ensures.2 c.in-Some-contents_lens.ensures.1 c.reset.ensures.bytes c.write_parts.ensures

@@ -9,5 +9,6 @@ invariant-loop-payload g l = record {
   next : (goal.iterator-loop-payload g).can_next l.payload-iterator;
   finite : (goal.iterator-loop-payload g).is_finite l.payload-iterator;
   counted : into_iter_len l.payload-iterator ≡ length (into_iter_items l.payload-iterator);
-  going : Going g.T.Link.state l.fn.payloads.items l.initial.client l.client (map (exchange_report g.P.AnyPayload.whole) l.exchanges) (into_iter_items l.payload-iterator);
+  going : Going g.T.Link.state l.fn.payloads.items l.initial.client l.client
+      (map (exchange_report g.P.AnyPayload.whole) l.exchanges) (into_iter_items l.payload-iterator);
 }

@@ -20,7 +20,8 @@ loop-done-preserved g c =
 pub returns-in_err-done-clause-part : goal.returns-in_err-done-clause-part
 returns-in_err-done-clause-part g c = λ tells.
     let i = c.loop-done.invariant in
-    takes_part_on c.min-room.result c.args.count (i.takes tells) (c.read_piece.ensures.part (rw i.keeps.tells tells)) (omega arith)
+    takes_part_on c.min-room.result c.args.count (i.takes tells)
+    (c.read_piece.ensures.part (rw i.keeps.tells tells)) (omega arith)
 
 pub returns-in_err-done-clause-kept : goal.returns-in_err-done-clause-kept
 returns-in_err-done-clause-kept g c = kept_on _ _ _ c.loop-done.invariant.kept c.read_piece.ensures.kept

@@ -10,8 +10,10 @@ invariant-loop-done g l = record {
   ahead : vec_capacity l.taken ≤ max (vec_capacity l.initial.taken) (vec_len l.taken + 65536);
   kept : take (length l.initial.taken.items) l.taken.items ≡ l.initial.taken.items;
   keeps : Keeps (g.L.Link.state l.initial.link) (g.L.Link.state l.link);
-  takes : IsTrue (g.L.Link.state l.initial.link).tells → Takes (g.L.Link.state l.initial.link) (g.L.Link.state l.link) l.done;
-  bytes : IsTrue (g.L.Link.state l.initial.link).tells → l.taken.items ≡ l.initial.taken.items ++ take l.done (left (g.L.Link.state l.initial.link));
+  takes : IsTrue (g.L.Link.state l.initial.link).tells
+      → Takes (g.L.Link.state l.initial.link) (g.L.Link.state l.link) l.done;
+  bytes : IsTrue (g.L.Link.state l.initial.link).tells
+      → l.taken.items ≡ l.initial.taken.items ++ take l.done (left (g.L.Link.state l.initial.link));
 }
 
 abbrev pub decreases-loop-done : goal.decreases-loop-done

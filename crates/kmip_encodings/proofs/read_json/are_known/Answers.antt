@@ -13,14 +13,19 @@ loop-member-preserved c =
     let same = c.deref-member-items.ensures.value in
     let m = c.member-item.result in
     let i = c.loop-member.member-index in
-    known_more c.args.members.now.items i m _ (below _ _ i same c.loop-member-test.true) (c.member-item.is ∙ ap (λ l. get_or l i m) same) (sym c.is_known.ensures ∙ c.if-not-is_known.false) c.loop-member.invariant
+    known_more c.args.members.now.items i m _ (below _ _ i same c.loop-member-test.true)
+    (c.member-item.is ∙ ap (λ l. get_or l i m) same)
+    (sym c.is_known.ensures ∙ c.if-not-is_known.false) c.loop-member.invariant
 
 pub returns-then-not-is_known : goal.returns-then-not-is_known
 returns-then-not-is_known c =
     let same = c.deref-member-items.ensures.value in
     let m = c.member-item.result in
     let i = c.loop-member.member-index in
-    sym (known_not c.args.members.now.items i m _ (below _ _ i same c.loop-member-test.true) (c.member-item.is ∙ ap (λ l. get_or l i m) same) (sym c.is_known.ensures ∙ c.if-not-is_known.true) c.loop-member.invariant)
+    sym (known_not c.args.members.now.items i m _ (below _ _ i same c.loop-member-test.true)
+    (c.member-item.is ∙ ap (λ l. get_or l i m) same)
+    (sym c.is_known.ensures ∙ c.if-not-is_known.true) c.loop-member.invariant)
 
 pub returns : goal.returns
-returns c = sym (known_done c.args.members.now.items c.loop-member.member-index _ (past _ _ c.loop-member.member-index c.deref-member-items.ensures.value c.loop-member-test.false) c.loop-member.invariant)
+returns c = sym (known_done c.args.members.now.items c.loop-member.member-index _
+    (past _ _ c.loop-member.member-index c.deref-member-items.ensures.value c.loop-member-test.false) c.loop-member.invariant)

@@ -5,4 +5,5 @@ use Rattle.kmip_encodings.proofs.read_json.from_json.Goals as goal
 
 pub returns-in-Ok : goal.returns-in-Ok
 unfolding tree_of
-returns-in-Ok c = text_read c.read_item.result c.args.text.now (value_view c.in-Ok.value) c.in-Ok.ensures.ok c.in-Ok.ensures.unique c.read_item.ensures
+returns-in-Ok c = text_read c.read_item.result c.args.text.now
+    (value_view c.in-Ok.value) c.in-Ok.ensures.ok c.in-Ok.ensures.unique c.read_item.ensures

@@ -7,10 +7,14 @@ use Rattle.kmip_encodings.proofs.Items.{scalar_is, scalar_none}
 use Rattle.kmip_encodings.proofs.read_json.read_scalar.Goals as goal
 
 pub returns-in-Some : goal.returns-in-Some
-returns-in-Some c = scalar_is c.args.tag c.args.kind _ _ (ap (option_map (tree_of_node c.args.tag)) (sym c.in-Some.is) ∙ c.in_ok-node.ensures c.args.tag)
+returns-in-Some c = scalar_is c.args.tag c.args.kind _ _
+    (ap (option_map (tree_of_node c.args.tag)) (sym c.in-Some.is) ∙ c.in_ok-node.ensures c.args.tag)
 
 pub returns-in-None : goal.returns-in-None
 returns-in-None c =
     subst (λ (r : Read Tree). FailsTree c.wants.result r)
-    (sym (scalar_none c.args.tag c.args.kind (scalar_in c.args.tag c.args.kind (value_view c.args.value.now)) (ap (option_map (tree_of_node c.args.tag)) (sym c.in-None.is) ∙ c.in_ok-node.ensures c.args.tag)))
+    (sym (scalar_none c.args.tag c.args.kind
+    (scalar_in c.args.tag c.args.kind (value_view c.args.value.now))
+    (ap (option_map (tree_of_node c.args.tag)) (sym c.in-None.is)
+    ∙ c.in_ok-node.ensures c.args.tag)))
     c.wants.ensures

@@ -14,7 +14,8 @@ unfolding tag_named
 loop-index-init c = ap (λ ws. named_from first_tag ws c.args.word.now) c.all_words-words.ensures.table
 
 pub loop-index-preserved : goal.loop-index-preserved
-loop-index-preserved c = named_more c.all_words-words.result.now first_tag c.loop-index.index _ c.args.word.now _ c.loop-index-test.true (sym c.is_word.ensures ∙ c.if-is_word.false) c.loop-index.invariant
+loop-index-preserved c =
+    named_more c.all_words-words.result.now first_tag c.loop-index.index _ c.args.word.now _ c.loop-index-test.true (sym c.is_word.ensures ∙ c.if-is_word.false) c.loop-index.invariant
 
 pub returns-then-is_word : goal.returns-then-is_word
 returns-then-is_word c =
@@ -22,4 +23,6 @@ returns-then-is_word c =
     ∙ named_here c.all_words-words.result.now first_tag c.loop-index.index _ c.args.word.now _ c.loop-index-test.true (sym c.is_word.ensures ∙ c.if-is_word.true) c.loop-index.invariant
 
 pub returns : goal.returns
-returns c = named_none c.all_words-words.result.now (first_tag + c.loop-index.index) c.loop-index.index c.args.word.now _ c.loop-index-test.false c.loop-index.invariant
+returns c = named_none c.all_words-words.result.now
+    (first_tag + c.loop-index.index)
+    c.loop-index.index c.args.word.now _ c.loop-index-test.false c.loop-index.invariant

@@ -3,10 +3,18 @@ use Rattle.kmip_encodings.proofs.Written.{items_more, item_smaller}
 use Rattle.kmip_encodings.proofs.write_json.+write.Goals as goal
 
 pub put_structure-put_tree-requires : goal.put_structure-put_tree-requires
-put_structure-put_tree-requires t c = (omega (arith, item_smaller c.args.items.now c.loop-item.item-index c.item-item.result c.loop-item-test.true c.item-item.is, c.decreases), tt)
+put_structure-put_tree-requires t c = (
+  omega (
+    arith,
+    item_smaller c.args.items.now c.loop-item.item-index c.item-item.result c.loop-item-test.true c.item-item.is,
+    c.decreases,
+  ),
+  tt,
+)
 
 pub put_structure-loop-item-preserved : goal.put_structure-loop-item-preserved
 put_structure-loop-item-preserved t c = record {
-  tokens = items_more c.args.items.now c.loop-item.item-index c.item-item.result _ _ _ c.loop-item-test.true c.item-item.is c.in_ok-put_tree.ensures.tokens c.loop-item.invariant.tokens;
+  tokens =
+      items_more c.args.items.now c.loop-item.item-index c.item-item.result _ _ _ c.loop-item-test.true c.item-item.is c.in_ok-put_tree.ensures.tokens c.loop-item.invariant.tokens;
   before = c.put_tree.ensures.before ∙ c.loop-item.invariant.before;
 }

@@ -12,9 +12,12 @@ returns-in-Err-SerializeError c =
     let client = c.client_of-client.result in
     let fresh : IsFresh client.link = (search rules, search rules, search rules) in
     let is : c.do_operation.result ≡ Err (SerializeError c.in-Err-SerializeError.field-0-0) = search rules in
-    none_sent (operation_bytes (request_of c.args.call.now) client.credential) (untyped_answer c.args.call.now.operation) client.limit client.link c.do_operation.new.self.link
+    none_sent (operation_bytes (request_of c.args.call.now) client.credential)
+    (untyped_answer c.args.call.now.operation)
+    client.limit client.link c.do_operation.new.self.link
     c.do_operation.result c.in-Err-SerializeError.field-0-0 fresh (c.do_operation.ensures.exchange refl) is
-    ∙ ap (λ (s : Settings). operation_bytes (request_of c.args.call.now) s.credential) c.client_of-client.ensures.settings
+    ∙ ap (λ (s : Settings). operation_bytes (request_of c.args.call.now) s.credential)
+    c.client_of-client.ensures.settings
 
 pub returns : goal.returns
 returns c =
@@ -23,8 +26,13 @@ returns c =
     let request : TreeRequest = request_of c.args.call.now in
     let fresh : IsFresh client.link = (search rules, search rules, search rules) in
     let sent : Some c.in_ok-sent_by-in_default.field-0.items ≡ Some after.sent = search rules in
-    let memory : c.do_operation.result ≢ Err OutOfMemory = elim c.in_default.branch [ goal.in_default-via-in-Err+in_default w ↦ search rules | goal.in_default-via-in_default w ↦ search rules ] in
-    let valid : (text : List ℕ) → c.do_operation.result ≢ Err (SerializeError text) = elim c.in_default.branch [ goal.in_default-via-in-Err+in_default w ↦ search rules | goal.in_default-via-in_default w ↦ search rules ] in
+    let memory : c.do_operation.result ≢ Err OutOfMemory =
+    elim c.in_default.branch [ goal.in_default-via-in-Err+in_default w ↦ search rules | goal.in_default-via-in_default w ↦ search rules ] in
+    let valid : (text : List ℕ) → c.do_operation.result ≢ Err (SerializeError text) =
+    elim c.in_default.branch [ goal.in_default-via-in-Err+in_default w ↦ search rules | goal.in_default-via-in_default w ↦ search rules ] in
     sent
-    ∙ sent_whole (operation_bytes request client.credential) (untyped_answer request.operation) client.limit client.link after c.do_operation.result fresh (c.do_operation.ensures.exchange refl) memory valid
+    ∙ sent_whole (operation_bytes request client.credential)
+    (untyped_answer request.operation)
+    client.limit client.link after c.do_operation.result fresh
+    (c.do_operation.ensures.exchange refl) memory valid
     ∙ ap (λ (s : Settings). operation_bytes request s.credential) c.client_of-client.ensures.settings

@@ -12,4 +12,6 @@ abbrev whole : ProtocolVersionMajor × ProtocolVersionMinor → ProtocolVersion
 whole t = record { 0 = t.0; 1 = t.1 }
 
 pub returns : goal.returns
-returns c = by_fields fields whole (λ x. refl) (and_field (exact c.field_equality.ensures.protocol_version_major) (exact c.field_equality.ensures.protocol_version_minor))
+returns c = by_fields fields whole (λ x. refl)
+    (and_field (exact c.field_equality.ensures.protocol_version_major)
+    (exact c.field_equality.ensures.protocol_version_minor))

@@ -17,7 +17,9 @@ abbrev name_whole : NameValue × NameType → Name
 name_whole t = record { 0 = t.0; 1 = t.1 }
 
 pub returns-clause-name : goal.returns-clause-name
-returns-clause-name c = by_fields name_fields name_whole (λ x. refl) (and_field (exact c.field_equality.ensures.name_value) (exact c.code_equality.ensures.name_type))
+returns-clause-name c = by_fields name_fields name_whole (λ x. refl)
+    (and_field (exact c.field_equality.ensures.name_value)
+    (exact c.code_equality.ensures.name_type))
 
 abbrev attribute_fields : Attribute → AttributeName × (Option AttributeIndex × AttributeValue)
 attribute_fields x = (x.0, (x.1, x.2))
@@ -26,4 +28,7 @@ abbrev attribute_whole : AttributeName × (Option AttributeIndex × AttributeVal
 attribute_whole t = record { 0 = t.0; 1 = (t.1).0; 2 = (t.1).1 }
 
 pub returns-clause-attribute : goal.returns-clause-attribute
-returns-clause-attribute c = by_fields attribute_fields attribute_whole (λ x. refl) (and_field (exact c.field_equality.ensures.attribute_name) (and_field (an_option (exact c.field_equality.ensures.attribute_index)) (exact same_value-Decides)))
+returns-clause-attribute c = by_fields attribute_fields attribute_whole (λ x. refl)
+    (and_field (exact c.field_equality.ensures.attribute_name)
+    (and_field (an_option (exact c.field_equality.ensures.attribute_index))
+    (exact same_value-Decides)))

@@ -25,7 +25,10 @@ abbrev template_attribute_whole : Option (List Name) × Option (List Attribute) 
 template_attribute_whole t = record { 0 = t.0; 1 = t.1 }
 
 pub returns-clause-template_attribute : goal.returns-clause-template_attribute
-returns-clause-template_attribute c = by_fields template_attribute_fields template_attribute_whole (λ x. refl) (and_field (an_option (a_list (exact c.attribute_equality.ensures.name))) (an_option (a_list (exact c.attribute_equality.ensures.attribute))))
+returns-clause-template_attribute c =
+    by_fields template_attribute_fields template_attribute_whole (λ x. refl)
+    (and_field (an_option (a_list (exact c.attribute_equality.ensures.name)))
+    (an_option (a_list (exact c.attribute_equality.ensures.attribute))))
 
 abbrev common_template_attribute_fields : CommonTemplateAttribute → Option (List Name) × Option (List Attribute)
 common_template_attribute_fields x = (x.0, x.1)
@@ -34,16 +37,23 @@ abbrev common_template_attribute_whole : Option (List Name) × Option (List Attr
 common_template_attribute_whole t = record { 0 = t.0; 1 = t.1 }
 
 pub returns-clause-common_template_attribute : goal.returns-clause-common_template_attribute
-returns-clause-common_template_attribute c = by_fields common_template_attribute_fields common_template_attribute_whole (λ x. refl) (and_field (an_option (a_list (exact c.attribute_equality.ensures.name))) (an_option (a_list (exact c.attribute_equality.ensures.attribute))))
+returns-clause-common_template_attribute c =
+    by_fields common_template_attribute_fields common_template_attribute_whole (λ x. refl)
+    (and_field (an_option (a_list (exact c.attribute_equality.ensures.name)))
+    (an_option (a_list (exact c.attribute_equality.ensures.attribute))))
 
-abbrev private_key_template_attribute_fields : PrivateKeyTemplateAttribute → Option (List Name) × Option (List Attribute)
+abbrev private_key_template_attribute_fields : PrivateKeyTemplateAttribute → Option (List Name)
+    × Option (List Attribute)
 private_key_template_attribute_fields x = (x.0, x.1)
 
 abbrev private_key_template_attribute_whole : Option (List Name) × Option (List Attribute) → PrivateKeyTemplateAttribute
 private_key_template_attribute_whole t = record { 0 = t.0; 1 = t.1 }
 
 pub returns-clause-private_key_template_attribute : goal.returns-clause-private_key_template_attribute
-returns-clause-private_key_template_attribute c = by_fields private_key_template_attribute_fields private_key_template_attribute_whole (λ x. refl) (and_field (an_option (a_list (exact c.attribute_equality.ensures.name))) (an_option (a_list (exact c.attribute_equality.ensures.attribute))))
+returns-clause-private_key_template_attribute c =
+    by_fields private_key_template_attribute_fields private_key_template_attribute_whole (λ x. refl)
+    (and_field (an_option (a_list (exact c.attribute_equality.ensures.name)))
+    (an_option (a_list (exact c.attribute_equality.ensures.attribute))))
 
 abbrev public_key_template_attribute_fields : PublicKeyTemplateAttribute → Option (List Name) × Option (List Attribute)
 public_key_template_attribute_fields x = (x.0, x.1)
@@ -52,7 +62,10 @@ abbrev public_key_template_attribute_whole : Option (List Name) × Option (List 
 public_key_template_attribute_whole t = record { 0 = t.0; 1 = t.1 }
 
 pub returns-clause-public_key_template_attribute : goal.returns-clause-public_key_template_attribute
-returns-clause-public_key_template_attribute c = by_fields public_key_template_attribute_fields public_key_template_attribute_whole (λ x. refl) (and_field (an_option (a_list (exact c.attribute_equality.ensures.name))) (an_option (a_list (exact c.attribute_equality.ensures.attribute))))
+returns-clause-public_key_template_attribute c =
+    by_fields public_key_template_attribute_fields public_key_template_attribute_whole (λ x. refl)
+    (and_field (an_option (a_list (exact c.attribute_equality.ensures.name)))
+    (an_option (a_list (exact c.attribute_equality.ensures.attribute))))
 
 pub returns-clause-key_wrapping_specification : goal.returns-clause-key_wrapping_specification
 returns-clause-key_wrapping_specification c = c.wrapping_equality.ensures.key_wrapping_specification
@@ -64,7 +77,10 @@ abbrev revocation_reason_whole : RevocationReasonCode × Option RevocationMessag
 revocation_reason_whole t = record { 0 = t.0; 1 = t.1 }
 
 pub returns-clause-revocation_reason : goal.returns-clause-revocation_reason
-returns-clause-revocation_reason c = by_fields revocation_reason_fields revocation_reason_whole (λ x. refl) (and_field (exact c.code_equality.ensures.revocation_reason_code) (an_option (exact c.field_equality.ensures.revocation_message)))
+returns-clause-revocation_reason c =
+    by_fields revocation_reason_fields revocation_reason_whole (λ x. refl)
+    (and_field (exact c.code_equality.ensures.revocation_reason_code)
+    (an_option (exact c.field_equality.ensures.revocation_message)))
 
 pub returns-clause-cryptographic_parameters : goal.returns-clause-cryptographic_parameters
 returns-clause-cryptographic_parameters c = c.parameters_equality.ensures
@@ -73,8 +89,11 @@ pub returns-clause-managed_object : goal.returns-clause-managed_object
 returns-clause-managed_object c = by_cases go laws-law
   where
     go : (x y : ManagedObject) → partial.ghosts.eq x y ≡ true → x ≡ y
-    go (objects.SymmetricKey x) (objects.SymmetricKey y) h = ap objects.SymmetricKey ((c.object_equality.ensures.symmetric_key x y).0 h)
-    go (objects.PublicKey x) (objects.PublicKey y) h = ap objects.PublicKey ((c.object_equality.ensures.public_key x y).0 h)
-    go (objects.PrivateKey x) (objects.PrivateKey y) h = ap objects.PrivateKey ((c.object_equality.ensures.private_key x y).0 h)
+    go (objects.SymmetricKey x) (objects.SymmetricKey y) h =
+        ap objects.SymmetricKey ((c.object_equality.ensures.symmetric_key x y).0 h)
+    go (objects.PublicKey x) (objects.PublicKey y) h =
+        ap objects.PublicKey ((c.object_equality.ensures.public_key x y).0 h)
+    go (objects.PrivateKey x) (objects.PrivateKey y) h =
+        ap objects.PrivateKey ((c.object_equality.ensures.private_key x y).0 h)
     go (objects.Template x) (objects.Template y) h = ap objects.Template ((c.object_equality.ensures.template x y).0 h)
     go _ _ h = cc

@@ -13,13 +13,21 @@ abbrev encryption_key_information_whole : UniqueIdentifier × Option Cryptograph
 encryption_key_information_whole t = record { 0 = t.0; 1 = t.1 }
 
 pub returns-clause-encryption_key_information : goal.returns-clause-encryption_key_information
-returns-clause-encryption_key_information c = by_fields encryption_key_information_fields encryption_key_information_whole (λ x. refl) (and_field (exact c.field_equality.ensures.unique_identifier) (an_option (exact c.parameters_equality.ensures)))
+returns-clause-encryption_key_information c =
+    by_fields encryption_key_information_fields encryption_key_information_whole (λ x. refl)
+    (and_field (exact c.field_equality.ensures.unique_identifier)
+    (an_option (exact c.parameters_equality.ensures)))
 
-abbrev mac_or_signature_key_information_fields : MACOrSignatureKeyInformation → UniqueIdentifier × Option CryptographicParameters
+abbrev mac_or_signature_key_information_fields : MACOrSignatureKeyInformation → UniqueIdentifier
+    × Option CryptographicParameters
 mac_or_signature_key_information_fields x = (x.0, x.1)
 
-abbrev mac_or_signature_key_information_whole : UniqueIdentifier × Option CryptographicParameters → MACOrSignatureKeyInformation
+abbrev mac_or_signature_key_information_whole : UniqueIdentifier × Option CryptographicParameters
+    → MACOrSignatureKeyInformation
 mac_or_signature_key_information_whole t = record { 0 = t.0; 1 = t.1 }
 
 pub returns-clause-mac_or_signature_key_information : goal.returns-clause-mac_or_signature_key_information
-returns-clause-mac_or_signature_key_information c = by_fields mac_or_signature_key_information_fields mac_or_signature_key_information_whole (λ x. refl) (and_field (exact c.field_equality.ensures.unique_identifier) (an_option (exact c.parameters_equality.ensures)))
+returns-clause-mac_or_signature_key_information c =
+    by_fields mac_or_signature_key_information_fields mac_or_signature_key_information_whole
+    (λ x. refl) (and_field (exact c.field_equality.ensures.unique_identifier)
+    (an_option (exact c.parameters_equality.ensures)))

@@ -12,4 +12,6 @@ abbrev key_value_whole : KeyMaterial × Option (List Attribute) → KeyValue
 key_value_whole t = record { 0 = t.0; 1 = t.1 }
 
 pub returns : goal.returns
-returns c = by_fields key_value_fields key_value_whole (λ x. refl) (and_field (exact c.key_material_equality.ensures) (an_option (a_list (exact c.attribute_equality.ensures.attribute))))
+returns c = by_fields key_value_fields key_value_whole (λ x. refl)
+    (and_field (exact c.key_material_equality.ensures)
+    (an_option (a_list (exact c.attribute_equality.ensures.attribute))))

@@ -15,7 +15,8 @@ abbrev symmetric_key_whole : KeyBlock → SymmetricKey
 symmetric_key_whole t = record { 0 = t }
 
 pub returns-clause-symmetric_key : goal.returns-clause-symmetric_key
-returns-clause-symmetric_key c = by_fields symmetric_key_fields symmetric_key_whole (λ x. refl) (exact c.key_block_equality.ensures)
+returns-clause-symmetric_key c = by_fields symmetric_key_fields symmetric_key_whole (λ x. refl)
+    (exact c.key_block_equality.ensures)
 
 abbrev public_key_fields : PublicKey → KeyBlock
 public_key_fields x = x.0
@@ -24,7 +25,8 @@ abbrev public_key_whole : KeyBlock → PublicKey
 public_key_whole t = record { 0 = t }
 
 pub returns-clause-public_key : goal.returns-clause-public_key
-returns-clause-public_key c = by_fields public_key_fields public_key_whole (λ x. refl) (exact c.key_block_equality.ensures)
+returns-clause-public_key c = by_fields public_key_fields public_key_whole (λ x. refl)
+    (exact c.key_block_equality.ensures)
 
 abbrev private_key_fields : PrivateKey → KeyBlock
 private_key_fields x = x.0
@@ -33,7 +35,8 @@ abbrev private_key_whole : KeyBlock → PrivateKey
 private_key_whole t = record { 0 = t }
 
 pub returns-clause-private_key : goal.returns-clause-private_key
-returns-clause-private_key c = by_fields private_key_fields private_key_whole (λ x. refl) (exact c.key_block_equality.ensures)
+returns-clause-private_key c = by_fields private_key_fields private_key_whole (λ x. refl)
+    (exact c.key_block_equality.ensures)
 
 abbrev template_fields : Template → List Attribute
 template_fields x = x.0
@@ -42,4 +45,5 @@ abbrev template_whole : List Attribute → Template
 template_whole t = record { 0 = t }
 
 pub returns-clause-template : goal.returns-clause-template
-returns-clause-template c = by_fields template_fields template_whole (λ x. refl) (a_list (exact c.attribute_equality.ensures.attribute))
+returns-clause-template c = by_fields template_fields template_whole (λ x. refl)
+    (a_list (exact c.attribute_equality.ensures.attribute))

@@ -16,7 +16,10 @@ abbrev transparent_dsa_private_key_whole : List ℕ × (List ℕ × (List ℕ ×
 transparent_dsa_private_key_whole t = record { p = t.0; q = (t.1).0; g = ((t.1).1).0; x = ((t.1).1).1 }
 
 pub returns-clause-transparent_dsa_private_key : goal.returns-clause-transparent_dsa_private_key
-returns-clause-transparent_dsa_private_key c = let bytes = exact bytes_eq-Decides in by_fields transparent_dsa_private_key_fields transparent_dsa_private_key_whole (λ x. refl) (and_field bytes (and_field bytes (and_field bytes bytes)))
+returns-clause-transparent_dsa_private_key c =
+    let bytes = exact bytes_eq-Decides in
+    by_fields transparent_dsa_private_key_fields transparent_dsa_private_key_whole (λ x. refl)
+    (and_field bytes (and_field bytes (and_field bytes bytes)))
 
 abbrev transparent_dsa_public_key_fields : TransparentDSAPublicKey → List ℕ × (List ℕ × (List ℕ × List ℕ))
 transparent_dsa_public_key_fields x = (x.p, (x.q, (x.g, x.y)))
@@ -25,16 +28,62 @@ abbrev transparent_dsa_public_key_whole : List ℕ × (List ℕ × (List ℕ × 
 transparent_dsa_public_key_whole t = record { p = t.0; q = (t.1).0; g = ((t.1).1).0; y = ((t.1).1).1 }
 
 pub returns-clause-transparent_dsa_public_key : goal.returns-clause-transparent_dsa_public_key
-returns-clause-transparent_dsa_public_key c = let bytes = exact bytes_eq-Decides in by_fields transparent_dsa_public_key_fields transparent_dsa_public_key_whole (λ x. refl) (and_field bytes (and_field bytes (and_field bytes bytes)))
+returns-clause-transparent_dsa_public_key c =
+    let bytes = exact bytes_eq-Decides in
+    by_fields transparent_dsa_public_key_fields transparent_dsa_public_key_whole (λ x. refl)
+    (and_field bytes (and_field bytes (and_field bytes bytes)))
 
-abbrev transparent_rsa_private_key_fields : TransparentRSAPrivateKey → List ℕ × (Option (List ℕ) × (Option (List ℕ) × (Option (List ℕ) × (Option (List ℕ) × (Option (List ℕ) × (Option (List ℕ) × Option (List ℕ)))))))
-transparent_rsa_private_key_fields x = (x.modulus, (x.private_exponent, (x.public_exponent, (x.p, (x.q, (x.prime_exponent_p, (x.prime_exponent_q, x.crt_coefficient)))))))
+abbrev transparent_rsa_private_key_fields : TransparentRSAPrivateKey → List ℕ
+    × (Option (List ℕ) × (Option (List ℕ)
+    × (Option (List ℕ) × (Option (List ℕ)
+    × (Option (List ℕ) × (Option (List ℕ) × Option (List ℕ)))))))
+transparent_rsa_private_key_fields x = (
+  x.modulus,
+  (
+    x.private_exponent,
+    (
+      x.public_exponent,
+      (
+        x.p,
+        (
+          x.q,
+          (
+            x.prime_exponent_p,
+            (x.prime_exponent_q, x.crt_coefficient),
+          ),
+        ),
+      ),
+    ),
+  ),
+)
 
-abbrev transparent_rsa_private_key_whole : List ℕ × (Option (List ℕ) × (Option (List ℕ) × (Option (List ℕ) × (Option (List ℕ) × (Option (List ℕ) × (Option (List ℕ) × Option (List ℕ))))))) → TransparentRSAPrivateKey
-transparent_rsa_private_key_whole t = record { modulus = t.0; private_exponent = (t.1).0; public_exponent = ((t.1).1).0; p = (((t.1).1).1).0; q = ((((t.1).1).1).1).0; prime_exponent_p = (((((t.1).1).1).1).1).0; prime_exponent_q = ((((((t.1).1).1).1).1).1).0; crt_coefficient = ((((((t.1).1).1).1).1).1).1 }
+abbrev transparent_rsa_private_key_whole : List ℕ
+    × (Option (List ℕ) × (Option (List ℕ)
+    × (Option (List ℕ) × (Option (List ℕ)
+    × (Option (List ℕ) × (Option (List ℕ) × Option (List ℕ))))))) → TransparentRSAPrivateKey
+transparent_rsa_private_key_whole t =
+    record {
+      modulus = t.0;
+      private_exponent = (t.1).0;
+      public_exponent = ((t.1).1).0;
+      p =
+          (((t.1).1).1).0;
+      q = ((((t.1).1).1).1).0;
+      prime_exponent_p =
+          (((((t.1).1).1).1).1).0;
+      prime_exponent_q = ((((((t.1).1).1).1).1).1).0;
+      crt_coefficient =
+          ((((((t.1).1).1).1).1).1).1;
+    }
 
 pub returns-clause-transparent_rsa_private_key : goal.returns-clause-transparent_rsa_private_key
-returns-clause-transparent_rsa_private_key c = let bytes = exact bytes_eq-Decides in by_fields transparent_rsa_private_key_fields transparent_rsa_private_key_whole (λ x. refl) (and_field bytes (and_field (an_option bytes) (and_field (an_option bytes) (and_field (an_option bytes) (and_field (an_option bytes) (and_field (an_option bytes) (and_field (an_option bytes) (an_option bytes))))))))
+returns-clause-transparent_rsa_private_key c =
+    let bytes = exact bytes_eq-Decides in
+    by_fields transparent_rsa_private_key_fields transparent_rsa_private_key_whole (λ x. refl)
+    (and_field bytes (and_field (an_option bytes)
+    (and_field (an_option bytes) (and_field (an_option bytes)
+    (and_field (an_option bytes) (and_field (an_option bytes)
+    (and_field (an_option bytes) (an_option bytes))))))))
 
 abbrev transparent_rsa_public_key_fields : TransparentRSAPublicKey → List ℕ × List ℕ
 transparent_rsa_public_key_fields x = (x.modulus, x.public_exponent)
@@ -43,22 +92,39 @@ abbrev transparent_rsa_public_key_whole : List ℕ × List ℕ → TransparentRS
 transparent_rsa_public_key_whole t = record { modulus = t.0; public_exponent = t.1 }
 
 pub returns-clause-transparent_rsa_public_key : goal.returns-clause-transparent_rsa_public_key
-returns-clause-transparent_rsa_public_key c = let bytes = exact bytes_eq-Decides in by_fields transparent_rsa_public_key_fields transparent_rsa_public_key_whole (λ x. refl) (and_field bytes bytes)
+returns-clause-transparent_rsa_public_key c =
+    let bytes = exact bytes_eq-Decides in
+    by_fields transparent_rsa_public_key_fields transparent_rsa_public_key_whole (λ x. refl)
+    (and_field bytes bytes)
 
-abbrev transparent_dh_private_key_fields : TransparentDHPrivateKey → List ℕ × (Option (List ℕ) × (List ℕ × (Option (List ℕ) × List ℕ)))
+abbrev transparent_dh_private_key_fields : TransparentDHPrivateKey → List ℕ
+    × (Option (List ℕ) × (List ℕ × (Option (List ℕ) × List ℕ)))
 transparent_dh_private_key_fields x = (x.p, (x.q, (x.g, (x.j, x.x))))
 
-abbrev transparent_dh_private_key_whole : List ℕ × (Option (List ℕ) × (List ℕ × (Option (List ℕ) × List ℕ))) → TransparentDHPrivateKey
-transparent_dh_private_key_whole t = record { p = t.0; q = (t.1).0; g = ((t.1).1).0; j = (((t.1).1).1).0; x = (((t.1).1).1).1 }
+abbrev transparent_dh_private_key_whole : List ℕ
+    × (Option (List ℕ) × (List ℕ × (Option (List ℕ) × List ℕ))) → TransparentDHPrivateKey
+transparent_dh_private_key_whole t =
+    record { p = t.0; q = (t.1).0; g = ((t.1).1).0; j = (((t.1).1).1).0; x = (((t.1).1).1).1 }
 
 pub returns-clause-transparent_dh_private_key : goal.returns-clause-transparent_dh_private_key
-returns-clause-transparent_dh_private_key c = let bytes = exact bytes_eq-Decides in by_fields transparent_dh_private_key_fields transparent_dh_private_key_whole (λ x. refl) (and_field bytes (and_field (an_option bytes) (and_field bytes (and_field (an_option bytes) bytes))))
+returns-clause-transparent_dh_private_key c =
+    let bytes = exact bytes_eq-Decides in
+    by_fields transparent_dh_private_key_fields transparent_dh_private_key_whole (λ x. refl)
+    (and_field bytes (and_field (an_option bytes)
+    (and_field bytes (and_field (an_option bytes) bytes))))
 
-abbrev transparent_dh_public_key_fields : TransparentDHPublicKey → List ℕ × (Option (List ℕ) × (List ℕ × (Option (List ℕ) × List ℕ)))
+abbrev transparent_dh_public_key_fields : TransparentDHPublicKey → List ℕ
+    × (Option (List ℕ) × (List ℕ × (Option (List ℕ) × List ℕ)))
 transparent_dh_public_key_fields x = (x.p, (x.q, (x.g, (x.j, x.y))))
 
-abbrev transparent_dh_public_key_whole : List ℕ × (Option (List ℕ) × (List ℕ × (Option (List ℕ) × List ℕ))) → TransparentDHPublicKey
-transparent_dh_public_key_whole t = record { p = t.0; q = (t.1).0; g = ((t.1).1).0; j = (((t.1).1).1).0; y = (((t.1).1).1).1 }
+abbrev transparent_dh_public_key_whole : List ℕ
+    × (Option (List ℕ) × (List ℕ × (Option (List ℕ) × List ℕ))) → TransparentDHPublicKey
+transparent_dh_public_key_whole t =
+    record { p = t.0; q = (t.1).0; g = ((t.1).1).0; j = (((t.1).1).1).0; y = (((t.1).1).1).1 }
 
 pub returns-clause-transparent_dh_public_key : goal.returns-clause-transparent_dh_public_key
-returns-clause-transparent_dh_public_key c = let bytes = exact bytes_eq-Decides in by_fields transparent_dh_public_key_fields transparent_dh_public_key_whole (λ x. refl) (and_field bytes (and_field (an_option bytes) (and_field bytes (and_field (an_option bytes) bytes))))
+returns-clause-transparent_dh_public_key c =
+    let bytes = exact bytes_eq-Decides in
+    by_fields transparent_dh_public_key_fields transparent_dh_public_key_whole (λ x. refl)
+    (and_field bytes (and_field (an_option bytes)
+    (and_field bytes (and_field (an_option bytes) bytes))))

@@ -4,4 +4,5 @@ use Rattle.kmip_request_words.proofs.Gathered.{before_those}
 use Rattle.kmip_request_words.proofs.attributes.attributes_in.Given as goal
 
 abbrev pub invariant-loop-word : goal.invariant-loop-word
-invariant-loop-word l = before_those l.attributes (all_of attribute_in (drop l.word-index l.words)) ≡ all_of attribute_in l.words
+invariant-loop-word l = before_those l.attributes (all_of attribute_in (drop l.word-index l.words))
+    ≡ all_of attribute_in l.words

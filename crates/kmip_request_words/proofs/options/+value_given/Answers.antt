@@ -11,4 +11,5 @@ returns-in-Some t c =
 pub returns-in-None : goal.returns-in-None
 returns-in-None t c =
     c.value_given.ensures
-    ∙ (rw (rest_is 1 c.args.words.now) (value_later c.args.name.now c.first-item.result c.args.words.now c.in-len1-up.len_at_least c.first-item.is (rw c.as_str.ensures.bytes at c.in-None.ensures.cases)))
+    ∙ (rw (rest_is 1 c.args.words.now)
+    (value_later c.args.name.now c.first-item.result c.args.words.now c.in-len1-up.len_at_least c.first-item.is (rw c.as_str.ensures.bytes at c.in-None.ensures.cases)))

@@ -8,7 +8,8 @@ use Rattle.kmip_request_words.proofs.values.number_of.Goals as goal
 pub returns-in_default : goal.returns-in_default
 returns-in_default c =
     sym (number_none c.args.word.now (λ n small is.
-    c.in_default.not-Ok n (parse-decimal 32 n c.args.word.now c.parse.result small (omega arith) (sym is) c.parse.ensures.value.0)))
+    c.in_default.not-Ok n (parse-decimal 32 n c.args.word.now c.parse.result small (omega arith)
+    (sym is) c.parse.ensures.value.0)))
 
 pub returns-then-eq : goal.returns-then-eq
 returns-then-eq c =
@@ -21,7 +22,9 @@ returns-then-eq c =
 pub returns-else-eq : goal.returns-else-eq
 returns-else-eq c =
     sym (number_none c.args.word.now (λ n small is.
-    let found = parse-decimal 32 n c.args.word.now c.parse.result small (omega arith) (sym is) c.parse.ensures.value.0 in
+    let found = parse-decimal 32 n c.args.word.now c.parse.result small (omega arith)
+    (sym is) c.parse.ensures.value.0 in
     let here : c.in-Ok.number ≡ n = cc (found, c.in-Ok.is) in
-    let printed = (bytes_eq-Decides c.format.result.now c.args.word.now).1 (c.format.ensures.text ∙ ap decimal here ∙ is) in
+    let printed = (bytes_eq-Decides c.format.result.now c.args.word.now).1
+    (c.format.ensures.text ∙ ap decimal here ∙ is) in
     cc (c.if-eq.ensures, printed)))

@@ -8,7 +8,8 @@ pub loop-rest-preserved : goal.loop-rest-preserved
 loop-rest-preserved c =
     let front = c.loop-rest.bytes.items in
     rw c.in_ok-push.ensures.items
-    (sym (onto_push front c.in-Some.byte (unescape c.in-Some.after.now)) ∙ ap (onto front) (sym c.in-Some.ensures.next) ∙ c.loop-rest.invariant)
+    (sym (onto_push front c.in-Some.byte (unescape c.in-Some.after.now))
+    ∙ ap (onto front) (sym c.in-Some.ensures.next) ∙ c.loop-rest.invariant)
 
 pub returns : goal.returns
 returns c =

@@ -13,13 +13,15 @@ returns-in-Ok c =
     let some = rw (c.in-Some.is, c.as_bytes.ensures.value) at c.in_ok-bytes.ensures in
     let utf8 = rw c.deref.ensures.value at c.in-Ok.ensures.cases in
     rw (c.in_ok-of-in-Ok.ensures, utf8.0)
-    (sym (text_of_other c.args.word.now (sym c.if-eq.ensures) ∙ ap text_from (sym some) ∙ text_from_utf8 c.in-Some.bytes.items utf8.1))
+    (sym (text_of_other c.args.word.now (sym c.if-eq.ensures) ∙ ap text_from (sym some)
+    ∙ text_from_utf8 c.in-Some.bytes.items utf8.1))
 
 pub returns : goal.returns
 returns c =
     let some = rw (c.in-Some.is, c.as_bytes.ensures.value) at c.in_ok-bytes.ensures in
     let other = rw c.deref.ensures.value at c.in-Err.ensures.cases.0 in
-    sym (text_of_other c.args.word.now (sym c.if-eq.ensures) ∙ ap text_from (sym some) ∙ text_from_other c.in-Some.bytes.items other)
+    sym (text_of_other c.args.word.now (sym c.if-eq.ensures) ∙ ap text_from (sym some)
+    ∙ text_from_other c.in-Some.bytes.items other)
 
 pub returns-then-eq : goal.returns-then-eq
 returns-then-eq c = rw c.new.ensures (sym (text_of_none c.args.word.now (sym c.if-eq.ensures)))

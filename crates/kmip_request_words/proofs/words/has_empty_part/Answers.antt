@@ -6,5 +6,6 @@ use Rattle.kmip_request_words.proofs.words.has_empty_part.Goals as goal
 
 pub returns : goal.returns
 returns c =
-    any_from_yields_List (λ part. length part.now == 0) _ _ c.any.result c.any.ensures.ran (YieldsList-from_slice c.args.parts.now cc) (λ x b q k. search (rules, tests))
+    any_from_yields_List (λ part. length part.now == 0) _ _ c.any.result c.any.ensures.ran
+    (YieldsList-from_slice c.args.parts.now cc) (λ x b q k. search (rules, tests))
     ∙ list_any_map c.args.parts.now

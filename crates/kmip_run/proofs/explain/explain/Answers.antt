@@ -12,18 +12,23 @@ loop-rest-preserved c =
     record {
       counted = omega (arith, c.first_line.ensures.shorter);
       so_far = rw (c.in_ok-push_str.ensures, c.as_str.ensures.bytes)
-          (next_line c.loop-rest.rest.now c.first_line.result.0.now c.first_line.result.1.now (c.loop-rest.number + 1) c.in-Some.text c.first_line.ensures.lines is c.loop-rest.invariant.so_far);
+          (next_line c.loop-rest.rest.now c.first_line.result.0.now c.first_line.result.1.now
+          (c.loop-rest.number + 1)
+          c.in-Some.text c.first_line.ensures.lines is c.loop-rest.invariant.so_far);
     }
 
 pub returns-in_default-clause-status : goal.returns-in_default-clause-status
 returns-in_default-clause-status c =
     let is = rw c.in_default.is at c.in_ok-text.ensures in
-    sym (next_bad c.loop-rest.rest.now c.first_line.result.0.now c.first_line.result.1.now (c.loop-rest.number + 1) c.first_line.ensures.lines is c.loop-rest.invariant.so_far).status
+    sym (next_bad c.loop-rest.rest.now c.first_line.result.0.now c.first_line.result.1.now
+    (c.loop-rest.number + 1) c.first_line.ensures.lines is c.loop-rest.invariant.so_far).status
 
 pub returns-in_default-clause-text : goal.returns-in_default-clause-text
 returns-in_default-clause-text c =
     let is = rw c.in_default.is at c.in_ok-text.ensures in
-    c.in_ok-show_bad_line.ensures ∙ sym (next_bad c.loop-rest.rest.now c.first_line.result.0.now c.first_line.result.1.now (c.loop-rest.number + 1) c.first_line.ensures.lines is c.loop-rest.invariant.so_far).text
+    c.in_ok-show_bad_line.ensures ∙ sym
+    (next_bad c.loop-rest.rest.now c.first_line.result.0.now c.first_line.result.1.now
+    (c.loop-rest.number + 1) c.first_line.ensures.lines is c.loop-rest.invariant.so_far).text
 
 pub returns-clause-status : goal.returns-clause-status
 returns-clause-status c =

@@ -7,7 +7,8 @@ use Rattle.kmip_run.proofs.explain.explain.Given as goal
 abbrev pub invariant-loop-rest : goal.invariant-loop-rest
 invariant-loop-rest l = record {
   counted : l.number + length l.rest ≤ length l.script;
-  so_far : SoFar (explanations_from (lines_of l.script) 1) l.initial.output l.output (explanations_from (lines_of l.rest) (l.number + 1));
+  so_far : SoFar (explanations_from (lines_of l.script) 1) l.initial.output l.output
+      (explanations_from (lines_of l.rest) (l.number + 1));
 }
 
 abbrev pub decreases-loop-rest : goal.decreases-loop-rest

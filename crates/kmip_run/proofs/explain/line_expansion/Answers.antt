@@ -12,5 +12,6 @@ returns-in-Ok-expand c =
 
 pub returns-in-Err-NotADiagnostic : goal.returns-in-Err-NotADiagnostic
 returns-in-Err-NotADiagnostic c =
-    let is = rw (c.requires, c.in-Ok.ensures.cases.0) at (c.in-Err-NotADiagnostic.ensures c.in-Err-NotADiagnostic.field-0-is) in
+    let is = rw (c.requires, c.in-Ok.ensures.cases.0) at
+    (c.in-Err-NotADiagnostic.ensures c.in-Err-NotADiagnostic.field-0-is) in
     sym (expanded_utf8 c.args.line.now c.in-Ok.ensures.cases.1 ∙ is)

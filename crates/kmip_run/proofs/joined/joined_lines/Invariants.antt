@@ -13,7 +13,8 @@ invariant-loop-rest l = record {
   ready : IsJoined l.client.link;
   bound : l.status < 2;
   counted : l.number + length l.rest ≤ length l.script;
-  so_far : SoFar (joined (settings_of l.initial.client) (lines_of l.script) 1 0 (world_of l.initial.client.link)) l.initial.output l.output
+  so_far : SoFar (joined (settings_of l.initial.client) (lines_of l.script) 1 0
+      (world_of l.initial.client.link)) l.initial.output l.output
       (joined (settings_of l.initial.client) (lines_of l.rest) (l.number + 1) l.status (world_of l.client.link));
 }
 

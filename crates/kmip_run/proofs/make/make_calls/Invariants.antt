@@ -10,7 +10,8 @@ invariant-loop-done l = record {
   within : l.done ≤ l.count;
   answers : l.tally.ok + l.tally.errors ≡ l.done;
   bytes : l.tally.taken ≤ l.done * 2 ^ 64;
-  so_far : SoMade (counts_after (settings_of l.initial.client) l.count 1 (drop l.initial.client.link.pos l.initial.client.link.ever))
+  so_far : SoMade (counts_after (settings_of l.initial.client) l.count 1
+      (drop l.initial.client.link.pos l.initial.client.link.ever))
       l.initial.client.link l.client.link l.tally.ok l.tally.errors l.tally.taken
       (counts_after (settings_of l.initial.client) (l.count - l.done) l.x (drop l.client.link.pos l.client.link.ever));
 }

@@ -18,9 +18,14 @@ loop-rest-preserved c =
       settings = c.in_ok-failed.ensures.settings ∙ i.settings;
       bound = c.status_after-status.ensures.bound i.bound;
       counted = omega (arith, c.first_line.ensures.shorter);
-      so_far = next_call (settings_of c.args.client.now) c.in-Some.recorded c.loop-rest.rest.now c.first_line.result.0.now c.first_line.result.1.now
-          (c.loop-rest.number + 1) c.loop-rest.status c.status_after-status.result c.first_line.ensures.lines is c.status_after-status.ensures.value i.so_far
-          (under (settings_of c.loop-rest.client) (settings_of c.args.client.now) c.in-Some.recorded.call c.in-Some.recorded.response (drop c.loop-rest.client.link.pos c.loop-rest.client.link.ever ++ c.in-Some.recorded.response) i.settings c.in_ok-failed.ensures.runs);
+      so_far = next_call (settings_of c.args.client.now)
+          c.in-Some.recorded c.loop-rest.rest.now c.first_line.result.0.now c.first_line.result.1.now
+          (c.loop-rest.number + 1)
+          c.loop-rest.status c.status_after-status.result c.first_line.ensures.lines is c.status_after-status.ensures.value i.so_far
+          (under (settings_of c.loop-rest.client)
+          (settings_of c.args.client.now) c.in-Some.recorded.call c.in-Some.recorded.response
+          (drop c.loop-rest.client.link.pos c.loop-rest.client.link.ever
+          ++ c.in-Some.recorded.response) i.settings c.in_ok-failed.ensures.runs);
     }
 
 pub returns-in_default-clause-replays : goal.returns-in_default-clause-replays
@@ -33,4 +38,5 @@ returns-in_default-clause-replays c =
 pub returns-clause-replays : goal.returns-clause-replays
 returns-clause-replays c =
     let none : length c.loop-rest.rest.now ≡ 0 = grind (arith, nat_tests) in
-    no_more (settings_of c.args.client.now) c.loop-rest.rest.now (c.loop-rest.number + 1) c.loop-rest.status none c.loop-rest.invariant.so_far
+    no_more (settings_of c.args.client.now) c.loop-rest.rest.now
+    (c.loop-rest.number + 1) c.loop-rest.status none c.loop-rest.invariant.so_far

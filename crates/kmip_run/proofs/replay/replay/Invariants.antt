@@ -10,9 +10,11 @@ invariant-loop-rest l = record {
   settings : settings_of l.client ≡ settings_of l.initial.client;
   bound : l.status < 2;
   counted : l.number + length l.rest ≤ length l.script;
-  so_far : SoFar (replay_from (settings_of l.initial.client) (lines_of l.script) 1 0 (drop l.initial.client.link.pos l.initial.client.link.ever))
+  so_far : SoFar (replay_from (settings_of l.initial.client) (lines_of l.script) 1 0
+      (drop l.initial.client.link.pos l.initial.client.link.ever))
       l.initial.client.link l.client.link l.initial.output l.output
-      (replay_from (settings_of l.initial.client) (lines_of l.rest) (l.number + 1) l.status (drop l.client.link.pos l.client.link.ever));
+      (replay_from (settings_of l.initial.client) (lines_of l.rest) (l.number + 1) l.status
+      (drop l.client.link.pos l.client.link.ever));
 }
 
 abbrev pub decreases-loop-rest : goal.decreases-loop-rest

@@ -8,13 +8,16 @@ use Rattle.kmip_run.proofs.script.first_line.Goals as goal
 pub returns-in-Some-clause-lines : goal.returns-in-Some-clause-lines
 returns-in-Some-clause-lines c =
     let script = c.args.script.now in
-    let by_call = position_from_yields_List is_feed _ _ c.position.result c.position.ensures.ran (YieldsList-from_slice script cc) (λ x b q k. search (rules, tests)) in
-    let at = found (position_or_len is_feed script) (length script) c.in-Some.end c.position.result by_call c.in-Some.is in
+    let by_call = position_from_yields_List is_feed _ _ c.position.result c.position.ensures.ran
+    (YieldsList-from_slice script cc) (λ x b q k. search (rules, tests)) in
+    let at = found (position_or_len is_feed script)
+    (length script) c.in-Some.end c.position.result by_call c.in-Some.is in
     rw (at.1, rest_is (position_or_len is_feed script + 1) script) (lines_first script at.0)
 
 pub returns-in-None-clause-lines : goal.returns-in-None-clause-lines
 returns-in-None-clause-lines c =
     let script = c.args.script.now in
-    let by_call = position_from_yields_List is_feed _ _ c.position.result c.position.ensures.ran (YieldsList-from_slice script cc) (λ x b q k. search (rules, tests)) in
+    let by_call = position_from_yields_List is_feed _ _ c.position.result c.position.ensures.ran
+    (YieldsList-from_slice script cc) (λ x b q k. search (rules, tests)) in
     let past = not_found (position_or_len is_feed script) (length script) c.position.result by_call c.in-None.is in
     lines_one script c.requires past

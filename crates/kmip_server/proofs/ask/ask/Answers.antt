@@ -23,35 +23,40 @@ returns-in-RngRetrieve g c =
     let fits : SFits w32 c.in-RngRetrieve.num_bytes = search rules in
     let is : c.map-in-RngRetrieve.result ≡ part_of answered.Random c.rng_retrieve.result = search rules in
     rw (c.in-RngRetrieve.is, is)
-    (asked_at_once (Call.RngRetrieve c.in-RngRetrieve.num_bytes) payloads.RNGRetrieve answered.Random c.rng_retrieve.result (λ p. refl)
+    (asked_at_once (Call.RngRetrieve c.in-RngRetrieve.num_bytes)
+    payloads.RNGRetrieve answered.Random c.rng_retrieve.result (λ p. refl)
     (rw (to_z-of_z w32 c.in-RngRetrieve.num_bytes fits) at c.rng_retrieve.ensures))
 
 pub returns-in-Sign : goal.returns-in-Sign
 returns-in-Sign g c =
     let is : c.map-in-Sign.result ≡ part_of answered.Signed c.sign.result = search rules in
     rw (c.in-Sign.is, is)
-    (asked_of (Call.Sign c.in-Sign.id c.in-Sign.bytes) payloads.Sign (λ payload. payload) answered.Signed c.sign.result (λ p. refl)
+    (asked_of (Call.Sign c.in-Sign.id c.in-Sign.bytes) payloads.Sign
+    (λ payload. payload) answered.Signed c.sign.result (λ p. refl)
     (rw (c.as_str.ensures.bytes, c.as_slice.ensures) at c.sign.ensures))
 
 pub returns-in-ActivateKey : goal.returns-in-ActivateKey
 returns-in-ActivateKey g c =
     let is : c.map-in-ActivateKey.result ≡ part_of (λ _. answered.Unit) c.activate_key.result = search rules in
     rw (c.in-ActivateKey.is, is)
-    (asked_of (Call.ActivateKey c.in-ActivateKey.id) payloads.Activate nothing_of (λ _. answered.Unit) c.activate_key.result (λ p. refl)
+    (asked_of (Call.ActivateKey c.in-ActivateKey.id) payloads.Activate nothing_of
+    (λ _. answered.Unit) c.activate_key.result (λ p. refl)
     (rw c.as_str-in-ActivateKey.ensures.bytes at c.activate_key.ensures))
 
 pub returns-in-RevokeKey : goal.returns-in-RevokeKey
 returns-in-RevokeKey g c =
     let is : c.map-in-RevokeKey.result ≡ part_of (λ _. answered.Unit) c.revoke_key.result = search rules in
     rw (c.in-RevokeKey.is, is)
-    (asked_of (Call.RevokeKey c.in-RevokeKey.id) payloads.Revoke nothing_of (λ _. answered.Unit) c.revoke_key.result (λ p. refl)
+    (asked_of (Call.RevokeKey c.in-RevokeKey.id) payloads.Revoke nothing_of
+    (λ _. answered.Unit) c.revoke_key.result (λ p. refl)
     (rw c.as_str-in-RevokeKey.ensures.bytes at c.revoke_key.ensures))
 
 pub returns-in-DestroyKey : goal.returns-in-DestroyKey
 returns-in-DestroyKey g c =
     let is : c.map-in-DestroyKey.result ≡ part_of (λ _. answered.Unit) c.destroy_key.result = search rules in
     rw (c.in-DestroyKey.is, is)
-    (asked_of (Call.DestroyKey c.in-DestroyKey.id) payloads.Destroy nothing_of (λ _. answered.Unit) c.destroy_key.result (λ p. refl)
+    (asked_of (Call.DestroyKey c.in-DestroyKey.id) payloads.Destroy nothing_of
+    (λ _. answered.Unit) c.destroy_key.result (λ p. refl)
     (rw c.as_str-in-DestroyKey.ensures.bytes at c.destroy_key.ensures))
 
 pub returns-in-RenameKey : goal.returns-in-RenameKey

@@ -10,7 +10,16 @@ use Rattle.kmip_server.proofs.ask.create.Goals as goal
 pub returns : goal.returns
 returns g c =
     let fits : SFits w32 c.args.key_length = search rules in
-    let is : c.map.result ≡ part_of (λ identifiers. answered.Pair identifiers.0 identifiers.1) c.create_rsa_key_pair.result = search rules in
+    let is : c.map.result ≡ part_of (λ identifiers. answered.Pair identifiers.0 identifiers.1)
+    c.create_rsa_key_pair.result = search rules in
     rw is
-    (asked_of (Call.CreateRsaKeyPair c.args.key_length c.args.private_name.now c.args.public_name.now) payloads.CreateKeyPair identifiers_of (λ identifiers. answered.Pair identifiers.0 identifiers.1) c.create_rsa_key_pair.result (λ p. refl)
-    (rw (to_z-of_z w32 c.args.key_length fits, c.in_ok-private_name.ensures, c.in_ok-public_name.ensures) at c.create_rsa_key_pair.ensures))
+    (asked_of
+    (Call.CreateRsaKeyPair c.args.key_length c.args.private_name.now c.args.public_name.now)
+    payloads.CreateKeyPair identifiers_of
+    (λ identifiers. answered.Pair identifiers.0 identifiers.1) c.create_rsa_key_pair.result
+    (λ p. refl)
+    (rw (
+      to_z-of_z w32 c.args.key_length fits,
+      c.in_ok-private_name.ensures,
+      c.in_ok-public_name.ensures,
+    ) at c.create_rsa_key_pair.ensures))

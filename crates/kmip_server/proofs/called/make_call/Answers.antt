@@ -7,7 +7,10 @@ use Rattle.kmip_server.proofs.called.make_call.Goals as goal
 
 pub returns-clause-called : goal.returns-clause-called
 returns-clause-called g c =
-    called_so response_is_message (λ p k b h. let is = c.request_is_message.ensures p k b h in record { head = is.0; size = is.1 }) g.M.Maker.state c.args.client.now c.sent_len-from.new.client c.ask-answer.new.client c.check_link_after_call.new.client c.call_answer.new.client c.args.call.now
+    called_so response_is_message
+    (λ p k b h. let is = c.request_is_message.ensures p k b h in
+    record { head = is.0; size = is.1 })
+    g.M.Maker.state c.args.client.now c.sent_len-from.new.client c.ask-answer.new.client c.check_link_after_call.new.client c.call_answer.new.client c.args.call.now
     c.ask-answer.result c.sent_len-from.result c.in_ok-call_answer.field-0 c.loses_connection-lost.result c.lacks_memory.result
     c.in_ok-reads_back.ensures c.sent_len-from.ensures.stays c.ask-answer.ensures c.sent_len-from.ensures.sent c.lacks_memory.ensures c.if-lacks_memory.false c.sent_len-from.ensures.facts c.check_link_after_call.ensures.facts
     c.in_ok-check_link_after_call.ensures.after c.check_link_after_call.ensures.stays c.call_answer.ensures.stays c.loses_connection-lost.ensures c.in_ok-call_answer.ensures.report
@@ -66,8 +69,10 @@ returns-then-lacks_memory-clause-cut g c =
 
 pub returns-in_err-check_link_after_call-clause-cut : goal.returns-in_err-check_link_after_call-clause-cut
 returns-in_err-check_link_after_call-clause-cut g c =
-    on_err _ (lost_so g.M.Maker.state c.args.client.now c.sent_len-from.new.client c.ask-answer.new.client c.check_link_after_call.new.client c.args.call.now c.ask-answer.result c.sent_len-from.ensures.stays c.ask-answer.ensures c.check_link_after_call.ensures.stays)
+    on_err _
+    (lost_so g.M.Maker.state c.args.client.now c.sent_len-from.new.client c.ask-answer.new.client c.check_link_after_call.new.client c.args.call.now c.ask-answer.result c.sent_len-from.ensures.stays c.ask-answer.ensures c.check_link_after_call.ensures.stays)
 
 pub returns-in_err-call_answer-clause-cut : goal.returns-in_err-call_answer-clause-cut
 returns-in_err-call_answer-clause-cut g c =
-    on_err _ (lost_so g.M.Maker.state c.args.client.now c.sent_len-from.new.client c.ask-answer.new.client c.call_answer.new.client c.args.call.now c.ask-answer.result c.sent_len-from.ensures.stays c.ask-answer.ensures (c.call_answer.ensures.stays ∙ c.check_link_after_call.ensures.stays))
+    on_err _
+    (lost_so g.M.Maker.state c.args.client.now c.sent_len-from.new.client c.ask-answer.new.client c.call_answer.new.client c.args.call.now c.ask-answer.result c.sent_len-from.ensures.stays c.ask-answer.ensures (c.call_answer.ensures.stays ∙ c.check_link_after_call.ensures.stays))

@@ -6,7 +6,8 @@ pub returns-in-Query-clause-answers : goal.returns-in-Query-clause-answers
 returns-in-Query-clause-answers g c = rw c.in-Query.is (c.query.ensures (g.M.Maker.state c.args.maker.now))
 
 pub returns-in-ActivateKey-clause-answers : goal.returns-in-ActivateKey-clause-answers
-returns-in-ActivateKey-clause-answers g c = rw c.in-ActivateKey.is (c.activate.ensures (g.M.Maker.state c.args.maker.now))
+returns-in-ActivateKey-clause-answers g c =
+    rw c.in-ActivateKey.is (c.activate.ensures (g.M.Maker.state c.args.maker.now))
 
 pub returns-in-RevokeKey-clause-answers : goal.returns-in-RevokeKey-clause-answers
 returns-in-RevokeKey-clause-answers g c = rw c.in-RevokeKey.is (c.revoke.ensures (g.M.Maker.state c.args.maker.now))

@@ -6,4 +6,6 @@ use Rattle.kmip_server_core.proofs.Refused.{refusal_tells}
 use Rattle.kmip_server_core.proofs.items.activate_item.Goals as goal
 
 pub returns-in-Err : goal.returns-in-Err
-returns-in-Err c = refusal_tells (λ _. Done) (calls.ActivateKey c.args.id.now) operations.Activate c.args.answer c.in-Err.error c.refusal.result c.in-Err.is refl c.refusal.ensures
+returns-in-Err c = refusal_tells (λ _. Done)
+    (calls.ActivateKey c.args.id.now)
+    operations.Activate c.args.answer c.in-Err.error c.refusal.result c.in-Err.is refl c.refusal.ensures

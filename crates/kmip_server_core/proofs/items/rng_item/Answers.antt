@@ -6,4 +6,7 @@ use Rattle.kmip_server_core.proofs.Refused.{refusals_tell}
 use Rattle.kmip_server_core.proofs.items.rng_item.Goals as goal
 
 pub returns-in-Err : goal.returns-in-Err
-returns-in-Err c = refusals_tell Random (λ n. calls.RngRetrieve n) operations.RNGRetrieve c.args.answer c.in-Err.error c.refusal.result c.in-Err.is (λ a. refl) c.refusal.ensures
+returns-in-Err c = refusals_tell Random
+    (λ n. calls.RngRetrieve n)
+    operations.RNGRetrieve c.args.answer c.in-Err.error c.refusal.result c.in-Err.is
+    (λ a. refl) c.refusal.ensures

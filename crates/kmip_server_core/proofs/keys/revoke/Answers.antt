@@ -8,13 +8,25 @@ use Rattle.kmip_server_core.proofs.keys.revoke.Goals as goal
 
 pub returns-in-Ok : goal.returns-in-Ok
 returns-in-Ok c = λ maker.
-    let says : step_answer (λ _. Done) c.revokes.result ≡ Some (step c.args.store.now (calls.RevokeKey c.args.id.now) None).answer = (rw c.as_str.ensures.bytes at c.revokes.ensures) ∙ ap Some (revoke_told c.args.store.now c.args.id.now) in
-    subst (λ r. AnswersCall (calls.RevokeKey c.args.id.now) c.args.stamp.now.time c.args.store.now maker maker c.revoke_key.new.self r) (sym c.respond.ensures)
-    (changing_serves c.args.store.now c.revoke_key.new.self (calls.RevokeKey c.args.id.now) c.args.stamp.now.time maker c.revokes.result c.revoke_key.result c.in_ok-item.item c.in-Ok.response refl
+    let says : step_answer (λ _. Done) c.revokes.result
+    ≡ Some (step c.args.store.now (calls.RevokeKey c.args.id.now) None).answer =
+    (rw c.as_str.ensures.bytes at c.revokes.ensures)
+    ∙ ap Some (revoke_told c.args.store.now c.args.id.now) in
+    subst (λ r. AnswersCall (calls.RevokeKey c.args.id.now)
+    c.args.stamp.now.time c.args.store.now maker maker c.revoke_key.new.self r)
+    (sym c.respond.ensures)
+    (changing_serves c.args.store.now c.revoke_key.new.self
+    (calls.RevokeKey c.args.id.now)
+    c.args.stamp.now.time maker c.revokes.result c.revoke_key.result c.in_ok-item.item c.in-Ok.response refl
     says c.in_ok-item.ensures c.in-Ok.ensures (rw c.as_str-in-Ok.ensures.bytes at c.revoke_key.ensures.step))
 
 pub returns-in-Err : goal.returns-in-Err
 returns-in-Err c = λ maker.
-    let says : step_answer (λ _. Done) c.revokes.result ≡ Some (step c.args.store.now (calls.RevokeKey c.args.id.now) None).answer = (rw c.as_str.ensures.bytes at c.revokes.ensures) ∙ ap Some (revoke_told c.args.store.now c.args.id.now) in
-    unchanged_serves c.args.store.now (calls.RevokeKey c.args.id.now) c.args.stamp.now.time maker c.revokes.result c.in_ok-item.item c.in-Err.error refl
-    says c.in_ok-item.ensures (subst (λ r. IsWritten (message_with c.args.stamp.now.time c.in_ok-item.item) r) c.in-Err.is c.write.ensures)
+    let says : step_answer (λ _. Done) c.revokes.result
+    ≡ Some (step c.args.store.now (calls.RevokeKey c.args.id.now) None).answer =
+    (rw c.as_str.ensures.bytes at c.revokes.ensures)
+    ∙ ap Some (revoke_told c.args.store.now c.args.id.now) in
+    unchanged_serves c.args.store.now (calls.RevokeKey c.args.id.now)
+    c.args.stamp.now.time maker c.revokes.result c.in_ok-item.item c.in-Err.error refl
+    says c.in_ok-item.ensures (subst (λ r. IsWritten
+    (message_with c.args.stamp.now.time c.in_ok-item.item) r) c.in-Err.is c.write.ensures)

@@ -3,4 +3,5 @@ use Rattle.kmip_server_core.proofs.Requested.{is_of, is_of_none}
 use Rattle.kmip_server_core.proofs.request.is_request_of.Goals as goal
 
 pub returns-in-Ok : goal.returns-in-Ok
-returns-in-Ok c = is_of c.is_made_by.result c.args.bytes.now c.in-Ok.field-0-0 c.in-Ok.credential c.args.call.now c.in-Ok.ensures.value c.in-Ok.ensures.ok.1 c.is_made_by.ensures.same c.is_made_by.ensures.other
+returns-in-Ok c =
+    is_of c.is_made_by.result c.args.bytes.now c.in-Ok.field-0-0 c.in-Ok.credential c.args.call.now c.in-Ok.ensures.value c.in-Ok.ensures.ok.1 c.is_made_by.ensures.same c.is_made_by.ensures.other

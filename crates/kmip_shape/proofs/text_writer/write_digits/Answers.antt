@@ -10,8 +10,12 @@ loop-i-init c = record { digits = refl; ascii = IsAscii-nil }
 
 pub loop-i-preserved : goal.loop-i-preserved
 loop-i-preserved c = record {
-  digits = digits_step c.args.bytes.now c.loop-i.out c.loop-i.i _ _ c.loop-i-test.true (omega arith) c.hex_digit.ensures.digit c.hex_digit-in-loop-i.ensures.digit c.loop-i.invariant.digits;
-  ascii = ascii_step c.loop-i.out c.loop-i.i _ _ (omega arith) c.hex_digit.ensures.ascii c.hex_digit-in-loop-i.ensures.ascii c.loop-i.invariant.ascii;
+  digits = digits_step c.args.bytes.now c.loop-i.out c.loop-i.i _ _ c.loop-i-test.true
+      (omega arith)
+      c.hex_digit.ensures.digit c.hex_digit-in-loop-i.ensures.digit c.loop-i.invariant.digits;
+  ascii = ascii_step c.loop-i.out c.loop-i.i _ _
+      (omega arith)
+      c.hex_digit.ensures.ascii c.hex_digit-in-loop-i.ensures.ascii c.loop-i.invariant.ascii;
 }
 
 pub returns-clause-digits : goal.returns-clause-digits
@@ -22,4 +26,5 @@ returns-clause-digits c =
 
 pub returns-clause-ascii : goal.returns-clause-ascii
 returns-clause-ascii c =
-    subst IsAscii (digits_done c.args.bytes.now c.loop-i.out c.loop-i.i c.loop-i-test.false c.loop-i.invariant.digits) c.loop-i.invariant.ascii
+    subst IsAscii
+    (digits_done c.args.bytes.now c.loop-i.out c.loop-i.i c.loop-i-test.false c.loop-i.invariant.digits) c.loop-i.invariant.ascii

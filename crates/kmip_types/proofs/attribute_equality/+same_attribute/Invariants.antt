@@ -13,7 +13,8 @@ decreases-are_same_members l = 1 + list_weight l.left.now
 -- what is left tells whether all are equal
 abbrev pub invariant-are_same_members-loop-lefts : goal.invariant-are_same_members-loop-lefts
 invariant-are_same_members-loop-lefts l = record {
-  same : same_vals (vals_of (map attribute_value_val l.lefts)) (vals_of (map attribute_value_val l.rights)) ≡ same_members l.fn.left l.fn.right;
+  same : same_vals (vals_of (map attribute_value_val l.lefts))
+      (vals_of (map attribute_value_val l.rights)) ≡ same_members l.fn.left l.fn.right;
   light : vals_weight (vals_of (map attribute_value_val l.lefts)) ≤ list_weight l.fn.left;
 }
 

@@ -19,12 +19,20 @@ show_each-loop-rest-preserved t c =
     let tail = take (length rest - 1) (drop 1 rest) in
     let e = first_and_rest rest c.item-item.result c.in-len1-up.len_at_least c.item-item.is in
     record {
-      shows = λ new h. c.loop-rest.invariant.shows new (members_step rest c.item-item.result tail c.loop-rest.after e c.put_comma.ensures c.show_into.ensures h);
-      light = omega (arith, ap (λ (ys : List AttributeValue). vals_weight (vals_of (map attribute_value_val ys))) e, c.loop-rest.invariant.light);
+      shows = λ new h. c.loop-rest.invariant.shows new
+          (members_step rest c.item-item.result tail c.loop-rest.after e c.put_comma.ensures c.show_into.ensures h);
+      light = omega (
+        arith,
+        ap (λ (ys : List AttributeValue). vals_weight
+            (vals_of (map attribute_value_val ys))) e,
+        c.loop-rest.invariant.light,
+      );
     }
 
 pub show_each-returns : goal.show_each-returns
-show_each-returns t c = c.loop-rest.invariant.shows c.loop-rest.out (members_done c.loop-rest.rest.now c.loop-rest.after c.in_default.len_below)
+show_each-returns t c = c.loop-rest.invariant.shows c.loop-rest.out
+    (members_done c.loop-rest.rest.now c.loop-rest.after c.in_default.len_below)
 
 pub show_structure-returns : goal.show_structure-returns
-show_structure-returns t c = case_grown (codes "Structure") c.open_case.ensures (grown c.put.ensures (grown c.show_each.ensures c.put-2.ensures)) c.close_case.ensures
+show_structure-returns t c = case_grown (codes "Structure") c.open_case.ensures
+    (grown c.put.ensures (grown c.show_each.ensures c.put-2.ensures)) c.close_case.ensures

@@ -17,7 +17,8 @@ decreases-show_each l = 2 * list_weight l.values.now + 1
 -- what shows the members that are left shows all
 abbrev pub invariant-show_each-loop-rest : goal.invariant-show_each-loop-rest
 invariant-show_each-loop-rest l = record {
-  shows : (new : Growing) → Grows l.out new (list_in_style (vals_of (map attribute_value_val l.rest)) NoCase attribute_value l.after)
+  shows : (new : Growing) → Grows l.out new
+      (list_in_style (vals_of (map attribute_value_val l.rest)) NoCase attribute_value l.after)
       → Grows l.fn.out new (list_in_style (vals_of l.fn.values) NoCase attribute_value false);
   light : vals_weight (vals_of (map attribute_value_val l.rest)) ≤ list_weight l.fn.values;
 }

@@ -14,7 +14,8 @@ decreases-Values::known l = 1 + list_weight l.self.now
 
 abbrev pub invariant-Values::known-loop-rest : goal.invariant-Values::known-loop-rest
 invariant-Values::known-loop-rest l = record {
-  fits : vals_fit (vals_of (map attribute_value_val l.rest)) NoCase attribute_value → vals_fit (vals_of l.fn.self) NoCase attribute_value;
+  fits : vals_fit (vals_of (map attribute_value_val l.rest)) NoCase attribute_value
+      → vals_fit (vals_of l.fn.self) NoCase attribute_value;
   light : vals_weight (vals_of (map attribute_value_val l.rest)) ≤ list_weight l.fn.self;
 }
 

@@ -6,7 +6,9 @@ use Rattle.kmip_types.proofs.attribute_writing.children_len.Given as goal
 
 abbrev pub invariant-loop-rest : goal.invariant-loop-rest
 invariant-loop-rest l = record {
-  sum : plus_len (Some l.sum) (plains_len attribute_values (vals_of (map attribute_value_val l.rest))) ≡ plains_len attribute_values (vals_of (map attribute_value_val l.items));
+  sum : plus_len (Some l.sum) (plains_len attribute_values
+      (vals_of (map attribute_value_val l.rest)))
+      ≡ plains_len attribute_values (vals_of (map attribute_value_val l.items));
   below : l.sum < 2 ^ 32;
 }
 

@@ -8,8 +8,10 @@ abbrev pub invariant-loop-rest : goal.invariant-loop-rest
 invariant-loop-rest l = record {
   form : plains_form attribute_values (vals_of (map attribute_value_val l.rest));
   room : plains_size attribute_values (vals_of (map attribute_value_val l.rest)) ≤ l.out.spare;
-  text : l.out.bytes ++ plains_text attribute_values (vals_of (map attribute_value_val l.rest)) ≡ l.fn.out.bytes ++ plains_text attribute_values (vals_of (map attribute_value_val l.items));
-  spare : l.out.spare + plains_size attribute_values (vals_of (map attribute_value_val l.items)) ≡ l.fn.out.spare + plains_size attribute_values (vals_of (map attribute_value_val l.rest));
+  text : l.out.bytes ++ plains_text attribute_values (vals_of (map attribute_value_val l.rest))
+      ≡ l.fn.out.bytes ++ plains_text attribute_values (vals_of (map attribute_value_val l.items));
+  spare : l.out.spare + plains_size attribute_values (vals_of (map attribute_value_val l.items))
+      ≡ l.fn.out.spare + plains_size attribute_values (vals_of (map attribute_value_val l.rest));
 }
 
 abbrev pub decreases-loop-rest : goal.decreases-loop-rest

@@ -5,4 +5,5 @@ pub returns-in-Ok : goal.returns-in-Ok
 returns-in-Ok c = front_is _ _ c.args.bytes.now c.in-Ok.ensures.found.0 c.in-Ok.ensures.found.1
 
 pub returns-in-Err-Malformed : goal.returns-in-Err-Malformed
-returns-in-Err-Malformed c = front_none c.args.bytes.now (rw c.in-Err-Malformed.field-0-is at c.in-Err-Malformed.ensures.found)
+returns-in-Err-Malformed c = front_none c.args.bytes.now
+    (rw c.in-Err-Malformed.field-0-is at c.in-Err-Malformed.ensures.found)

@@ -15,5 +15,7 @@ decreases-list_items l = 2 * trees_size (trees_of (trees_left l.children)) + 1
 abbrev pub invariant-list_items-loop-child : goal.invariant-list_items-loop-child
 invariant-list_items-loop-child l =
     (trees_size (trees_of (trees_left l.child-iterator)) ≤ trees_size (trees_of (trees_left l.fn.children)))
-    × (l.at + sizes_of (trees_of (trees_left l.child-iterator)) ≡ l.fn.from + sizes_of (trees_of (trees_left l.fn.children)))
-    × (l.fn.text ++ all_listed l.fn.from (trees_of (trees_left l.fn.children)) ≡ l.text ++ all_listed l.at (trees_of (trees_left l.child-iterator)))
+    × (l.at + sizes_of (trees_of (trees_left l.child-iterator))
+    ≡ l.fn.from + sizes_of (trees_of (trees_left l.fn.children)))
+    × (l.fn.text ++ all_listed l.fn.from (trees_of (trees_left l.fn.children))
+    ≡ l.text ++ all_listed l.at (trees_of (trees_left l.child-iterator)))

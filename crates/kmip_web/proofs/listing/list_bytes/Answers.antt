@@ -5,4 +5,8 @@ use Rattle.kmip_web.proofs.listing.list_bytes.Goals as goal
 
 pub shown-init : goal.shown-init
 unfolding listing
-shown-init c = (omega arith, omega arith, ap (λ x. x ++ shown_listed 0 (shown_within 1 c.args.bytes.now)) (sym c.new-text.ensures))
+shown-init c = (
+  omega arith,
+  omega arith,
+  ap (λ x. x ++ shown_listed 0 (shown_within 1 c.args.bytes.now)) (sym c.new-text.ensures),
+)

@@ -11,7 +11,8 @@ pub loop-ch-preserved : goal.loop-ch-preserved
 loop-ch-preserved c =
     let l = c.loop-ch in
     let all = chars c.args.shown.now in
-    let t = YieldsList-turn (YieldsList-from_chars c.args.shown.now c.utf8.shown cc) l.yielded _ l.yielded_by _ _ c.in-Some.ch c.in-Some.is c.next.ensures.steps in
+    let t = YieldsList-turn (YieldsList-from_chars c.args.shown.now c.utf8.shown cc)
+    l.yielded _ l.yielded_by _ _ c.in-Some.ch c.in-Some.is c.next.ensures.steps in
     let n = length_push l.yielded c.in-Some.ch in
     l.invariant
     ∙ ap (λ x. l.text ++ x) (escaped_more all (length l.yielded) c.in-Some.ch t)
@@ -23,5 +24,7 @@ pub returns : goal.returns
 returns c =
     let l = c.loop-ch in
     let all = chars c.args.shown.now in
-    let t = YieldsList-end (YieldsList-from_chars c.args.shown.now c.utf8.shown cc) l.yielded _ l.yielded_by _ _ c.in-None.is c.next.ensures.steps in
-    sym (l.invariant ∙ ap (λ x. l.text ++ x) (at_drop_all escaped all (length l.yielded) (omega (arith, t.1))) ∙ append-nil l.text)
+    let t = YieldsList-end (YieldsList-from_chars c.args.shown.now c.utf8.shown cc)
+    l.yielded _ l.yielded_by _ _ c.in-None.is c.next.ensures.steps in
+    sym (l.invariant ∙ ap (λ x. l.text ++ x)
+    (at_drop_all escaped all (length l.yielded) (omega (arith, t.1))) ∙ append-nil l.text)

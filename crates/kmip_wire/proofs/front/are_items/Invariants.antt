@@ -12,4 +12,5 @@ abbrev pub decreases-words : goal.decreases-words
 decreases-words l = l.left
 
 abbrev pub invariant-words : goal.invariant-words
-invariant-words l = State l.levels l.bytes l.lefts l.depth l.left l.rest × (l.left < 2 ^ 32) × (length l.rest ≤ length l.initial.rest)
+invariant-words l = State l.levels l.bytes l.lefts l.depth l.left l.rest × (l.left < 2 ^ 32)
+    × (length l.rest ≤ length l.initial.rest)

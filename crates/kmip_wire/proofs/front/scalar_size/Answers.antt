@@ -16,18 +16,25 @@ pub returns-in_default : goal.returns-in_default
 returns-in_default c = tells_unknown c.args.bytes.now (omega (arith, c.requires.head)) c.in_default.ensures
 
 pub returns-then-whole-bytes : goal.returns-then-whole-bytes
-returns-then-whole-bytes c = tells_short c.args.bytes.now (omega (arith, c.requires.head)) (omega (arith, c.if-whole-bytes.true, c.whole_length-whole.ensures))
+returns-then-whole-bytes c = tells_short c.args.bytes.now (omega (arith, c.requires.head))
+    (omega (arith, c.if-whole-bytes.true, c.whole_length-whole.ensures))
 
 pub returns-then-is_value : goal.returns-then-is_value
 returns-then-is_value c =
     let b = c.args.bytes.now in
     let kind = c.in-Some.kind in
-    tells_value b (omega (arith, c.requires.head)) (omega (arith, c.if-whole-bytes.false, c.whole_length-whole.ensures)) kind c.in-Some.ensures (no_structure b kind c.requires.scalar c.in-Some.ensures)
-    (c.if-is_value.ensures ∙ ap (λ v. is_some (scalar_at kind v)) (value_cut b c.whole_length-whole.result c.head_length-length.result c.whole_length-whole.ensures c.head_length-length.ensures)) c.whole_length-whole.result c.whole_length-whole.ensures
+    tells_value b (omega (arith, c.requires.head))
+    (omega (arith, c.if-whole-bytes.false, c.whole_length-whole.ensures)) kind c.in-Some.ensures
+    (no_structure b kind c.requires.scalar c.in-Some.ensures)
+    (c.if-is_value.ensures ∙ ap (λ v. is_some (scalar_at kind v))
+    (value_cut b c.whole_length-whole.result c.head_length-length.result c.whole_length-whole.ensures c.head_length-length.ensures)) c.whole_length-whole.result c.whole_length-whole.ensures
 
 pub returns-else-is_value : goal.returns-else-is_value
 returns-else-is_value c =
     let b = c.args.bytes.now in
     let kind = c.in-Some.kind in
-    tells_no_value b (omega (arith, c.requires.head)) (omega (arith, c.if-whole-bytes.false, c.whole_length-whole.ensures)) kind c.in-Some.ensures (no_structure b kind c.requires.scalar c.in-Some.ensures)
-    (c.if-is_value.ensures ∙ ap (λ v. is_some (scalar_at kind v)) (value_cut b c.whole_length-whole.result c.head_length-length.result c.whole_length-whole.ensures c.head_length-length.ensures))
+    tells_no_value b (omega (arith, c.requires.head))
+    (omega (arith, c.if-whole-bytes.false, c.whole_length-whole.ensures)) kind c.in-Some.ensures
+    (no_structure b kind c.requires.scalar c.in-Some.ensures)
+    (c.if-is_value.ensures ∙ ap (λ v. is_some (scalar_at kind v))
+    (value_cut b c.whole_length-whole.result c.head_length-length.result c.whole_length-whole.ensures c.head_length-length.ensures))

@@ -11,4 +11,6 @@ returns-in-Ok-clause-ranges c =
     let b = c.args.bytes.now in
     let n = c.in-Some.size in
     let P : Tree → Type 0 = λ t. HasRanges t in
-    subst P (sym c.in-Ok.ensures) (parsed_ranges (item_tree c.in-Some-root.item) 1 (take n b) (bytes_take n b (λ i. Fits-lt-pow (c.type_inv.bytes i))) c.in-Some-root.ensures.parses)
+    subst P (sym c.in-Ok.ensures)
+    (parsed_ranges (item_tree c.in-Some-root.item) 1 (take n b)
+    (bytes_take n b (λ i. Fits-lt-pow (c.type_inv.bytes i))) c.in-Some-root.ensures.parses)

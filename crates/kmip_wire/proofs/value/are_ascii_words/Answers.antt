@@ -8,4 +8,6 @@ pub words-preserved : goal.words-preserved
 words-preserved c =
     let b = c.args.bytes.now
     in subst (Passed b) (sym (take_rest c.words.rest.now 8))
-    (pass b c.words.rest.now c.number8.result (λ i. Fits-lt-pow (c.type_inv.bytes i)) c.words-test.true c.number8.ensures c.if-number8-ne0.false c.words.invariant)
+    (pass b c.words.rest.now c.number8.result
+    (λ i. Fits-lt-pow (c.type_inv.bytes i))
+    c.words-test.true c.number8.ensures c.if-number8-ne0.false c.words.invariant)

@@ -16,4 +16,6 @@ abbrev pub decreases-contents_len : goal.decreases-contents_len
 decreases-contents_len l = 2 * trees_size (trees_of l.items.now)
 
 abbrev pub invariant-contents_len-loop-item : goal.invariant-contents_len-loop-item
-invariant-contents_len-loop-item l = (Some l.total ≡ option_map length (all_bytes (trees_of (take l.item-index l.items)))) × (l.total < 2 ^ 32)
+invariant-contents_len-loop-item l =
+    (Some l.total ≡ option_map length (all_bytes (trees_of (take l.item-index l.items))))
+    × (l.total < 2 ^ 32)

@@ -10,7 +10,9 @@ not_lost = (λ is. absurd (cc), λ is. absurd (cc))
 pub returns-in-Lost : goal.returns-in-Lost
 returns-in-Lost c =
     sent_is c.in_ok-client.client c.answer.new.client c.args.settings.now c.args.call c.in_ok-answer.field-0 c.new-line.result c.answer.new.line c.in_ok-sent_by-in-Lost.field-0.items
-    c.in_ok-client.ensures.settings (ap (λ (m : MemoryState). m.sent) c.in_ok-client.ensures.link ∙ c.in_ok-link_over.ensures.sent)
+    c.in_ok-client.ensures.settings
+    (ap (λ (m : MemoryState). m.sent) c.in_ok-client.ensures.link
+    ∙ c.in_ok-link_over.ensures.sent)
     c.in_ok-answer.ensures c.in-Lost.is c.in_ok-sent_by-in-Lost.ensures
 
 pub returns-in-Answered : goal.returns-in-Answered

@@ -9,6 +9,9 @@ use Rattle.kmip_words.proofs.refusal.item_with.Goals as goal
 
 pub returns : goal.returns
 returns c =
-    let items : children_in (item_tree c.args.parent) ≡ Some (trees_left c.in_ok-children.field-0) = sym c.in_ok-children.ensures in
-    find_from_yields_List (λ item. tag_of item == c.args.tag) _ _ c.find.result c.find.ensures.ran (YieldsList-from_first item_tree trees_left (trees_left c.in_ok-children.field-0) refl) (λ x b q k. search (rules, tests))
+    let items : children_in (item_tree c.args.parent) ≡ Some (trees_left c.in_ok-children.field-0) =
+    sym c.in_ok-children.ensures in
+    find_from_yields_List (λ item. tag_of item == c.args.tag) _ _ c.find.result c.find.ensures.ran
+    (YieldsList-from_first item_tree trees_left (trees_left c.in_ok-children.field-0) refl)
+    (λ x b q k. search (rules, tests))
     ∙ ap (option_and_then (find (λ item. tag_of item == c.args.tag))) (sym items)

@@ -8,6 +8,8 @@ use Rattle.kmip_words.proofs.refusal.push_internal_error.Goals as goal
 pub returns : goal.returns
 returns c =
     three_added c.push_str.result c.args.line.now c.push_string_after.new.line c.push_refusal.new.line c.push_str.new.self
-    (codes "{\"error\":\"InternalError\",\"text\":" ++ text_in_style c.args.text.now Json) (refusal_members c.args.response.now) (codes "}\n")
+    (codes "{\"error\":\"InternalError\",\"text\":" ++ text_in_style c.args.text.now Json)
+    (refusal_members c.args.response.now) (codes "}\n")
     c.in_ok-push_string_after.ensures c.in_ok-push_refusal.ensures
-    (when_added c.push_str.result c.push_str.new.self (c.push_refusal.new.line ++ codes "}\n") c.push_refusal.new.line c.push_str.ensures)
+    (when_added c.push_str.result c.push_str.new.self
+    (c.push_refusal.new.line ++ codes "}\n") c.push_refusal.new.line c.push_str.ensures)

@@ -8,22 +8,34 @@ use Rattle.kmip_words.proofs.requests.request_for.Goals as goal
 pub returns-in_ok-public_key_name-in-CreateRsa : goal.returns-in_ok-public_key_name-in-CreateRsa
 returns-in_ok-public_key_name-in-CreateRsa c =
     let fits : SFits w32 c.in-CreateRsa.key_length = search rules in
-    request_made c.key_pair_request.result (key_pair_request c.in-CreateRsa.key_length c.in-CreateRsa.private_key_name c.in-CreateRsa.public_key_name) c.args.call.now
+    request_made c.key_pair_request.result
+    (key_pair_request c.in-CreateRsa.key_length c.in-CreateRsa.private_key_name c.in-CreateRsa.public_key_name) c.args.call.now
     (λ credential. rw c.in-CreateRsa.is refl)
-    (rw (to_z-of_z w32 c.in-CreateRsa.key_length fits, c.in_ok-private_key_name-in-CreateRsa.ensures, c.in_ok-public_key_name-in-CreateRsa.ensures) at c.key_pair_request.ensures)
+    (rw (
+      to_z-of_z w32 c.in-CreateRsa.key_length fits,
+      c.in_ok-private_key_name-in-CreateRsa.ensures,
+      c.in_ok-public_key_name-in-CreateRsa.ensures,
+    )
+    at c.key_pair_request.ensures)
 
 pub returns-in_ok-try_clone-in-Rename : goal.returns-in_ok-try_clone-in-Rename
 returns-in_ok-try_clone-in-Rename c =
-    request_made c.rename_request.result (rename_request c.in-Rename.id c.in-Rename.new_name) c.args.call.now (λ credential. rw c.in-Rename.is refl)
+    request_made c.rename_request.result
+    (rename_request c.in-Rename.id c.in-Rename.new_name) c.args.call.now
+    (λ credential. rw c.in-Rename.is refl)
     (rw (c.as_str-in-Rename.ensures.bytes, c.in_ok-try_clone-in-Rename.ensures) at c.rename_request.ensures)
 
 pub returns-in_ok-try_clone-in-Locate : goal.returns-in_ok-try_clone-in-Locate
 returns-in_ok-try_clone-in-Locate c =
-    request_made c.locate_request.result (locate_request c.in-Locate.name) c.args.call.now (λ credential. rw c.in-Locate.is refl)
+    request_made c.locate_request.result (locate_request c.in-Locate.name) c.args.call.now
+    (λ credential. rw c.in-Locate.is refl)
     (rw c.in_ok-try_clone-in-Locate.ensures at c.locate_request.ensures)
 
 pub returns-in_ok-try_clone-in-CreateAes : goal.returns-in_ok-try_clone-in-CreateAes
 returns-in_ok-try_clone-in-CreateAes c =
     let fits : SFits w32 c.in-CreateAes.key_length = search rules in
-    request_made c.create_aes_request.result (create_aes_request c.in-CreateAes.key_length c.in-CreateAes.name) c.args.call.now (λ credential. rw c.in-CreateAes.is refl)
-    (rw (to_z-of_z w32 c.in-CreateAes.key_length fits, c.in_ok-try_clone-in-CreateAes.ensures) at c.create_aes_request.ensures)
+    request_made c.create_aes_request.result
+    (create_aes_request c.in-CreateAes.key_length c.in-CreateAes.name) c.args.call.now
+    (λ credential. rw c.in-CreateAes.is refl)
+    (rw (to_z-of_z w32 c.in-CreateAes.key_length fits, c.in_ok-try_clone-in-CreateAes.ensures)
+    at c.create_aes_request.ensures)

@@ -12,15 +12,18 @@ loop-done-preserved g c =
       kept = kept_on _ _ _ i.kept c.read_piece.ensures.kept;
       keeps = source_keeps_on i.keeps c.read_piece.ensures.keeps;
       gives = λ tells. gives_on (i.gives tells) (c.in_ok-got.ensures.ok (rw i.keeps.tells tells)).0;
-      bytes = λ tells. rw ((c.in_ok-got.ensures.ok (rw i.keeps.tells tells)).1, i.bytes tells) (bytes_on c.in_ok-got.got c.args.script.now.items (i.gives tells));
+      bytes = λ tells. rw ((c.in_ok-got.ensures.ok (rw i.keeps.tells tells)).1, i.bytes tells)
+          (bytes_on c.in_ok-got.got c.args.script.now.items (i.gives tells));
     }
 
 pub returns-in_err-got-clause-part : goal.returns-in_err-got-clause-part
 returns-in_err-got-clause-part g c = λ tells.
     let i = c.loop-done.invariant in
-    gives_part_on c.min-room.result c.args.count (i.gives tells) (c.read_piece.ensures.part (rw i.keeps.tells tells)) (omega arith)
+    gives_part_on c.min-room.result c.args.count (i.gives tells)
+    (c.read_piece.ensures.part (rw i.keeps.tells tells)) (omega arith)
 
 pub returns-then-got-eq0-clause-part : goal.returns-then-got-eq0-clause-part
 returns-then-got-eq0-clause-part g c = λ tells.
     let i = c.loop-done.invariant in
-    gives_part_on c.min-room.result c.args.count (i.gives tells) (c.read_piece.ensures.part (rw i.keeps.tells tells)) (omega arith)
+    gives_part_on c.min-room.result c.args.count (i.gives tells)
+    (c.read_piece.ensures.part (rw i.keeps.tells tells)) (omega arith)

@@ -10,8 +10,11 @@ invariant-loop-done g l = record {
   grown : vec_len l.script ≡ vec_len l.initial.script + l.done;
   kept : take (length l.initial.script.items) l.script.items ≡ l.initial.script.items;
   keeps : SourceKeeps (g.S.Source.state l.initial.source) (g.S.Source.state l.source);
-  gives : IsTrue (g.S.Source.state l.initial.source).tells → Gives (g.S.Source.state l.initial.source) (g.S.Source.state l.source) l.done;
-  bytes : IsTrue (g.S.Source.state l.initial.source).tells → l.script.items ≡ l.initial.script.items ++ take l.done (source_left (g.S.Source.state l.initial.source));
+  gives : IsTrue (g.S.Source.state l.initial.source).tells
+      → Gives (g.S.Source.state l.initial.source) (g.S.Source.state l.source) l.done;
+  bytes : IsTrue (g.S.Source.state l.initial.source).tells
+      → l.script.items ≡ l.initial.script.items
+      ++ take l.done (source_left (g.S.Source.state l.initial.source));
 }
 
 abbrev pub decreases-loop-done : goal.decreases-loop-done

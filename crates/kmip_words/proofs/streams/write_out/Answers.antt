@@ -8,5 +8,7 @@ loop-done-preserved g c =
     record {
       within = omega (arith, c.in_ok-done.ensures.bound);
       keeps = sink_keeps_on i.keeps c.write.ensures.keeps;
-      written = λ tells. rw (c.in_ok-done.ensures.moved (rw i.keeps.tells tells), i.written tells) (text_on (g.K.Sink.state c.args.sink.now).sent c.loop-done.done c.in_ok-done.field-0 c.args.text.now);
+      written = λ tells. rw (c.in_ok-done.ensures.moved (rw i.keeps.tells tells), i.written tells)
+          (text_on
+          (g.K.Sink.state c.args.sink.now).sent c.loop-done.done c.in_ok-done.field-0 c.args.text.now);
     }

@@ -7,4 +7,7 @@ use Rattle.kmip_client.proofs.client.Client.destroy_key.Goals as goal
 
 pub returns : goal.returns
 returns g c =
-    helped c.destroy_request.result (requests.destroy_request c.args.key_id.now) _ (λ payload. payloads.Destroy payload) nothing_of c.ask.result c.without_payload.result c.destroy_request.ensures (λ payload. refl) c.without_payload.ensures c.ask.ensures
+    helped c.destroy_request.result (requests.destroy_request c.args.key_id.now) _
+    (λ payload. payloads.Destroy payload)
+    nothing_of c.ask.result c.without_payload.result c.destroy_request.ensures
+    (λ payload. refl) c.without_payload.ensures c.ask.ensures

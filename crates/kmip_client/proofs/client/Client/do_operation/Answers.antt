@@ -7,5 +7,12 @@ use Rattle.kmip_client.proofs.client.Client.do_operation.Goals as goal
 
 pub returns : goal.returns
 returns g c =
-    let P : Result Tree Error → Type 0 = λ seen. IsOperationCall g.T.Link.state (record { operation = c.args.operation; version = c.args.version; payload = c.args.payload.now }) c.args.self.now c.make_call.new.self seen in
+    let P : Result Tree Error → Type 0 =
+    λ seen. IsOperationCall g.T.Link.state
+    (record {
+      operation = c.args.operation;
+      version = c.args.version;
+      payload =
+          c.args.payload.now;
+    }) c.args.self.now c.make_call.new.self seen in
     subst P (seen_itself c.make_call.result) c.make_call.ensures

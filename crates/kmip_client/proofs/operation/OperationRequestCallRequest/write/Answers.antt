@@ -5,15 +5,19 @@ use Rattle.kmip_client.proofs.operation.OperationRequestCallRequest.write.Goals 
 pub write_message-requires : goal.write_message-requires
 write_message-requires c =
     let P : List ℕ → Type 0 = λ b. length b % 8 ≡ 0 in
-    subst P (sym c.as_slice.ensures) (aligned c.args.self.now.payload.now c.in_ok-payload.payload c.in_ok-payload.ensures)
+    subst P (sym c.as_slice.ensures)
+    (aligned c.args.self.now.payload.now c.in_ok-payload.payload c.in_ok-payload.ensures)
 
 pub returns-clause-ok : goal.returns-clause-ok
 returns-clause-ok c =
-    let P : Option (List ℕ) → Type 0 = λ bytes. OnOk c.write_message.result (bytes ≡ Some c.write_message.new.out.bytes) in
-    subst P (sent_is c.args.self.now.operation c.args.self.now.version c.args.authentication.now c.args.self.now.payload.now c.number-version.result c.in_ok-payload.payload c.as_slice.result.now c.number-version.ensures c.in_ok-payload.ensures c.as_slice.ensures)
+    let P : Option (List ℕ) → Type 0 =
+    λ bytes. OnOk c.write_message.result (bytes ≡ Some c.write_message.new.out.bytes) in
+    subst P
+    (sent_is c.args.self.now.operation c.args.self.now.version c.args.authentication.now c.args.self.now.payload.now c.number-version.result c.in_ok-payload.payload c.as_slice.result.now c.number-version.ensures c.in_ok-payload.ensures c.as_slice.ensures)
     c.write_message.ensures.ok
 
 pub returns-clause-no_form : goal.returns-clause-no_form
 returns-clause-no_form c = λ is.
-    sym (sent_is c.args.self.now.operation c.args.self.now.version c.args.authentication.now c.args.self.now.payload.now c.number-version.result c.in_ok-payload.payload c.as_slice.result.now c.number-version.ensures c.in_ok-payload.ensures c.as_slice.ensures)
+    sym
+    (sent_is c.args.self.now.operation c.args.self.now.version c.args.authentication.now c.args.self.now.payload.now c.number-version.result c.in_ok-payload.payload c.as_slice.result.now c.number-version.ensures c.in_ok-payload.ensures c.as_slice.ensures)
     ∙ c.write_message.ensures.no_form is

@@ -15,4 +15,5 @@ decreases-print_items l = 2 * trees_size (trees_of (trees_left l.children)) + 1
 abbrev pub invariant-print_items-loop-child : goal.invariant-print_items-loop-child
 invariant-print_items-loop-child l =
     (trees_size (trees_of (trees_left l.child-iterator)) ≤ trees_size (trees_of (trees_left l.fn.children)))
-    × (l.fn.text ++ printed_all l.self (skeletons (trees_of (trees_left l.fn.children))) ≡ l.text ++ printed_all l.self (skeletons (trees_of (trees_left l.child-iterator))))
+    × (l.fn.text ++ printed_all l.self (skeletons (trees_of (trees_left l.fn.children)))
+    ≡ l.text ++ printed_all l.self (skeletons (trees_of (trees_left l.child-iterator))))

@@ -8,13 +8,15 @@ use Rattle.kmip_diag.proofs.printer.PrettyPrinter.expand.Goals.{then-depth-gt0-v
 pub returns-in_default : goal.returns-in_default
 returns-in_default c = λ e.
     let l = c.loop-rest
-    in none_where c.args.self.now c.args.text.now (reads_no_token c.args.self.now c.args.text.now l.rest.now l.depth l.again l.lines l.invariant
+    in none_where c.args.self.now c.args.text.now
+    (reads_no_token c.args.self.now c.args.text.now l.rest.now l.depth l.again l.lines l.invariant
     (some_bytes l.rest.now c.is_empty.result c.is_empty.ensures c.loop-rest-test.true) c.in_default.ensures.value)
 
 pub returns-in_default-next_depth : goal.returns-in_default-next_depth
 returns-in_default-next_depth c = λ e.
     let l = c.loop-rest
-    in none_where c.args.self.now c.args.text.now (reads_no_depth c.args.self.now c.args.text.now l.rest.now l.depth l.again l.lines l.invariant
+    in none_where c.args.self.now c.args.text.now
+    (reads_no_depth c.args.self.now c.args.text.now l.rest.now l.depth l.again l.lines l.invariant
     c.in-Some.token c.in-Some.after.now c.in-Some.ensures.value (sym c.next_depth.ensures ∙ c.in_default-next_depth.is))
 
 pub loop-rest-preserved : goal.loop-rest-preserved
@@ -36,5 +38,7 @@ returns-then-depth-gt0 c = λ e.
 pub returns : goal.returns
 returns c =
     let l = c.loop-rest
-    in expansion_where c.args.self.now c.args.text.now l.lines (reads_end c.args.self.now c.args.text.now l.rest.now l.depth l.again l.lines l.invariant
-    (omega (arith, c.if-depth-gt0.false)) (same_text c.as_str.result.now l.again c.args.text.now c.ne.result c.ne.ensures c.as_str.ensures.bytes c.if-ne.false))
+    in expansion_where c.args.self.now c.args.text.now l.lines
+    (reads_end c.args.self.now c.args.text.now l.rest.now l.depth l.again l.lines l.invariant
+    (omega (arith, c.if-depth-gt0.false))
+    (same_text c.as_str.result.now l.again c.args.text.now c.ne.result c.ne.ensures c.as_str.ensures.bytes c.if-ne.false))

@@ -8,7 +8,8 @@ invariant_of-result g c =
       facts = record {
         within = omega arith;
         none_kept = λ sound. c.new-5.ensures.items;
-        serves = λ fed tells sound. serves_none _ (g.M.Maker.state c.args.maker) _ _ (c.requires tells) c.new-2.ensures.items c.new-3.ensures.items;
+        serves = λ fed tells sound. serves_none _ (g.M.Maker.state c.args.maker) _ _
+            (c.requires tells) c.new-2.ensures.items c.new-3.ensures.items;
         cut = λ fed tells faults. absurd (omega (arith, faults));
       };
       begun_is = begun_none _ _ c.new-4.ensures.items c.new-3.ensures.items;

@@ -8,5 +8,6 @@ use Rattle.kmip_shape.proofs.big.BigOneShowRow.show.Goals as goal
 
 pub returns-clause-text : goal.returns-clause-text
 returns-clause-text g c = λ a e.
-    subst (λ (b : Bool). Grows c.args.out.now c.show_into.new.out (row_in_style (One (Bytes c.args.lent.now)) NoCase c.args.name.now (Scalar BigInteger) b)) e
+    subst (λ (b : Bool). Grows c.args.out.now c.show_into.new.out
+    (row_in_style (One (Bytes c.args.lent.now)) NoCase c.args.name.now (Scalar BigInteger) b)) e
     (grown c.put_comma.ensures (grown c.put_word.ensures (grown c.put_name_mark.ensures c.show_into.ensures)))

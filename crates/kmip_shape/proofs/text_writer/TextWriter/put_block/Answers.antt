@@ -5,4 +5,5 @@ use Rattle.kmip_shape.proofs.text_writer.TextWriter.put_block.Goals as goal
 
 pub unreachable-requires : goal.unreachable-requires
 unreachable-requires c =
-    c.in-Err.ensures.cases.0 (subst IsUtf8 (sym c.write_digits.ensures.digits) (IsUtf8-from_ascii _ c.write_digits.ensures.ascii))
+    c.in-Err.ensures.cases.0 (subst IsUtf8 (sym c.write_digits.ensures.digits)
+    (IsUtf8-from_ascii _ c.write_digits.ensures.ascii))

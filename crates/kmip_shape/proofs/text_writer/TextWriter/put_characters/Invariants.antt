@@ -6,4 +6,5 @@ use Rattle.kmip_shape.proofs.text_writer.TextWriter.put_characters.Given as goal
 -- what shows the characters that are left shows all
 abbrev pub invariant-loop-ch : goal.invariant-loop-ch
 invariant-loop-ch l =
-    (new : Growing) → Grows l.self new (λ o. flat_map (escape o) (chars_rest l.ch-iterator)) → Grows l.fn.self new (λ o. flat_map (escape o) l.text)
+    (new : Growing) → Grows l.self new (λ o. flat_map (escape o) (chars_rest l.ch-iterator))
+    → Grows l.fn.self new (λ o. flat_map (escape o) l.text)

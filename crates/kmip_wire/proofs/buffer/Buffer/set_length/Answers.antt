@@ -12,9 +12,34 @@ returns-clause-bytes c =
     let new = c.put_length.new.bytes in
     let at = c.args.at in
     let digits = to_be_bytes w32 c.args.len in
-    let within : len ≤ length room = omega (arith, c.self.invariant, c.as_mut_slice.ensures.len, ap (λ (xs : List ℕ). length xs) c.as_mut_slice.ensures.value) in
-    let enough : at + 8 ≤ len = omega (arith, c.requires, ap (λ (r : Room). length r.bytes) c.self.view_is, length-take-le len room within) in
+    let within : len ≤ length room = omega (
+      arith,
+      c.self.invariant,
+      c.as_mut_slice.ensures.len,
+      ap (λ (xs : List ℕ). length xs) c.as_mut_slice.ensures.value,
+    ) in
+    let enough : at + 8 ≤ len = omega (
+      arith,
+      c.requires,
+      ap (λ (r : Room). length r.bytes) c.self.view_is,
+      length-take-le len room within,
+    ) in
     let is : new ≡ take (at + 4) room ++ (digits ++ drop (at + 8) room) =
-    subst (λ (xs : List ℕ). new ≡ take (at + 4) xs ++ (digits ++ drop (at + 8) xs)) c.as_mut_slice.ensures.value c.put_length.ensures in
-    let same : length new ≡ length room = ap (λ (xs : List ℕ). length xs) is ∙ omega (arith, within, enough, length-append (take (at + 4) room) (digits ++ drop (at + 8) room), length-append digits (drop (at + 8) room), length-take-le (at + 4) room (omega (arith, within, enough)), length-drop (at + 8) room) in
-    rw (← c.self.view_is) (take-take len _ _ c.self.invariant ∙ take-append-le len new _ (omega (arith, within, same)) ∙ ap (λ (xs : List ℕ). take len xs) is ∙ front_written room digits (at + 4) (at + 8) len (omega arith) enough within)
+    subst (λ (xs : List ℕ). new ≡ take (at + 4) xs ++ (digits ++ drop (at + 8) xs))
+    c.as_mut_slice.ensures.value c.put_length.ensures in
+    let same : length new ≡ length room =
+    ap (λ (xs : List ℕ). length xs) is
+    ∙ omega (
+      arith,
+      within,
+      enough,
+      length-append (take (at + 4) room)
+          (digits ++ drop (at + 8) room),
+      length-append digits (drop (at + 8) room),
+      length-take-le (at + 4) room (omega (arith, within, enough)),
+      length-drop (at + 8) room,
+    ) in
+    rw (← c.self.view_is) (take-take len _ _ c.self.invariant
+    ∙ take-append-le len new _ (omega (arith, within, same))
+    ∙ ap (λ (xs : List ℕ). take len xs) is
+    ∙ front_written room digits (at + 4) (at + 8) len (omega arith) enough within)

@@ -7,13 +7,20 @@ use Rattle.kmip_wire.proofs.item.ChildrenIterator.next.Goals as goal
 
 pub returns-then-is_empty-clause-steps : goal.returns-then-is_empty-clause-steps
 unfolding item_tree trees_left
-returns-then-is_empty-clause-steps c = let b = c.args.self.now.bytes.now in let e = no_child b (no_bytes b c.if-is_empty.ensures) in (e, e)
+returns-then-is_empty-clause-steps c =
+    let b = c.args.self.now.bytes.now in let e = no_child b (no_bytes b c.if-is_empty.ensures) in
+    (e, e)
 
 pub whole_length-requires : goal.whole_length-requires
-whole_length-requires c = let b = c.args.self.now.bytes.now in let f = first_child b c.args.self.now.are_items (some_bytes b c.if-is_empty.ensures) in f.head
+whole_length-requires c =
+    let b = c.args.self.now.bytes.now in
+    let f = first_child b c.args.self.now.are_items (some_bytes b c.if-is_empty.ensures) in f.head
 
 pub split_at-requires : goal.split_at-requires
-split_at-requires c = let b = c.args.self.now.bytes.now in let f = first_child b c.args.self.now.are_items (some_bytes b c.if-is_empty.ensures) in omega (arith, f.within)
+split_at-requires c =
+    let b = c.args.self.now.bytes.now in
+    let f = first_child b c.args.self.now.are_items (some_bytes b c.if-is_empty.ensures) in
+    omega (arith, f.within)
 
 pub invariant_of-self : goal.invariant_of-self
 invariant_of-self c =
@@ -33,8 +40,10 @@ returns-clause-steps c =
     let b = c.args.self.now.bytes.now in
     let f = first_child b c.args.self.now.are_items (some_bytes b c.if-is_empty.ensures) in
     f.order
-    ∙ ap (λ x. the_tree x ∷ the_trees (drop (size_at b) b)) (sym (c.split_at.ensures.front ∙ ap (λ n. take n b) c.whole_length.ensures))
-    ∙ ap (λ x. the_tree c.split_at.result.0.now ∷ the_trees x) (sym (c.split_at.ensures.back ∙ ap (λ n. drop n b) c.whole_length.ensures))
+    ∙ ap (λ x. the_tree x ∷ the_trees (drop (size_at b) b))
+    (sym (c.split_at.ensures.front ∙ ap (λ n. take n b) c.whole_length.ensures))
+    ∙ ap (λ x. the_tree c.split_at.result.0.now ∷ the_trees x)
+    (sym (c.split_at.ensures.back ∙ ap (λ n. drop n b) c.whole_length.ensures))
 
 pub returns-clause-goes : goal.returns-clause-goes
 unfolding item_tree trees_left
@@ -42,5 +51,6 @@ returns-clause-goes c =
     let b = c.args.self.now.bytes.now in
     let f = first_child b c.args.self.now.are_items (some_bytes b c.if-is_empty.ensures) in
     let order : the_trees b ≡ the_tree (take (size_at b) b) ∷ the_trees c.split_at.result.1.now =
-    f.order ∙ ap (λ x. the_tree (take (size_at b) b) ∷ the_trees x) (sym (c.split_at.ensures.back ∙ ap (λ n. drop n b) c.whole_length.ensures)) in
+    f.order ∙ ap (λ x. the_tree (take (size_at b) b) ∷ the_trees x)
+    (sym (c.split_at.ensures.back ∙ ap (λ n. drop n b) c.whole_length.ensures)) in
     record { on = λ _. (tt, tt, omega (arith, ap length order)); keeps = tt; rests = λ _. tt }

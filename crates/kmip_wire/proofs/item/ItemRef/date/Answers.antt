@@ -6,7 +6,8 @@ use Rattle.kmip_wire.proofs.item.ItemRef.date.Goals as goal
 
 pub number8-requires : goal.number8-requires
 unfolding item_tree
-number8-requires c = ap length c.value.ensures ∙ (date_is c.args.self.bytes.now c.args.self.is_item (sym c.in-DateTime.is ∙ c.kind.ensures)).0
+number8-requires c = ap length c.value.ensures
+    ∙ (date_is c.args.self.bytes.now c.args.self.is_item (sym c.in-DateTime.is ∙ c.kind.ensures)).0
 
 pub returns-in-DateTime : goal.returns-in-DateTime
 unfolding item_tree

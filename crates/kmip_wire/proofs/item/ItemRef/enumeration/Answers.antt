@@ -6,7 +6,9 @@ use Rattle.kmip_wire.proofs.item.ItemRef.enumeration.Goals as goal
 
 pub number4-requires : goal.number4-requires
 unfolding item_tree
-number4-requires c = ap length c.value.ensures ∙ (enumeration_is c.args.self.bytes.now c.args.self.is_item (sym c.in-Enumeration.is ∙ c.kind.ensures)).0
+number4-requires c = ap length c.value.ensures
+    ∙ (enumeration_is c.args.self.bytes.now c.args.self.is_item
+    (sym c.in-Enumeration.is ∙ c.kind.ensures)).0
 
 pub returns-in-Enumeration : goal.returns-in-Enumeration
 unfolding item_tree

@@ -6,7 +6,9 @@ use Rattle.kmip_wire.proofs.item.ItemRef.interval.Goals as goal
 
 pub number4-requires : goal.number4-requires
 unfolding item_tree
-number4-requires c = ap length c.value.ensures ∙ (interval_is c.args.self.bytes.now c.args.self.is_item (sym c.in-Interval.is ∙ c.kind.ensures)).0
+number4-requires c = ap length c.value.ensures
+    ∙ (interval_is c.args.self.bytes.now c.args.self.is_item
+    (sym c.in-Interval.is ∙ c.kind.ensures)).0
 
 pub returns-in-Interval : goal.returns-in-Interval
 unfolding item_tree

@@ -7,7 +7,9 @@ use Rattle.kmip_wire.proofs.item.ItemRef.text.Goals as goal
 pub returns-in-Ok : goal.returns-in-Ok
 unfolding item_tree
 returns-in-Ok c =
-    ap (λ (b : List ℕ). Some b) (c.in-Ok.ensures.cases.0 ∙ c.value.ensures) ∙ sym (text_is c.args.self.bytes.now c.args.self.is_item (sym c.in-TextString.is ∙ c.kind.ensures)).1
+    ap (λ (b : List ℕ). Some b) (c.in-Ok.ensures.cases.0 ∙ c.value.ensures)
+    ∙ sym (text_is c.args.self.bytes.now c.args.self.is_item
+    (sym c.in-TextString.is ∙ c.kind.ensures)).1
 
 pub unreachable-requires : goal.unreachable-requires
 unfolding item_tree
