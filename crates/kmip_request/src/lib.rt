@@ -10,7 +10,6 @@
 #![tactic(auto)]
 
 mod authentication;
-mod equality_laws;
 mod header;
 mod helpers;
 mod laws;
@@ -20,7 +19,6 @@ mod payload;
 mod writing;
 
 pub use authentication::{Authentication, Credential, CredentialValue, Password, Username};
-pub use equality_laws::equality;
 pub use header::{ProtocolVersion, RequestHeader};
 pub use helpers::{
     activate_request, destroy_request, get_request, key_pair_request, query_request,

@@ -3,4 +3,3 @@ pub mod Values
 pub mod Same
 pub mod Constructors
 pub mod Roots
-pub mod Equality

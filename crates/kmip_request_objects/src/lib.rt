@@ -5,7 +5,6 @@
 mod attribute;
 mod byte_strings;
 mod constructors;
-mod equality_laws;
 mod key_block;
 mod key_wrapping;
 mod managed_object;
@@ -15,7 +14,6 @@ mod template_attribute;
 
 pub use attribute::Attribute;
 pub use byte_strings::{IVOrCounterOrNonce, MACOrSignature};
-pub use equality_laws::equality;
 pub use key_block::{KeyBlock, KeyValue};
 pub use key_wrapping::{
     EncryptionKeyInformation, KeyWrappingData, KeyWrappingSpecification,
