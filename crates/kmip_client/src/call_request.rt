@@ -67,7 +67,9 @@ pub trait CallRequest {
 /// A request of KMIP's tables, whose response is read as this payload.
 #[derive(Drop)]
 pub struct TypedRequest<'a, P> {
+    /// What is asked: the operation, with its values.
     pub payload: &'a RequestPayload,
+    /// The type that its response is read as; it holds no value.
     pub returns: PhantomData<P>,
 }
 

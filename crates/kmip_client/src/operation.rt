@@ -182,8 +182,11 @@ fn write_message(
 /// A request of an operation, whose payload is a tree.
 #[derive(Clone, Copy)]
 pub struct OperationRequest<'a> {
+    /// The operation asked for, which the response must name too.
     pub operation: Operation,
+    /// The version of KMIP that the header names.
     pub version: Version,
+    /// The request payload, written as it stands: its tag and its contents are not checked.
     pub payload: &'a Tree,
 }
 
