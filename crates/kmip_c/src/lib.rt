@@ -3,8 +3,9 @@
 //!
 //! It opens nothing and keeps nothing: the caller has the connection, sends the bytes of
 //! `kmip_request`, reads 8 bytes, asks `kmip_contents_len` how many follow, reads them, and passes
-//! all to `kmip_answer`. `kmip_value` returns single values of an answer. No function has a
-//! precondition on its arguments, since nothing checks a caller in C.
+//! all to `kmip_answer`. `kmip_value` returns single values of an answer. `kmip_operation_request`
+//! and `kmip_operation_answer` do the same for any operation. No function has a precondition on its
+//! arguments, since nothing checks a caller in C.
 #![tactic(auto)]
 
 ghost use Rattle.std.specs.Prelude.{◌≡◌, ◌≢◌, pos};
@@ -126,7 +127,8 @@ pub extern "C" fn kmip_contents_len(bytes: &[u8], limit: u32) -> i64
 /// - 0: the response is valid and reports success.
 /// - 1: the answer is an error, and the connection is good for the next call.
 /// - 2: the call is not of the grammar.
-/// - 3: the response ends early, or is no well-formed message.
+/// - 3: the response ends early, or is no well-formed message, or answers about another object than
+///   the call asked about. The connection is to be closed.
 /// - 5: memory ran out.
 #[unsafe(no_mangle)]
 pub extern "C" fn kmip_answer(
@@ -250,7 +252,8 @@ pub extern "C" fn kmip_operation_request(
 ///
 /// The call is given as to `kmip_operation_request`. The line has the response's payload as
 /// `{"answer":TREE}`, in the JSON of that encoding, or the error. The statuses are those of
-/// `kmip_answer`: after 2 and 5 there is no line, and `length` is 0.
+/// `kmip_answer`: after 2 and 5 there is no line, and `length` is 0. But the object that the answer
+/// is about is not compared with that of the call.
 #[unsafe(no_mangle)]
 pub extern "C" fn kmip_operation_answer(
     alloc: Global,

@@ -71,7 +71,7 @@ pub record ReportsStep (s : Step) (buffered : Bool) (report : CallAnswer) : Type
   pub shown : answer_line answered_shown Bare report.answer ≡ s.shown
   pub failed : is_error report.answer ≡ s.failed
 
--- the first of the answers, which is an error or a pair where a pair was asked for
+-- the first of the answers; where a pair was asked for, it is a pair or an error
 pub record IsSuited (pair : Bool) (answers : List CallAnswer) (x : CallAnswer) : Type 0 where
   pub later : List CallAnswer
   pub is : answers ≡ x ∷ later

@@ -51,7 +51,8 @@ fn answer_of_kind(pair: bool, answer: &Result<Answered, Error>) -> bool
     }
 }
 
-/// The first of the answers, where it suits its call.
+/// The first of the answers; `None` where a pair was asked for, and it is neither a pair nor an
+/// error.
 pub fn suited(pair: bool, answers: &CallAnswers) -> Option<&CallAnswer>
     ensures { IfSome result (λ answer. IsSuited pair answers.now answer.now) }
 {

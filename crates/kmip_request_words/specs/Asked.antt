@@ -35,8 +35,8 @@ identifier id = Some (record { 0 = id })
 
 -- ---- `sign ID HEX [hash=] [padding=] [algorithm=] [prehashed]`
 
--- the digest that is asked for where no option says another: none of bytes that are a digest
--- already; none at all where more stands after the word
+-- the digest that is asked for where `hash=` gives none: SHA-256, or after the word `prehashed`
+-- none, as the bytes are a digest already; a word that only begins so is no option
 abbrev pub usual_hash : Option (List ℕ) → Option (Option HashingAlgorithm)
 usual_hash None = Some (Some HashingAlgorithm.SHA256)
 usual_hash (Some []) = Some None

@@ -1,7 +1,7 @@
 //! What words with options ask for.
 //!
-//! An option is a word `name=VALUE`. The options of a call stand after its other words, in any
-//! order, each at most once.
+//! An option is a word `name=VALUE`, or the word `prehashed`. The options of a call stand after its
+//! other words, in any order, each at most once; but `locate` takes attributes any number of times.
 ghost use Rattle.std.specs.Prelude.{◌≡◌, option_map, IfOk};
 ghost use Rattle.kmip_request.specs.declared.payload.RequestPayload.{RequestPayload as Payload};
 ghost use Rattle.kmip_request_words.specs.Attributes.{attribute_in, attribute_name, all_of};
@@ -270,8 +270,8 @@ fn get_asked(alloc: Global, words: &[Text]) -> Result<Option<RequestPayload>, Ou
     Ok(Some(RequestPayload::Get(Some(UniqueIdentifier(id)), format, None, wrapping)))
 }
 
-/// `locate` with the attributes that objects are to have, and of all objects without any: KMIP 1.0,
-/// 4.8.
+/// `locate` with the attributes that the objects are to have; without any it asks for all objects:
+/// KMIP 1.0, 4.8.
 fn locate_asked(alloc: Global, words: &[Text]) -> Result<Option<RequestPayload>, OutOfMemory>
     ensures { IfOk result (λ made. made ≡ option_map Payload.Locate (all_of attribute_in words.now)) }
 {

@@ -50,8 +50,8 @@ pub data CallsRan {M : Type 0} (state : M → MakerState) :
       CallsRan state calls between reports after →
       CallsRan state (call ∷ calls) before (report ∷ reports) after
 
--- Over any link, where memory ran out: the report of one call is lost, and those before it were
--- made and kept the connection. Without a call it doesn't run out.
+-- Over any link, where memory ran out: the report of one call is lost, and the calls before it were
+-- made and kept the connection. Where no call is to be made, memory does not run out.
 pub data CallsCut {M : Type 0} (state : M → MakerState) :
     List Call → ClientState (ServerLinkState M) → ClientState (ServerLinkState M) → Type 0 where
   at_call : (call : Call) (calls : List Call) (before after : ClientState (ServerLinkState M)) →

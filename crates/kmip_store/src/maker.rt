@@ -61,9 +61,10 @@ impl From<AllocError> for MakerError {
 
 /// What makes keys, random bytes and signatures.
 ///
-/// A maker that tells keeps a list of its questions and a list of its answers. Each call appends
-/// its question to the one and its answer or refusal to the other, but nothing where memory runs
-/// out. A refusal raises the count of faults, up to `u64::MAX`.
+/// A maker whose calls are known to contracts (one that tells) keeps a list of its questions and a
+/// list of its answers. Each call appends its question to the one and its answer or refusal to the
+/// other, but nothing where memory runs out. A refusal raises the count of faults, at most to
+/// `u64::MAX`.
 pub trait Maker {
     ghost state: { Self → MakerState };
 

@@ -66,14 +66,14 @@ abbrev pub is_about_another : Call → Answer → Bool
 is_about_another call (Ok payload) = differs (asked_about call) (identifier_in payload)
 is_about_another call (Err error) = false
 
--- the answer that is shown for it
+-- the answer that is shown: an error in place of an answer about another object
 abbrev pub answer_about : Call → Answer → Answer
 answer_about call answer =
     if is_about_another call answer
     then Err (InternalError (codes "answer for another object"))
     else answer
 
--- how the call ended: after an answer about another object the link is out of step
+-- how the call ended: an answer about another object belongs to another call, so the link is lost
 abbrev pub ending_about : Call → Answer → Ending
 ending_about call answer = if is_about_another call answer then Lost else ending_of answer
 

@@ -1,5 +1,5 @@
--- What a response says that is not read as a response message: its skeleton, and where it reports
--- failure the server's reason and text (KMIP 1.0, 6.9 to 6.11).
+-- What is shown of a response to which the client returns an `InternalError`: its skeleton, and
+-- where it reports failure the server's reason and text (KMIP 1.0, 6.9 to 6.11).
 use Rattle.std.specs.Prelude.{ℕ, List, [], ◌++◌, ◌==◌, Option, Some, None, if◌then◌else◌, codes}
 use Rattle.std.specs.Option.{option_and_then}
 use Rattle.std.specs.List.{find}

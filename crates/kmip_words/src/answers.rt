@@ -168,7 +168,7 @@ pub fn show_result(
     }
 }
 
-/// The same, and lets the answer go.
+/// The same, and drops the answer.
 fn show_answer(
     alloc: Global,
     style: Style,

@@ -55,7 +55,7 @@ pub enum Call {
         id: Text,
         new_name: Text,
     },
-    /// `get TEXT`: the key with this identifier itself (KMIP 1.0, 4.10).
+    /// `get TEXT`: the object with this identifier itself (KMIP 1.0, 4.10).
     Get {
         id: Text,
     },
@@ -63,8 +63,8 @@ pub enum Call {
     Raw {
         request: RawRequest,
     },
-    /// `locate TEXT`: which objects have this name (KMIP 1.0, 4.8). This call and the three below
-    /// are typed, and stand in no script.
+    /// `locate TEXT`: which objects have this name (KMIP 1.0, 4.8). This call and those below are
+    /// typed, and stand in no script.
     Locate {
         name: Text,
     },

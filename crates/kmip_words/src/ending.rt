@@ -13,8 +13,8 @@ pub enum Ending {
     /// It returned an error, and its whole response was taken, or nothing was sent: the link is
     /// good for the next call.
     Refused,
-    /// The link failed or ended, or gave bytes that are no message: no further call is to be made
-    /// on it.
+    /// The link failed or ended, or gave bytes that are no message, or an answer about another
+    /// object: no further call is to be made on it.
     Lost,
 }
 
@@ -29,7 +29,8 @@ impl Ending {
         }
     }
 
-    /// How a call that returned this error ended. It takes no memory.
+    /// How a call that returned this error ended; of `OutOfMemory`, which leaves the state of the
+    /// link unknown, it says `Refused`. It takes no memory.
     pub fn of_error(error: &Error) -> Ending
         ensures { result ≡ cond (loses_link error.now) endings.Lost endings.Refused }
     {

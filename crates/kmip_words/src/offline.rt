@@ -187,7 +187,7 @@ fn tell_result(
     }
 }
 
-/// The same, and lets the answer go.
+/// The same, and drops the answer.
 fn tell(
     alloc: Global,
     call: &Call,
@@ -210,7 +210,7 @@ fn tell(
 ///
 /// Where the call named an object, and the answer is about another one, the line has the error
 /// `InternalError` with the text `answer for another object`, and the call ended as `Lost`: the
-/// response was sent for another call, and so the link is out of step.
+/// response belongs to another call, and so may the next one.
 ///
 /// The line of an `InternalError` also has the member `response`, the skeleton of the first message
 /// as kmip_diag prints it, and where that reports failure `reason`, the number of the server's

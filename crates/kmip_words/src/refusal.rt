@@ -1,4 +1,4 @@
-//! What a response says that is not read as a response message.
+//! What is shown of a response to which the client returns an `InternalError`.
 ghost use Rattle.std.specs.Prelude.{◌≡◌, ◌++◌, codes, Some, option_map, OnOk, IfOk};
 ghost use Rattle.std.specs.Option.{option_and_then};
 ghost use Rattle.kmip_wire.specs.Items.{item_tree};
@@ -17,7 +17,7 @@ use kmip_tags::tags::{BATCH_ITEM, RESULT_MESSAGE, RESULT_REASON, RESULT_STATUS};
 use kmip_wire::{ItemRef, OutOfMemory, Tag, Text};
 use std::alloc::Global;
 
-/// The status of an operation that failed: KMIP 1.0, 9.1.3.2.
+/// The status of an operation that failed: KMIP 1.0, 9.1.3.2.27.
 const OPERATION_FAILED: u32 = 1;
 
 /// The first item with this tag in a structure.
