@@ -15,3 +15,4 @@ pub mod Skeletons
 pub use Rattle.kmip_request.specs.Requests
 pub mod Untyped
 pub mod Operation
+pub mod WholeMessage

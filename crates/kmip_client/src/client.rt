@@ -8,6 +8,7 @@ ghost use Rattle.kmip_client.specs.Client.{count_after, IsOfOperation};
 ghost use Rattle.kmip_client.specs.Outcome.{answer_with_payload, seen_by};
 ghost use Rattle.kmip_client.specs.Calls.{IsCall, IsCallOf};
 ghost use Rattle.kmip_client.specs.Operation.{IsOperationCall};
+ghost use Rattle.kmip_client.specs.WholeMessage.{IsMessageCall};
 
 use crate::answered::Answered;
 use crate::call::{Diagnostics, Settings, call};
@@ -15,6 +16,7 @@ use crate::call_request::{CallRequest, TypedRequest};
 use crate::error::Error;
 use crate::operation::{OperationRequest, Version};
 use crate::room::{Room, keep};
+use crate::whole_message::MessageRequest;
 use kmip_enums::Operation;
 use kmip_link::Link;
 use kmip_request::{Authentication, RequestPayload};
@@ -233,6 +235,31 @@ impl<T: Link> Client<T> {
             version,
             payload,
         };
+        self.make_call(alloc, &request)
+    }
+
+    /// Sends a whole message of the caller's, and returns the whole response, each as a tree: so it
+    /// makes a batch of several items, or a call whose header has what `do_operation` writes none
+    /// of. Nothing is asked of a tag, of a batch item or of a status: a response that says that the
+    /// server refused is a tree as any other.
+    ///
+    /// It sends the canonical bytes of the message, which is a structure of at most 64 levels
+    /// (`whole_bytes`, specs/WholeMessage.antt), as it stands: the client's credential is not
+    /// added. KMIP wants a structure with the tag Request Message (KMIP 1.0, 7.1). Link faults and
+    /// lack of memory aside, it returns a tree exactly where the bytes left begin with a message
+    /// that parses, which is then a structure. Its errors are those of `do_request`, but for these:
+    ///
+    /// - `SerializeError`: the tree is no structure of at most 64 levels, or has no wire form.
+    ///   Nothing was sent or taken.
+    /// - `ServerError`, `ItemNotFound`, `InternalError`: never.
+    ///
+    /// Its contract has the fields of `IsCall`, for this message and this reading of a response:
+    /// `exchange`, `caused`, `reading`, `headline`, `keeps`, `credential`, `limit`, `buffered`,
+    /// `count`, `request_text`, `response_text` and `quiet`.
+    pub fn do_message(&mut self, alloc: Global, message: &Tree) -> Result<Tree, Error>
+        ensures { IsMessageCall T.state message.now self.old self.new result }
+    {
+        let request = MessageRequest { message };
         self.make_call(alloc, &request)
     }
 

@@ -14,8 +14,9 @@
 //! Nine helpers make the calls of a signing service; [`Client::do_request`] makes any of the
 //! seventeen operations: it writes one request message, reads one response and returns its payload
 //! or a named [`Error`]. Its contract says what was sent and read after each outcome, and the cause
-//! of each error. [`Client::do_operation`] makes any operation of a payload tree, with the same
-//! contract. [`exchange_all`] makes several calls in order.
+//! of each error. [`Client::do_operation`] makes any operation of a payload tree, and
+//! [`Client::do_message`] sends any message, with the same contract. [`exchange_all`] makes several
+//! calls in order.
 #![tactic(auto)]
 
 mod answered;
@@ -34,6 +35,7 @@ mod room;
 mod session;
 mod transfer;
 mod untyped;
+mod whole_message;
 
 pub use builder::ClientBuilder;
 pub use client::Client;

@@ -270,7 +270,7 @@ fn message_answer(alloc: Global, operation: Operation, message: Tree) -> Result<
 }
 
 /// The tree that the bytes are, where they are one well-formed item and nothing more.
-fn whole_tree(alloc: Global, m: &[u8]) -> Result<Option<Tree>, OutOfMemory>
+pub fn whole_tree(alloc: Global, m: &[u8]) -> Result<Option<Tree>, OutOfMemory>
     ensures { IfOk result (λ tree. tree ≡ item_of 64 m.now) }
 {
     match read_tree(alloc, m) {

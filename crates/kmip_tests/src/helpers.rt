@@ -4,7 +4,7 @@ use kmip_client::{Client, ClientBuilder, Result};
 use kmip_link::MemoryLink;
 use kmip_shape::{Outer, ReadItem, ShowItem, WriteItem, to_blob};
 use kmip_test_messages::message;
-use kmip_wire::{ItemRef, Text, TryClone};
+use kmip_wire::{ItemRef, Text, Tree, TryClone, read_tree};
 use std::alloc::Global;
 use std::process::Abort;
 
@@ -153,4 +153,34 @@ pub fn is_answered(rt: &impl Abort, mut client: Client<MemoryLink>, told: &Text,
     assert_eq!(rt; told.as_str(), expected);
     assert!(rt; client.inner().rest().is_empty());
     drop(client);
+}
+
+/// The tree of an item.
+pub fn tree_of(rt: &impl Abort, alloc: Global, notation: &str) -> Tree {
+    let bytes = bytes_of(rt, alloc, notation);
+    let (tree, len) = read_tree(alloc, &bytes).expect(rt, "an item");
+    assert_eq!(rt; len, bytes.len(), "{notation}");
+    tree
+}
+
+/// The request was sent so, and the response was taken whole.
+pub fn is_sent(rt: &impl Abort, alloc: Global, mut client: Client<MemoryLink>, request: &str) {
+    let request = bytes_of(rt, alloc, request);
+    assert!(rt; client.inner().sent() == request.as_slice());
+    assert!(rt; client.inner().rest().is_empty());
+    drop(client);
+}
+
+/// What a call failed with is printed so.
+pub fn fails_with(rt: &impl Abort, alloc: Global, answer: Result<Tree>, expected: &str) {
+    match answer {
+        Ok(tree) => {
+            drop(tree);
+            assert_eq!(rt; "a tree", expected);
+        }
+        Err(error) => {
+            let printed = error.to_string(alloc).expect(rt, "memory");
+            assert_eq!(rt; printed.as_str(), expected);
+        }
+    }
 }

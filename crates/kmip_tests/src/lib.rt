@@ -16,6 +16,8 @@ mod helpers;
 #[cfg(test)]
 mod keys;
 #[cfg(test)]
+mod messages;
+#[cfg(test)]
 mod operations;
 #[cfg(test)]
 mod plain;

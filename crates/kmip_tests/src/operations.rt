@@ -1,10 +1,10 @@
 //! Any operation by its tree, over links that hold its answer.
-use crate::helpers::{bytes_of, client_fed, text};
+use crate::helpers::{bytes_of, client_fed, fails_with, is_sent, text, tree_of};
 use kmip_client::{Client, ClientBuilder, Result, Version};
 use kmip_enums::Operation;
 use kmip_link::MemoryLink;
 use kmip_tags::tags::REQUEST_PAYLOAD;
-use kmip_wire::{Blob, Config, Node, Tag, Tree, read_tree, write_tree};
+use kmip_wire::{Blob, Config, Node, Tag, Tree, write_tree};
 use std::alloc::Global;
 use std::process::Abort;
 
@@ -13,14 +13,6 @@ const PAYLOAD: &str = "79{94 \"k1\",C2 xAA}";
 
 /// The request of KMIP 1.2.
 const REQUEST: &str = "REQ2(1F, 94 \"k1\",C2 xAA)";
-
-/// The tree of an item.
-fn tree_of(rt: &impl Abort, alloc: Global, notation: &str) -> Tree {
-    let bytes = bytes_of(rt, alloc, notation);
-    let (tree, len) = read_tree(alloc, &bytes).expect(rt, "an item");
-    assert_eq!(rt; len, bytes.len(), "{notation}");
-    tree
-}
 
 /// What an Encrypt of this payload is answered.
 fn encrypt(
@@ -34,14 +26,6 @@ fn encrypt(
     client.do_operation(alloc, Operation::Encrypt, version, &payload)
 }
 
-/// The request was sent so, and the response was taken whole.
-fn is_sent(rt: &impl Abort, alloc: Global, mut client: Client<MemoryLink>, request: &str) {
-    let request = bytes_of(rt, alloc, request);
-    assert!(rt; client.inner().sent() == request.as_slice());
-    assert!(rt; client.inner().rest().is_empty());
-    drop(client);
-}
-
 /// This response answers this payload.
 fn answers(rt: &impl Abort, alloc: Global, response: &str, payload: &str) {
     let mut client = client_fed(rt, alloc, response);
@@ -51,20 +35,6 @@ fn answers(rt: &impl Abort, alloc: Global, response: &str, payload: &str) {
     let expected = bytes_of(rt, alloc, payload);
     assert!(rt; written.as_slice() == expected.as_slice(), "{response}");
     is_sent(rt, alloc, client, REQUEST);
-}
-
-/// What a call failed with is printed so.
-fn fails_with(rt: &impl Abort, alloc: Global, answer: Result<Tree>, expected: &str) {
-    match answer {
-        Ok(payload) => {
-            drop(payload);
-            assert_eq!(rt; "a payload", expected);
-        }
-        Err(error) => {
-            let printed = error.to_string(alloc).expect(rt, "memory");
-            assert_eq!(rt; printed.as_str(), expected);
-        }
-    }
 }
 
 /// This response fails the call with an error that is printed so.
