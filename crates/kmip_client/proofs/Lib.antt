@@ -13,3 +13,4 @@ pub mod Orders
 pub mod Tagged
 pub mod Operations
 pub mod Successes
+pub mod WholeMessages

@@ -52,6 +52,9 @@ text_under tag tree =
 
 -- ---- what a response message answers
 
+abbrev pub malformed : Error
+malformed = DeserializeError (codes "malformed TTLV")
+
 abbrev pub not_response : Error
 not_response = InternalError (codes "not a response message")
 
@@ -133,7 +136,7 @@ message_answer operation message =
     else Err not_response
 
 abbrev pub parsed_answer : Operation → Option Tree → Result Tree Error
-parsed_answer operation None = Err (DeserializeError (codes "malformed TTLV"))
+parsed_answer operation None = Err malformed
 parsed_answer operation (Some message) = message_answer operation message
 
 -- what a whole message answers

@@ -1,13 +1,13 @@
 -- A message of the caller's as a tree, and a call that sends it.
-use Rattle.std.specs.Prelude.{◌≡◌, ℕ, Bool, false, ◌&&◌, List, Option, Some, None, if◌then◌else◌, nat_le, Result, Ok, Err, codes}
+use Rattle.std.specs.Prelude.{◌≡◌, ℕ, Bool, false, List, Option, Some, None, if◌then◌else◌, nat_le, Result, Ok, Err}
 use Rattle.kmip_wire.specs.Tree.{Tree, scalar, structure}
 use Rattle.kmip_wire.specs.Bytes.{bytes, levels}
 use Rattle.kmip_wire.specs.Parses.{Parses}
 use Rattle.kmip_wire.specs.Reading.{item_of}
 use Rattle.kmip_link.specs.State.{LinkState}
 use Rattle.kmip_client.specs.declared.error.Error.{Error}
-use Rattle.kmip_client.specs.declared.error.Error.TheVariants.{DeserializeError}
 use Rattle.kmip_client.specs.Message.{message_at, Whole}
+use Rattle.kmip_client.specs.Untyped.{malformed}
 use Rattle.kmip_client.specs.Client.{ClientState}
 use Rattle.kmip_client.specs.Calls.{CallKind, IsCallOf}
 
@@ -21,7 +21,7 @@ abbrev pub whole_bytes : Tree → Option (List ℕ)
 whole_bytes message = if is_message message then bytes message else None
 
 abbrev pub tree_of_message : Option Tree → Result Tree Error
-tree_of_message None = Err (DeserializeError (codes "malformed TTLV"))
+tree_of_message None = Err malformed
 tree_of_message (Some message) = Ok message
 
 -- what a whole message answers: its tree

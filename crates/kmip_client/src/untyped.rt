@@ -7,7 +7,7 @@ ghost use Rattle.kmip_wire.specs.Reading.{item_of};
 ghost use Rattle.kmip_client.specs.Outcome.{Gives};
 ghost use Rattle.kmip_client.specs.Check.{count_text};
 ghost use Rattle.kmip_client.specs.Untyped.{has_tag, children_of, all_under, one_under};
-ghost use Rattle.kmip_client.specs.Untyped.{number_under, text_under, not_response};
+ghost use Rattle.kmip_client.specs.Untyped.{number_under, text_under, malformed, not_response};
 ghost use Rattle.kmip_client.specs.Untyped.{failure_of, payload_of, success_of, status_answer};
 ghost use Rattle.kmip_client.specs.Untyped.{is_one, counts_one, message_answer, untyped_answer};
 ghost use Rattle.kmip_client.specs.declared.error.Error.TheVariants.{InternalError};
@@ -137,6 +137,13 @@ fn take_child(tree: Tree, index: usize) -> Option<Tree>
     } else {
         None
     }
+}
+
+/// The error where bytes are no message.
+pub fn malformed(alloc: Global) -> Result<Tree, Error>
+    ensures { Gives (Err malformed) result }
+{
+    Err(Error::DeserializeError(Text::of(alloc, "malformed TTLV")?))
 }
 
 /// The error where a message is no response message.
@@ -293,6 +300,6 @@ pub fn untyped_answer(alloc: Global, operation: Operation, m: &[u8]) -> Result<T
 {
     match whole_tree(alloc, m)? {
         Some(message) => message_answer(alloc, operation, message),
-        None => Err(Error::DeserializeError(Text::of(alloc, "malformed TTLV")?)),
+        None => malformed(alloc),
     }
 }

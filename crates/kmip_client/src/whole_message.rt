@@ -10,9 +10,9 @@ ghost use Rattle.kmip_client.specs.WholeMessage.{message_calls};
 
 use crate::call_request::CallRequest;
 use crate::error::Error;
-use crate::untyped::whole_tree;
+use crate::untyped::{malformed, whole_tree};
 use kmip_request::Authentication;
-use kmip_wire::{Buffer, Node, Text, Tree, WireError, write_tree};
+use kmip_wire::{Buffer, Node, Tree, WireError, write_tree};
 use std::alloc::Global;
 
 /// Whether an item has at most so many levels.
@@ -73,7 +73,7 @@ fn whole_answer(alloc: Global, m: &[u8]) -> Result<Tree, Error>
 {
     match whole_tree(alloc, m)? {
         Some(message) => Ok(message),
-        None => Err(Error::DeserializeError(Text::of(alloc, "malformed TTLV")?)),
+        None => malformed(alloc),
     }
 }
 

@@ -1,0 +1,12 @@
+use Rattle.std.proofs.Common.{subst, Result}
+use Rattle.kmip_wire.specs.Tree.{Tree}
+use Rattle.kmip_client.specs.declared.error.Error.{Error}
+use Rattle.kmip_client.specs.WholeMessage.{IsMessageCall}
+use Rattle.kmip_client.proofs.Exchanges.{seen_itself}
+use Rattle.kmip_client.proofs.client.Client.do_message.Goals as goal
+
+pub returns : goal.returns
+returns g c =
+    let P : Result Tree Error → Type 0 =
+    λ seen. IsMessageCall g.T.Link.state c.args.message.now c.args.self.now c.make_call.new.self seen in
+    subst P (seen_itself c.make_call.result) c.make_call.ensures
