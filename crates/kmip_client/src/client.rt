@@ -1,5 +1,5 @@
 //! A client over a link.
-ghost use Rattle.std.specs.Prelude.{◌≡◌, None, IfOk, option_map};
+ghost use Rattle.std.specs.Prelude.{◌≡◌, None, IfOk, option_map, true};
 ghost use Rattle.kmip_request.specs.Message.{operation_of, credential_of};
 ghost use Rattle.kmip_request.specs.Fits.{FitsCredential};
 ghost use Rattle.kmip_response.specs.Values.{response_payload_val};
@@ -8,7 +8,7 @@ ghost use Rattle.kmip_client.specs.Client.{count_after, IsOfOperation};
 ghost use Rattle.kmip_client.specs.Outcome.{answer_with_payload, seen_by};
 ghost use Rattle.kmip_client.specs.Calls.{IsCall, IsCallOf};
 ghost use Rattle.kmip_client.specs.Operation.{IsOperationCall};
-ghost use Rattle.kmip_client.specs.WholeMessage.{IsMessageCall};
+ghost use Rattle.kmip_client.specs.WholeMessage.{IsMessageCall, is_message};
 
 use crate::answered::Answered;
 use crate::call::{Diagnostics, Settings, call};
@@ -247,17 +247,19 @@ impl<T: Link> Client<T> {
     /// (`whole_bytes`, specs/WholeMessage.antt), as it stands: the client's credential is not
     /// added. KMIP wants a structure with the tag Request Message (KMIP 1.0, 7.1). Link faults and
     /// lack of memory aside, it returns a tree exactly where the bytes left begin with a message
-    /// that parses, which is then a structure. Its errors are those of `do_request`, but for these:
+    /// that parses (`IsWholeTree`). Its errors are those of `do_request`, but for these:
     ///
     /// - `SerializeError`: the tree is no structure of at most 64 levels, or has no wire form.
     ///   Nothing was sent or taken.
     /// - `ServerError`, `ItemNotFound`, `InternalError`: never.
     ///
-    /// Its contract has the fields of `IsCall`, for this message and this reading of a response:
-    /// `exchange`, `caused`, `reading`, `headline`, `keeps`, `credential`, `limit`, `buffered`,
-    /// `count`, `request_text`, `response_text` and `quiet`.
+    /// The clause `call` has the fields of `IsCall`, for this message and this reading of a
+    /// response: `exchange`, `caused`, `reading`, `headline`, `keeps`, `credential`, `limit`,
+    /// `buffered`, `count`, `request_text`, `response_text` and `quiet`. The clause `message`
+    /// promises that the tree of a response is a structure of at most 64 levels.
     pub fn do_message(&mut self, alloc: Global, message: &Tree) -> Result<Tree, Error>
-        ensures { IsMessageCall T.state message.now self.old self.new result }
+        ensures call { IsMessageCall T.state message.now self.old self.new result }
+        ensures message { IfOk result (λ response. is_message response ≡ true) }
     {
         let request = MessageRequest { message };
         self.make_call(alloc, &request)
