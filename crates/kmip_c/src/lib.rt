@@ -205,12 +205,12 @@ pub extern "C" fn kmip_value(
 /// Writes the request of a call of any operation to `into`, and returns how many bytes it has.
 /// Where they do not fit, nothing is written.
 ///
-/// `name` is the operation's name in KMIP's table, as `Encrypt`; `version` is `1.0`, `1.1` or
-/// `1.2`; `payload` is the JSON of a structure with the tag `RequestPayload` (KMIP Additional
-/// Message Encodings). With `has_credential` the request carries this user name and password. After
-/// each code nothing is written:
+/// `name` is the operation's name without spaces and hyphens, as `Encrypt` or `RekeyKeyPair`;
+/// `version` is `1.0`, `1.1` or `1.2`; `payload` is the JSON of a structure with the tag
+/// `RequestPayload` (KMIP Additional Message Encodings). With `has_credential` the request carries
+/// this user name and password. After each code nothing is written:
 ///
-/// - -2: they ask for no call, or the user name or the password is not UTF-8.
+/// - -2: one of the three is not so, or the user name or the password is not UTF-8.
 /// - -5: memory ran out.
 /// - -6: the request has no wire form.
 #[unsafe(no_mangle)]
