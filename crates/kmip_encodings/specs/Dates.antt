@@ -22,8 +22,8 @@ is_civil c =
     (days_in_month c.year c.month) && (nat_lt c.hour 24 && (nat_lt c.minute 60
     && nat_lt c.second 60))))))
 
--- the days before the first of the month, counted from 1 March of the year 0: a leap day is then the
--- last of its year
+-- the days before the first of the month, counted from 1 March of the year 0: a leap day is then
+-- the last of its year
 abbrev pub days_before : ℕ → ℕ → ℕ
 days_before year month = 365 * year + year / 4 - year / 100 + year / 400 + (153 * month + 2) / 5
 

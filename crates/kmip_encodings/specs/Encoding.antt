@@ -44,8 +44,8 @@ item_json tag kind value =
     object (tag_member tag
     (member (codes "type") (string (kind_text kind)) (value_member value)))
 
--- an object of the tag, of the type unless it is Structure, and of the value; a structure's value is
--- an array of its items
+-- an object of the tag, of the type unless it is Structure, and of the value; a structure's value
+-- is an array of its items
 abbrev mutual
   pub json_of : Tree → Json
   json_of (scalar tag s) = item_json tag (kind_of_scalar s) (value_json tag s)

@@ -55,7 +55,8 @@ enumeration_of_text tag s = hex_or s word_of_bytes (enumeration_number tag s)
 unfoldable pub date_of_text : List ℕ → Option ℕ
 date_of_text s = hex_or s long_of_bytes (date_number s)
 
--- whether a number is nearer to 0 than 2^53: a reader that holds numbers as doubles holds it exactly
+-- whether a number is nearer to 0 than 2^53: a reader that holds numbers as doubles holds it
+-- exactly
 abbrev pub is_exact : ℤ → Bool
 is_exact z = nat_lt (unsigned_abs z) (2 ^ 53)
 
@@ -244,8 +245,8 @@ abbrev pub ReadsItems : Result (List Tree) EncodingError → Read Trees → Type
 ReadsItems (Ok trees) read = read ≡ Ok (trees_of trees)
 ReadsItems (Err e) read = Fails e read
 
--- What reading a text returns: the tree that its value means, where it is a text of JSON in which no
--- object has a name twice; or else why there is none. Memory may run out.
+-- What reading a text returns: the tree that its value means, where it is a text of JSON in which
+-- no object has a name twice; or else why there is none. Memory may run out.
 abbrev pub ReadsText : Result Tree EncodingError → List ℕ → Type 0
 ReadsText (Ok tree) text =
     IsSomeAnd (document text) (λ j. HasUniqueKeys j × (tree_of j ≡ Ok tree))

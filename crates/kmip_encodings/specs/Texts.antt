@@ -26,8 +26,8 @@ abbrev pub is_number : Option ℕ → ℕ → Bool
 is_number None n = false
 is_number (Some m) n = m == n
 
--- the date and the time of day, where the text reads as the number, as it does from the year 1 to the
--- year 9999; or else `0x` and 16 digits
+-- the date and the time of day, where the text reads as the number, as it does from the year 1 to
+-- the year 9999; or else `0x` and 16 digits
 unfoldable pub date_text : ℕ → List ℕ
 date_text n =
     if is_number (date_number (civil_text (civil_of n))) n then civil_text (civil_of n)

@@ -18,7 +18,8 @@ ghost use Rattle.kmip_encodings.specs.Reading.{string_scalar, truth_scalar, scal
 ghost use Rattle.kmip_encodings.specs.Reading.{kind_from, tag_from, is_known, are_known, Read};
 ghost use Rattle.kmip_encodings.specs.Reading.{wants, within, items_by, node_read, parts_in};
 ghost use Rattle.kmip_encodings.specs.Reading.{is_exact, known_members, scalar_read};
-ghost use Rattle.kmip_encodings.specs.Reading.{read_item, Fails, FailsTree, Reads, ReadsItems, ReadsText};
+ghost use Rattle.kmip_encodings.specs.Reading.{read_item, Fails, FailsTree, Reads, ReadsItems};
+ghost use Rattle.kmip_encodings.specs.Reading.{ReadsText};
 
 use crate::date::date_number;
 use crate::error::{EncodingError, Expected, Fault};
@@ -212,8 +213,8 @@ fn natural(text: &str) -> Option<u32>
 
 /// The value of an item of the type, given as a number.
 fn number_node(kind: Kind, text: &str) -> Option<Node>
-    ensures { (tag : ℕ) →
-        option_map (tree_of_node tag) result ≡ option_map (scalar tag) (number_scalar kind text.now) }
+    ensures { (tag : ℕ) → option_map (tree_of_node tag) result ≡
+        option_map (scalar tag) (number_scalar kind text.now) }
 {
     match kind {
         Kind::Integer => Some(Node::Integer(small_integer(whole_number(text)?)?)),
@@ -349,7 +350,8 @@ fn kind_from(member: Option<&Value<'_>>) -> Option<Kind>
 
 /// The tag that the member `tag` names.
 fn tag_from(alloc: Global, member: Option<&Value<'_>>) -> Result<Option<Tag>, OutOfMemory>
-    ensures { IfOk result (λ tag. tag ≡ tag_from (option_map (λ v. value_view v.now) member.entry)) }
+    ensures { IfOk result
+        (λ tag. tag ≡ tag_from (option_map (λ v. value_view v.now) member.entry)) }
 {
     let Some(value) = member else {
         return Ok(None);
@@ -535,8 +537,8 @@ fn broken_at(alloc: Global, text: &str) -> Result<usize, OutOfMemory> {
 /// The tree of a text of JSON: an object with the members `tag`, `type` (Structure where it is left
 /// out) and `value`, in any order. What `to_json` writes is read as the tree that was written.
 ///
-/// A tag and an enumeration's number may be given by name or as `0x` and their digits, an Integer, a
-/// Long Integer and an Interval as a number nearer to 0 than 2^53 or as `0x` and their digits, an
+/// A tag and an enumeration's number may be given by name or as `0x` and their digits, an Integer,
+/// a Long Integer and an Interval as a number nearer to 0 than 2^53 or as `0x` and their digits, an
 /// enumeration's number as a number, and a Date-Time as `0x` and 16 digits. Digits may be of either
 /// case.
 ///

@@ -27,8 +27,8 @@ fn all_words() -> &'static [&'static str]
     &TABLE
 }
 
-/// The name of the tag as one word, as `UniqueIdentifier`: `Some` exactly for the tags from 0x420001
-/// to 0x420124. It takes no memory.
+/// The name of the tag as one word, as `UniqueIdentifier`: `Some` exactly for the tags from
+/// 0x420001 to 0x420124. It takes no memory.
 pub fn tag_word(tag: Tag) -> Option<&'static str>
     ensures { option_map (λ word. word.now) result ≡ tag_word tag }
 {

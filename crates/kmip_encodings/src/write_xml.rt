@@ -2,7 +2,11 @@
 ghost use Rattle.std.specs.Prelude.{◌≡◌, ◌++◌, flat_map, IfOk, None};
 ghost use Rattle.std.specs.Char.{encode_utf8};
 ghost use Rattle.std.specs.Fmt.{signed_decimal};
+ghost use Rattle.hex.specs.Hex.{encode_upper};
 ghost use Rattle.kmip_shape.specs.Shown.{truth_shown};
+ghost use Rattle.kmip_wire.specs.declared.kind.Kind.TheVariants.{Enumeration, Boolean};
+ghost use Rattle.kmip_wire.specs.declared.kind.Kind.TheVariants.{TextString, DateTime};
+ghost use Rattle.kmip_encodings.specs.Texts.{enumeration_text, date_text};
 ghost use Rattle.kmip_wire.specs.Tree.{structure, trees_of};
 ghost use Rattle.kmip_encodings.specs.Xml.{xml_byte, escaped, start_xml, end_xml, item_xml};
 ghost use Rattle.kmip_encodings.specs.Xml.{name_xml, xml_of};
@@ -39,19 +43,6 @@ fn escaped(alloc: Global, text: &str) -> Result<Text, OutOfMemory>
         put_escaped(&mut out, ch)?;
     }
     Ok(out)
-}
-
-/// A number in decimal.
-fn decimal(alloc: Global, number: i64) -> Result<Text, OutOfMemory>
-    ensures { IfOk result (λ text. text ≡ signed_decimal number) }
-{
-    Text::of(alloc, Buffer::new().format(number))
-}
-
-fn truth_text(alloc: Global, truth: bool) -> Result<Text, OutOfMemory>
-    ensures { IfOk result (λ text. text ≡ truth_shown truth) }
-{
-    Text::of(alloc, if truth { "true" } else { "false" })
 }
 
 /// Appends the name of an element whose tag has none, with the tag as an attribute.
@@ -92,7 +83,7 @@ fn put_item(
     alloc: Global,
     tag: Tag,
     kind: Kind,
-    value: &Text,
+    value: &str,
     out: &mut Text,
 ) -> Result<(), OutOfMemory>
     ensures { IfOk result (λ _. out.new ≡ out.old ++ item_xml tag kind value.now) }
@@ -101,8 +92,76 @@ fn put_item(
     out.push_str(" type=\"")?;
     out.push_str(kind_text(kind))?;
     out.push_str("\" value=\"")?;
-    out.push_str(value.as_str())?;
+    out.push_str(value)?;
     out.push_str("\"/>")
+}
+
+fn put_number(
+    alloc: Global,
+    tag: Tag,
+    kind: Kind,
+    number: i64,
+    out: &mut Text,
+) -> Result<(), OutOfMemory>
+    ensures { IfOk result (λ _. out.new ≡ out.old ++ item_xml tag kind (signed_decimal number)) }
+{
+    put_item(alloc, tag, kind, Buffer::new().format(number), out)
+}
+
+fn truth_text(truth: bool) -> &'static str
+    ensures { result.now ≡ truth_shown truth }
+{
+    if truth { "true" } else { "false" }
+}
+
+fn put_truth(alloc: Global, tag: Tag, truth: bool, out: &mut Text) -> Result<(), OutOfMemory>
+    ensures { IfOk result
+        (λ _. out.new ≡ out.old ++ item_xml tag Boolean (truth_shown truth)) }
+{
+    put_item(
+        alloc,
+        tag,
+        Kind::Boolean,
+        if truth { "true" } else { "false" },
+        out,
+    )
+}
+
+fn put_bytes(
+    alloc: Global,
+    tag: Tag,
+    kind: Kind,
+    bytes: &[u8],
+    out: &mut Text,
+) -> Result<(), OutOfMemory>
+    ensures { IfOk result (λ _. out.new ≡ out.old ++ item_xml tag kind (encode_upper bytes.now)) }
+{
+    let digits = bytes_text(alloc, bytes)?;
+    put_item(alloc, tag, kind, digits.as_str(), out)
+}
+
+fn put_name(alloc: Global, tag: Tag, number: u32, out: &mut Text) -> Result<(), OutOfMemory>
+    ensures { IfOk result
+        (λ _. out.new ≡ out.old ++ item_xml tag Enumeration (enumeration_text tag number)) }
+{
+    let name = enumeration_text(alloc, tag, number)?;
+    put_item(alloc, tag, Kind::Enumeration, name.as_str(), out)
+}
+
+fn put_text(alloc: Global, tag: Tag, text: &str, out: &mut Text) -> Result<(), OutOfMemory>
+    ensures { IfOk result
+        (λ _. out.new ≡ out.old ++ item_xml tag TextString (escaped text.now)) }
+{
+    let value = escaped(alloc, text)?;
+    put_item(alloc, tag, Kind::TextString, value.as_str(), out)
+}
+
+fn put_date(alloc: Global, tag: Tag, seconds: u64, out: &mut Text) -> Result<(), OutOfMemory>
+    ensures { IfOk result
+        (λ _. out.new ≡ out.old ++ item_xml tag DateTime (date_text seconds)) }
+{
+    let date = date_text(alloc, seconds)?;
+    put_item(alloc, tag, Kind::DateTime, date.as_str(), out)
 }
 
 #[cycle(write)]
@@ -112,66 +171,19 @@ fn put_tree(alloc: Global, tree: &Tree, out: &mut Text) -> Result<(), OutOfMemor
     let tag = tree.tag;
     match &tree.node {
         Node::Structure(items) => put_structure(alloc, tag, items.as_slice(), out),
-        Node::Integer(number) => {
-            put_item(
-                alloc,
-                tag,
-                Kind::Integer,
-                &decimal(alloc, *number as i64)?,
-                out,
-            )
-        }
-        Node::LongInteger(number) => {
-            put_item(
-                alloc,
-                tag,
-                Kind::LongInteger,
-                &decimal(alloc, *number)?,
-                out,
-            )
-        }
+        Node::Integer(number) => put_number(alloc, tag, Kind::Integer, *number as i64, out),
+        Node::LongInteger(number) => put_number(alloc, tag, Kind::LongInteger, *number, out),
         Node::BigInteger(bytes) => {
-            let digits = bytes_text(alloc, bytes.as_slice())?;
-            put_item(alloc, tag, Kind::BigInteger, &digits, out)
+            put_bytes(alloc, tag, Kind::BigInteger, bytes.as_slice(), out)
         }
-        Node::Enumeration(number) => {
-            let name = enumeration_text(alloc, tag, *number)?;
-            put_item(alloc, tag, Kind::Enumeration, &name, out)
-        }
-        Node::Boolean(truth) => {
-            put_item(alloc, tag, Kind::Boolean, &truth_text(alloc, *truth)?, out)
-        }
-        Node::TextString(text) => {
-            put_item(
-                alloc,
-                tag,
-                Kind::TextString,
-                &escaped(alloc, text.as_str())?,
-                out,
-            )
-        }
+        Node::Enumeration(number) => put_name(alloc, tag, *number, out),
+        Node::Boolean(truth) => put_truth(alloc, tag, *truth, out),
+        Node::TextString(text) => put_text(alloc, tag, text.as_str(), out),
         Node::ByteString(bytes) => {
-            let digits = bytes_text(alloc, bytes.as_slice())?;
-            put_item(alloc, tag, Kind::ByteString, &digits, out)
+            put_bytes(alloc, tag, Kind::ByteString, bytes.as_slice(), out)
         }
-        Node::DateTime(seconds) => {
-            put_item(
-                alloc,
-                tag,
-                Kind::DateTime,
-                &date_text(alloc, *seconds)?,
-                out,
-            )
-        }
-        Node::Interval(seconds) => {
-            put_item(
-                alloc,
-                tag,
-                Kind::Interval,
-                &decimal(alloc, *seconds as i64)?,
-                out,
-            )
-        }
+        Node::DateTime(seconds) => put_date(alloc, tag, *seconds, out),
+        Node::Interval(seconds) => put_number(alloc, tag, Kind::Interval, *seconds as i64, out),
     }
 }
 
