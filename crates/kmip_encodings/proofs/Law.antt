@@ -22,7 +22,7 @@ use Rattle.kmip_wire.specs.Kinds.{kind_of_scalar}
 use Rattle.kmip_wire.specs.Tree.{Tree, Trees, Scalar, scalar, structure, none, more, integer, long_integer, big_integer, enumeration, boolean, text_string, byte_string, date_time, interval}
 use Rattle.kmip_wire.specs.Bytes.{levels, levels_of_all, IsInRange, HasRanges, HaveRanges}
 use Rattle.kmip_encodings.specs.Texts.{kind_text, hex_text}
-use Rattle.kmip_encodings.specs.Encoding.{is_short, long_json, value_json, json_of, items_json, json_text}
+use Rattle.kmip_encodings.specs.Encoding.{is_short, long_json, value_json, json_of, items_json, text_at, json_text}
 use Rattle.kmip_encodings.specs.Reading.{kind_named, small_integer, small_natural, parts_read, node_read, structure_read, scalar_read, trees_read, within, items_by, read_item, tree_of, Read}
 use Rattle.kmip_encodings.proofs.Back.{hex_back, long_back, tag_back, enumeration_back, date_back, whole_back}
 
@@ -179,7 +179,7 @@ mutual
   items_numbers (more t ts) h = (numbers t h.0, items_numbers ts h.1)
 
 pub text_back : (t : Tree) → HasRanges t → levels t ≤ 64 → document (json_text t) ≡ Some (json_of t)
-unfolding json_text
+unfolding text_at
 text_back t h d = document-print (json_of t) (numbers t h) (omega (arith, nests t))
 
 value_unique : (tag : ℕ) (s : Scalar) → HasUniqueKeys (value_json tag s)

@@ -7,3 +7,4 @@ pub mod Law
 pub mod Numbers
 pub mod Items
 pub mod Elements
+pub mod Parsed

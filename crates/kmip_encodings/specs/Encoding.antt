@@ -1,5 +1,5 @@
 -- A tree as a value of JSON, and as its text.
-use Rattle.std.specs.Prelude.{ℕ, ◌^◌, nat_lt, ℤ, Bool, List, codes, if◌then◌else◌, unsigned_abs}
+use Rattle.std.specs.Prelude.{ℕ, ◌+◌, ◌^◌, nat_lt, ℤ, Bool, List, codes, Option, Some, None, if◌then◌else◌, unsigned_abs}
 use Rattle.std.specs.Fmt.{decimal, signed_decimal}
 use Rattle.std.specs.Int.{w64, to_be_bytes, cast_unsigned}
 use Rattle.hex.specs.Hex.{encode_upper}
@@ -9,6 +9,7 @@ use Rattle.json.specs.Tree.{json_tokens}
 use Rattle.kmip_wire.specs.declared.kind.Kind.{Kind}
 use Rattle.kmip_wire.specs.Kinds.{kind_of_scalar}
 use Rattle.kmip_wire.specs.Tree.{Tree, Trees, Scalar, scalar, structure, none, more, integer, long_integer, big_integer, enumeration, boolean, text_string, byte_string, date_time, interval}
+use Rattle.kmip_encodings.specs.Sizes.{size_of}
 use Rattle.kmip_encodings.specs.Texts.{hex_text, tag_text, enumeration_text, date_text, kind_text}
 
 -- whether a number is nearer to 0 than 2^52
@@ -32,6 +33,19 @@ value_json tag (byte_string b) = string (encode_upper b)
 value_json tag (date_time n) = string (date_text n)
 value_json tag (interval n) = number (decimal n)
 
+-- where an item begins: a number where items' offsets are told, and None where they are not
+abbrev pub Offset : Type 0
+Offset = Option ℕ
+
+-- so many bytes on
+abbrev pub after : ℕ → Offset → Offset
+after size None = None
+after size (Some at) = Some (at + size)
+
+abbrev pub offset_member : Offset → Members → Members
+offset_member None rest = rest
+offset_member (Some at) rest = member (codes "offset") (number (decimal at)) rest
+
 abbrev pub tag_member : ℕ → Members → Members
 tag_member tag rest = member (codes "tag") (string (tag_text tag)) rest
 
@@ -39,22 +53,34 @@ abbrev pub value_member : Json → Members
 value_member value = member (codes "value") value no_members
 
 -- an item that is no structure
-abbrev pub item_json : ℕ → Kind → Json → Json
-item_json tag kind value =
-    object (tag_member tag
-    (member (codes "type") (string (kind_text kind)) (value_member value)))
+abbrev pub item_json : Offset → ℕ → Kind → Json → Json
+item_json at tag kind value =
+    object (offset_member at (tag_member tag
+    (member (codes "type") (string (kind_text kind)) (value_member value))))
 
--- an object of the tag, of the type unless it is Structure, and of the value; a structure's value
--- is an array of its items
+-- an object of the offset where offsets are told, of the tag, of the type unless it is Structure,
+-- and of the value; a structure's value is an array of its items, the first of which begins after
+-- its head of 8 bytes, and each other where the one before it ends
 abbrev mutual
-  pub json_of : Tree → Json
-  json_of (scalar tag s) = item_json tag (kind_of_scalar s) (value_json tag s)
-  json_of (structure tag ts) = object (tag_member tag (value_member (array (items_json ts))))
+  pub json_at : Offset → Tree → Json
+  json_at at (scalar tag s) = item_json at tag (kind_of_scalar s) (value_json tag s)
+  json_at at (structure tag ts) =
+      object (offset_member at (tag_member tag (value_member (array (items_at (after 8 at) ts)))))
 
-  pub items_json : Trees → Items
-  items_json none = no_items
-  items_json (more t ts) = item (json_of t) (items_json ts)
+  pub items_at : Offset → Trees → Items
+  items_at at none = no_items
+  items_at at (more t ts) = item (json_at at t) (items_at (after (size_of t) at) ts)
+
+-- with no offsets
+abbrev pub json_of : Tree → Json
+json_of t = json_at None t
+
+abbrev pub items_json : Trees → Items
+items_json ts = items_at None ts
 
 -- the text of a tree's JSON, with no white space
-unfoldable pub json_text : Tree → List ℕ
-json_text t = print (json_tokens (json_of t))
+unfoldable pub text_at : Offset → Tree → List ℕ
+text_at at t = print (json_tokens (json_at at t))
+
+abbrev pub json_text : Tree → List ℕ
+json_text t = text_at None t

@@ -2,6 +2,7 @@ pub mod Words
 pub mod Names
 pub mod Dates
 pub mod Texts
+pub mod Sizes
 pub mod Encoding
 pub mod Parts
 pub mod Reading

@@ -1,6 +1,10 @@
--- The value of an item that is no structure, as it is written.
-use Rattle.std.specs.Fmt.{signed_decimal}
+-- The offset of an item and the value of one that is no structure, as they are written.
+use Rattle.std.specs.Prelude.{List, [], ◌∷◌, codes, Some, None}
+use Rattle.std.specs.Fmt.{decimal, signed_decimal}
 use Rattle.json.specs.Json.{Json, boolean, number, string}
+use Rattle.json.specs.Token as token
+use Rattle.json.specs.Token.{Token}
+use Rattle.kmip_encodings.specs.Encoding.{Offset}
 use Rattle.kmip_encodings.specs.declared.write_json.Part.{Part}
 use Rattle.kmip_encodings.specs.declared.write_json.Part.TheVariants.{Number, Truth, Lent, Made}
 
@@ -9,3 +13,7 @@ part_json (Number z) = number (signed_decimal z)
 part_json (Truth b) = boolean b
 part_json (Lent text) = string text.now
 part_json (Made text) = string text
+
+abbrev pub offset_tokens : Offset → List Token
+offset_tokens None = []
+offset_tokens (Some at) = token.key (codes "offset") ∷ token.number (decimal at) ∷ []

@@ -23,10 +23,10 @@ mod write_json;
 mod write_xml;
 
 pub use error::{EncodingError, Expected, Fault};
-pub use laws::read_back;
+pub use laws::{item_sizes, read_back};
 pub use names::{enumeration_name, enumeration_number};
 pub use read_json::from_json;
 pub use text::kind_text;
 pub use words::{tag_named, tag_word};
-pub use write_json::to_json;
+pub use write_json::{to_json, to_json_with_offsets};
 pub use write_xml::to_xml;

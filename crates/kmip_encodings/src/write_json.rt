@@ -1,12 +1,15 @@
 //! Writing a tree as JSON.
-ghost use Rattle.std.specs.Prelude.{◌≡◌, ◌++◌, [], ◌∷◌, codes, IfOk, OnOk, OnErr};
+ghost use Rattle.std.specs.Prelude.{◌≡◌, ◌+◌, ◌≤◌, ◌^◌, ◌++◌, [], ◌∷◌, codes};
+ghost use Rattle.std.specs.Prelude.{IfSome, IfOk, OnOk, OnErr, Some};
 ghost use Rattle.json.specs.Token.{begin_object, key, string};
-ghost use Rattle.json.specs.Tree.{json_tokens, items_tokens};
+ghost use Rattle.json.specs.Tree.{json_tokens};
+ghost use Rattle.kmip_wire.specs.Head.{pads};
 ghost use Rattle.kmip_wire.specs.Tree.{structure, trees_of};
 ghost use Rattle.kmip_encodings.specs.Texts.{tag_text};
-ghost use Rattle.kmip_encodings.specs.Parts.{part_json};
-ghost use Rattle.kmip_encodings.specs.Encoding.{is_short, long_json, item_json, json_of};
-ghost use Rattle.kmip_encodings.specs.Encoding.{items_json, json_text};
+ghost use Rattle.kmip_encodings.specs.Parts.{part_json, offset_tokens};
+ghost use Rattle.kmip_encodings.specs.Sizes.{size_of};
+ghost use Rattle.kmip_encodings.specs.Encoding.{is_short, long_json, after, item_json, json_at};
+ghost use Rattle.kmip_encodings.specs.Encoding.{text_at, json_text};
 
 use crate::text::{bytes_text, date_text, enumeration_text, hex_text, kind_text, tag_text};
 use json::Writer;
@@ -56,14 +59,50 @@ fn put_part(part: &Part<'_>, writer: &mut Writer) -> Result<(), OutOfMemory>
     Ok(())
 }
 
+/// Where an item ends that begins at `at` and whose value has `len` bytes: its head has 8, and pads
+/// fill its last 8.
+fn item_end(at: Option<u64>, len: usize) -> Option<u64>
+    requires { IfSome at (λ a. a + (8 + len + pads len) ≤ 2 ^ 63) }
+    ensures { result ≡ after (8 + len + pads len) at }
+{
+    Some(at? + (len as u64 + 15) / 8 * 8)
+}
+
+/// Where the first item of a structure begins.
+fn first_item(at: Option<u64>) -> Option<u64>
+    requires { IfSome at (λ a. a + 8 ≤ 2 ^ 63) }
+    ensures { result ≡ after 8 at }
+{
+    Some(at? + 8)
+}
+
+/// Writes where an item begins, if that is told.
+fn put_offset(at: Option<u64>, writer: &mut Writer) -> Result<(), OutOfMemory>
+    ensures tokens { OnOk result (writer.new.tokens ≡ writer.old.tokens ++ offset_tokens at) }
+    ensures before { writer.new.before ≡ writer.old.before }
+{
+    let Some(at) = at else {
+        return Ok(());
+    };
+    writer.key("offset")?;
+    writer.u64(at)?;
+    Ok(())
+}
+
 /// Writes the start of an item, with its tag.
-fn put_tag(alloc: Global, tag: Tag, writer: &mut Writer) -> Result<(), OutOfMemory>
+fn put_start(
+    alloc: Global,
+    at: Option<u64>,
+    tag: Tag,
+    writer: &mut Writer,
+) -> Result<(), OutOfMemory>
     ensures tokens { OnOk result (writer.new.tokens ≡ writer.old.tokens
-        ++ begin_object ∷ key (codes "tag") ∷ string (tag_text tag) ∷ []) }
+        ++ begin_object ∷ (offset_tokens at ++ key (codes "tag") ∷ string (tag_text tag) ∷ [])) }
     ensures before { writer.new.before ≡ writer.old.before }
 {
     let text = tag_text(alloc, tag)?;
     writer.begin_object()?;
+    put_offset(at, writer)?;
     writer.key("tag")?;
     writer.string(text.as_str())?;
     Ok(())
@@ -72,16 +111,17 @@ fn put_tag(alloc: Global, tag: Tag, writer: &mut Writer) -> Result<(), OutOfMemo
 /// Writes an item that is no structure.
 fn put_item(
     alloc: Global,
+    at: Option<u64>,
     tag: Tag,
     kind: Kind,
     part: &Part<'_>,
     writer: &mut Writer,
 ) -> Result<(), OutOfMemory>
     ensures tokens { OnOk result (writer.new.tokens ≡
-        writer.old.tokens ++ json_tokens (item_json tag kind (part_json part.now))) }
+        writer.old.tokens ++ json_tokens (item_json at tag kind (part_json part.now))) }
     ensures before { writer.new.before ≡ writer.old.before }
 {
-    put_tag(alloc, tag, writer)?;
+    put_start(alloc, at, tag, writer)?;
     writer.key("type")?;
     writer.string(kind_text(kind))?;
     writer.key("value")?;
@@ -90,63 +130,99 @@ fn put_item(
     Ok(())
 }
 
+/// Writes an item, and returns where it ends.
 #[cycle(write)]
-fn put_tree(alloc: Global, tree: &Tree, writer: &mut Writer) -> Result<(), OutOfMemory>
+fn put_tree(
+    alloc: Global,
+    at: Option<u64>,
+    tree: &Tree,
+    writer: &mut Writer,
+) -> Result<Option<u64>, OutOfMemory>
+    requires { IfSome at (λ a. a + size_of tree.now ≤ 2 ^ 63) }
     ensures tokens { OnOk result (writer.new.tokens ≡
-        writer.old.tokens ++ json_tokens (json_of tree.now)) }
+        writer.old.tokens ++ json_tokens (json_at at tree.now)) }
     ensures before { writer.new.before ≡ writer.old.before }
+    ensures end { IfOk result (λ end. end ≡ after (size_of tree.now) at) }
 {
     let tag = tree.tag;
-    let (kind, part) = match &tree.node {
-        Node::Structure(items) => return put_structure(alloc, tag, items.as_slice(), writer),
-        Node::Integer(number) => (Kind::Integer, Part::Number(*number as i64)),
-        Node::LongInteger(number) => (Kind::LongInteger, long_part(alloc, *number)?),
+    let (kind, len, part) = match &tree.node {
+        Node::Structure(items) => return put_structure(alloc, at, tag, items.as_slice(), writer),
+        Node::Integer(number) => (Kind::Integer, 4, Part::Number(*number as i64)),
+        Node::LongInteger(number) => (Kind::LongInteger, 8, long_part(alloc, *number)?),
         Node::BigInteger(bytes) => {
-            (
-                Kind::BigInteger,
-                Part::Made(hex_text(alloc, bytes.as_slice())?),
-            )
+            let digits = hex_text(alloc, bytes.as_slice())?;
+            (Kind::BigInteger, bytes.len(), Part::Made(digits))
         }
         Node::Enumeration(number) => {
-            (
-                Kind::Enumeration,
-                Part::Made(enumeration_text(alloc, tag, *number)?),
-            )
+            let name = enumeration_text(alloc, tag, *number)?;
+            (Kind::Enumeration, 4, Part::Made(name))
         }
-        Node::Boolean(truth) => (Kind::Boolean, Part::Truth(*truth)),
-        Node::TextString(text) => (Kind::TextString, Part::Lent(text.as_str())),
+        Node::Boolean(truth) => (Kind::Boolean, 8, Part::Truth(*truth)),
+        Node::TextString(text) => {
+            let text = text.as_str();
+            (Kind::TextString, text.len(), Part::Lent(text))
+        }
         Node::ByteString(bytes) => {
-            (
-                Kind::ByteString,
-                Part::Made(bytes_text(alloc, bytes.as_slice())?),
-            )
+            let digits = bytes_text(alloc, bytes.as_slice())?;
+            (Kind::ByteString, bytes.len(), Part::Made(digits))
         }
-        Node::DateTime(seconds) => (Kind::DateTime, Part::Made(date_text(alloc, *seconds)?)),
-        Node::Interval(seconds) => (Kind::Interval, Part::Number(*seconds as i64)),
+        Node::DateTime(seconds) => (Kind::DateTime, 8, Part::Made(date_text(alloc, *seconds)?)),
+        Node::Interval(seconds) => (Kind::Interval, 4, Part::Number(*seconds as i64)),
     };
-    put_item(alloc, tag, kind, &part, writer)
+    put_item(alloc, at, tag, kind, &part, writer)?;
+    Ok(item_end(at, len))
 }
 
+/// Writes a structure of the items, and returns where it ends.
 #[cycle(write)]
 fn put_structure(
     alloc: Global,
+    at: Option<u64>,
     tag: Tag,
     items: &[Tree],
     writer: &mut Writer,
-) -> Result<(), OutOfMemory>
+) -> Result<Option<u64>, OutOfMemory>
+    requires { IfSome at (λ a. a + size_of (structure tag (trees_of items.now)) ≤ 2 ^ 63) }
     ensures tokens { OnOk result (writer.new.tokens ≡
-        writer.old.tokens ++ json_tokens (json_of (structure tag (trees_of items.now)))) }
+        writer.old.tokens ++ json_tokens (json_at at (structure tag (trees_of items.now)))) }
     ensures before { writer.new.before ≡ writer.old.before }
+    ensures end { IfOk result (λ end.
+        end ≡ after (size_of (structure tag (trees_of items.now))) at) }
 {
-    put_tag(alloc, tag, writer)?;
+    put_start(alloc, at, tag, writer)?;
     writer.key("value")?;
     writer.begin_array()?;
+    let mut next = first_item(at);
     for item in items {
-        put_tree(alloc, item, writer)?;
+        next = put_tree(alloc, next, item, writer)?;
     }
     writer.end_array()?;
     writer.end_object()?;
-    Ok(())
+    Ok(next)
+}
+
+/// Appends the tree's JSON, with offsets from `at` on where that is told.
+fn append_json(
+    alloc: Global,
+    at: Option<u64>,
+    tree: &Tree,
+    out: &mut Vec<u8>,
+) -> Result<(), OutOfMemory>
+    requires { IfSome at (λ a. a + size_of tree.now ≤ 2 ^ 63) }
+    ensures all { OnOk result (out.new.items ≡ out.old.items ++ text_at at tree.now) }
+    ensures nothing { OnErr result (out.new.items ≡ out.old.items) }
+{
+    let len = out.len();
+    let mut writer = Writer::new(mem::replace(out, Vec::new(alloc)));
+    let written = put_tree(alloc, at, tree, &mut writer);
+    *out = writer.into_inner();
+    match written {
+        Ok(_) => Ok(()),
+        Err(error) => {
+            out.truncate(len);
+            Err(error)
+        }
+    }
 }
 
 /// Appends the tree's JSON: an object with the members `tag`, `type` (left out for Structure) and
@@ -160,12 +236,24 @@ pub fn to_json(alloc: Global, tree: &Tree, out: &mut Vec<u8>) -> Result<(), OutO
     ensures all { OnOk result (out.new.items ≡ out.old.items ++ json_text tree.now) }
     ensures nothing { OnErr result (out.new.items ≡ out.old.items) }
 {
-    let len = out.len();
-    let mut writer = Writer::new(mem::replace(out, Vec::new(alloc)));
-    let written = put_tree(alloc, tree, &mut writer);
-    *out = writer.into_inner();
-    if written.is_err() {
-        out.truncate(len);
-    }
-    written
+    append_json(alloc, None, tree, out)
+}
+
+/// Appends the tree's JSON as `to_json` does, and each object has one more member before the
+/// others, `offset`: where its item begins in the wire form, counted in bytes. The tree itself
+/// begins at `start`, the first item of a structure 8 bytes after it, and each other item where the
+/// one before it ends. `from_json` doesn't read this form.
+///
+/// The tree must end at 2^63 or before. Where memory runs out, nothing was appended.
+pub fn to_json_with_offsets(
+    alloc: Global,
+    tree: &Tree,
+    start: u64,
+    out: &mut Vec<u8>,
+) -> Result<(), OutOfMemory>
+    requires { start + size_of tree.now ≤ 2 ^ 63 }
+    ensures all { OnOk result (out.new.items ≡ out.old.items ++ text_at (Some start) tree.now) }
+    ensures nothing { OnErr result (out.new.items ≡ out.old.items) }
+{
+    append_json(alloc, Some(start), tree, out)
 }

@@ -118,13 +118,7 @@ fn put_truth(alloc: Global, tag: Tag, truth: bool, out: &mut Text) -> Result<(),
     ensures { IfOk result
         (λ _. out.new ≡ out.old ++ item_xml tag Boolean (truth_shown truth)) }
 {
-    put_item(
-        alloc,
-        tag,
-        Kind::Boolean,
-        if truth { "true" } else { "false" },
-        out,
-    )
+    put_item(alloc, tag, Kind::Boolean, truth_text(truth), out)
 }
 
 fn put_bytes(

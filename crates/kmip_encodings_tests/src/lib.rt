@@ -6,6 +6,8 @@ mod json;
 #[cfg(test)]
 mod messages;
 #[cfg(test)]
+mod offsets;
+#[cfg(test)]
 mod refusals;
 #[cfg(test)]
 mod xml;

@@ -1,4 +1,3 @@
-mod Parsed
 mod Showing
 mod Listed
 mod Front

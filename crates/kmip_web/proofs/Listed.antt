@@ -8,7 +8,7 @@ use Rattle.kmip_wire.specs.declared.kind.Kind.TheVariants.{Structure}
 use Rattle.kmip_wire.specs.Tree.{Tree, Trees, scalar, structure, none, more, trees_of, list_of}
 use Rattle.kmip_wire.specs.Sizes.{tree_size, trees_size}
 use Rattle.kmip_wire.specs.Parts.{tag_of, kind_of_tree, children_in}
-use Rattle.kmip_web.specs.Sizes.{size_of, sizes_of}
+use Rattle.kmip_encodings.specs.Sizes.{size_of, sizes_of}
 use Rattle.kmip_web.specs.Listing.{head_text, listed, all_listed, escaped_char, escaped}
 
 trees_of-list_of : (ts : Trees) → trees_of (list_of ts) ≡ ts

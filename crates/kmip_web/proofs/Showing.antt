@@ -7,8 +7,8 @@ use Rattle.kmip_wire.specs.Reading.{front_at}
 use Rattle.kmip_diag.specs.Diagnostic.{ended, stopped, item, cut_off, opening_tag, shown_by, shown_at, shown_within}
 use Rattle.kmip_diag.proofs.Wire.{IsFrontTree, front_rule, value_shorter}
 use Rattle.kmip_diag.proofs.Showing.{opened_says}
-use Rattle.kmip_web.specs.Sizes.{size_of}
-use Rattle.kmip_web.proofs.Parsed.{parsed_size}
+use Rattle.kmip_encodings.specs.Sizes.{size_of}
+use Rattle.kmip_encodings.proofs.Parsed.{parsed_size}
 
 -- fuel above the length is enough
 same_fuel : (f g level : ℕ) (b : List ℕ) → length b < f → length b < g → shown_at f level b ≡ shown_at g level b

@@ -1,5 +1,4 @@
 pub mod Shown
-pub mod Sizes
 pub mod Steps
 pub mod Listing
 pub mod Fault

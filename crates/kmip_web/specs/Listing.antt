@@ -13,7 +13,7 @@ use Rattle.kmip_tags.specs.Names.{name_of}
 use Rattle.kmip_encodings.specs.Names.{enumeration_name}
 use Rattle.kmip_diag.specs.Lines.{name_text, kind_name}
 use Rattle.kmip_diag.specs.Diagnostic.{Shown, ended, stopped, item, cut_off, shown_within}
-use Rattle.kmip_web.specs.Sizes.{size_of}
+use Rattle.kmip_encodings.specs.Sizes.{size_of}
 
 -- a character stands for itself; a control character of ASCII and `\` are written as `\` and two
 -- hex digits

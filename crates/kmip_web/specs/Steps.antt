@@ -3,7 +3,7 @@ use Rattle.std.specs.Prelude.{◌≡◌, ℕ, ◌+◌, ◌≤◌, List, [], leng
 use Rattle.kmip_wire.specs.Head.{size_at, value_of}
 use Rattle.kmip_wire.specs.Items.{item_tree}
 use Rattle.kmip_diag.specs.Diagnostic.{ended, stopped, item, cut_off, shown_within}
-use Rattle.kmip_web.specs.Sizes.{size_of}
+use Rattle.kmip_encodings.specs.Sizes.{size_of}
 use Rattle.kmip_web.specs.declared.steps.Step.{Step}
 use Rattle.kmip_web.specs.declared.steps.Step.TheVariants.{Ended, Stopped, Item, CutOff}
 

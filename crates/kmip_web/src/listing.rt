@@ -5,7 +5,7 @@ ghost use Rattle.kmip_wire.specs.Parts.{scalar_in};
 ghost use Rattle.kmip_wire.specs.Items.{item_tree, trees_left};
 ghost use Rattle.kmip_diag.specs.Lines.{name_text, kind_name};
 ghost use Rattle.kmip_tags.specs.Names.{name_of};
-ghost use Rattle.kmip_web.specs.Sizes.{value_size, size_of, sizes_of};
+ghost use Rattle.kmip_encodings.specs.Sizes.{value_size, size_of, sizes_of};
 ghost use Rattle.kmip_web.specs.Listing.{head_text, listed, all_listed, listing};
 
 use crate::steps::{Step, step_at};

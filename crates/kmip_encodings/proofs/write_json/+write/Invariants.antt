@@ -2,7 +2,8 @@ use Rattle.std.proofs.Common.{◌≡◌, ◌+◌, ◌*◌, ◌++◌, drop}
 use Rattle.json.specs.Tree.{items_tokens}
 use Rattle.kmip_wire.specs.Tree.{trees_of}
 use Rattle.kmip_wire.specs.Sizes.{tree_size, trees_size}
-use Rattle.kmip_encodings.specs.Encoding.{items_json}
+use Rattle.kmip_encodings.specs.Sizes.{sizes_of}
+use Rattle.kmip_encodings.specs.Encoding.{after, items_at}
 use Rattle.kmip_encodings.proofs.write_json.+write.Given as goal
 
 abbrev pub decreases-put_tree : goal.decreases-put_tree
@@ -14,7 +15,10 @@ decreases-put_structure l = 2 * trees_size (trees_of l.items.now) + 1
 abbrev pub invariant-put_structure-loop-item : goal.invariant-put_structure-loop-item
 invariant-put_structure-loop-item l = record {
   tokens :
-      l.writer.tokens ++ items_tokens (items_json (trees_of (drop l.item-index l.items)))
-      ≡ l.initial.writer.tokens ++ items_tokens (items_json (trees_of l.items));
+      l.writer.tokens ++ items_tokens (items_at l.next (trees_of (drop l.item-index l.items)))
+      ≡ l.initial.writer.tokens ++ items_tokens (items_at (after 8 l.fn.at) (trees_of l.items));
   before : l.writer.before ≡ l.initial.writer.before;
+  ends :
+      after (sizes_of (trees_of (drop l.item-index l.items))) l.next
+      ≡ after (8 + sizes_of (trees_of l.items)) l.fn.at;
 }

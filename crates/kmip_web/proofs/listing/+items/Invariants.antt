@@ -2,7 +2,7 @@ use Rattle.std.proofs.Common.{◌≡◌, ◌+◌, ◌*◌, ◌++◌, ◌≤◌}
 use Rattle.kmip_wire.specs.Tree.{trees_of}
 use Rattle.kmip_wire.specs.Sizes.{tree_size, trees_size}
 use Rattle.kmip_wire.specs.Items.{item_tree, trees_left}
-use Rattle.kmip_web.specs.Sizes.{sizes_of}
+use Rattle.kmip_encodings.specs.Sizes.{sizes_of}
 use Rattle.kmip_web.specs.Listing.{all_listed}
 use Rattle.kmip_web.proofs.listing.+items.Given as goal
 

@@ -4,7 +4,7 @@ use Rattle.std.proofs.lemmas.List.{length-take, length-drop}
 use Rattle.kmip_wire.specs.Tree.{Tree, Trees, Scalar, scalar, structure, none, more, integer, long_integer, big_integer, enumeration, boolean, text_string, byte_string, date_time, interval}
 use Rattle.kmip_wire.specs.Head.{head_length, pads, size_at, value_of}
 use Rattle.kmip_wire.specs.Parses.{Parses, ParseAll, IsValue}
-use Rattle.kmip_web.specs.Sizes.{value_size, size_of, sizes_of}
+use Rattle.kmip_encodings.specs.Sizes.{value_size, size_of, sizes_of}
 
 value_is : (s : Scalar) (v : List ℕ) → IsValue s v → length v ≡ value_size s
 value_is (integer z) v h = h.0
