@@ -4,7 +4,7 @@ use Rattle.kmip_words.specs.About.{response_line, response_ending}
 use Rattle.kmip_words.specs.declared.call.Call.{Call}
 use Rattle.kmip_words.specs.declared.ending.Ending.{Ending}
 use Rattle.kmip_c.specs.Calls.{IsAnswered, plain, status_of}
-use Rattle.kmip_c.specs.Codes.{room_with}
+use Rattle.kmip_exports.specs.Exports.{room_with}
 
 pub answered : (o : Option Call) (response before after line : List ℕ) (ending : Ending)
     (status told : ℤ) → (o ≡ None → ⊥)

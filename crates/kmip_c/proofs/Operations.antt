@@ -5,7 +5,8 @@ use Rattle.kmip_words.specs.Exchange.{Settings}
 use Rattle.kmip_words.specs.declared.ending.Ending.{Ending}
 use Rattle.kmip_operations.specs.Answers.{operation_json_line, operation_ending}
 use Rattle.kmip_c.specs.Calls.{plain, status_of}
-use Rattle.kmip_c.specs.Codes.{IsReported, no_form, room_with}
+use Rattle.kmip_exports.specs.Exports.{IsReported, room_with}
+use Rattle.kmip_c.specs.Codes.{no_form}
 use Rattle.kmip_c.specs.Operations.{AsksInBytes, IsOperationRequested, IsOperationAnswered}
 
 pub operation_requested : (settings : Option Settings) (s : Settings) (request : TreeRequest)

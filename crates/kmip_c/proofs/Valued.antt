@@ -6,7 +6,8 @@ use Rattle.kmip_words.specs.About.{response_line}
 use Rattle.kmip_words.specs.Lookup.{value_at}
 use Rattle.kmip_words.specs.declared.call.Call.{Call}
 use Rattle.kmip_c.specs.Calls.{IsValueReported, plain, call_of, call_with_path}
-use Rattle.kmip_c.specs.Codes.{IsReported, grammar, no_value}
+use Rattle.kmip_exports.specs.Exports.{IsReported}
+use Rattle.kmip_c.specs.Codes.{grammar, no_value}
 use Rattle.kmip_c.proofs.Calls.{not_utf8}
 
 pub with_text : (line path : List ℕ) → IsUtf8 path → call_with_path line path ≡ call_of line

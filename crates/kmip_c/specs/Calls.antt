@@ -11,7 +11,8 @@ use Rattle.kmip_words.specs.declared.call.Call.{Call}
 use Rattle.kmip_words.specs.declared.ending.Ending.{Ending}
 use Rattle.kmip_words.specs.declared.ending.Ending.TheVariants.{Answered, Refused, Lost}
 use Rattle.kmip_c.specs.declared.call.Credential.{Credential}
-use Rattle.kmip_c.specs.Codes.{IsReported, grammar, no_form, no_value}
+use Rattle.kmip_exports.specs.Exports.{IsReported}
+use Rattle.kmip_c.specs.Codes.{grammar, no_form, no_value}
 
 abbrev pub call_from : Option (List (List ℕ)) → Option Call
 call_from (Some words) = typed_call words

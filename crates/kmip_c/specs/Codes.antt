@@ -1,36 +1,19 @@
--- What C gets: lengths as `snprintf` returns them, and numbers below zero in place of a length.
-use Rattle.std.specs.Prelude.{◌≡◌, ℕ, ℤ, pos, negsuc, List, ◌++◌, drop, Option, Some, None, Result, Ok, Err, ◌==◌, nat_le, length, if◌then◌else◌}
+-- What C gets in place of a length: numbers below zero.
+use Rattle.std.specs.Prelude.{ℕ, ℤ, pos, negsuc, List, Option, Some, None, Result, Ok, Err, ◌==◌, length, if◌then◌else◌}
 use Rattle.kmip_wire.specs.declared.error.HeadError.{HeadError}
 use Rattle.kmip_wire.specs.declared.error.HeadError.TheVariants.{NotStructure, TooLong}
 use Rattle.kmip_wire.specs.Heads.{head_says}
+use Rattle.kmip_exports.specs.Exports.{not_a_message}
 
--- the room after bytes were written to its front: all of them where they fit, and else none
-abbrev pub room_with : List ℕ → List ℕ → List ℕ
-room_with bytes room =
-    if nat_le (length bytes) (length room) then bytes ++ drop (length bytes) room else room
-
--- the whole length is returned, and the bytes are written where they fit; where there are none,
--- this code is returned, and nothing is written
-abbrev pub IsReported : Option (List ℕ) → ℤ → List ℕ → ℤ → List ℕ → Type 0
-IsReported (Some bytes) code before result after =
-    (result ≡ pos (length bytes)) × (after ≡ room_with bytes before)
-IsReported None code before result after = (result ≡ code) × (after ≡ before)
-
--- the codes from -2 to -6
+-- the codes -2, -3, -4 and -6; -5 is that of memory
 abbrev pub grammar : ℤ
 grammar = negsuc 1
-
-abbrev pub not_a_message : ℤ
-not_a_message = negsuc 2
 
 abbrev pub no_value : ℤ
 no_value = negsuc 2
 
 abbrev pub too_long : ℤ
 too_long = negsuc 3
-
-abbrev pub memory : ℤ
-memory = negsuc 4
 
 abbrev pub no_form : ℤ
 no_form = negsuc 5

@@ -6,7 +6,8 @@ use Rattle.kmip_words.specs.Exchange.{Settings}
 use Rattle.kmip_operations.specs.Calls.{Asks}
 use Rattle.kmip_operations.specs.Answers.{operation_json_line, operation_ending}
 use Rattle.kmip_c.specs.Calls.{plain, status_of}
-use Rattle.kmip_c.specs.Codes.{IsReported, grammar, no_form}
+use Rattle.kmip_exports.specs.Exports.{IsReported}
+use Rattle.kmip_c.specs.Codes.{grammar, no_form}
 
 -- the three are texts, and ask for this call
 pub record AsksInBytes (name version payload : List ℕ) (request : TreeRequest) : Type 0 where

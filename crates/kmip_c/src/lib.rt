@@ -12,11 +12,11 @@ ghost use Rattle.std.specs.Prelude.{◌≡◌, ◌≢◌, pos};
 ghost use Rattle.kmip_c.specs.Calls.{call_of, call_with_path, settings_of};
 ghost use Rattle.kmip_c.specs.Calls.{IsRequested, IsAnswered, IsValueReported};
 ghost use Rattle.kmip_c.specs.Operations.{IsOperationRequested, IsOperationAnswered};
-ghost use Rattle.kmip_c.specs.Codes.{limit_of, contents_code, memory};
+ghost use Rattle.kmip_exports.specs.Exports.{memory};
+ghost use Rattle.kmip_c.specs.Codes.{limit_of, contents_code};
 
 mod answer;
 mod call;
-mod copy;
 mod operation;
 #[cfg(test)]
 mod operation_tests;
@@ -25,7 +25,7 @@ mod tests;
 
 use answer::{answer_line, status_of};
 use call::{Credential, call_of, credential_of, settings_of};
-use copy::copy_out;
+use kmip_exports::{NO_MEMORY, NOT_A_MESSAGE, copy_out};
 use kmip_operations::{operation_answer, operation_request};
 use kmip_wire::{Config, HeadError, OutOfMemory, head};
 use kmip_words::{request_of, value_at};
@@ -35,13 +35,9 @@ use std::str;
 
 const NOT_OF_THE_GRAMMAR: i64 = -2;
 
-const NOT_A_MESSAGE: i64 = -3;
-
 const NO_VALUE: i64 = -3;
 
 const TOO_LONG: i64 = -4;
-
-const NO_MEMORY: i64 = -5;
 
 const NO_FORM: i64 = -6;
 

@@ -1,5 +1,4 @@
 mod Showing
 mod Listed
 mod Front
-mod Lines
 mod Faultless

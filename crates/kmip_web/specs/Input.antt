@@ -1,6 +1,6 @@
 -- Texts as bytes: hex or base64, the marked lines of a log, or a hex dump of a followed stream.
 use Rattle.std.specs.Prelude.{ℕ, ◌==◌, ◌&&◌, ◌||◌, Bool, false, List, [], ◌∷◌, ◌++◌, length, take, drop, slice_index, nat_lt, Option, Some, None, Result, Ok, Err, is_ok, if◌then◌else◌}
-use Rattle.std.specs.List.{onto_first}
+use Rattle.std.specs.List.{slice_split}
 use Rattle.hex.specs.Hex.{decode_of}
 use Rattle.hex.specs.declared.error.FromHexError.{FromHexError}
 use Rattle.base64.specs.declared.decode.DecodeError.{DecodeError}
@@ -58,10 +58,9 @@ part_of line =
 abbrev pub part_digits : ℕ → ℕ × List ℕ → List ℕ
 part_digits side (of, part) = if of == side then without_gaps part else []
 
--- the lines, each ended by a line feed, which the last may lack
-abbrev pub lines_of : List ℕ → List (List ℕ)
-lines_of [] = []
-lines_of (c ∷ text) = if c == 10 then [] ∷ lines_of text else onto_first c (lines_of text)
+-- a line ends here
+abbrev pub is_feed : ℕ → Bool
+is_feed c = c == 10
 
 abbrev pub digits_of : ℕ → List (List ℕ) → List ℕ
 digits_of side [] = []
@@ -89,4 +88,4 @@ digits_bytes side digits = hex_or side digits (decode_of digits)
 -- the bytes that a text gives for a side, if it is such a text; a byte 0 stands in no text
 unfoldable pub text_bytes : ℕ → List ℕ → Option (List ℕ)
 text_bytes side text =
-    if has_zero text then None else digits_bytes side (digits_of side (lines_of text))
+    if has_zero text then None else digits_bytes side (digits_of side (slice_split is_feed text))

@@ -1,7 +1,8 @@
 //! Texts as bytes: hex or base64, the marked lines of a log, or a hex dump of a followed stream.
-ghost use Rattle.std.specs.Prelude.{◌≡◌, ◌++◌, ◌<◌, ◌∷◌, IfOk, length, take, option_map};
+ghost use Rattle.std.specs.List.{slice_split};
+ghost use Rattle.std.specs.Prelude.{◌≡◌, ◌++◌, ◌<◌, IfOk, length, take, option_map};
 ghost use Rattle.kmip_web.specs.Input.{is_gap, without_gaps, digit_of, is_dump, dump_part};
-ghost use Rattle.kmip_web.specs.Input.{unindented, part_of, lines_of, digits_of, part_digits};
+ghost use Rattle.kmip_web.specs.Input.{unindented, part_of, is_feed, digits_of, part_digits};
 ghost use Rattle.kmip_web.specs.Input.{has_zero, base64_bytes, digits_bytes, text_bytes};
 
 use base64::DecodeAllocError;
@@ -120,28 +121,14 @@ fn push_line(digits: &mut Vec<u8>, side: u64, line: &[u8]) -> Result<(), OutOfMe
     push_part(digits, side, part.0, part.1)
 }
 
-/// The first line of a text, without its line feed, and what follows it. The text is not empty.
-fn first_line(text: &[u8]) -> (&[u8], &[u8])
-    requires { 0 < length text.now }
-    ensures lines { lines_of text.now ≡ result.0.now ∷ lines_of result.1.now }
-    ensures shorter { length result.1.now < length text.now }
-{
-    match text.iter().position(|byte| *byte == b'\n') {
-        Some(end) => (&text[..end], &text[end + 1..]),
-        None => (text, &[]),
-    }
-}
-
-/// The digits of all lines of the side.
+/// The digits of all lines of the side. A line ends at a line feed, or where the text ends.
 fn digits_of(alloc: Global, side: u64, text: &[u8]) -> Result<Vec<u8>, OutOfMemory>
-    ensures { IfOk result (λ digits. digits.items ≡ digits_of side (lines_of text.now)) }
+    ensures { IfOk result
+        (λ digits. digits.items ≡ digits_of side (slice_split is_feed text.now)) }
 {
     let mut digits = Vec::new(alloc);
-    let mut rest = text;
-    while !rest.is_empty() {
-        let (line, later) = first_line(rest);
+    for line in text.split(|byte| *byte == b'\n') {
         push_line(&mut digits, side, line)?;
-        rest = later;
     }
     Ok(digits)
 }

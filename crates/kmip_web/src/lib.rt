@@ -9,17 +9,16 @@ ghost use Rattle.std.specs.Prelude.{◌≡◌, ◌≢◌, ◌+◌, ◌↔◌, So
 ghost use Rattle.kmip_diag.specs.Diagnostic.{diagnostic};
 ghost use Rattle.kmip_audit.specs.Report.{report_of};
 ghost use Rattle.kmip_audit.specs.Printed.{report_text};
-ghost use Rattle.kmip_encodings.specs.Encoding.{json_text};
+ghost use Rattle.kmip_encodings.specs.Encoding.{text_at};
 ghost use Rattle.kmip_wire.specs.Tree.{Trees};
 ghost use Rattle.kmip_wire.specs.Parses.{ParseAll};
 ghost use Rattle.kmip_wire.specs.Reading.{front_at};
 ghost use Rattle.kmip_web.specs.Listing.{listing};
 ghost use Rattle.kmip_web.specs.Fault.{fault_of, fault_text};
 ghost use Rattle.kmip_web.specs.Input.{text_bytes};
-ghost use Rattle.kmip_web.specs.Shown.{IsShown, IsReported, frame_code, memory, not_a_message};
-ghost use Rattle.kmip_web.specs.Shown.{not_a_text};
+ghost use Rattle.kmip_exports.specs.Exports.{IsShown, IsReported, memory, not_a_message};
+ghost use Rattle.kmip_web.specs.Shown.{frame_code, not_a_text};
 
-mod copy;
 mod fault;
 mod input;
 mod json;
@@ -28,21 +27,17 @@ mod report;
 mod steps;
 mod values;
 
-use copy::copy_out;
 use fault::{fault_of, fault_text};
 use input::text_bytes;
 use json::json_of;
 use kmip_diag::PrettyPrinter;
+use kmip_exports::{NO_MEMORY, NOT_A_MESSAGE, copy_out};
 use kmip_wire::{Config, OutOfMemory, head};
 use listing::list_bytes;
 use report::report_text;
 use std::alloc::Global;
 
 const NOT_A_TEXT: i64 = -2;
-
-const NOT_A_MESSAGE: i64 = -3;
-
-const NO_MEMORY: i64 = -5;
 
 /// The diagnostic of any bytes: tags, types, nesting and the numbers of enumerations, and no other
 /// value. -5: memory ran out, and nothing is written.
@@ -73,13 +68,14 @@ pub extern "C" fn web_listing(alloc: Global, bytes: &[u8], into: &mut [u8]) -> i
     }
 }
 
-/// The item at the front as JSON (KMIP Additional Message Encodings). -3: no item is at the front;
-/// -5: memory ran out. After each code nothing is written.
+/// The item at the front as JSON (KMIP Additional Message Encodings), each object with one more
+/// member first, `offset`: where its item begins, counted in bytes from the front. -3: no item is
+/// at the front; -5: memory ran out. After each code nothing is written.
 #[unsafe(no_mangle)]
 pub extern "C" fn web_decode(alloc: Global, bytes: &[u8], into: &mut [u8]) -> i64
     ensures json { result ≢ memory →
-        IsReported (option_map json_text (front_at 1 bytes.now)) not_a_message into.old result
-        into.new }
+        IsReported (option_map (text_at (Some 0)) (front_at 1 bytes.now)) not_a_message into.old
+        result into.new }
     ensures memory { result ≡ memory → into.new ≡ into.old }
 {
     match json_of(alloc, bytes) {

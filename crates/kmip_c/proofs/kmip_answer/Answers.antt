@@ -2,7 +2,7 @@ use Rattle.std.proofs.Common.{◌∙◌, ap, sym, rules, w32, w64, SFits, pos, l
 use Rattle.std.proofs.lemmas.Int.{to_z-of_z}
 use Rattle.std.proofs.lemmas.Option.{none-some}
 use Rattle.kmip_c.specs.Calls.{call_of}
-use Rattle.kmip_c.specs.Codes.{room_with}
+use Rattle.kmip_exports.specs.Exports.{room_with}
 use Rattle.kmip_c.proofs.Answered.{answered, unanswered}
 use Rattle.kmip_c.proofs.kmip_answer.Goals as goal
 

@@ -1,7 +1,7 @@
 use Rattle.std.proofs.Common.{◌∙◌, ap, rules, w32, w64, SFits, pos, length, List, ℕ}
 use Rattle.std.proofs.lemmas.Int.{to_z-of_z}
 use Rattle.kmip_operations.specs.Calls.{request_of}
-use Rattle.kmip_c.specs.Codes.{room_with}
+use Rattle.kmip_exports.specs.Exports.{room_with}
 use Rattle.kmip_c.proofs.Operations.{operation_answered}
 use Rattle.kmip_c.proofs.kmip_operation_answer.Goals as goal
 

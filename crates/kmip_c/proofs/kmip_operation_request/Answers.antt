@@ -2,7 +2,8 @@ use Rattle.std.proofs.Common.{◌∙◌, ap, sym, refl, rules, w64, SFits, pos, 
 use Rattle.std.proofs.lemmas.Int.{to_z-of_z}
 use Rattle.kmip_operations.specs.Calls.{request_of}
 use Rattle.kmip_c.specs.Calls.{settings_of, settings_with}
-use Rattle.kmip_c.specs.Codes.{room_with, no_form}
+use Rattle.kmip_exports.specs.Exports.{room_with}
+use Rattle.kmip_c.specs.Codes.{no_form}
 use Rattle.kmip_c.proofs.Operations.{operation_requested}
 use Rattle.kmip_c.proofs.kmip_operation_request.Goals as goal
 

@@ -2,7 +2,8 @@ use Rattle.std.proofs.Common.{◌∙◌, ap, sym, refl, rules, w64, SFits, pos, 
 use Rattle.std.proofs.lemmas.Int.{to_z-of_z}
 use Rattle.std.proofs.lemmas.Option.{none-some}
 use Rattle.kmip_c.specs.Calls.{call_of, call_with_path}
-use Rattle.kmip_c.specs.Codes.{room_with, no_value}
+use Rattle.kmip_exports.specs.Exports.{room_with}
+use Rattle.kmip_c.specs.Codes.{no_value}
 use Rattle.kmip_c.proofs.Valued.{with_text, without_text, unasked, not_asked, value_reported}
 use Rattle.kmip_c.proofs.kmip_value.Goals as goal
 
