@@ -132,15 +132,23 @@ const skeletonOf = bytes => told('web_skeleton', [bytes], 65536 + (bytes.length 
 function fold(tree, open) {
   for (const it of tree.querySelectorAll('details')) it.open = open;
 }
+// The JSON of an item, whose objects begin with their offsets. Inside a text no such words stand: there a quote has a backslash before it.
+const OFFSET = /\{"offset":\d+,/g;
+const withoutOffsets = json => json.replace(OFFSET, '{');
+function jsonOf(json) {
+  const inside = element('pre'), made = element('details', 'json', '', element('summary', '', 'JSON with offsets, and with all values'), inside);
+  made.addEventListener('toggle', () => { if (!inside.firstChild) inside.append(valueOf(json.replace(OFFSET, (it, at) => (at ? '\n' : '') + it), false)); });
+  return made;
+}
 // A message, or bytes that are none: its skeleton, its tree, and where it stops being items.
 function drawMessage(title, bytes, from) {
   const skeleton = skeletonOf(bytes), tree = treeOf(bytes), json = told('web_decode', [bytes], 65536 + 4 * bytes.length);
   const fault = told('web_fault', [bytes]);
   const bar = element('div', 'bar', '', element('h3', '', title), element('small', '', 'bytes ' + from + ' to ' + (from + bytes.length)),
     button('Copy skeleton', made => copy(skeleton, made), 'copy'));
-  if (json) bar.append(button('Copy JSON, with values', made => copy(json, made)));
+  if (json) bar.append(button('Copy JSON, with values', made => copy(withoutOffsets(json), made), 'copy-json'));
   if (tree) bar.append(button('Open all', () => fold(tree, true)), button('Close all', () => fold(tree, false)));
-  const made = element('div', 'message', '', bar, element('pre', 'skeleton', '', valueOf(skeleton, false)), tree);
+  const made = element('div', 'message', '', bar, element('pre', 'skeleton', '', valueOf(skeleton, false)), tree, json ? jsonOf(json) : '');
   if (fault) {
     const at = fault.indexOf(' ');
     made.append(element('p', 'bad fault', 'No item at ' + fault.slice(0, at) + ':' + fault.slice(at)));

@@ -55,6 +55,30 @@ async function listings(page, lists) {
   }
   verdict('the listings are what another reader finds: places, tags, types and values', true);
 }
+// The offsets of the JSON against the same reader, and what is shown and copied of it.
+async function decoded(page, lists) {
+  for (const [name, bytes] of Object.entries(lists)) {
+    const found = await page.evaluate(`(() => {
+      const offsets = [], walk = it => { offsets.push(it.offset); if (Array.isArray(it.value)) it.value.forEach(walk); };
+      walk(JSON.parse(told('web_decode', [${b64(bytes)}])));
+      return offsets.join(' ');
+    })()`);
+    const want = messages.listed(bytes).filter(it => it !== ']').map(it => it.split('\t')[0]).join(' ');
+    if (found !== want) return verdict('the offsets in the JSON of ' + name, false, found + ' and not ' + want);
+  }
+  verdict('each object of the JSON has the offset that another reader finds', true);
+  await clear(page);
+  await page.evaluate(`(raw.sent = ${b64(lists['all types'])}, show(), document.querySelector('.json').open = true)`);
+  const lines = async () => (await page.evaluate("document.querySelector('.json pre').textContent")).split('\n');
+  await until(page, "document.querySelector('.json pre').textContent", 10);
+  const shown = await lines();
+  verdict('the JSON is shown, an item a line', shown.length === 15 && shown.every(it => it.startsWith('{"offset":')) && shown[7].includes('<b>鍵</b>'), shown.join('\n'));
+  await page.evaluate("(navigator.clipboard.writeText = async it => { window.copied = it; }, document.querySelector('.copy-json').click())");
+  await until(page, 'window.copied', 10);
+  const copied = await page.evaluate('window.copied'), plain = JSON.parse(shown.join(''), (name, it) => name === 'offset' ? undefined : it);
+  verdict('what is copied of it has no offsets', copied === JSON.stringify(plain), copied);
+  await page.evaluate('delete navigator.clipboard.writeText');
+}
 async function faultsOf(page) {
   for (const [name, [bytes, at, words]] of Object.entries(messages.faults)) {
     const said = await page.evaluate(`told('web_fault', [${b64(bytes)}])`);
@@ -225,6 +249,7 @@ async function refusals(sent, received) {
   await exports(page, 'messages', lists);
   await exports(page, 'faults', Object.fromEntries(Object.entries(messages.faults).map(([name, it]) => [name, it[0]])));
   await listings(page, { 'all types': messages.allTypes, 'a request': lists['a request'], 'a stream': sent, 'the other': received });
+  await decoded(page, { 'all types': messages.allTypes, 'a request': lists['a request'], 'a response': lists['a response'] });
   await reports(page, sent, received);
   await faultsOf(page);
   await given(page, sent.subarray(0, 600), received.subarray(0, 900));
