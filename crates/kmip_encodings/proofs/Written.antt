@@ -1,5 +1,5 @@
 -- The tokens of an item, written one after the other.
-use Rattle.std.proofs.Common.{◌≡◌, ℕ, zero, suc, ◌+◌, ◌*◌, ◌<◌, ◌≤◌, List, [], ◌∷◌, ◌++◌, length, drop, get_or, Option, Some, None, IfSome, ◌^◌, refl, sym, ap, ◌∙◌, arith, append_assoc, add-one, drop-cons}
+use Rattle.std.proofs.Common.{◌≡◌, ℕ, zero, suc, ◌+◌, ◌*◌, ◌<◌, ◌≤◌, List, [], ◌∷◌, ◌++◌, length, drop, get_or, Some, None, IfSome, ◌^◌, refl, sym, ap, ◌∙◌, arith, append_assoc, add-one, drop-cons}
 use Rattle.std.specs.Prelude.{codes}
 use Rattle.json.specs.Token.{Token}
 use Rattle.json.specs.Token as token

@@ -1,4 +1,4 @@
-use Rattle.std.proofs.Common.{Vec, Global, ap, ◌∙◌, ◌≡◌, ◌++◌, List, ℕ, [], OnOk, Result, Ok, Err}
+use Rattle.std.proofs.Common.{Vec, Global, ap, ◌∙◌, ◌≡◌, ◌++◌, List, ℕ, []}
 use Rattle.json.specs.Token.{Token}
 use Rattle.json.specs.Print.{print}
 use Rattle.json.specs.Tree.{json_tokens}

@@ -1,5 +1,5 @@
 use Rattle.std.proofs.Common.{arith}
-use Rattle.kmip_encodings.proofs.Elements.{plain, control, pushed}
+use Rattle.kmip_encodings.proofs.Elements.{plain, pushed}
 use Rattle.kmip_encodings.proofs.write_xml.put_escaped.Goals as goal
 
 pub returns-in_default : goal.returns-in_default
