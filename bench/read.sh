@@ -6,14 +6,14 @@ top=$(cd "$(dirname "$0")/.." && pwd)
 work=$(mktemp -d)
 trap 'rm -rf "$work"' EXIT
 mkdir -p "$work/crates/bench/src"
-for crate in wire shape enums codes names keys types objects response; do
+for crate in wire tags shape enums codes names keys types response_objects response; do
     mkdir "$work/crates/kmip_$crate"
     for part in src specs proofs; do
         [ ! -d "$top/crates/kmip_$crate/$part" ] || cp -r "$top/crates/kmip_$crate/$part" "$work/crates/kmip_$crate/"
     done
 done
 cp "$top/HANDLES" "$work/"
-grep -E '^kmip_(wire|shape|enums|codes|names|keys|types|objects|response):' "$top/crates.txt" >"$work/crates.txt"
+grep -E '^kmip_(wire|tags|shape|enums|codes|names|keys|types|response_objects|response):' "$top/crates.txt" >"$work/crates.txt"
 echo 'bench: kmip_wire kmip_shape kmip_enums kmip_types kmip_response_objects kmip_response' >>"$work/crates.txt"
 cat >"$work/crates/bench/src/main.rt" <<'EOR'
 // Reads the payload on standard input again and again, and prints how many attributes were read and how long it took.
