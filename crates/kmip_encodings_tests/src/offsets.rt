@@ -1,6 +1,10 @@
 //! JSON with offsets, which were counted by hand.
+ghost use Rattle.std.specs.Prelude.{◌≤◌, IfOk, length};
+ghost use Rattle.kmip_encodings.specs.Sizes.{size_of};
+
 use kmip_encodings::to_json_with_offsets;
-use kmip_wire::read_tree;
+use kmip_wire::{Tree, read_tree};
+use std::alloc::Global;
 use std::str;
 use std::test::Fail;
 
@@ -14,8 +18,8 @@ struct Row {
 const ROWS: [Row; 3] = [
     Row {
         hex: "42002002000000040000000800000000",
-        start: 9223372036854775792,
-        json: r#"{"offset":9223372036854775792,"tag":"CompromiseDate","type":"Integer","value":8}"#,
+        start: 4611686018427387800,
+        json: r#"{"offset":4611686018427387800,"tag":"CompromiseDate","type":"Integer","value":8}"#,
     },
     // A failure.
     Row {
@@ -31,12 +35,23 @@ const ROWS: [Row; 3] = [
     },
 ];
 
+/// The item at the front, which is no longer than the bytes.
+fn front(alloc: Global, bytes: &[u8]) -> Result<Tree, Fail>
+    ensures { IfOk result (λ tree. size_of tree ≤ length bytes.now) }
+{
+    match read_tree(alloc, bytes) {
+        Ok((tree, _)) => Ok(tree),
+        Err(error) => Err(Fail::from(error)),
+    }
+}
+
 #[test]
 fn each_item_has_its_offset(rt: HostRuntime) -> Result<(), Fail> {
     let alloc = rt.alloc();
     for row in &ROWS {
         let bytes = hex::decode(alloc, row.hex)?;
-        let (tree, _) = read_tree(alloc, &bytes)?;
+        let tree = front(alloc, &bytes)?;
+        assert!(rt; bytes.len() < 4096 && row.start < 1 << 62);
         let mut text = Vec::new(alloc);
         to_json_with_offsets(alloc, &tree, row.start, &mut text)?;
         assert_eq!(rt; str::from_utf8(&text), Ok(row.json));
