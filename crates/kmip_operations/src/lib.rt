@@ -8,10 +8,12 @@
 
 mod answer;
 mod call;
+mod laws;
 mod request;
 #[cfg(test)]
 mod tests;
 
-pub use answer::{OperationAnswer, operation_answer, push_answer};
+pub use answer::{TreeAnswer, operation_answer};
 pub use call::{OperationCall, operation_call};
+pub use laws::lines_are_json;
 pub use request::operation_request;

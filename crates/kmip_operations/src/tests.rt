@@ -1,9 +1,9 @@
 //! The calls as a caller makes them. Messages stand in the notation of kmip_test_messages, and JSON
 //! is written by hand.
-use crate::{OperationAnswer, OperationCall, operation_answer, operation_call, operation_request};
+use crate::{OperationCall, TreeAnswer, operation_answer, operation_call, operation_request};
 use kmip_test_messages::message;
 use kmip_wire::{OutOfMemory, Text};
-use kmip_words::Ending;
+use kmip_words::{Ending, Settings};
 use std::alloc::Global;
 use std::process::Abort;
 use std::test::Fail;
@@ -21,11 +21,10 @@ fn call_of(
 
 fn request(
     alloc: Global,
-    user: Option<Text>,
-    password: Option<Text>,
+    settings: &Settings,
     call: &OperationCall,
 ) -> Result<Option<Vec<u8>>, OutOfMemory> {
-    operation_request(alloc, user, password, call)
+    operation_request(alloc, settings, call)
 }
 
 fn answer_to(
@@ -33,8 +32,13 @@ fn answer_to(
     limit: Option<u32>,
     call: &OperationCall,
     response: &[u8],
-) -> Result<OperationAnswer, OutOfMemory> {
-    operation_answer(alloc, limit, call, response)
+) -> Result<TreeAnswer, OutOfMemory> {
+    operation_answer(alloc, &Settings::new(None, None, limit), call, response)
+}
+
+/// Settings without a credential and a limit.
+fn plain() -> Settings {
+    Settings::new(None, None, None)
 }
 
 /// A call, and its request.
@@ -99,7 +103,7 @@ fn a_request_has_the_callers_payload(rt: HostRuntime) -> Result<(), Fail> {
         let Some(call) = call_of(alloc, row.name, row.version, row.payload)? else {
             panic!(rt; "{}", row.name);
         };
-        let Some(bytes) = request(alloc, None, None, &call)? else {
+        let Some(bytes) = request(alloc, &plain(), &call)? else {
             panic!(rt; "{}", row.name);
         };
         assert!(rt; bytes == message(alloc, row.request)?, "{}", row.name);
@@ -121,12 +125,16 @@ fn a_credential_is_sent_where_both_texts_are_given(rt: HostRuntime) -> Result<()
     let password = Text::of(alloc, "secret")?;
     let expected =
         r#"78{77{69{6A i1,6B i2},0C{23{24 e1,25{99 "alice",A1 "secret"}}},0D i1},0F{5C e1F,79{C2 x00FF}}}"#;
-    match request(alloc, Some(user), Some(password), &call)? {
+    match request(
+        alloc,
+        &Settings::new(Some(user), Some(password), None),
+        &call,
+    )? {
         Some(bytes) => assert!(rt; bytes == message(alloc, expected)?),
         None => panic!(rt; "no request"),
     }
     let user = Text::of(alloc, "alice")?;
-    match request(alloc, Some(user), None, &call)? {
+    match request(alloc, &Settings::new(Some(user), None, None), &call)? {
         Some(bytes) => assert!(rt; bytes == message(alloc, "REQ2(1F, C2 x00FF)")?),
         None => panic!(rt; "no request"),
     }
@@ -237,7 +245,7 @@ fn what_has_no_wire_form_has_no_request(rt: HostRuntime) -> Result<(), Fail> {
     let Some(call) = call_of(alloc, "Encrypt", "1.2", NO_FORM)? else {
         panic!(rt; "no call");
     };
-    assert!(rt; request(alloc, None, None, &call)?.is_none());
+    assert!(rt; request(alloc, &plain(), &call)?.is_none());
     let answer = answer_to(alloc, None, &call, &[])?;
     assert_eq!(rt; answer.ending, Ending::Refused);
     let line = b"{\"error\":\"SerializeError\",\"text\":\"request has no wire form\"}\n";
@@ -288,22 +296,28 @@ const ANSWERS: &[AnswerRow] = &[
     AnswerRow {
         response: "OK2(20, C2 x00)",
         ending: Ending::Refused,
-        line: "{\"error\":\"InternalError\",\"text\":\"Response does not match request operation Encrypt\"}\n",
+        line: "{\"error\":\"InternalError\",\"text\":\"Response does not match request operation Encrypt\",\"response\":\"7B[7A[69[6Ai6Bi]92d0Di]0F[5Ce20:7Fe0:7C[C2x]]]\"}\n",
     },
     AnswerRow {
         response: "RES2(5C e1F,7F e2)",
         ending: Ending::Refused,
-        line: "{\"error\":\"InternalError\",\"text\":\"Result status 2 is not supported\"}\n",
+        line: "{\"error\":\"InternalError\",\"text\":\"Result status 2 is not supported\",\"response\":\"7B[7A[69[6Ai6Bi]92d0Di]0F[5Ce1F:7Fe2:]]\"}\n",
     },
     AnswerRow {
         response: "7B{7A{69{6A i1,6B i2},92 d1,0D i2},0F{5C e1F,7F e0},0F{5C e1F,7F e0}}",
         ending: Ending::Refused,
-        line: "{\"error\":\"InternalError\",\"text\":\"Expected one batch item in response but received 2\"}\n",
+        line: "{\"error\":\"InternalError\",\"text\":\"Expected one batch item in response but received 2\",\"response\":\"7B[7A[69[6Ai6Bi]92d0Di]0F[5Ce1F:7Fe0:]0F[5Ce1F:7Fe0:]]\"}\n",
+    },
+    // two batch items, the first of which reports failure
+    AnswerRow {
+        response: "7B{7A{69{6A i1,6B i2},92 d1,0D i2},0F{5C e1F,7F e1,7E e12,7D \"no \\\"key\\\"\"},0F{5C e1F,7F e0}}",
+        ending: Ending::Refused,
+        line: "{\"error\":\"InternalError\",\"text\":\"Expected one batch item in response but received 2\",\"response\":\"7B[7A[69[6Ai6Bi]92d0Di]0F[5Ce1F:7Fe1:7Ee12:7Dt]0F[5Ce1F:7Fe0:]]\",\"reason\":18,\"message\":\"no \\\"key\\\"\"}\n",
     },
     AnswerRow {
         response: "REQ2(1F, C2 x00)",
         ending: Ending::Refused,
-        line: "{\"error\":\"InternalError\",\"text\":\"not a response message\"}\n",
+        line: "{\"error\":\"InternalError\",\"text\":\"not a response message\",\"response\":\"78[77[69[6Ai6Bi]0Di]0F[5Ce1F:79[C2x]]]\"}\n",
     },
     AnswerRow {
         response: "!42007B0100000008FFFFFFFFFFFFFFFF",
