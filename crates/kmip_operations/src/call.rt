@@ -23,15 +23,15 @@ pub struct OperationCall {
     pub payload: Tree,
 }
 
-/// The operation with this name in KMIP's table.
-fn operation_named(name: &str) -> Option<Operation>
+/// The operation with this name in KMIP's table, as `Encrypt` or `MACVerify`. It takes no memory.
+pub fn operation_named(name: &str) -> Option<Operation>
     ensures { result ≡ operation_named name.now }
 {
     Operation::from_number(enumeration_number(Tag::of(OPERATION), name)?)
 }
 
-/// The version that a text writes.
-fn version_written(text: &str) -> Option<Version>
+/// The version that a text writes: `1.0`, `1.1` or `1.2`. It takes no memory.
+pub fn version_written(text: &str) -> Option<Version>
     ensures { result ≡ version_written text.now }
 {
     match text {

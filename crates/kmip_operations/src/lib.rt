@@ -14,6 +14,6 @@ mod request;
 mod tests;
 
 pub use answer::{TreeAnswer, operation_answer};
-pub use call::{OperationCall, operation_call};
+pub use call::{OperationCall, operation_call, operation_named, version_written};
 pub use laws::lines_are_json;
 pub use request::operation_request;

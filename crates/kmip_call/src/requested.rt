@@ -1,0 +1,96 @@
+//! What an order asks for, and its request.
+ghost use Rattle.std.specs.Prelude.{◌≡◌, Some, None, IfOk, MatchOption, option_map};
+ghost use Rattle.kmip_call.specs.Operation.{operation_words};
+ghost use Rattle.kmip_call.specs.Asked.{is_allowed, call_for, AsksForNone, Requests};
+
+use crate::command::Order;
+use crate::operation::{OperationWords, operation_words};
+use crate::record::{is_recordable, recorded_words};
+use kmip_operations::{OperationCall, operation_call, operation_request};
+use kmip_wire::OutOfMemory;
+use kmip_words::{request_of, typed_call};
+use std::alloc::Global;
+
+/// What the words of an order ask for.
+#[derive(Drop)]
+pub enum Asked {
+    /// A call of kmip_words; its words are read again where its answer is shown.
+    Typed,
+    /// A call of any operation.
+    Operation(OperationCall),
+}
+
+/// What an order asks for, and the bytes of its request, which is `None` where it has no wire form.
+#[derive(Drop)]
+pub struct Requested {
+    pub asked: Asked,
+    pub request: Option<Vec<u8>>,
+}
+
+/// Whether a typed call may be made: where it is to be recorded, only if a script may hold it.
+fn is_allowed(alloc: Global, order: &Order) -> Result<bool, OutOfMemory>
+    ensures { IfOk result (λ allowed. allowed ≡ is_allowed order.now.file order.now.words) }
+{
+    match &order.file {
+        Some(_) => {
+            let words = recorded_words(alloc, order.words.as_slice())?;
+            is_recordable(alloc, words.as_slice())
+        }
+        None => Ok(true),
+    }
+}
+
+/// The request of a typed call; `None` where the words are none that may be made.
+fn typed_request(alloc: Global, order: &Order) -> Result<Option<Requested>, OutOfMemory>
+    requires { operation_words order.now.words ≡ None }
+    ensures { IfOk result (λ found. MatchOption found (call_for order.now ≡ None)
+        (λ it. Requests order.now it.asked (option_map (λ r. r.items) it.request))) }
+{
+    if !is_allowed(alloc, order)? {
+        return Ok(None);
+    }
+    let Some(call) = typed_call(alloc, order.words.as_slice())? else {
+        return Ok(None);
+    };
+    let request = request_of(alloc, &order.settings, call)?;
+    Ok(Some(Requested {
+        asked: Asked::Typed,
+        request,
+    }))
+}
+
+/// The request of a call of any operation; `None` where the words ask for none, or the call is to
+/// be recorded.
+fn operation_request_of(
+    alloc: Global,
+    order: &Order,
+    words: OperationWords<'_>,
+) -> Result<Option<Requested>, OutOfMemory>
+    requires { operation_words order.now.words ≡ Some
+        (record { name = words.name.now; version = words.version.now; payload = words.payload.now }) }
+    ensures { IfOk result (λ found. MatchOption found (AsksForNone order.now)
+        (λ it. Requests order.now it.asked (option_map (λ r. r.items) it.request))) }
+{
+    if order.file.is_some() {
+        return Ok(None);
+    }
+    let Some(call) = operation_call(alloc, words.name, words.version, words.payload)? else {
+        return Ok(None);
+    };
+    let request = operation_request(alloc, &order.settings, &call)?;
+    Ok(Some(Requested {
+        asked: Asked::Operation(call),
+        request,
+    }))
+}
+
+/// What an order asks for, and its request; `None` where it asks for nothing that may be made.
+pub fn request_for(alloc: Global, order: &Order) -> Result<Option<Requested>, OutOfMemory>
+    ensures { IfOk result (λ found. MatchOption found (AsksForNone order.now)
+        (λ it. Requests order.now it.asked (option_map (λ r. r.items) it.request))) }
+{
+    match operation_words(order.words.as_slice()) {
+        Some(words) => operation_request_of(alloc, order, words),
+        None => typed_request(alloc, order),
+    }
+}
