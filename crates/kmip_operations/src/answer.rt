@@ -1,5 +1,5 @@
 //! The line of what a response answers to a call whose payloads are trees.
-ghost use Rattle.std.specs.Prelude.{◌≡◌, ◌++◌, ◌≤◌, length, take, Err, IfOk, OnOk};
+ghost use Rattle.std.specs.Prelude.{◌≡◌, ◌++◌, ◌≤◌, [], length, take, Err, IfOk, OnOk};
 ghost use Rattle.kmip_shape.specs.declared.style.Style.TheVariants.{Json};
 ghost use Rattle.kmip_encodings.specs.Encoding.{json_text};
 ghost use Rattle.kmip_words.specs.Exchange.{value_line};
@@ -80,10 +80,31 @@ fn push_answer(
 
 /// What some bytes answer to a call.
 #[derive(Drop)]
-struct TreeReply {
-    answer: Result<Tree, Error>,
+pub struct TreeReply {
+    pub answer: Result<Tree, Error>,
     /// How many of the bytes the answer depends on.
-    taken: usize,
+    pub taken: usize,
+}
+
+/// How a call ended, and the line of its answer.
+#[derive(Drop)]
+pub struct TreeAnswer {
+    /// Whether it returned an error, and whether the connection is good for the next call.
+    pub ending: Ending,
+    /// The line of JSON, with its line feed.
+    pub line: Vec<u8>,
+}
+
+/// How a call ended with this reply to a response, and its line.
+pub fn told(alloc: Global, reply: TreeReply, response: &[u8]) -> Result<TreeAnswer, OutOfMemory>
+    requires { reply.taken ≤ length response.now }
+    ensures { IfOk result (λ answer. TellsTree reply.answer (take reply.taken response.now)
+        answer.ending [] answer.line.items) }
+{
+    let TreeReply { answer, taken } = reply;
+    let mut line = Vec::new(alloc);
+    let ending = push_answer(alloc, answer, &response[..taken], &mut line)?;
+    Ok(TreeAnswer { ending, line })
 }
 
 /// What these bytes answer to a call.
@@ -102,15 +123,6 @@ fn reply_of(
     let answer = client.do_operation(alloc, call.operation, call.version, &call.payload);
     let taken = response.len() - left_for(&mut client);
     Ok(TreeReply { answer, taken })
-}
-
-/// How a call ended, and the line of its answer.
-#[derive(Drop)]
-pub struct TreeAnswer {
-    /// Whether it returned an error, and whether the connection is good for the next call.
-    pub ending: Ending,
-    /// The line of JSON, with its line feed.
-    pub line: Vec<u8>,
 }
 
 /// The answer that these bytes are to a call, as a line of JSON, and how the call ended: what a
@@ -134,8 +146,6 @@ pub fn operation_answer(
         operation_ending settings.now (request_of call.now) response.now) }
     ensures json { IfOk result (λ answer. IsTextLine answer.line.items) }
 {
-    let TreeReply { answer, taken } = reply_of(alloc, settings, call, response)?;
-    let mut line = Vec::new(alloc);
-    let ending = push_answer(alloc, answer, &response[..taken], &mut line)?;
-    Ok(TreeAnswer { ending, line })
+    let reply = reply_of(alloc, settings, call, response)?;
+    told(alloc, reply, response)
 }
