@@ -12,3 +12,6 @@ printf hello | openssl dgst -sha256 -verify verifying.pem -signature signature >
 verdict 'openssl reads the public key, and verifies the signature with it'
 [[ $(<key.hex) =~ ^[0-9A-F]{64}$ ]]
 verdict 'the AES key has 256 bits'
+printf %b "$(sed 's/../\\x&/g' sealed.hex)" >sealed
+[[ $(openssl enc -d -aes-256-cbc -K "$(<key.hex)" -iv 000102030405060708090A0B0C0D0E0F -in sealed 2>"$said") == hello ]]
+verdict 'openssl decrypts what was encrypted with it'
