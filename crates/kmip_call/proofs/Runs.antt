@@ -26,12 +26,12 @@ made order w0 w1 s0 s1 f0 f1 k0 k1 response line ending status it reports =
     record {
       refuses = λ none. absurd (none it.errand it.asks);
       makes = λ errand asks. inl (record {
-            response = response;
-            line = line;
-            ending = ending;
-            carried = subst P (asked_once order it.errand errand it.asks asks) it.carried;
-            reports = reports;
-          });
+        response = response;
+        line = line;
+        ending = ending;
+        carried = subst P (asked_once order it.errand errand it.asks asks) it.carried;
+        reports = reports;
+      });
     }
 
 -- no call was made

@@ -2,7 +2,9 @@
 use Rattle.std.specs.Prelude.{◌≡◌, ℕ, List, ◌++◌, take, Option, Some, None, codes, IsTrue}
 use Rattle.kmip_link.specs.State.{SourceState, SinkState, FaultCountRose, source_left}
 use Rattle.kmip_shape.specs.declared.style.Style.TheVariants.{Json}
+use Rattle.kmip_wire.specs.Tree.{Tree}
 use Rattle.kmip_client.specs.Operation.{TreeRequest, operation_bytes}
+use Rattle.kmip_client.specs.WholeMessage.{whole_bytes}
 use Rattle.kmip_client.specs.declared.error.Error.{Error}
 use Rattle.kmip_client.specs.declared.error.Error.TheVariants.{RequestWriteError, ResponseReadError}
 use Rattle.kmip_words.specs.Streams.{Gives, GivesPart, WrotePart, WroteProperPart}
@@ -11,7 +13,7 @@ use Rattle.kmip_words.specs.About.{response_line, response_ending}
 use Rattle.kmip_words.specs.declared.call.Call.{Call}
 use Rattle.kmip_words.specs.declared.ending.Ending.{Ending}
 use Rattle.kmip_words.specs.declared.ending.Ending.TheVariants.{Lost}
-use Rattle.kmip_operations.specs.Answers.{operation_outcome, operation_json_line, operation_ending}
+use Rattle.kmip_operations.specs.Answers.{operation_outcome, operation_json_line, operation_ending, message_outcome, message_json_line, message_ending}
 use Rattle.kmip_call.specs.Wire.{IsOneAtMost}
 
 -- What a call sends, and what it makes of the bytes that come back.
@@ -40,6 +42,15 @@ operation_errand settings request = record {
   taken = λ rest. (operation_outcome settings request rest).taken;
   line = operation_json_line settings request;
   ending = operation_ending settings request;
+}
+
+-- a whole message of the caller's
+abbrev pub message_errand : Settings → Tree → Errand
+message_errand settings message = record {
+  message = whole_bytes message;
+  taken = λ rest. (message_outcome settings message rest).taken;
+  line = message_json_line settings message;
+  ending = message_ending settings message;
 }
 
 -- the bytes that a call sends: none where it has no wire form

@@ -11,7 +11,7 @@ use crate::requested::{Asked, Requested};
 use crate::wire::{TransferStop, transfer};
 use kmip_client::Error;
 use kmip_link::{Sink, Source};
-use kmip_operations::{TreeAnswer, operation_answer};
+use kmip_operations::{TreeAnswer, message_answer, operation_answer};
 use kmip_shape::Style;
 use kmip_wire::{OutOfMemory, Text};
 use kmip_words::{Ending, answer_of, show_error, typed_call};
@@ -63,6 +63,7 @@ fn answer_to(
     match asked {
         Asked::Typed => typed_answer(alloc, order, response),
         Asked::Operation(call) => operation_answer(alloc, &order.settings, call, response),
+        Asked::Message(message) => message_answer(alloc, &order.settings, message, response),
     }
 }
 

@@ -10,7 +10,6 @@
 
 mod command;
 mod exchange;
-mod operation;
 mod program;
 mod record;
 mod refusal;
@@ -18,6 +17,7 @@ mod requested;
 mod status;
 #[cfg(test)]
 mod tests;
+mod tree_words;
 mod wire;
 
 use command::{Command, Order, command_of};
@@ -65,6 +65,7 @@ CALL is one of
     rng N
     raw HEX
     operation NAME [version=VERSION] PAYLOAD
+    message MESSAGE
 
 In a name or an identifier `-` is the empty text, and `%` with two upper-case hex
 digits stands for a byte.
@@ -85,7 +86,8 @@ as Sign, with `,` between two, and names of values those of KMIP.
 `operation` calls any operation of KMIP by its NAME, as Encrypt. VERSION is 1.0,
 1.1 or 1.2, and 1.2 where none is given. PAYLOAD is the JSON of the request's
 payload, as {\"tag\":\"RequestPayload\",\"value\":[..]}; the answer is that of the
-response's payload. The call cannot be recorded.
+response's payload. `message` sends a whole message, whose JSON MESSAGE is, as it
+stands; the answer is the whole response. Neither can be recorded.
 
 user=U, password=P   the credential of the request; without password=P the
                      password is that of the environment, KMIP_PASSWORD

@@ -5,11 +5,12 @@ ghost use Rattle.kmip_link.specs.State.{FaultCountRose};
 ghost use Rattle.kmip_words.specs.Calls.{typed_call};
 ghost use Rattle.kmip_call.specs.Refusal.{grammar_line, object_form, attribute_form, key_form};
 ghost use Rattle.kmip_call.specs.Refusal.{form_of, has_equals, wrong_name, no_call, not_typed};
-ghost use Rattle.kmip_call.specs.Refusal.{wrong_operation, no_operation, why_not, refusal};
+ghost use Rattle.kmip_call.specs.Refusal.{wrong_operation, wrong_tree, no_tree, why_not, refusal};
+ghost use Rattle.kmip_call.specs.TreeWords.{tree_text};
 
 use crate::command::Order;
-use crate::operation::{OperationWords, operation_words};
 use crate::status::Status;
+use crate::tree_words::{TreeWords, tree_words};
 use kmip_link::{LinkError, Sink};
 use kmip_operations::{operation_named, version_written};
 use kmip_shape::ShowItem;
@@ -75,6 +76,7 @@ fn form_of(name: &str) -> Option<&'static str>
         "rng" => Some("rng INT"),
         "raw" => Some("raw HEX"),
         "operation" => Some("operation NAME [version=VERSION] PAYLOAD"),
+        "message" => Some("message MESSAGE"),
         _ => key_form(name),
     }
 }
@@ -131,27 +133,36 @@ fn not_typed(alloc: Global, words: &[Text]) -> Result<Text, OutOfMemory>
 }
 
 /// Which of the words of a call of an operation is not what it should be.
-fn wrong_operation(words: OperationWords<'_>) -> &'static str
-    ensures { result.now ≡ wrong_operation
-        (record { name = words.name.now; version = words.version.now; payload = words.payload.now }) }
+fn wrong_operation(name: &str, version: &str) -> &'static str
+    ensures { result.now ≡ wrong_operation name.now version.now }
 {
-    if operation_named(words.name).is_none() {
+    if operation_named(name).is_none() {
         return "KMIP 1.2 has no operation of this name";
     }
-    if version_written(words.version).is_none() {
+    if version_written(version).is_none() {
         return "version= takes 1.0, 1.1 or 1.2";
     }
     "the payload is not the JSON of a RequestPayload"
 }
 
-/// Why no operation is called: the call is to be recorded, or one of the words is wrong.
-fn no_operation(file: &Option<Text>, words: OperationWords<'_>) -> &'static str
-    ensures { result.now ≡ no_operation file.now
-        (record { name = words.name.now; version = words.version.now; payload = words.payload.now }) }
+/// Which of the words of a call whose payload or message is in JSON is not what it should be.
+fn wrong_tree(words: TreeWords<'_>) -> &'static str
+    ensures { result.now ≡ wrong_tree (tree_text words) }
+{
+    match words {
+        TreeWords::Operation { name, version, .. } => wrong_operation(name, version),
+        TreeWords::Message { .. } => "the message is not the JSON of a RequestMessage",
+    }
+}
+
+/// Why no call whose payload or message is in JSON is made: it is to be recorded, or one of the
+/// words is wrong.
+fn no_tree(file: &Option<Text>, words: TreeWords<'_>) -> &'static str
+    ensures { result.now ≡ no_tree file.now (tree_text words) }
 {
     match file {
         Some(_) => NOT_RECORDED,
-        None => wrong_operation(words),
+        None => wrong_tree(words),
     }
 }
 
@@ -160,8 +171,8 @@ fn why_not(alloc: Global, order: &Order) -> Result<Text, OutOfMemory>
     ensures { IfOk result (λ text. text ≡ why_not order.now) }
 {
     let words = order.words.as_slice();
-    match operation_words(words) {
-        Some(words) => Text::of(alloc, no_operation(&order.file, words)),
+    match tree_words(words) {
+        Some(words) => Text::of(alloc, no_tree(&order.file, words)),
         None => not_typed(alloc, words),
     }
 }

@@ -1,4 +1,4 @@
--- What a response answers to a call of an operation, as a line of JSON.
+-- What a response answers to a call of an operation and to a message, as a line of JSON.
 use Rattle.std.specs.Prelude.{◌≡◌, ◌≢◌, ℕ, List, ◌++◌, take, Result, Err}
 use Rattle.kmip_wire.specs.Tree.{Tree}
 use Rattle.kmip_shape.specs.declared.style.Style.TheVariants.{Json}
@@ -6,6 +6,7 @@ use Rattle.kmip_encodings.specs.Encoding.{json_text}
 use Rattle.kmip_client.specs.Operation.{TreeRequest, operation_bytes}
 use Rattle.kmip_client.specs.Outcome.{OutcomeOf, outcome_by}
 use Rattle.kmip_client.specs.Untyped.{untyped_answer}
+use Rattle.kmip_client.specs.WholeMessage.{whole_bytes, whole_answer}
 use Rattle.kmip_client.specs.declared.error.Error.{Error}
 use Rattle.kmip_client.specs.declared.error.Error.TheVariants.{InternalError, OutOfMemory}
 use Rattle.kmip_words.specs.Exchange.{Settings, answer_line, ending_of}
@@ -54,3 +55,16 @@ operation_json_line settings request response =
 abbrev pub operation_ending : Settings → TreeRequest → List ℕ → Ending
 operation_ending settings request response =
     ending_of (operation_outcome settings request response).answer
+
+-- the same of a message of the caller's; the credential plays no part
+
+abbrev pub message_outcome : Settings → Tree → List ℕ → OutcomeOf Tree
+message_outcome settings message rest =
+    outcome_by (whole_bytes message) whole_answer settings.limit rest
+
+abbrev pub message_json_line : Settings → Tree → List ℕ → List ℕ
+message_json_line settings message response =
+    outcome_line (message_outcome settings message response) response
+
+abbrev pub message_ending : Settings → Tree → List ℕ → Ending
+message_ending settings message response = ending_of (message_outcome settings message response).answer

@@ -1,9 +1,10 @@
--- A call of any operation, by the operation's name, a version of KMIP and a payload in JSON.
+-- A call of any operation, by the operation's name, a version of KMIP and a payload in JSON; and a
+-- message in JSON.
 use Rattle.std.specs.Prelude.{◌≡◌, ℕ, ◌==◌, Bool, true, false, List, codes, Option, Some, None, Ok, if◌then◌else◌, bytes_eq}
 use Rattle.std.specs.Option.{option_and_then, IsSomeAnd}
 use Rattle.json.specs.Json.{document}
 use Rattle.json.specs.Strict.{HasUniqueKeys}
-use Rattle.kmip_tags.specs.Tags.{OPERATION, REQUEST_PAYLOAD}
+use Rattle.kmip_tags.specs.Tags.{OPERATION, REQUEST_MESSAGE, REQUEST_PAYLOAD}
 use Rattle.kmip_wire.specs.Tree.{Tree, scalar, structure}
 use Rattle.kmip_shape.specs.Enumerations.{variant_at}
 use Rattle.kmip_enums.specs.Operations.{operation_line, operation_variants}
@@ -47,6 +48,10 @@ IsStructureText wanted text tree =
 -- the text is the JSON of the payload of a request (KMIP 1.0, 9.1.3.1)
 abbrev pub IsPayloadText : List ℕ → Tree → Type 0
 IsPayloadText = IsStructureText REQUEST_PAYLOAD
+
+-- and of a whole request message
+abbrev pub IsMessageText : List ℕ → Tree → Type 0
+IsMessageText = IsStructureText REQUEST_MESSAGE
 
 -- the call that a name, a version and a payload in JSON ask for
 pub record Asks (name version payload : List ℕ) (request : TreeRequest) : Type 0 where

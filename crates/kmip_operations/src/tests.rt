@@ -1,8 +1,11 @@
 //! The calls as a caller makes them. Messages stand in the notation of kmip_test_messages, and JSON
 //! is written by hand.
-use crate::{OperationCall, TreeAnswer, operation_answer, operation_call, operation_request};
+use crate::{
+    OperationCall, TreeAnswer, message_answer, message_of, message_request, operation_answer,
+    operation_call, operation_request,
+};
 use kmip_test_messages::message;
-use kmip_wire::{OutOfMemory, Text};
+use kmip_wire::{OutOfMemory, Text, Tree};
 use kmip_words::{Ending, Settings};
 use std::alloc::Global;
 use std::process::Abort;
@@ -366,6 +369,136 @@ fn a_long_response_is_refused(rt: HostRuntime) -> Result<(), Fail> {
     let line = b"{\"error\":\"DeserializeError\",\"text\":\"response size 8 exceeds limit 7\"}\n";
     assert!(rt; answer.line.as_slice() == line.as_slice());
     let answer = answer_to(alloc, Some(8), &call, &response)?;
+    assert_eq!(rt; answer.ending, Ending::Refused);
+    Ok(())
+}
+
+/// `message_of` without its clause; so are the two functions below.
+fn tree_of(alloc: Global, text: &str) -> Result<Option<Tree>, OutOfMemory> {
+    message_of(alloc, text)
+}
+
+fn bytes_of(alloc: Global, message: &Tree) -> Result<Option<Vec<u8>>, OutOfMemory> {
+    message_request(alloc, message)
+}
+
+fn answer_of(
+    alloc: Global,
+    limit: Option<u32>,
+    message: &Tree,
+    response: &[u8],
+) -> Result<TreeAnswer, OutOfMemory> {
+    message_answer(alloc, &Settings::new(None, None, limit), message, response)
+}
+
+/// A message of two batch items, a Query and a Poll (KMIP 1.0, 4.24 and 4.26), and its bytes.
+const BATCH: &str = r#"{"tag":"RequestMessage","value":[
+    {"tag":"RequestHeader","value":[
+        {"tag":"ProtocolVersion","value":[
+            {"tag":"ProtocolVersionMajor","type":"Integer","value":1},
+            {"tag":"ProtocolVersionMinor","type":"Integer","value":2}]},
+        {"tag":"BatchCount","type":"Integer","value":2}]},
+    {"tag":"BatchItem","value":[
+        {"tag":"Operation","type":"Enumeration","value":"Query"},
+        {"tag":"UniqueBatchItemID","type":"ByteString","value":"01"},
+        {"tag":"RequestPayload","value":[]}]},
+    {"tag":"BatchItem","value":[
+        {"tag":"Operation","type":"Enumeration","value":"Poll"},
+        {"tag":"UniqueBatchItemID","type":"ByteString","value":"02"},
+        {"tag":"RequestPayload","value":[]}]}]}"#;
+
+const BATCH_BYTES: &str =
+    "78{77{69{6A i1,6B i2},0D i2},0F{5C e18,93 x01,79{}},0F{5C e1A,93 x02,79{}}}";
+
+#[test]
+fn a_message_is_sent_as_it_stands(rt: HostRuntime) -> Result<(), Fail> {
+    let alloc: Global = rt.alloc();
+    let Some(tree) = tree_of(alloc, BATCH)? else {
+        panic!(rt; "no message");
+    };
+    match bytes_of(alloc, &tree)? {
+        Some(bytes) => assert!(rt; bytes == message(alloc, BATCH_BYTES)?),
+        None => panic!(rt; "no bytes"),
+    }
+    Ok(())
+}
+
+/// What is no message: no JSON, an item that is no structure, and one with another tag.
+const NO_MESSAGES: &[&str] = &[
+    "",
+    r#"{"tag":"RequestMessage","type":"Integer","value":1}"#,
+    r#"{"tag":"RequestPayload","value":[]}"#,
+    r#"{"tag":"ResponseMessage","value":[]}"#,
+];
+
+#[test]
+fn other_texts_are_no_message(rt: HostRuntime) -> Result<(), Fail> {
+    for text in NO_MESSAGES {
+        assert!(rt; tree_of(rt.alloc(), text)?.is_none(), "{text}");
+    }
+    Ok(())
+}
+
+/// Responses to that message: each is shown as it came, where it is one well-formed message.
+const WHOLE_ANSWERS: &[AnswerRow] = &[
+    AnswerRow {
+        response: "7B{0F{7F e1,7D \"no\"},0F{7F e0},540001 x00},!FF",
+        ending: Ending::Answered,
+        line: "{\"answer\":{\"tag\":\"ResponseMessage\",\"value\":[{\"tag\":\"BatchItem\",\"value\":[{\"tag\":\"ResultStatus\",\"type\":\"Enumeration\",\"value\":\"OperationFailed\"},{\"tag\":\"ResultMessage\",\"type\":\"TextString\",\"value\":\"no\"}]},{\"tag\":\"BatchItem\",\"value\":[{\"tag\":\"ResultStatus\",\"type\":\"Enumeration\",\"value\":\"Success\"}]},{\"tag\":\"0x540001\",\"type\":\"ByteString\",\"value\":\"00\"}]}}\n",
+    },
+    AnswerRow {
+        response: "7B{}",
+        ending: Ending::Answered,
+        line: "{\"answer\":{\"tag\":\"ResponseMessage\",\"value\":[]}}\n",
+    },
+    AnswerRow {
+        response: "!42007B0100000008FFFFFFFFFFFFFFFF",
+        ending: Ending::Lost,
+        line: "{\"error\":\"DeserializeError\",\"text\":\"malformed TTLV\"}\n",
+    },
+    AnswerRow {
+        response: "!42007B0100000090",
+        ending: Ending::Lost,
+        line: "{\"error\":\"ResponseReadError\",\"text\":\"end of input\"}\n",
+    },
+    AnswerRow {
+        response: "7B i1",
+        ending: Ending::Lost,
+        line: "{\"error\":\"DeserializeError\",\"text\":\"not a structure\"}\n",
+    },
+];
+
+#[test]
+fn a_message_is_answered_by_a_whole_response(rt: HostRuntime) -> Result<(), Fail> {
+    let alloc: Global = rt.alloc();
+    let Some(tree) = tree_of(alloc, BATCH)? else {
+        panic!(rt; "no message");
+    };
+    for row in WHOLE_ANSWERS {
+        let answer = answer_of(alloc, None, &tree, &message(alloc, row.response)?)?;
+        assert!(rt;
+            answer.line.as_slice() == row.line.as_bytes(),
+            "{}",
+            row.response
+        );
+        assert_eq!(rt; answer.ending, row.ending, "{}", row.response);
+    }
+    let answer = answer_of(alloc, Some(7), &tree, &message(alloc, "7B{}")?)?;
+    let line = b"{\"error\":\"DeserializeError\",\"text\":\"response size 8 exceeds limit 7\"}\n";
+    assert!(rt; answer.line.as_slice() == line.as_slice());
+    Ok(())
+}
+
+#[test]
+fn a_message_without_a_wire_form_is_not_sent(rt: HostRuntime) -> Result<(), Fail> {
+    let alloc: Global = rt.alloc();
+    let text =
+        r#"{"tag":"RequestMessage","value":[{"tag":"Modulus","type":"BigInteger","value":"0x01"}]}"#;
+    let Some(tree) = tree_of(alloc, text)? else {
+        panic!(rt; "no message");
+    };
+    assert!(rt; bytes_of(alloc, &tree)?.is_none());
+    let answer = answer_of(alloc, None, &tree, &[])?;
     assert_eq!(rt; answer.ending, Ending::Refused);
     Ok(())
 }
