@@ -3,7 +3,7 @@
 # ~/.local/share/bash-completion/completions/kmip_call.
 
 _kmip_calls=(query discover create-rsa create-aes create register locate attributes attribute-add attribute-modify
-    attribute-delete get activate sign rename revoke destroy rng raw operation)
+    attribute-delete get activate sign rename revoke destroy rng raw operation message)
 _kmip_operations=(Create CreateKeyPair Register Rekey DeriveKey Certify Recertify Locate Check Get GetAttributes
     GetAttributeList AddAttribute ModifyAttribute DeleteAttribute ObtainLease GetUsageAllocation Activate Revoke Destroy
     Archive Recover Validate Query Cancel Poll Notify Put RekeyKeyPair DiscoverVersions Encrypt Decrypt Sign SignatureVerify
@@ -74,7 +74,7 @@ _kmip() {
     _kmip_split
     if ((${#words[@]} == 2)); then
         _kmip_offer "${words[1]}" "${_kmip_calls[@]}" pem
-    elif [[ ${words[1]-} == operation && ${words[-1]} == @* ]]; then
+    elif [[ ${words[1]-} == @(operation|message) && ${words[-1]} == @* ]]; then
         _kmip_offer_files "${words[-1]#@}"
     else
         _kmip_follow "${words[@]:1}"

@@ -21,6 +21,7 @@
 #
 # `kmip operation Encrypt '{"tag":"RequestPayload","value":[..]}'` is any operation of KMIP, and `@payload.json` in the place
 # of the payload a file that has it. `version=1.1` stands before the payload, where the request is not to be of KMIP 1.2.
+# `kmip message @message.json` sends a whole message as it stands, and answers the whole response.
 #
 # Settings, all optional:
 #   KMIP_TIMEOUT     seconds for each call, with connect and handshake; status 3 when they are over. 30 where it is not
@@ -138,10 +139,12 @@ kmip_json_words() { # CALL WORD..
 # Leaves in KMIP_WORDS the words of a call, as kmip_call is to get them.
 kmip_words() { # CALL WORD..
     local word KMIP_WORD KMIP_OPTIONS KMIP_PLAIN
-    if [[ ${1-} == operation ]]; then
+    case ${1-} in
+    operation | message)
         kmip_json_words "$@"
         return
-    fi
+        ;;
+    esac
     KMIP_WORDS=("${1-}")
     kmip_options "${1-}"
     kmip_are_options "${@:2+KMIP_PLAIN}" || KMIP_PLAIN=$#
@@ -366,7 +369,7 @@ kmip() { # CALL WORD..
         return 3
     fi
     case ${1-} in
-    '' | query | create | create-rsa | create-aes | register | rng | locate | discover | raw | operation) ;;
+    '' | query | create | create-rsa | create-aes | register | rng | locate | discover | raw | operation | message) ;;
     *)
         if [[ -z ${2-} ]]; then
             kmip_fails GrammarError 'the call has no identifier'

@@ -1,5 +1,5 @@
 # shellcheck shell=bash
-# Any operation, by its name and a payload in JSON.
+# Any operation, by its name and a payload in JSON, and whole messages in JSON.
 payload='{"tag":"RequestPayload","value":[{"tag":"UniqueIdentifier","type":"TextString","value":"my key"}]}'
 answer='^\{"answer":\{"tag":"ResponsePayload","value":\[\{"tag":"UniqueIdentifier","type":"TextString","value":"my key"\}\]\}\}$'
 printf '%s\n' "$payload" >'a payload.json'
@@ -29,6 +29,23 @@ printf %s "$long" >long.json
 script_is 'a payload longer than a word may be, and a call after it' 0 '
     open; kmip operation Archive @long.json && exit 9; kmip query; kmip_close'
 says 'it is said what it is' '"GrammarError".*131071'
+message='{"tag":"RequestMessage","value":[{"tag":"RequestHeader","value":[{"tag":"ProtocolVersion","value":[
+    {"tag":"ProtocolVersionMajor","type":"Integer","value":1},{"tag":"ProtocolVersionMinor","type":"Integer","value":2}]},
+    {"tag":"BatchCount","type":"Integer","value":1}]},{"tag":"BatchItem","value":[
+    {"tag":"Operation","type":"Enumeration","value":"Archive"},{"tag":"RequestPayload","value":[
+    {"tag":"UniqueIdentifier","type":"TextString","value":"my key"}]}]}]}'
+printf '%s\n' "$message" >message.json
+call_is 'a whole message' 0 message "$message"
+says 'its answer is the whole response' '^\{"answer":\{"tag":"ResponseMessage","value":\[\{"tag":"ResponseHeader",.*"my key"'
+call_is 'the message of a file' 0 message @message.json
+call_is 'a payload in the place of a message' 2 message "$payload"
+says 'what is wrong' '"GrammarError".*not the JSON of a RequestMessage'
+call_is 'a message and a word more' 2 message "$message" more
+fake batch_two
+call_is 'two answers to a message' 0 message "$message"
+says 'both are told' '"BatchItem".*"BatchItem"'
+fake not_utf8
+call_is 'a response that is malformed' 3 message "$message"
 fake other_operation
 call_is 'an answer to another operation' 1 operation Archive "$payload"
 says 'the skeleton of what came is told' '"InternalError","text":"Response does not match request operation Archive","response":"7B\['
