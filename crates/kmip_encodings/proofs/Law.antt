@@ -170,7 +170,7 @@ number_is tag (date_time n) h = tt
 number_is tag (interval n) h = IsNumber-signed_decimal (pos n) (mag_of (pos n) (omega arith))
 
 mutual
-  pub numbers : (t : Tree) → HasRanges t → HasNumbers (json_of t)
+  numbers : (t : Tree) → HasRanges t → HasNumbers (json_of t)
   numbers (scalar tag s) h = (tt, (tt, (number_is tag s h.1, tt)))
   numbers (structure tag ts) h = (tt, (items_numbers ts h.1, tt))
 

@@ -5,14 +5,15 @@ use Rattle.std.specs.Option.{option_and_then}
 use Rattle.json.specs.Token as token
 use Rattle.json.specs.Json.{Json, object, member, no_members, value, if_last}
 use Rattle.json.specs.Print.{print, print_from, ends, escape_byte}
-use Rattle.json.specs.Tree.{json_tokens, depth}
+use Rattle.json.specs.Tree.{json_tokens, depth, HasNumbers, ItemsHaveNumbers}
+use Rattle.json.proofs.Numbered.{document-HasNumbers}
 use Rattle.json.proofs.Printed.Tokens.{tokens-print, print_from-append}
 use Rattle.json.proofs.Printed.Trees.{value-json_tokens, ArePrintable-json_tokens}
-use Rattle.kmip_wire.specs.Tree.{Tree}
-use Rattle.kmip_wire.specs.Bytes.{HasRanges}
+use Rattle.kmip_wire.specs.Tree.{Tree, Trees, scalar, structure, none, more}
+use Rattle.kmip_wire.specs.Bytes.{HasRanges, HaveRanges}
 use Rattle.kmip_shape.specs.declared.style.Style.TheVariants.{Json as AsJson}
-use Rattle.kmip_encodings.specs.Encoding.{json_of, json_text}
-use Rattle.kmip_encodings.proofs.Law.{numbers}
+use Rattle.kmip_encodings.specs.Encoding.{json_of, items_json, text_at, json_text}
+use Rattle.kmip_encodings.proofs.Law.{text_back}
 use Rattle.kmip_client.specs.declared.error.Error.{Error}
 use Rattle.kmip_client.specs.declared.error.Error.TheVariants.{ConfigurationError, SerializeError, RequestWriteError, ResponseReadError, DeserializeError, ServerError, InternalError, ItemNotFound, Unknown, OutOfMemory}
 use Rattle.kmip_words.specs.Exchange.{value_line, error_line, json_line}
@@ -22,6 +23,17 @@ use Rattle.kmip_words.specs.declared.call.Call.{Call}
 use Rattle.kmip_words.specs.declared.call.Call.TheVariants.{Query}
 use Rattle.kmip_operations.specs.JsonLines.{IsLineOf, answer_json}
 use Rattle.kmip_operations.specs.Answers.{tree_line}
+
+-- the numbers in a tree's JSON are numbers of JSON, at any depth
+mutual
+  numbers : (t : Tree) → HasRanges t → HasNumbers (json_of t)
+  numbers (scalar tag s) h = document-HasNumbers (json_text (scalar tag s)) (json_of (scalar tag s))
+      (text_back (scalar tag s) h (omega arith))
+  numbers (structure tag ts) h = (tt, (all_numbers ts h.1, tt))
+
+  all_numbers : (ts : Trees) → HaveRanges ts → ItemsHaveNumbers (items_json ts)
+  all_numbers none h = tt
+  all_numbers (more t ts) h = (numbers t h.0, all_numbers ts h.1)
 
 closing : (b : Bool) → print_from b (token.end_object ∷ []) ≡ codes "}"
 unfolding print_from
@@ -40,7 +52,7 @@ printed j =
 -- the line of a tree
 pub tree_reads : (tree : Tree) → HasRanges tree
     → IsLineOf (answer_json tree) (value_line (json_text tree) AsJson)
-unfolding json_text
+unfolding text_at
 tree_reads tree h =
     let whole : Json = answer_json tree in
     record {
