@@ -6,6 +6,8 @@ patience=200 script_is 'all tasks' 0 "set -euo pipefail; open; $lines
 kmip_close; echo 'the end'"
 says 'to their end' '^the end$'
 says 'the state of the key is told' '^Active$'
+[[ $(grep -c '^Success$' "$said") == 2 ]]
+verdict 'both items of a batch are answered'
 printf %b "$(sed 's/../\\x&/g' signature.hex)" >signature
 openssl rsa -RSAPublicKey_in -in public.pem -pubout -out verifying.pem 2>"$said"
 printf hello | openssl dgst -sha256 -verify verifying.pem -signature signature >"$said" 2>&1
