@@ -3,7 +3,11 @@
 # ~/.local/share/bash-completion/completions/kmip_call.
 
 _kmip_calls=(query discover create-rsa create-aes create register locate attributes attribute-add attribute-modify
-    attribute-delete get activate sign rename revoke destroy rng raw)
+    attribute-delete get activate sign rename revoke destroy rng raw operation message)
+_kmip_operations=(Create CreateKeyPair Register Rekey DeriveKey Certify Recertify Locate Check Get GetAttributes
+    GetAttributeList AddAttribute ModifyAttribute DeleteAttribute ObtainLease GetUsageAllocation Activate Revoke Destroy
+    Archive Recover Validate Query Cancel Poll Notify Put RekeyKeyPair DiscoverVersions Encrypt Decrypt Sign SignatureVerify
+    MAC MACVerify RNGRetrieve RNGSeed Hash CreateSplitKey JoinSplitKey)
 _kmip_fields=(attributes cryptographic_object object_type object_types operations private_key public_key random_bytes
     signature_data supported_versions unique_identifier unique_identifiers vendor_identification)
 
@@ -21,17 +25,39 @@ _kmip_offer_files() { # TYPED
     compopt -o filenames 2>/dev/null || :
 }
 
-# Options in their order, each once, and then a call. What bash takes for three words, as `record=FILE`, is one.
-_kmip_call() {
-    local line=${COMP_LINE:0:COMP_POINT} words word typed options=(user= password= limit= record=)
+# Leaves in `words` those of the line, the last of which is what was typed. What bash takes for three words, as
+# `record=FILE`, is one.
+_kmip_split() {
+    local line=${COMP_LINE:0:COMP_POINT}
+    COMPREPLY=()
     # shellcheck disable=SC2162 # a space behind a backslash is part of its word
     read -a words <<<"$line"
     if [[ $line == *[[:space:]] ]]; then words+=(''); fi
+}
+
+# What may follow a call: after `operation` a name, and then a version.
+_kmip_follow() { # CALL WORD.. TYPED
+    [[ $1 == operation ]] || return 0
+    case $# in
+    2) _kmip_offer "$2" "${_kmip_operations[@]}" ;;
+    3) _kmip_offer "$3" version= ;;
+    esac
+    if [[ ${COMPREPLY[0]-} == *= ]]; then compopt -o nospace 2>/dev/null || :; fi
+}
+
+# Options in their order, each once, and then a call.
+_kmip_call() {
+    local words word typed at=1 options=(user= password= limit= record=)
+    _kmip_split
     typed=${words[-1]}
     for word in "${words[@]:1:${#words[@]}-2}"; do
         while ((${#options[@]})) && [[ $word != "${options[0]}"* ]]; do options=("${options[@]:1}"); done
-        ((${#options[@]})) || return 0 # the call is there already
+        if ((${#options[@]} == 0)); then # the call is there already
+            _kmip_follow "${words[@]:at}"
+            return 0
+        fi
         options=("${options[@]:1}")
+        at=$((at + 1))
     done
     case $typed in
     record=*) _kmip_offer_files "${typed#record=}" ;;
@@ -44,8 +70,15 @@ _kmip_call() {
 
 # kmip CALL WORD..
 _kmip() {
-    COMPREPLY=()
-    if ((COMP_CWORD == 1)); then _kmip_offer "${COMP_WORDS[1]}" "${_kmip_calls[@]}" pem; fi
+    local words
+    _kmip_split
+    if ((${#words[@]} == 2)); then
+        _kmip_offer "${words[1]}" "${_kmip_calls[@]}" pem
+    elif [[ ${words[1]-} == @(operation|message) && ${words[-1]} == @* ]]; then
+        _kmip_offer_files "${words[-1]#@}"
+    else
+        _kmip_follow "${words[@]:1}"
+    fi
 }
 
 # kmip_field FIELD CALL WORD..
@@ -59,11 +92,8 @@ _kmip_field() {
 
 # kmip_open HOST:PORT CERTIFICATE KEY AUTHORITY: files, but for the first.
 _kmip_open() {
-    local line=${COMP_LINE:0:COMP_POINT} words
-    COMPREPLY=()
-    # shellcheck disable=SC2162 # a space behind a backslash is part of its word
-    read -a words <<<"$line"
-    if [[ $line == *[[:space:]] ]]; then words+=(''); fi
+    local words
+    _kmip_split
     if ((${#words[@]} > 2)); then _kmip_offer_files "${words[-1]}"; fi
 }
 

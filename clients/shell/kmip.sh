@@ -19,6 +19,10 @@
 # `kmip sign 4 00 hash=SHA384 padding=PSS`. An empty identifier is refused (status 2):
 # a server may take it for the last object that was made on the connection.
 #
+# `kmip operation Encrypt '{"tag":"RequestPayload","value":[..]}'` is any operation of KMIP, and `@payload.json` in the place
+# of the payload a file that has it. `version=1.1` stands before the payload, where the request is not to be of KMIP 1.2.
+# `kmip message @message.json` sends a whole message as it stands, and answers the whole response.
+#
 # Settings, all optional:
 #   KMIP_TIMEOUT     seconds for each call, with connect and handshake; status 3 when they are over. 30 where it is not
 #                    set; 0: no deadline
@@ -110,6 +114,48 @@ kmip_word() { # TEXT
     local KMIP_WORD
     kmip_escape "$1"
     printf '%s\n' "$KMIP_WORD"
+}
+
+# Leaves in KMIP_WORDS the words of a call whose last word is JSON, or @FILE with a file that has it: they are no texts, and
+# stand as they are. Where the file cannot be read, or the JSON is longer than Linux takes a word, it says so, and its status
+# is 2.
+kmip_json_words() { # CALL WORD..
+    local LC_ALL=C json=${!#}
+    if [[ $json == @* ]]; then
+        if [[ ! -r ${json#@} || -d ${json#@} ]]; then
+            kmip_fails GrammarError 'the file of the JSON cannot be read'
+            return 2
+        fi
+        # bash would drop a byte of zero, by which the file is no JSON
+        json=$(tr '\0' '\1' <"${json#@}")
+    fi
+    if ((${#json} > 131071)); then
+        kmip_fails GrammarError 'the JSON has more than 131071 bytes, the most of a word'
+        return 2
+    fi
+    KMIP_WORDS=("${@:1:$#-1}" "$json")
+}
+
+# Leaves in KMIP_WORDS the words of a call, as kmip_call is to get them.
+kmip_words() { # CALL WORD..
+    local word KMIP_WORD KMIP_OPTIONS KMIP_PLAIN
+    case ${1-} in
+    operation | message)
+        kmip_json_words "$@"
+        return
+        ;;
+    esac
+    KMIP_WORDS=("${1-}")
+    kmip_options "${1-}"
+    kmip_are_options "${@:2+KMIP_PLAIN}" || KMIP_PLAIN=$#
+    for word in "${@:2:KMIP_PLAIN}"; do
+        kmip_escape "$word"
+        KMIP_WORDS+=("$KMIP_WORD")
+    done
+    for word in "${@:2+KMIP_PLAIN}"; do
+        kmip_escape_option "$word"
+        KMIP_WORDS+=("$KMIP_WORD")
+    done
 }
 
 # One line of JSON for a failure that kmip_call cannot tell of.
@@ -313,7 +359,7 @@ kmip_deadline() {
 
 # Makes a call, and writes its answer. `pem` is a call of this file's own.
 kmip() { # CALL WORD..
-    local words=() word status=0 KMIP_WORD KMIP_WORDS KMIP_DEADLINE KMIP_OPTIONS KMIP_PLAIN
+    local words=() status=0 KMIP_WORDS KMIP_DEADLINE
     if [[ ${1-} == pem ]]; then
         kmip_pem "${@:2}"
         return
@@ -323,7 +369,7 @@ kmip() { # CALL WORD..
         return 3
     fi
     case ${1-} in
-    '' | query | create | create-rsa | create-aes | register | rng | locate | discover | raw) ;;
+    '' | query | create | create-rsa | create-aes | register | rng | locate | discover | raw | operation | message) ;;
     *)
         if [[ -z ${2-} ]]; then
             kmip_fails GrammarError 'the call has no identifier'
@@ -338,17 +384,8 @@ kmip() { # CALL WORD..
     if [[ -n ${KMIP_USER+set} ]]; then words+=("user=$KMIP_USER"); fi
     words+=("limit=${KMIP_LIMIT:-1048576}")
     if [[ -n ${KMIP_RECORD-} ]]; then words+=("record=$KMIP_RECORD"); fi
-    words+=("${1-}")
-    kmip_options "${1-}"
-    kmip_are_options "${@:2+KMIP_PLAIN}" || KMIP_PLAIN=$#
-    for word in "${@:2:KMIP_PLAIN}"; do
-        kmip_escape "$word"
-        words+=("$KMIP_WORD")
-    done
-    for word in "${@:2+KMIP_PLAIN}"; do
-        kmip_escape_option "$word"
-        words+=("$KMIP_WORD")
-    done
+    kmip_words "$@" || return
+    words+=("${KMIP_WORDS[@]}")
     kmip_program
     (
         export -n KMIP_PASSPHRASE

@@ -24,11 +24,11 @@ mod operation_tests;
 mod tests;
 
 use answer::{answer_line, status_of};
-use call::{Credential, call_of, credential_of, settings_of};
+use call::{call_of, settings_of};
 use kmip_exports::{NO_MEMORY, NOT_A_MESSAGE, copy_out};
 use kmip_operations::{operation_answer, operation_request};
 use kmip_wire::{Config, HeadError, OutOfMemory, head};
-use kmip_words::{request_of, value_at};
+use kmip_words::{Settings, request_of, value_at};
 use operation::operation_of;
 use std::alloc::Global;
 use std::str;
@@ -225,8 +225,8 @@ pub extern "C" fn kmip_operation_request(
         name.now version.now payload.now into.old result into.new }
     ensures memory { result ≡ memory → into.new ≡ into.old }
 {
-    let Credential { user, password } = match credential_of(alloc, has_credential, user, password) {
-        Ok(Some(credential)) => credential,
+    let settings = match settings_of(alloc, has_credential, user, password) {
+        Ok(Some(settings)) => settings,
         Ok(None) => return NOT_OF_THE_GRAMMAR,
         Err(OutOfMemory) => return NO_MEMORY,
     };
@@ -235,7 +235,7 @@ pub extern "C" fn kmip_operation_request(
         Ok(None) => return NOT_OF_THE_GRAMMAR,
         Err(OutOfMemory) => return NO_MEMORY,
     };
-    match operation_request(alloc, user, password, &call) {
+    match operation_request(alloc, &settings, &call) {
         Ok(Some(request)) => copy_out(&request, into),
         Ok(None) => NO_FORM,
         Err(OutOfMemory) => NO_MEMORY,
@@ -271,7 +271,8 @@ pub extern "C" fn kmip_operation_answer(
         Ok(None) => return 2,
         Err(OutOfMemory) => return 5,
     };
-    match operation_answer(alloc, None, &call, response) {
+    let settings = Settings::new(None, None, None);
+    match operation_answer(alloc, &settings, &call, response) {
         Ok(answer) => {
             *length = copy_out(&answer.line, into);
             status_of(answer.ending)

@@ -168,7 +168,7 @@ const ANSWERS: &[AnswerRow] = &[
     AnswerRow {
         response: "OK2(1F, C2 xDEADBEEF)",
         status: 1,
-        line: "{\"error\":\"InternalError\",\"text\":\"Response does not match request operation Decrypt\"}\n",
+        line: "{\"error\":\"InternalError\",\"text\":\"Response does not match request operation Decrypt\",\"response\":\"7B[7A[69[6Ai6Bi]92d0Di]0F[5Ce1F:7Fe0:7C[C2x]]]\"}\n",
     },
     AnswerRow {
         response: "!42007B010000009042007A01",

@@ -1,90 +1,98 @@
 -- What a call does to its sink and its source, and its answer.
-use Rattle.std.specs.Prelude.{◌≡◌, ℕ, List, ◌++◌, take, Bool, true, false, Option, Some, None, Err, codes, IsTrue}
+use Rattle.std.specs.Prelude.{◌≡◌, ℕ, List, ◌++◌, take, Option, Some, None, codes, IsTrue}
 use Rattle.kmip_link.specs.State.{SourceState, SinkState, FaultCountRose, source_left}
-use Rattle.kmip_client.specs.Outcome.{Answer}
+use Rattle.kmip_shape.specs.declared.style.Style.TheVariants.{Json}
+use Rattle.kmip_wire.specs.Tree.{Tree}
+use Rattle.kmip_client.specs.Operation.{TreeRequest, operation_bytes}
+use Rattle.kmip_client.specs.WholeMessage.{whole_bytes}
 use Rattle.kmip_client.specs.declared.error.Error.{Error}
 use Rattle.kmip_client.specs.declared.error.Error.TheVariants.{RequestWriteError, ResponseReadError}
 use Rattle.kmip_words.specs.Streams.{Gives, GivesPart, WrotePart, WroteProperPart}
-use Rattle.kmip_words.specs.Calls.{typed_call}
-use Rattle.kmip_words.specs.Exchange.{Settings, request_asked, or_empty, ending_of, json_line, call_outcome}
+use Rattle.kmip_words.specs.Exchange.{Settings, request_asked, or_empty, error_line, call_outcome}
 use Rattle.kmip_words.specs.About.{response_line, response_ending}
 use Rattle.kmip_words.specs.declared.call.Call.{Call}
 use Rattle.kmip_words.specs.declared.ending.Ending.{Ending}
+use Rattle.kmip_words.specs.declared.ending.Ending.TheVariants.{Lost}
+use Rattle.kmip_operations.specs.Answers.{operation_outcome, operation_json_line, operation_ending, message_outcome, message_json_line, message_ending}
 use Rattle.kmip_call.specs.Wire.{IsOneAtMost}
 
-abbrev pub answer_err : Error → Answer
-answer_err error = Err error
+-- What a call sends, and what it makes of the bytes that come back.
+pub record Errand : Type 0 where
+  -- its one canonical message, where it has one
+  pub message : Option (List ℕ)
+  -- how many of the bytes left it takes
+  pub taken : List ℕ → ℕ
+  -- the line of JSON of what these bytes answer, and how the call ended
+  pub line : List ℕ → List ℕ
+  pub ending : List ℕ → Ending
 
--- the bytes of a response, where `true` says that the answer is what they say
-abbrev pub response_if : Bool → List ℕ → Option (List ℕ)
-response_if true response = Some response
-response_if false response = None
+-- a call of kmip_words
+abbrev pub typed_errand : Settings → Call → Errand
+typed_errand settings call = record {
+  message = (request_asked call settings.credential).message;
+  taken = λ rest. (call_outcome settings call rest).taken;
+  line = response_line settings call;
+  ending = response_ending settings call;
+}
 
--- the one canonical message of a call, and nothing where it has no wire form
-abbrev pub request_bytes : Settings → Call → List ℕ
-request_bytes settings call = or_empty (request_asked call settings.credential).message
+-- a call of any operation
+abbrev pub operation_errand : Settings → TreeRequest → Errand
+operation_errand settings request = record {
+  message = operation_bytes request settings.credential;
+  taken = λ rest. (operation_outcome settings request rest).taken;
+  line = operation_json_line settings request;
+  ending = operation_ending settings request;
+}
 
--- how many of the bytes left a call takes
-abbrev pub taken_by : Settings → Call → List ℕ → ℕ
-taken_by settings call rest = (call_outcome settings call rest).taken
+-- a whole message of the caller's
+abbrev pub message_errand : Settings → Tree → Errand
+message_errand settings message = record {
+  message = whole_bytes message;
+  taken = λ rest. (message_outcome settings message rest).taken;
+  line = message_json_line settings message;
+  ending = message_ending settings message;
+}
 
--- A call took its sink and its source from the states `0` to the states `1`, and has this answer.
--- What is said of bytes holds where contracts know those of the sink, or of the source.
-pub data Carried (settings : Settings) (call : Call) (w0 w1 : SinkState) (s0 s1 : SourceState)
-    (response : Option (List ℕ)) (answer : Answer) : Type 0 where
+-- the bytes that a call sends: none where it has no wire form
+abbrev pub request_bytes : Errand → List ℕ
+request_bytes errand = or_empty errand.message
+
+-- The bytes are those that a call takes of the bytes left, and answer what all of these do.
+pub record Takes (errand : Errand) (s0 s1 : SourceState) (bytes : List ℕ) : Type 0 where
+  pub gives : Gives s0 s1 (errand.taken (source_left s0))
+  pub bytes_are : bytes ≡ take (errand.taken (source_left s0)) (source_left s0)
+  pub line_is : errand.line bytes ≡ errand.line (source_left s0)
+  pub ending_is : errand.ending bytes ≡ errand.ending (source_left s0)
+
+-- the line of an error of the sink or the source
+abbrev pub failure_line : Error → List ℕ
+failure_line error = error_line error Json
+
+-- A call took its sink and its source from the states `0` to the states `1`, ended so and has this
+-- line for its answer. What is said of bytes holds where contracts know those of the sink, or of
+-- the source.
+pub data Carried (limit : Option ℕ) (errand : Errand) (w0 w1 : SinkState) (s0 s1 : SourceState)
+    (response : Option (List ℕ)) (line : List ℕ) (ending : Ending) : Type 0 where
   -- the request was sent, and at most one message was read: the answer is what its bytes say, which
   -- is what all the bytes left say
-  answered : (bytes : List ℕ) → response ≡ Some bytes →
-      answer ≡ (call_outcome settings call bytes).answer → IsOneAtMost settings.limit bytes →
-      (IsTrue w0.tells → w1.sent ≡ w0.sent ++ request_bytes settings call) →
-      (IsTrue s0.tells → Gives s0 s1 (taken_by settings call (source_left s0))
-      × (bytes ≡ take (taken_by settings call (source_left s0)) (source_left s0))
-      × (answer ≡ (call_outcome settings call (source_left s0)).answer)) →
-      Carried settings call w0 w1 s0 s1 response answer
+  answered : (bytes : List ℕ) → response ≡ Some bytes → line ≡ errand.line bytes →
+      ending ≡ errand.ending bytes → IsOneAtMost limit bytes →
+      (IsTrue w0.tells → w1.sent ≡ w0.sent ++ request_bytes errand) →
+      (IsTrue s0.tells → Takes errand s0 s1 bytes) →
+      Carried limit errand w0 w1 s0 s1 response line ending
   -- the sink failed: a proper part of the request was sent, and nothing was read
-  write_failed : response ≡ None → answer ≡ Err (RequestWriteError (codes "link failed")) →
-      FaultCountRose w0.faults w1.faults →
-      (IsTrue w0.tells → WroteProperPart w0 w1 (request_bytes settings call)) → s1 ≡ s0 →
-      Carried settings call w0 w1 s0 s1 response answer
+  write_failed : response ≡ None → line ≡ failure_line (RequestWriteError (codes "link failed")) →
+      ending ≡ Lost → FaultCountRose w0.faults w1.faults →
+      (IsTrue w0.tells → WroteProperPart w0 w1 (request_bytes errand)) → s1 ≡ s0 →
+      Carried limit errand w0 w1 s0 s1 response line ending
   -- the source failed: the request was sent, and a part of the message was read
-  read_failed : response ≡ None → answer ≡ Err (ResponseReadError (codes "link failed")) →
-      FaultCountRose s0.faults s1.faults →
-      (IsTrue w0.tells → w1.sent ≡ w0.sent ++ request_bytes settings call) →
-      (IsTrue s0.tells → GivesPart s0 s1 (taken_by settings call (source_left s0))) →
-      Carried settings call w0 w1 s0 s1 response answer
+  read_failed : response ≡ None → line ≡ failure_line (ResponseReadError (codes "link failed")) →
+      ending ≡ Lost → FaultCountRose s0.faults s1.faults →
+      (IsTrue w0.tells → w1.sent ≡ w0.sent ++ request_bytes errand) →
+      (IsTrue s0.tells → GivesPart s0 s1 (errand.taken (source_left s0))) →
+      Carried limit errand w0 w1 s0 s1 response line ending
 
 -- Of a call no more was sent than its request, and no more was taken than one message.
-pub record CarriedPart (settings : Settings) (call : Call) (w0 w1 : SinkState)
-    (s0 s1 : SourceState) : Type 0 where
-  pub sent : IsTrue w0.tells → WrotePart w0 w1 (request_bytes settings call)
-  pub taken : IsTrue s0.tells → GivesPart s0 s1 (taken_by settings call (source_left s0))
-
--- the line of an answer: that of the response's bytes, or that of the error of the sink or the
--- source
-abbrev pub line_of : Settings → Call → Option (List ℕ) → Answer → List ℕ
-line_of settings call (Some response) answer = response_line settings call response
-line_of settings call None answer = json_line call answer
-
--- and how the call ended
-abbrev pub ending_by : Settings → Call → Option (List ℕ) → Answer → Ending
-ending_by settings call (Some response) answer = response_ending settings call response
-ending_by settings call None answer = ending_of answer
-
--- The request is that of the call of these words: its one canonical message, none where it has no
--- wire form.
-pub record Requests (settings : Settings) (words : List (List ℕ))
-    (request : Option (List ℕ)) : Type 0 where
-  pub call : Call
-  pub is : typed_call words ≡ Some call
-  pub message : request ≡ (request_asked call settings.credential).message
-
--- The call of these words was carried, and the line of its answer was added.
-pub record Exchanges (settings : Settings) (words : List (List ℕ)) (w0 w1 : SinkState)
-    (s0 s1 : SourceState) (response : Option (List ℕ)) (old new : List ℕ)
-    (ending : Ending) : Type 0 where
-  pub call : Call
-  pub is : typed_call words ≡ Some call
-  pub answer : Answer
-  pub carried : Carried settings call w0 w1 s0 s1 response answer
-  pub line : new ≡ old ++ line_of settings call response answer
-  pub ending_is : ending ≡ ending_by settings call response answer
+pub record CarriedPart (errand : Errand) (w0 w1 : SinkState) (s0 s1 : SourceState) : Type 0 where
+  pub sent : IsTrue w0.tells → WrotePart w0 w1 (request_bytes errand)
+  pub taken : IsTrue s0.tells → GivesPart s0 s1 (errand.taken (source_left s0))

@@ -1,28 +1,16 @@
 -- What the program does with the words of a call, and how it ends.
-use Rattle.std.specs.Prelude.{◌≡◌, ◌⊎◌, ℕ, List, ◌++◌, Bool, true, false, Option, Some, None, IsTrue, if◌then◌else◌}
+use Rattle.std.specs.Prelude.{◌≡◌, ◌⊎◌, ℕ, List, ◌++◌, Bool, true, false, Option, IsTrue}
 use Rattle.kmip_link.specs.State.{SourceState, SinkState, FaultCountRose}
-use Rattle.kmip_client.specs.Outcome.{Answer}
-use Rattle.kmip_words.specs.Calls.{typed_call}
 use Rattle.kmip_words.specs.Streams.{WrotePart}
-use Rattle.kmip_words.specs.declared.call.Call.{Call}
 use Rattle.kmip_words.specs.declared.ending.Ending.{Ending}
 use Rattle.kmip_words.specs.declared.ending.Ending.TheVariants.{Answered, Refused, Lost}
-use Rattle.kmip_call.specs.Record.{is_recordable, recorded_words, record_of}
+use Rattle.kmip_call.specs.Record.{record_of}
 use Rattle.kmip_call.specs.Refusal.{refusal}
-use Rattle.kmip_call.specs.Exchange.{Carried, CarriedPart, line_of, ending_by}
+use Rattle.kmip_call.specs.Exchange.{Errand, Carried, CarriedPart}
+use Rattle.kmip_call.specs.Asked.{AsksFor, AsksForNone}
 use Rattle.kmip_call.specs.declared.command.Order.{Order}
 use Rattle.kmip_call.specs.declared.status.Status.{Status}
 use Rattle.kmip_call.specs.declared.status.Status.TheVariants.{Ended, NoCall, NotWritten, OutOfMemory}
-
--- whether a call of these words may be made: where it is to be recorded, only if a script may hold
--- it
-abbrev pub is_allowed : Option (List ℕ) → List (List ℕ) → Bool
-is_allowed (Some file) words = is_recordable (recorded_words words)
-is_allowed None words = true
-
--- the call that is to be made
-abbrev pub call_for : Order → Option Call
-call_for order = if is_allowed order.file order.words then typed_call order.words else None
 
 -- the exit status
 abbrev pub code_of : Status → ℕ
@@ -38,15 +26,12 @@ abbrev pub is_ended : Status → Bool
 is_ended (Ended ending) = true
 is_ended status = false
 
--- The call was carried, and this is the line of its answer.
+-- What the order asks for was carried, with this line for its answer.
 pub record Makes (order : Order) (w0 w1 : SinkState) (s0 s1 : SourceState)
     (response : Option (List ℕ)) (line : List ℕ) (ending : Ending) : Type 0 where
-  pub call : Call
-  pub is : call_for order ≡ Some call
-  pub answer : Answer
-  pub carried : Carried order.settings call w0 w1 s0 s1 response answer
-  pub line_is : line ≡ line_of order.settings call response answer
-  pub ending_is : ending ≡ ending_by order.settings call response answer
+  pub errand : Errand
+  pub asks : AsksFor order errand
+  pub carried : Carried order.settings.limit errand w0 w1 s0 s1 response line ending
 
 -- what the program reads from and writes to: the wire and the source of a call, and the sinks of
 -- its record and of its answer
@@ -92,25 +77,25 @@ pub record Reports (order : Order) (response : Option (List ℕ)) (line : List �
   pub cause : status ≡ NotWritten → FaultCountRose f0.faults f1.faults ⊎ FaultCountRose k0.faults k1.faults
 
 -- The call was made, and reported.
-pub record Made (order : Order) (call : Call) (before after : Streams) (status : Status) : Type 0 where
-  pub answer : Answer
+pub record Made (order : Order) (errand : Errand) (before after : Streams) (status : Status) : Type 0 where
   pub response : Option (List ℕ)
-  pub carried : Carried order.settings call before.wire after.wire before.source after.source response answer
-  pub reports : Reports order response (line_of order.settings call response answer)
-      (ending_by order.settings call response answer)
-      before.kept after.kept before.told after.told status
+  pub line : List ℕ
+  pub ending : Ending
+  pub carried : Carried order.settings.limit errand before.wire after.wire before.source after.source
+      response line ending
+  pub reports : Reports order response line ending before.kept after.kept before.told after.told
+      status
 
 -- Memory ran out before the call had an answer: it was carried in part, and nothing was written.
-pub record BrokenOff (order : Order) (call : Call) (before after : Streams)
-    (status : Status) : Type 0 where
+pub record BrokenOff (errand : Errand) (before after : Streams) (status : Status) : Type 0 where
   pub status_is : status ≡ OutOfMemory
-  pub carried : CarriedPart order.settings call before.wire after.wire before.source after.source
+  pub carried : CarriedPart errand before.wire after.wire before.source after.source
   pub kept : after.kept ≡ before.kept
   pub told : after.told ≡ before.told
 
--- What the program did with an order: it refused it, where that asks for no call, or else made the
+-- What the program did with an order: it refused it, where that asks for nothing, or else made the
 -- call or broke it off.
 pub record Runs (order : Order) (before after : Streams) (status : Status) : Type 0 where
-  pub refuses : call_for order ≡ None → Refuses order before after status
-  pub makes : (call : Call) → call_for order ≡ Some call →
-      Made order call before after status ⊎ BrokenOff order call before after status
+  pub refuses : AsksForNone order → Refuses order before after status
+  pub makes : (errand : Errand) → AsksFor order errand →
+      Made order errand before after status ⊎ BrokenOff errand before after status

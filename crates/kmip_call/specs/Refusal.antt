@@ -1,10 +1,13 @@
 -- The line that says why no call is made.
 use Rattle.std.specs.Prelude.{ℕ, List, [], ◌∷◌, ◌++◌, ◌==◌, Bool, Option, Some, None, if◌then◌else◌, codes, bytes_eq}
 use Rattle.std.specs.List.{list_any}
+use Rattle.std.specs.Option.{is_none}
 use Rattle.kmip_shape.specs.Shown.{text_in_style}
 use Rattle.kmip_shape.specs.declared.style.Style.TheVariants.{Json}
 use Rattle.kmip_words.specs.Calls.{typed_call}
 use Rattle.kmip_words.specs.declared.call.Call.{Call}
+use Rattle.kmip_operations.specs.Calls.{operation_named, version_written}
+use Rattle.kmip_call.specs.TreeWords.{TreeText, an_operation, a_message, tree_words}
 use Rattle.kmip_call.specs.declared.command.Order.{Order}
 
 -- the line of JSON of a `GrammarError` with this text
@@ -52,6 +55,9 @@ form_of name =
     else if bytes_eq name (codes "discover") then Some (codes "discover")
     else if bytes_eq name (codes "rng") then Some (codes "rng INT")
     else if bytes_eq name (codes "raw") then Some (codes "raw HEX")
+    else if bytes_eq name (codes "operation")
+    then Some (codes "operation NAME [version=VERSION] PAYLOAD")
+    else if bytes_eq name (codes "message") then Some (codes "message MESSAGE")
     else key_form name
 
 -- whether an equals sign is in a word, as in an option
@@ -75,10 +81,35 @@ abbrev pub no_call : List (List ℕ) → List ℕ
 no_call [] = codes "no call is given"
 no_call (name ∷ words) = wrong_words name (form_of name)
 
--- why no call is made: the words are no call, or a record cannot hold them
-abbrev pub why_not : Option Call → List (List ℕ) → List ℕ
-why_not (Some call) words = codes "a record cannot hold these words"
-why_not None words = no_call words
+-- why no typed call is made: the words are no call, or a record cannot hold them
+abbrev pub not_typed : Option Call → List (List ℕ) → List ℕ
+not_typed (Some call) words = codes "a record cannot hold these words"
+not_typed None words = no_call words
+
+-- which of the words of a call of an operation is not what it should be
+abbrev pub wrong_operation : List ℕ → List ℕ → List ℕ
+wrong_operation name version =
+    if is_none (operation_named name) then codes "KMIP 1.2 has no operation of this name"
+    else if is_none (version_written version) then codes "version= takes 1.0, 1.1 or 1.2"
+    else codes "the payload is not the JSON of a RequestPayload"
+
+-- and of one whose payload or message is in JSON
+abbrev pub wrong_tree : TreeText → List ℕ
+wrong_tree (an_operation name version payload) = wrong_operation name version
+wrong_tree (a_message text) = codes "the message is not the JSON of a RequestMessage"
+
+-- why none such is made: it is to be recorded, or one of the words is wrong
+abbrev pub no_tree : Option (List ℕ) → TreeText → List ℕ
+no_tree (Some file) text = codes "a record cannot hold these words"
+no_tree None text = wrong_tree text
+
+abbrev pub why_not_by : Option TreeText → Order → List ℕ
+why_not_by (Some text) order = no_tree order.file text
+why_not_by None order = not_typed (typed_call order.words) order.words
+
+-- why nothing that the order asks for is made
+abbrev pub why_not : Order → List ℕ
+why_not order = why_not_by (tree_words order.words) order
 
 abbrev pub refusal : Order → List ℕ
-refusal order = grammar_line (why_not (typed_call order.words) order.words)
+refusal order = grammar_line (why_not order)

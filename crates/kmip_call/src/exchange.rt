@@ -1,107 +1,158 @@
 //! One call over a sink and a source, and the line of its answer.
-ghost use Rattle.std.specs.Prelude.{◌≡◌, ◌++◌, [], cond, true, false, Some, IsSome, option_map};
-ghost use Rattle.std.specs.Prelude.{IfOk, OnOk, OnErr};
-ghost use Rattle.kmip_words.specs.Exchange.{loses_link, json_line};
+ghost use Rattle.std.specs.Prelude.{◌≡◌, cond, Some, None, IsSome, option_map, IfOk, OnErr};
+ghost use Rattle.kmip_words.specs.Exchange.{loses_link};
 ghost use Rattle.kmip_words.specs.declared.ending.Ending.TheVariants as endings;
-ghost use Rattle.kmip_words.specs.declared.call.Call.{Call as TheCall};
-ghost use Rattle.kmip_words.specs.Calls.{typed_call};
-ghost use Rattle.kmip_words.specs.About.{response_line, response_ending};
-ghost use Rattle.kmip_call.specs.Exchange.{response_if, answer_err, CarriedPart};
-ghost use Rattle.kmip_call.specs.Exchange.{Requests, Exchanges};
+ghost use Rattle.kmip_call.specs.Exchange.{Errand as TheErrand, failure_line, CarriedPart};
+ghost use Rattle.kmip_call.specs.Asked.{errand_of, AsksFor, Requests};
+ghost use Rattle.kmip_call.specs.Program.{Makes};
 
+use crate::command::Order;
+use crate::requested::{Asked, Requested};
 use crate::wire::{TransferStop, transfer};
 use kmip_client::Error;
 use kmip_link::{Sink, Source};
+use kmip_operations::{TreeAnswer, message_answer, operation_answer};
 use kmip_shape::Style;
 use kmip_wire::{OutOfMemory, Text};
-use kmip_words::{Ending, Settings, answer_of, show_error, typed_call};
+use kmip_words::{Ending, answer_of, show_error, typed_call};
 use std::alloc::Global;
 
+/// The bytes of a text.
+fn bytes_of(alloc: Global, text: &Text) -> Result<Vec<u8>, OutOfMemory>
+    ensures { IfOk result (λ bytes. bytes.items ≡ text.now) }
+{
+    let mut bytes = Vec::new(alloc);
+    bytes.extend_from_slice(text.as_str().as_bytes())?;
+    Ok(bytes)
+}
+
+/// What these bytes answer to the typed call of an order's words.
+fn typed_answer(alloc: Global, order: &Order, response: &[u8]) -> Result<TreeAnswer, OutOfMemory>
+    requires { IsSome (errand_of order.now Asked.Typed) }
+    ensures line { IfOk result (λ answer. (errand : TheErrand) →
+        errand_of order.now Asked.Typed ≡ Some errand →
+        answer.line.items ≡ errand.line response.now) }
+    ensures ending { IfOk result (λ answer. (errand : TheErrand) →
+        errand_of order.now Asked.Typed ≡ Some errand →
+        answer.ending ≡ errand.ending response.now) }
+{
+    let Some(call) = typed_call(alloc, order.words.as_slice())? else {
+        unreachable!()
+    };
+    let mut line = Text::new(alloc);
+    let ending = answer_of(alloc, &order.settings, call, response, &mut line)?;
+    let line = bytes_of(alloc, &line)?;
+    Ok(TreeAnswer { ending, line })
+}
+
+/// What these bytes answer to what an order asks for.
+fn answer_to(
+    alloc: Global,
+    order: &Order,
+    asked: &Asked,
+    response: &[u8],
+) -> Result<TreeAnswer, OutOfMemory>
+    requires { IsSome (errand_of order.now asked.now) }
+    ensures line { IfOk result (λ answer. (errand : TheErrand) →
+        errand_of order.now asked.now ≡ Some errand →
+        answer.line.items ≡ errand.line response.now) }
+    ensures ending { IfOk result (λ answer. (errand : TheErrand) →
+        errand_of order.now asked.now ≡ Some errand →
+        answer.ending ≡ errand.ending response.now) }
+{
+    match asked {
+        Asked::Typed => typed_answer(alloc, order, response),
+        Asked::Operation(call) => operation_answer(alloc, &order.settings, call, response),
+        Asked::Message(message) => message_answer(alloc, &order.settings, message, response),
+    }
+}
+
 /// How a call ended.
-#[derive(Clone, Copy)]
+#[derive(Drop)]
 pub struct CallEnd {
     /// Whether it returned an error, and whether the connection is good for the next call.
     pub ending: Ending,
-    /// Whether the answer is what the bytes of the response say: else the sink or the source
+    /// The line of JSON of its answer, with its line feed.
+    pub line: Vec<u8>,
+    /// The bytes that came, where the answer is what they say; `None` where the sink or the source
     /// failed.
-    pub by_response: bool,
+    pub response: Option<Vec<u8>>,
 }
 
-/// Adds the answer that these bytes give to the call of these words, as a line of JSON.
-fn answer_by(
+/// The end of a call that these bytes answer.
+fn answered(
     alloc: Global,
-    settings: &Settings,
-    words: &[Text],
-    response: &[u8],
-    line: &mut Text,
+    order: &Order,
+    asked: &Asked,
+    response: Vec<u8>,
 ) -> Result<CallEnd, OutOfMemory>
-    requires { IsSome (typed_call words.now) }
-    ensures line { (call : TheCall) → typed_call words.now ≡ Some call →
-        OnOk result (line.new ≡ line.old ++ response_line settings.now call response.now) }
-    ensures ending { (call : TheCall) → typed_call words.now ≡ Some call →
-        IfOk result (λ end. end.ending ≡ response_ending settings.now call response.now) }
-    ensures by { IfOk result (λ end. end.by_response ≡ true) }
+    requires { IsSome (errand_of order.now asked.now) }
+    ensures line { IfOk result (λ end. (errand : TheErrand) →
+        errand_of order.now asked.now ≡ Some errand →
+        end.line.items ≡ errand.line response.items) }
+    ensures ending { IfOk result (λ end. (errand : TheErrand) →
+        errand_of order.now asked.now ≡ Some errand →
+        end.ending ≡ errand.ending response.items) }
+    ensures response { IfOk result
+        (λ end. option_map (λ r. r.items) end.response ≡ Some response.items) }
 {
-    let Some(call) = typed_call(alloc, words)? else {
-        unreachable!()
-    };
-    let ending = answer_of(alloc, settings, call, response, line)?;
+    let TreeAnswer { ending, line } = answer_to(alloc, order, asked, &response)?;
     Ok(CallEnd {
         ending,
-        by_response: true,
+        line,
+        response: Some(response),
     })
 }
 
-/// Adds the error of the sink or the source as the answer, as a line of JSON.
-fn answer_failed(alloc: Global, error: Error, line: &mut Text) -> Result<CallEnd, OutOfMemory>
-    ensures line { OnOk result ((call : TheCall) →
-        line.new ≡ line.old ++ json_line call (answer_err error)) }
+/// The end of a call whose sink or source failed.
+fn failed(alloc: Global, error: Error) -> Result<CallEnd, OutOfMemory>
+    ensures line { IfOk result (λ end. end.line.items ≡ failure_line error) }
     ensures ending { IfOk result
         (λ end. end.ending ≡ cond (loses_link error) endings.Lost endings.Refused) }
-    ensures by { IfOk result (λ end. end.by_response ≡ false) }
+    ensures response { IfOk result (λ end. option_map (λ r. r.items) end.response ≡ None) }
 {
-    let ending = show_error(alloc, Style::Json, &error, line)?;
+    let mut line = Text::new(alloc);
+    let ending = show_error(alloc, Style::Json, &error, &mut line)?;
+    let line = bytes_of(alloc, &line)?;
     Ok(CallEnd {
         ending,
-        by_response: false,
+        line,
+        response: None,
     })
 }
 
-/// Makes the call of these words: sends its `request`, which is `None` where it has no wire form,
-/// reads at most one message to `response`, which is empty, and adds the answer as a line of JSON.
-/// Where memory runs out, the request may have been sent, and the message taken, in part or whole.
+/// Makes a call: sends its request, where it has a wire form, and reads at most one message. Where
+/// memory runs out, the request may have been sent, and the message taken, in part or whole.
 pub fn exchange<W: Sink, S: Source>(
     alloc: Global,
-    settings: &Settings,
-    words: &[Text],
-    request: Option<Vec<u8>>,
+    order: &Order,
+    requested: Requested,
     wire: &mut W,
     source: &mut S,
-    response: &mut Vec<u8>,
-    line: &mut Text,
 ) -> Result<CallEnd, OutOfMemory>
-    requires response { response.old.items ≡ [] }
-    requires request { Requests settings.now words.now (option_map (λ r. r.items) request) }
-    ensures exchanges { IfOk result
-        (λ end. Exchanges settings.now words.now (W.state wire.old) (W.state wire.new)
-        (S.state source.old) (S.state source.new)
-        (response_if end.by_response response.new.items) line.old line.new end.ending) }
-    ensures broken_off { OnErr result ((call : TheCall) → typed_call words.now ≡ Some call →
-        CarriedPart settings.now call (W.state wire.old) (W.state wire.new) (S.state source.old)
+    requires { Requests order.now requested.asked (option_map (λ r. r.items) requested.request) }
+    ensures made { IfOk result
+        (λ end. Makes order.now (W.state wire.old) (W.state wire.new) (S.state source.old)
+        (S.state source.new) (option_map (λ r. r.items) end.response) end.line.items end.ending) }
+    ensures broken_off { OnErr result ((errand : TheErrand) → AsksFor order.now errand →
+        CarriedPart errand (W.state wire.old) (W.state wire.new) (S.state source.old)
         (S.state source.new)) }
 {
+    let Requested { asked, request } = requested;
+    let mut response = Vec::new(alloc);
     let Some(request) = request else {
-        return answer_by(alloc, settings, words, response, line);
+        return answered(alloc, order, &asked, response);
     };
-    match transfer(alloc, settings.limit(), &request, wire, source, response) {
-        Ok(()) => answer_by(alloc, settings, words, response, line),
+    let limit = order.settings.limit();
+    match transfer(alloc, limit, &request, wire, source, &mut response) {
+        Ok(()) => answered(alloc, order, &asked, response),
         Err(TransferStop::WriteFault) => {
             let text = Text::of(alloc, "link failed")?;
-            answer_failed(alloc, Error::RequestWriteError(text), line)
+            failed(alloc, Error::RequestWriteError(text))
         }
         Err(TransferStop::ReadFault) => {
             let text = Text::of(alloc, "link failed")?;
-            answer_failed(alloc, Error::ResponseReadError(text), line)
+            failed(alloc, Error::ResponseReadError(text))
         }
         Err(TransferStop::OutOfMemory) => Err(OutOfMemory),
     }

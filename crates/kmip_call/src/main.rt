@@ -13,9 +13,11 @@ mod exchange;
 mod program;
 mod record;
 mod refusal;
+mod requested;
 mod status;
 #[cfg(test)]
 mod tests;
+mod tree_words;
 mod wire;
 
 use command::{Command, Order, command_of};
@@ -62,6 +64,8 @@ CALL is one of
     destroy ID
     rng N
     raw HEX
+    operation NAME [version=VERSION] PAYLOAD
+    message MESSAGE
 
 In a name or an identifier `-` is the empty text, and `%` with two upper-case hex
 digits stands for a byte.
@@ -78,6 +82,12 @@ attribute-modify, attribute-delete   index=N
 An ATTRIBUTE is name= group= contact= type= state= algorithm= length= or
 activation= with its value. KIND is public, private or symmetric. USES are names
 as Sign, with `,` between two, and names of values those of KMIP.
+
+`operation` calls any operation of KMIP by its NAME, as Encrypt. VERSION is 1.0,
+1.1 or 1.2, and 1.2 where none is given. PAYLOAD is the JSON of the request's
+payload, as {\"tag\":\"RequestPayload\",\"value\":[..]}; the answer is that of the
+response's payload. `message` sends a whole message, whose JSON MESSAGE is, as it
+stands; the answer is the whole response. Neither can be recorded.
 
 user=U, password=P   the credential of the request; without password=P the
                      password is that of the environment, KMIP_PASSWORD

@@ -4,11 +4,15 @@ ghost use Rattle.kmip_words.specs.Streams.{WrotePart};
 ghost use Rattle.kmip_link.specs.State.{FaultCountRose};
 ghost use Rattle.kmip_words.specs.Calls.{typed_call};
 ghost use Rattle.kmip_call.specs.Refusal.{grammar_line, object_form, attribute_form, key_form};
-ghost use Rattle.kmip_call.specs.Refusal.{form_of, has_equals, wrong_name, no_call, why_not, refusal};
+ghost use Rattle.kmip_call.specs.Refusal.{form_of, has_equals, wrong_name, no_call, not_typed};
+ghost use Rattle.kmip_call.specs.Refusal.{wrong_operation, wrong_tree, no_tree, why_not, refusal};
+ghost use Rattle.kmip_call.specs.TreeWords.{tree_text};
 
 use crate::command::Order;
 use crate::status::Status;
+use crate::tree_words::{TreeWords, tree_words};
 use kmip_link::{LinkError, Sink};
+use kmip_operations::{operation_named, version_written};
 use kmip_shape::ShowItem;
 use kmip_wire::{OutOfMemory, Text};
 use kmip_words::{typed_call, write_out};
@@ -71,6 +75,8 @@ fn form_of(name: &str) -> Option<&'static str>
         "discover" => Some("discover"),
         "rng" => Some("rng INT"),
         "raw" => Some("raw HEX"),
+        "operation" => Some("operation NAME [version=VERSION] PAYLOAD"),
+        "message" => Some("message MESSAGE"),
         _ => key_form(name),
     }
 }
@@ -113,13 +119,61 @@ fn no_call(alloc: Global, words: &[Text]) -> Result<Text, OutOfMemory>
     Ok(text)
 }
 
-/// Why no call of these words is made: they are no call, or a record cannot hold them.
-fn why_not(alloc: Global, words: &[Text]) -> Result<Text, OutOfMemory>
-    ensures { IfOk result (λ text. text ≡ why_not (typed_call words.now) words.now) }
+/// What is said of words that a record cannot hold.
+const NOT_RECORDED: &str = "a record cannot hold these words";
+
+/// Why no typed call of these words is made: they are no call, or a record cannot hold them.
+fn not_typed(alloc: Global, words: &[Text]) -> Result<Text, OutOfMemory>
+    ensures { IfOk result (λ text. text ≡ not_typed (typed_call words.now) words.now) }
 {
     match typed_call(alloc, words)? {
-        Some(_) => Text::of(alloc, "a record cannot hold these words"),
+        Some(_) => Text::of(alloc, NOT_RECORDED),
         None => no_call(alloc, words),
+    }
+}
+
+/// Which of the words of a call of an operation is not what it should be.
+fn wrong_operation(name: &str, version: &str) -> &'static str
+    ensures { result.now ≡ wrong_operation name.now version.now }
+{
+    if operation_named(name).is_none() {
+        return "KMIP 1.2 has no operation of this name";
+    }
+    if version_written(version).is_none() {
+        return "version= takes 1.0, 1.1 or 1.2";
+    }
+    "the payload is not the JSON of a RequestPayload"
+}
+
+/// Which of the words of a call whose payload or message is in JSON is not what it should be.
+fn wrong_tree(words: TreeWords<'_>) -> &'static str
+    ensures { result.now ≡ wrong_tree (tree_text words) }
+{
+    match words {
+        TreeWords::Operation { name, version, .. } => wrong_operation(name, version),
+        TreeWords::Message { .. } => "the message is not the JSON of a RequestMessage",
+    }
+}
+
+/// Why no call whose payload or message is in JSON is made: it is to be recorded, or one of the
+/// words is wrong.
+fn no_tree(file: &Option<Text>, words: TreeWords<'_>) -> &'static str
+    ensures { result.now ≡ no_tree file.now (tree_text words) }
+{
+    match file {
+        Some(_) => NOT_RECORDED,
+        None => wrong_tree(words),
+    }
+}
+
+/// Why nothing that an order asks for is made.
+fn why_not(alloc: Global, order: &Order) -> Result<Text, OutOfMemory>
+    ensures { IfOk result (λ text. text ≡ why_not order.now) }
+{
+    let words = order.words.as_slice();
+    match tree_words(words) {
+        Some(words) => Text::of(alloc, no_tree(&order.file, words)),
+        None => not_typed(alloc, words),
     }
 }
 
@@ -154,7 +208,7 @@ pub fn refuse<K: Sink>(alloc: Global, text: &str, told: &mut K) -> Status
     }
 }
 
-/// Writes why no call of these words is made, in the same way.
+/// Writes why nothing that an order asks for is made, in the same way.
 pub fn refuse_words<K: Sink>(alloc: Global, order: &Order, told: &mut K) -> Status
     ensures status { (result ≡ Status.NoCall) ⊎ (result ≡ Status.OutOfMemory) }
     ensures line { result ≡ Status.NoCall → IsTrue (K.state told.old).tells →
@@ -163,7 +217,7 @@ pub fn refuse_words<K: Sink>(alloc: Global, order: &Order, told: &mut K) -> Stat
     ensures part { IsTrue (K.state told.old).tells →
         WrotePart (K.state told.old) (K.state told.new) (refusal order.now) }
 {
-    let Ok(text) = why_not(alloc, order.words.as_slice()) else {
+    let Ok(text) = why_not(alloc, order) else {
         return Status::OutOfMemory;
     };
     refuse(alloc, text.as_str(), told)

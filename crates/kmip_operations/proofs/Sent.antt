@@ -1,4 +1,4 @@
--- What is sent over a link in memory that has nothing to read.
+-- What a call does over a link in memory, and what is sent over one that has nothing to read.
 use Rattle.std.proofs.Common.{◌≡◌, ◌≢◌, ℕ, List, [], ◌++◌, Option, Some, None, Result, Err, refl, ◌∙◌, ap, sym, arith}
 use Rattle.kmip_link.specs.Plan.{MemoryState, memory_state}
 use Rattle.kmip_client.specs.declared.error.Error.{Error}
@@ -8,7 +8,7 @@ use Rattle.kmip_client.specs.Outcome.{OutcomeOf, outcome_by, answer_by, left_for
 use Rattle.kmip_client.proofs.Messages.{message_short}
 
 -- over a link in memory each answer but out of memory is the outcome's
-finished : {A : Type 0} (o : OutcomeOf A) (before after : MemoryState) (answer : Result A Error)
+pub finished : {A : Type 0} (o : OutcomeOf A) (before after : MemoryState) (answer : Result A Error)
     → Exchanged o (memory_state before) (memory_state after) answer → answer ≢ Err OutOfMemory →
     (answer ≡ o.answer) × Moves (memory_state before) (memory_state after) o.sent o.taken
 finished o before after answer (Exchanged.completed is moves) some = (is, moves)
@@ -17,9 +17,26 @@ finished o before after answer (Exchanged.read_failed is rose n within moves) so
 finished o before after answer (Exchanged.sending_cut is n within moves) some = absurd (some is)
 finished o before after answer (Exchanged.reading_cut is n within moves) some = absurd (some is)
 
+-- nothing comes to a link in memory by itself
+pub ever_kept : {A : Type 0} (o : OutcomeOf A) (before after : MemoryState) (answer : Result A Error)
+    → Exchanged o (memory_state before) (memory_state after) answer → after.ever ≡ before.ever
+ever_kept o before after answer (Exchanged.completed is moves) = moves.still refl
+ever_kept o before after answer (Exchanged.write_failed is rose n below moves) = moves.still refl
+ever_kept o before after answer (Exchanged.read_failed is rose n within moves) = moves.still refl
+ever_kept o before after answer (Exchanged.sending_cut is n within moves) = moves.still refl
+ever_kept o before after answer (Exchanged.reading_cut is n within moves) = moves.still refl
+
 -- a link that has nothing to read, and over which nothing was sent
 abbrev pub IsFresh : MemoryState → Type 0
 IsFresh link = (link.ever ≡ []) × (link.pos ≡ 0) × (link.sent ≡ [])
+
+pub fresh_over : {link over : MemoryState} → link ≡ over → over.ever ≡ [] → over.pos ≡ 0 → over.sent ≡ []
+    → IsFresh link
+fresh_over is ever pos sent = (
+  ap (λ (m : MemoryState). m.ever) is ∙ ever,
+  ap (λ (m : MemoryState). m.pos) is ∙ pos,
+  ap (λ (m : MemoryState). m.sent) is ∙ sent,
+)
 
 -- the whole request was sent, where it has a wire form and memory did not run out
 pub sent_whole : {A : Type 0} (request : Option (List ℕ)) (reads : List ℕ → Result A Error)

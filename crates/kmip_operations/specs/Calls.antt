@@ -1,9 +1,10 @@
--- A call of any operation, by the operation's name, a version of KMIP and a payload in JSON.
+-- A call of any operation, by the operation's name, a version of KMIP and a payload in JSON; and a
+-- message in JSON.
 use Rattle.std.specs.Prelude.{◌≡◌, ℕ, ◌==◌, Bool, true, false, List, codes, Option, Some, None, Ok, if◌then◌else◌, bytes_eq}
 use Rattle.std.specs.Option.{option_and_then, IsSomeAnd}
 use Rattle.json.specs.Json.{document}
 use Rattle.json.specs.Strict.{HasUniqueKeys}
-use Rattle.kmip_tags.specs.Tags.{OPERATION, REQUEST_PAYLOAD}
+use Rattle.kmip_tags.specs.Tags.{OPERATION, REQUEST_MESSAGE, REQUEST_PAYLOAD}
 use Rattle.kmip_wire.specs.Tree.{Tree, scalar, structure}
 use Rattle.kmip_shape.specs.Enumerations.{variant_at}
 use Rattle.kmip_enums.specs.Operations.{operation_line, operation_variants}
@@ -33,16 +34,24 @@ version_written text =
     else if bytes_eq text (codes "1.2") then Some V1_2
     else None
 
--- whether an item is the payload of a request: a structure with that tag (KMIP 1.0, 9.1.3.1)
-abbrev pub is_payload : Tree → Bool
-is_payload (structure tag items) = tag == REQUEST_PAYLOAD
-is_payload (scalar tag value) = false
+-- whether an item is a structure with this tag
+abbrev pub is_structure : ℕ → Tree → Bool
+is_structure wanted (structure tag items) = tag == wanted
+is_structure wanted (scalar tag value) = false
 
--- the text is the JSON of this payload, in which no object has a name twice
+-- the text is the JSON of this structure with the tag, in which no object has a name twice
+abbrev pub IsStructureText : ℕ → List ℕ → Tree → Type 0
+IsStructureText wanted text tree =
+    IsSomeAnd (document text) (λ j. HasUniqueKeys j × (tree_of j ≡ Ok tree))
+    × (is_structure wanted tree ≡ true)
+
+-- the text is the JSON of the payload of a request (KMIP 1.0, 9.1.3.1)
 abbrev pub IsPayloadText : List ℕ → Tree → Type 0
-IsPayloadText text payload =
-    IsSomeAnd (document text) (λ j. HasUniqueKeys j × (tree_of j ≡ Ok payload))
-    × (is_payload payload ≡ true)
+IsPayloadText = IsStructureText REQUEST_PAYLOAD
+
+-- and of a whole request message
+abbrev pub IsMessageText : List ℕ → Tree → Type 0
+IsMessageText = IsStructureText REQUEST_MESSAGE
 
 -- the call that a name, a version and a payload in JSON ask for
 pub record Asks (name version payload : List ℕ) (request : TreeRequest) : Type 0 where

@@ -2,8 +2,8 @@
 ghost use Rattle.std.specs.Prelude.{◌≡◌, IfOk, MatchOption, Result};
 ghost use Rattle.kmip_wire.specs.Tree.{Tree as TheTree};
 ghost use Rattle.kmip_client.specs.Operation.{TreeRequest};
-ghost use Rattle.kmip_operations.specs.Calls.{operation_named, version_written, is_payload};
-ghost use Rattle.kmip_operations.specs.Calls.{IsPayloadText, Asks, request_of};
+ghost use Rattle.kmip_operations.specs.Calls.{operation_named, version_written, is_structure};
+ghost use Rattle.kmip_operations.specs.Calls.{IsStructureText, Asks, request_of};
 
 use kmip_client::Version;
 use kmip_encodings::{EncodingError, enumeration_number, from_json};
@@ -23,15 +23,15 @@ pub struct OperationCall {
     pub payload: Tree,
 }
 
-/// The operation with this name in KMIP's table.
-fn operation_named(name: &str) -> Option<Operation>
+/// The operation with this name in KMIP's table, as `Encrypt` or `MACVerify`. It takes no memory.
+pub fn operation_named(name: &str) -> Option<Operation>
     ensures { result ≡ operation_named name.now }
 {
     Operation::from_number(enumeration_number(Tag::of(OPERATION), name)?)
 }
 
-/// The version that a text writes.
-fn version_written(text: &str) -> Option<Version>
+/// The version that a text writes: `1.0`, `1.1` or `1.2`. It takes no memory.
+pub fn version_written(text: &str) -> Option<Version>
     ensures { result ≡ version_written text.now }
 {
     match text {
@@ -42,24 +42,24 @@ fn version_written(text: &str) -> Option<Version>
     }
 }
 
-/// Whether an item is the payload of a request: a structure with that tag.
-fn is_payload(tree: &Tree) -> bool
-    ensures { result ≡ is_payload tree.now }
+/// Whether an item is a structure with this tag.
+fn is_structure(tree: &Tree, tag: u32) -> bool
+    ensures { result ≡ is_structure tag tree.now }
 {
     match &tree.node {
-        Node::Structure(_) => tree.tag.number() == REQUEST_PAYLOAD,
+        Node::Structure(_) => tree.tag.number() == tag,
         _ => false,
     }
 }
 
-/// The payload whose JSON a text is.
-fn payload_of(alloc: Global, text: &str) -> Result<Option<Tree>, OutOfMemory>
-    ensures { IfOk result (λ payload. MatchOption payload
-        ((tree : TheTree) → IsPayloadText text.now tree → ⊥) (IsPayloadText text.now)) }
+/// The structure with this tag whose JSON a text is.
+pub fn structure_of(alloc: Global, text: &str, tag: u32) -> Result<Option<Tree>, OutOfMemory>
+    ensures { IfOk result (λ tree. MatchOption tree
+        ((t : TheTree) → IsStructureText tag text.now t → ⊥) (IsStructureText tag text.now)) }
 {
     match from_json(alloc, text) {
         Ok(tree) => {
-            if is_payload(&tree) {
+            if is_structure(&tree, tag) {
                 Ok(Some(tree))
             } else {
                 Ok(None)
@@ -90,7 +90,7 @@ pub fn operation_call(
     let Some(version) = version_written(version) else {
         return Ok(None);
     };
-    let Some(payload) = payload_of(alloc, payload)? else {
+    let Some(payload) = structure_of(alloc, payload, REQUEST_PAYLOAD)? else {
         return Ok(None);
     };
     Ok(Some(OperationCall {

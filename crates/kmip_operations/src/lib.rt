@@ -1,17 +1,23 @@
-//! Calls of any operation of KMIP 1.0 to 1.2, by its name and a payload in JSON.
+//! Calls of any operation of KMIP 1.0 to 1.2, by its name and a payload in JSON, and messages in
+//! JSON.
 //!
 //! The typed calls of kmip_words keep to the tables of kmip_request and kmip_response. Here a caller
 //! gives the operation's name and its payload as a tree in JSON ([`operation_call`]), carries the
 //! bytes that the call sends ([`operation_request`]), and has the response's payload as JSON
-//! ([`operation_answer`]).
+//! ([`operation_answer`]). A whole message goes the same way, and its whole response comes back
+//! ([`message_of`], [`message_request`], [`message_answer`]).
 #![tactic(auto)]
 
 mod answer;
 mod call;
+mod laws;
+mod message;
 mod request;
 #[cfg(test)]
 mod tests;
 
-pub use answer::{OperationAnswer, operation_answer, push_answer};
-pub use call::{OperationCall, operation_call};
+pub use answer::{TreeAnswer, operation_answer};
+pub use call::{OperationCall, operation_call, operation_named, version_written};
+pub use laws::lines_are_json;
+pub use message::{message_answer, message_of, message_request};
 pub use request::operation_request;

@@ -1,37 +1,25 @@
 //! The bytes that a call of an operation sends.
-ghost use Rattle.std.specs.Prelude.{◌≡◌, IfOk, option_map};
-ghost use Rattle.kmip_client.specs.Client.{credential_for};
+ghost use Rattle.std.specs.Prelude.{◌≡◌, [], IfOk, option_map};
 ghost use Rattle.kmip_client.specs.Operation.{operation_bytes};
 ghost use Rattle.kmip_operations.specs.Calls.{request_of};
 
 use crate::call::OperationCall;
-use kmip_client::{Client, Error};
-use kmip_link::MemoryLink;
-use kmip_wire::{OutOfMemory, Text};
-use kmip_words::client_of;
+use kmip_client::Error;
+use kmip_wire::OutOfMemory;
+use kmip_words::{Settings, link_over, sent_by};
 use std::alloc::Global;
 
-/// A copy of what was sent over a client's link.
-fn sent_by(alloc: Global, client: &mut Client<MemoryLink>) -> Result<Vec<u8>, OutOfMemory>
-    ensures { IfOk result (λ sent. sent.items ≡ client.old.link.sent) }
-{
-    let mut sent = Vec::new(alloc);
-    sent.extend_from_slice(client.inner().sent())?;
-    Ok(sent)
-}
-
-/// The bytes that a call sends: its one canonical message, with the user name and the password
-/// where both are given; `None` exactly where it has no wire form.
+/// The bytes that a call sends: its one canonical message, with the credential of the settings;
+/// `None` exactly where it has no wire form.
 pub fn operation_request(
     alloc: Global,
-    user: Option<Text>,
-    password: Option<Text>,
+    settings: &Settings,
     call: &OperationCall,
 ) -> Result<Option<Vec<u8>>, OutOfMemory>
     ensures { IfOk result (λ request. option_map (λ r. r.items) request ≡
-        operation_bytes (request_of call.now) (credential_for user password)) }
+        operation_bytes (request_of call.now) settings.now.credential) }
 {
-    let mut client = client_of(MemoryLink::new(alloc), user, password, None, false);
+    let mut client = settings.client(alloc, link_over(alloc, &[])?)?;
     match client.do_operation(alloc, call.operation, call.version, &call.payload) {
         Err(Error::OutOfMemory) => Err(OutOfMemory),
         Err(Error::SerializeError(_)) => Ok(None),

@@ -1,9 +1,12 @@
 //! The calls as a caller makes them. Messages stand in the notation of kmip_test_messages, and JSON
 //! is written by hand.
-use crate::{OperationAnswer, OperationCall, operation_answer, operation_call, operation_request};
+use crate::{
+    OperationCall, TreeAnswer, message_answer, message_of, message_request, operation_answer,
+    operation_call, operation_request,
+};
 use kmip_test_messages::message;
-use kmip_wire::{OutOfMemory, Text};
-use kmip_words::Ending;
+use kmip_wire::{OutOfMemory, Text, Tree};
+use kmip_words::{Ending, Settings};
 use std::alloc::Global;
 use std::process::Abort;
 use std::test::Fail;
@@ -21,11 +24,10 @@ fn call_of(
 
 fn request(
     alloc: Global,
-    user: Option<Text>,
-    password: Option<Text>,
+    settings: &Settings,
     call: &OperationCall,
 ) -> Result<Option<Vec<u8>>, OutOfMemory> {
-    operation_request(alloc, user, password, call)
+    operation_request(alloc, settings, call)
 }
 
 fn answer_to(
@@ -33,8 +35,13 @@ fn answer_to(
     limit: Option<u32>,
     call: &OperationCall,
     response: &[u8],
-) -> Result<OperationAnswer, OutOfMemory> {
-    operation_answer(alloc, limit, call, response)
+) -> Result<TreeAnswer, OutOfMemory> {
+    operation_answer(alloc, &Settings::new(None, None, limit), call, response)
+}
+
+/// Settings without a credential and a limit.
+fn plain() -> Settings {
+    Settings::new(None, None, None)
 }
 
 /// A call, and its request.
@@ -99,7 +106,7 @@ fn a_request_has_the_callers_payload(rt: HostRuntime) -> Result<(), Fail> {
         let Some(call) = call_of(alloc, row.name, row.version, row.payload)? else {
             panic!(rt; "{}", row.name);
         };
-        let Some(bytes) = request(alloc, None, None, &call)? else {
+        let Some(bytes) = request(alloc, &plain(), &call)? else {
             panic!(rt; "{}", row.name);
         };
         assert!(rt; bytes == message(alloc, row.request)?, "{}", row.name);
@@ -121,12 +128,16 @@ fn a_credential_is_sent_where_both_texts_are_given(rt: HostRuntime) -> Result<()
     let password = Text::of(alloc, "secret")?;
     let expected =
         r#"78{77{69{6A i1,6B i2},0C{23{24 e1,25{99 "alice",A1 "secret"}}},0D i1},0F{5C e1F,79{C2 x00FF}}}"#;
-    match request(alloc, Some(user), Some(password), &call)? {
+    match request(
+        alloc,
+        &Settings::new(Some(user), Some(password), None),
+        &call,
+    )? {
         Some(bytes) => assert!(rt; bytes == message(alloc, expected)?),
         None => panic!(rt; "no request"),
     }
     let user = Text::of(alloc, "alice")?;
-    match request(alloc, Some(user), None, &call)? {
+    match request(alloc, &Settings::new(Some(user), None, None), &call)? {
         Some(bytes) => assert!(rt; bytes == message(alloc, "REQ2(1F, C2 x00FF)")?),
         None => panic!(rt; "no request"),
     }
@@ -237,7 +248,7 @@ fn what_has_no_wire_form_has_no_request(rt: HostRuntime) -> Result<(), Fail> {
     let Some(call) = call_of(alloc, "Encrypt", "1.2", NO_FORM)? else {
         panic!(rt; "no call");
     };
-    assert!(rt; request(alloc, None, None, &call)?.is_none());
+    assert!(rt; request(alloc, &plain(), &call)?.is_none());
     let answer = answer_to(alloc, None, &call, &[])?;
     assert_eq!(rt; answer.ending, Ending::Refused);
     let line = b"{\"error\":\"SerializeError\",\"text\":\"request has no wire form\"}\n";
@@ -288,22 +299,28 @@ const ANSWERS: &[AnswerRow] = &[
     AnswerRow {
         response: "OK2(20, C2 x00)",
         ending: Ending::Refused,
-        line: "{\"error\":\"InternalError\",\"text\":\"Response does not match request operation Encrypt\"}\n",
+        line: "{\"error\":\"InternalError\",\"text\":\"Response does not match request operation Encrypt\",\"response\":\"7B[7A[69[6Ai6Bi]92d0Di]0F[5Ce20:7Fe0:7C[C2x]]]\"}\n",
     },
     AnswerRow {
         response: "RES2(5C e1F,7F e2)",
         ending: Ending::Refused,
-        line: "{\"error\":\"InternalError\",\"text\":\"Result status 2 is not supported\"}\n",
+        line: "{\"error\":\"InternalError\",\"text\":\"Result status 2 is not supported\",\"response\":\"7B[7A[69[6Ai6Bi]92d0Di]0F[5Ce1F:7Fe2:]]\"}\n",
     },
     AnswerRow {
         response: "7B{7A{69{6A i1,6B i2},92 d1,0D i2},0F{5C e1F,7F e0},0F{5C e1F,7F e0}}",
         ending: Ending::Refused,
-        line: "{\"error\":\"InternalError\",\"text\":\"Expected one batch item in response but received 2\"}\n",
+        line: "{\"error\":\"InternalError\",\"text\":\"Expected one batch item in response but received 2\",\"response\":\"7B[7A[69[6Ai6Bi]92d0Di]0F[5Ce1F:7Fe0:]0F[5Ce1F:7Fe0:]]\"}\n",
+    },
+    // two batch items, the first of which reports failure
+    AnswerRow {
+        response: "7B{7A{69{6A i1,6B i2},92 d1,0D i2},0F{5C e1F,7F e1,7E e12,7D \"no \\\"key\\\"\"},0F{5C e1F,7F e0}}",
+        ending: Ending::Refused,
+        line: "{\"error\":\"InternalError\",\"text\":\"Expected one batch item in response but received 2\",\"response\":\"7B[7A[69[6Ai6Bi]92d0Di]0F[5Ce1F:7Fe1:7Ee12:7Dt]0F[5Ce1F:7Fe0:]]\",\"reason\":18,\"message\":\"no \\\"key\\\"\"}\n",
     },
     AnswerRow {
         response: "REQ2(1F, C2 x00)",
         ending: Ending::Refused,
-        line: "{\"error\":\"InternalError\",\"text\":\"not a response message\"}\n",
+        line: "{\"error\":\"InternalError\",\"text\":\"not a response message\",\"response\":\"78[77[69[6Ai6Bi]0Di]0F[5Ce1F:79[C2x]]]\"}\n",
     },
     AnswerRow {
         response: "!42007B0100000008FFFFFFFFFFFFFFFF",
@@ -352,6 +369,136 @@ fn a_long_response_is_refused(rt: HostRuntime) -> Result<(), Fail> {
     let line = b"{\"error\":\"DeserializeError\",\"text\":\"response size 8 exceeds limit 7\"}\n";
     assert!(rt; answer.line.as_slice() == line.as_slice());
     let answer = answer_to(alloc, Some(8), &call, &response)?;
+    assert_eq!(rt; answer.ending, Ending::Refused);
+    Ok(())
+}
+
+/// `message_of` without its clause; so are the two functions below.
+fn tree_of(alloc: Global, text: &str) -> Result<Option<Tree>, OutOfMemory> {
+    message_of(alloc, text)
+}
+
+fn bytes_of(alloc: Global, message: &Tree) -> Result<Option<Vec<u8>>, OutOfMemory> {
+    message_request(alloc, message)
+}
+
+fn answer_of(
+    alloc: Global,
+    limit: Option<u32>,
+    message: &Tree,
+    response: &[u8],
+) -> Result<TreeAnswer, OutOfMemory> {
+    message_answer(alloc, &Settings::new(None, None, limit), message, response)
+}
+
+/// A message of two batch items, a Query and a Poll (KMIP 1.0, 4.24 and 4.26), and its bytes.
+const BATCH: &str = r#"{"tag":"RequestMessage","value":[
+    {"tag":"RequestHeader","value":[
+        {"tag":"ProtocolVersion","value":[
+            {"tag":"ProtocolVersionMajor","type":"Integer","value":1},
+            {"tag":"ProtocolVersionMinor","type":"Integer","value":2}]},
+        {"tag":"BatchCount","type":"Integer","value":2}]},
+    {"tag":"BatchItem","value":[
+        {"tag":"Operation","type":"Enumeration","value":"Query"},
+        {"tag":"UniqueBatchItemID","type":"ByteString","value":"01"},
+        {"tag":"RequestPayload","value":[]}]},
+    {"tag":"BatchItem","value":[
+        {"tag":"Operation","type":"Enumeration","value":"Poll"},
+        {"tag":"UniqueBatchItemID","type":"ByteString","value":"02"},
+        {"tag":"RequestPayload","value":[]}]}]}"#;
+
+const BATCH_BYTES: &str =
+    "78{77{69{6A i1,6B i2},0D i2},0F{5C e18,93 x01,79{}},0F{5C e1A,93 x02,79{}}}";
+
+#[test]
+fn a_message_is_sent_as_it_stands(rt: HostRuntime) -> Result<(), Fail> {
+    let alloc: Global = rt.alloc();
+    let Some(tree) = tree_of(alloc, BATCH)? else {
+        panic!(rt; "no message");
+    };
+    match bytes_of(alloc, &tree)? {
+        Some(bytes) => assert!(rt; bytes == message(alloc, BATCH_BYTES)?),
+        None => panic!(rt; "no bytes"),
+    }
+    Ok(())
+}
+
+/// What is no message: no JSON, an item that is no structure, and one with another tag.
+const NO_MESSAGES: &[&str] = &[
+    "",
+    r#"{"tag":"RequestMessage","type":"Integer","value":1}"#,
+    r#"{"tag":"RequestPayload","value":[]}"#,
+    r#"{"tag":"ResponseMessage","value":[]}"#,
+];
+
+#[test]
+fn other_texts_are_no_message(rt: HostRuntime) -> Result<(), Fail> {
+    for text in NO_MESSAGES {
+        assert!(rt; tree_of(rt.alloc(), text)?.is_none(), "{text}");
+    }
+    Ok(())
+}
+
+/// Responses to that message: each is shown as it came, where it is one well-formed message.
+const WHOLE_ANSWERS: &[AnswerRow] = &[
+    AnswerRow {
+        response: "7B{0F{7F e1,7D \"no\"},0F{7F e0},540001 x00},!FF",
+        ending: Ending::Answered,
+        line: "{\"answer\":{\"tag\":\"ResponseMessage\",\"value\":[{\"tag\":\"BatchItem\",\"value\":[{\"tag\":\"ResultStatus\",\"type\":\"Enumeration\",\"value\":\"OperationFailed\"},{\"tag\":\"ResultMessage\",\"type\":\"TextString\",\"value\":\"no\"}]},{\"tag\":\"BatchItem\",\"value\":[{\"tag\":\"ResultStatus\",\"type\":\"Enumeration\",\"value\":\"Success\"}]},{\"tag\":\"0x540001\",\"type\":\"ByteString\",\"value\":\"00\"}]}}\n",
+    },
+    AnswerRow {
+        response: "7B{}",
+        ending: Ending::Answered,
+        line: "{\"answer\":{\"tag\":\"ResponseMessage\",\"value\":[]}}\n",
+    },
+    AnswerRow {
+        response: "!42007B0100000008FFFFFFFFFFFFFFFF",
+        ending: Ending::Lost,
+        line: "{\"error\":\"DeserializeError\",\"text\":\"malformed TTLV\"}\n",
+    },
+    AnswerRow {
+        response: "!42007B0100000090",
+        ending: Ending::Lost,
+        line: "{\"error\":\"ResponseReadError\",\"text\":\"end of input\"}\n",
+    },
+    AnswerRow {
+        response: "7B i1",
+        ending: Ending::Lost,
+        line: "{\"error\":\"DeserializeError\",\"text\":\"not a structure\"}\n",
+    },
+];
+
+#[test]
+fn a_message_is_answered_by_a_whole_response(rt: HostRuntime) -> Result<(), Fail> {
+    let alloc: Global = rt.alloc();
+    let Some(tree) = tree_of(alloc, BATCH)? else {
+        panic!(rt; "no message");
+    };
+    for row in WHOLE_ANSWERS {
+        let answer = answer_of(alloc, None, &tree, &message(alloc, row.response)?)?;
+        assert!(rt;
+            answer.line.as_slice() == row.line.as_bytes(),
+            "{}",
+            row.response
+        );
+        assert_eq!(rt; answer.ending, row.ending, "{}", row.response);
+    }
+    let answer = answer_of(alloc, Some(7), &tree, &message(alloc, "7B{}")?)?;
+    let line = b"{\"error\":\"DeserializeError\",\"text\":\"response size 8 exceeds limit 7\"}\n";
+    assert!(rt; answer.line.as_slice() == line.as_slice());
+    Ok(())
+}
+
+#[test]
+fn a_message_without_a_wire_form_is_not_sent(rt: HostRuntime) -> Result<(), Fail> {
+    let alloc: Global = rt.alloc();
+    let text =
+        r#"{"tag":"RequestMessage","value":[{"tag":"Modulus","type":"BigInteger","value":"0x01"}]}"#;
+    let Some(tree) = tree_of(alloc, text)? else {
+        panic!(rt; "no message");
+    };
+    assert!(rt; bytes_of(alloc, &tree)?.is_none());
+    let answer = answer_of(alloc, None, &tree, &[])?;
     assert_eq!(rt; answer.ending, Ending::Refused);
     Ok(())
 }

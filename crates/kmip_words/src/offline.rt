@@ -67,8 +67,8 @@ impl Settings {
         self.limit
     }
 
-    /// A client over this link.
-    fn client(&self, alloc: Global, link: MemoryLink) -> Result<Client<MemoryLink>, OutOfMemory>
+    /// A client over this link, whose calls are by these settings and keep no diagnostics.
+    pub fn client(&self, alloc: Global, link: MemoryLink) -> Result<Client<MemoryLink>, OutOfMemory>
         ensures link { IfOk result (λ client. client.link ≡ link) }
         ensures settings { IfOk result (λ client. settings_of client ≡ self.now) }
     {
@@ -78,8 +78,8 @@ impl Settings {
     }
 }
 
-/// A link that has these bytes to read, and over which nothing was sent.
-fn link_over(alloc: Global, response: &[u8]) -> Result<MemoryLink, OutOfMemory>
+/// A link in memory that has these bytes to read, and over which nothing was sent.
+pub fn link_over(alloc: Global, response: &[u8]) -> Result<MemoryLink, OutOfMemory>
     ensures ever { IfOk result (λ link. link.ever ≡ response.now) }
     ensures pos { IfOk result (λ link. link.pos ≡ 0) }
     ensures sent { IfOk result (λ link. link.sent ≡ []) }
@@ -92,7 +92,7 @@ fn link_over(alloc: Global, response: &[u8]) -> Result<MemoryLink, OutOfMemory>
 }
 
 /// A copy of what was sent over a client's link.
-fn sent_by(alloc: Global, client: &mut Client<MemoryLink>) -> Result<Vec<u8>, OutOfMemory>
+pub fn sent_by(alloc: Global, client: &mut Client<MemoryLink>) -> Result<Vec<u8>, OutOfMemory>
     ensures { IfOk result (λ sent. sent.items ≡ client.old.link.sent) }
 {
     let mut sent = Vec::new(alloc);
@@ -128,8 +128,8 @@ struct Reply {
     taken: usize,
 }
 
-/// How many bytes a client's link has left to read.
-fn left_for(client: &mut Client<MemoryLink>) -> usize
+/// How many bytes a client's link has left to read. It takes no memory.
+pub fn left_for(client: &mut Client<MemoryLink>) -> usize
     ensures { result ≡ length (drop client.old.link.pos client.old.link.ever) }
 {
     client.inner().rest().len()

@@ -10,9 +10,14 @@ page=$top/clients/man/kmip_call.1
 [[ $(sed -n '/^\.Ss Calls/,/^\.Sh/s/^\.It Cm \([a-z-]*\).*/\1/p' "$page" | sort) == "$(printf '%s\n' "${calls[@]}")" ]]
 verdict 'the manual page has the same'
 for option in $("$built/kmip_call" --help | grep -o '\[[a-z]*=' | tr -d '['); do
-    grep -q "^\.It Cm .*$option" "$page" && [[ " $(declare -f _kmip_call) " == *"$option"* ]]
+    grep -q "^\.It Cm .*$option" "$page" && [[ " $(declare -f _kmip_call _kmip_follow) " == *"$option"* ]]
     verdict "$option is in both"
 done
+unknown=$(for name in "${_kmip_operations[@]}"; do
+    "$built/kmip_call" operation "$name" '' 2>&1 </dev/null | grep -q 'the payload is not' || echo "$name"
+done)
+[[ -z $unknown ]] && ((${#_kmip_operations[@]} == 41))
+verdict 'the completion has the names of all operations'
 # What bash-completion would ask for: LINE completes to these words.
 completes() { # LINE WORD..
     local line=$1 COMP_LINE=$1 COMP_POINT=${#1} COMP_WORDS COMP_CWORD COMPREPLY=() function
@@ -29,9 +34,11 @@ completes() { # LINE WORD..
 touch 'a record' another
 completes 'kmip_call cr' create create-rsa create-aes && completes 'kmip_call user=a p' password= &&
     completes 'kmip_call limit=1 s' sign && completes 'kmip_call record=a' 'a record' another &&
-    completes 'kmip_call user=a get x' && completes 'kmip_call --v' --version
+    completes 'kmip_call user=a get x' && completes 'kmip_call --v' --version &&
+    completes 'kmip_call user=a operation Enc' Encrypt && completes 'kmip_call operation Encrypt v' version=
 verdict 'completion of kmip_call'
-completes 'kmip de' destroy && completes 'kmip p' pem && completes 'kmip destroy d' && completes 'kmip_field sig' signature_data &&
+completes 'kmip operation MAC' MAC MACVerify && completes 'kmip operation MAC ' version= && completes 'kmip operation MAC @ano' another && completes 'kmip message @ano' another &&
+    completes 'kmip de' destroy && completes 'kmip p' pem && completes 'kmip destroy d' && completes 'kmip_field sig' signature_data &&
     completes 'kmip_field signature_data si' sign && completes 'kmip_open localhost:5696 ano' another && completes 'kmip_open a'
 verdict 'completion of the functions'
 if type -P mandoc >/dev/null; then

@@ -1,0 +1,145 @@
+//! What an order asks for, and its request.
+ghost use Rattle.std.specs.Prelude.{◌≡◌, false, Some, None, IfOk, MatchOption, option_map};
+ghost use Rattle.std.specs.Option.{is_some};
+ghost use Rattle.kmip_call.specs.TreeWords.{an_operation, a_message, tree_text, tree_words};
+ghost use Rattle.kmip_call.specs.Asked.{is_allowed, call_for, AsksForNone, Requests};
+
+use crate::command::Order;
+use crate::record::{is_recordable, recorded_words};
+use crate::tree_words::{TreeWords, tree_words};
+use kmip_operations::{
+    OperationCall, message_of, message_request, operation_call, operation_request,
+};
+use kmip_wire::{OutOfMemory, Tree};
+use kmip_words::{request_of, typed_call};
+use std::alloc::Global;
+
+/// What the words of an order ask for.
+#[derive(Drop)]
+pub enum Asked {
+    /// A call of kmip_words; its words are read again where its answer is shown.
+    Typed,
+    /// A call of any operation.
+    Operation(OperationCall),
+    /// A whole message.
+    Message(Tree),
+}
+
+/// What an order asks for, and the bytes of its request, which is `None` where it has no wire form.
+#[derive(Drop)]
+pub struct Requested {
+    pub asked: Asked,
+    pub request: Option<Vec<u8>>,
+}
+
+/// Whether a typed call may be made: where it is to be recorded, only if a script may hold it.
+fn is_allowed(alloc: Global, order: &Order) -> Result<bool, OutOfMemory>
+    ensures { IfOk result (λ allowed. allowed ≡ is_allowed order.now.file order.now.words) }
+{
+    match &order.file {
+        Some(_) => {
+            let words = recorded_words(alloc, order.words.as_slice())?;
+            is_recordable(alloc, words.as_slice())
+        }
+        None => Ok(true),
+    }
+}
+
+/// The request of a typed call; `None` where the words are none that may be made.
+fn typed_request(alloc: Global, order: &Order) -> Result<Option<Requested>, OutOfMemory>
+    requires { tree_words order.now.words ≡ None }
+    ensures { IfOk result (λ found. MatchOption found (call_for order.now ≡ None)
+        (λ it. Requests order.now it.asked (option_map (λ r. r.items) it.request))) }
+{
+    if !is_allowed(alloc, order)? {
+        return Ok(None);
+    }
+    let Some(call) = typed_call(alloc, order.words.as_slice())? else {
+        return Ok(None);
+    };
+    let request = request_of(alloc, &order.settings, call)?;
+    Ok(Some(Requested {
+        asked: Asked::Typed,
+        request,
+    }))
+}
+
+/// The request of a call of any operation; `None` where the words ask for none.
+fn operation_request_of(
+    alloc: Global,
+    order: &Order,
+    name: &str,
+    version: &str,
+    payload: &str,
+) -> Result<Option<Requested>, OutOfMemory>
+    requires file { is_some order.now.file ≡ false }
+    requires words { tree_words order.now.words ≡
+        Some (an_operation name.now version.now payload.now) }
+    ensures { IfOk result (λ found. MatchOption found (AsksForNone order.now)
+        (λ it. Requests order.now it.asked (option_map (λ r. r.items) it.request))) }
+{
+    let Some(call) = operation_call(alloc, name, version, payload)? else {
+        return Ok(None);
+    };
+    let request = operation_request(alloc, &order.settings, &call)?;
+    Ok(Some(Requested {
+        asked: Asked::Operation(call),
+        request,
+    }))
+}
+
+/// The bytes of a message; `None` where the word is none.
+fn message_request_of(
+    alloc: Global,
+    order: &Order,
+    text: &str,
+) -> Result<Option<Requested>, OutOfMemory>
+    requires file { is_some order.now.file ≡ false }
+    requires words { tree_words order.now.words ≡ Some (a_message text.now) }
+    ensures { IfOk result (λ found. MatchOption found (AsksForNone order.now)
+        (λ it. Requests order.now it.asked (option_map (λ r. r.items) it.request))) }
+{
+    let Some(message) = message_of(alloc, text)? else {
+        return Ok(None);
+    };
+    let request = message_request(alloc, &message)?;
+    Ok(Some(Requested {
+        asked: Asked::Message(message),
+        request,
+    }))
+}
+
+/// The request of a call whose payload or message is given in JSON; `None` where the words ask for
+/// none, or the call is to be recorded.
+fn tree_request(
+    alloc: Global,
+    order: &Order,
+    words: TreeWords<'_>,
+) -> Result<Option<Requested>, OutOfMemory>
+    requires { tree_words order.now.words ≡ Some (tree_text words) }
+    ensures { IfOk result (λ found. MatchOption found (AsksForNone order.now)
+        (λ it. Requests order.now it.asked (option_map (λ r. r.items) it.request))) }
+{
+    if order.file.is_some() {
+        return Ok(None);
+    }
+    match words {
+        TreeWords::Operation {
+            name,
+            version,
+            payload,
+        } => operation_request_of(alloc, order, name, version, payload),
+        TreeWords::Message { message } => message_request_of(alloc, order, message),
+    }
+}
+
+/// What an order asks for, and its request; `None` where it asks for nothing that may be made.
+pub fn request_for(alloc: Global, order: &Order) -> Result<Option<Requested>, OutOfMemory>
+    ensures { IfOk result (λ found. MatchOption found (AsksForNone order.now)
+        (λ it. Requests order.now it.asked (option_map (λ r. r.items) it.request))) }
+{
+    match tree_words(order.words.as_slice()) {
+        Some(words) => tree_request(alloc, order, words),
+        None => typed_request(alloc, order),
+    }
+}

@@ -1,0 +1,35 @@
+-- A name, a version and a payload ask for one call at most.
+use Rattle.std.proofs.Common.{◌≡◌, List, ℕ, Option, Some, None, Ok, ap, ◌∙◌}
+use Rattle.std.specs.Option.{IsSomeAnd}
+use Rattle.json.specs.Json.{Json, document}
+use Rattle.json.specs.Strict.{HasUniqueKeys}
+use Rattle.kmip_enums.specs.declared.operation.Operation.{Operation}
+use Rattle.kmip_wire.specs.Tree.{Tree}
+use Rattle.kmip_encodings.specs.Reading.{tree_of}
+use Rattle.kmip_client.specs.Operation.{TreeRequest}
+use Rattle.kmip_client.specs.declared.operation.Version.{Version}
+use Rattle.kmip_operations.specs.Calls.{IsStructureText, Asks}
+
+same_tree : (j : Option Json) (t u : Tree) → IsSomeAnd j (λ j. HasUniqueKeys j × (tree_of j ≡ Ok t))
+    → IsSomeAnd j (λ j. HasUniqueKeys j × (tree_of j ≡ Ok u)) → t ≡ u
+same_tree None t u a b = absurd a
+same_tree (Some j) t u a b =
+    let first : tree_of j ≡ Ok t = a.1 in
+    let second : tree_of j ≡ Ok u = b.1 in
+    cc
+
+pub one_structure : (tag : ℕ) (text : List ℕ) (t u : Tree) → IsStructureText tag text t
+    → IsStructureText tag text u → t ≡ u
+one_structure tag text t u a b = same_tree (document text) t u a.0 b.0
+
+pub one_call : (name version payload : List ℕ) (r s : TreeRequest) → Asks name version payload r
+    → Asks name version payload s → r ≡ s
+one_call name version payload r s a b =
+    let operations : r.operation ≡ s.operation =
+    (let first = a.operation_is in let second = b.operation_is in cc) in
+    let versions : r.version ≡ s.version =
+    (let first = a.version_is in let second = b.version_is in cc) in
+    let payloads : r.payload ≡ s.payload = same_tree (document payload) r.payload s.payload a.payload_is.0 b.payload_is.0 in
+    ap (λ (o : Operation). record { operation = o; version = r.version; payload = r.payload }) operations
+    ∙ ap (λ (v : Version). record { operation = s.operation; version = v; payload = r.payload }) versions
+    ∙ ap (λ (t : Tree). record { operation = s.operation; version = s.version; payload = t }) payloads

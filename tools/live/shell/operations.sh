@@ -1,0 +1,62 @@
+# shellcheck shell=bash
+# Any operation, by its name and a payload in JSON, and whole messages in JSON.
+payload='{"tag":"RequestPayload","value":[{"tag":"UniqueIdentifier","type":"TextString","value":"my key"}]}'
+answer='^\{"answer":\{"tag":"ResponsePayload","value":\[\{"tag":"UniqueIdentifier","type":"TextString","value":"my key"\}\]\}\}$'
+printf '%s\n' "$payload" >'a payload.json'
+fake good
+call_is 'an operation' 0 operation Archive "$payload"
+says 'its answer is the payload of the response' "$answer"
+call_is 'an operation of KMIP 1.0' 0 operation Archive version=1.0 "$payload"
+call_is 'the payload of a file' 0 operation Archive version=1.1 '@a payload.json'
+says 'is the same' "$answer"
+call_is 'a name that is none of KMIP' 2 operation archive "$payload"
+says 'it is said' '"GrammarError".*no operation of this name'
+call_is 'a version that is none of these' 2 operation Archive version=2.0 "$payload"
+call_is 'a payload with another tag' 2 operation Archive '{"tag":"ResponsePayload","value":[]}'
+says 'it is said, too' '"GrammarError".*not the JSON of a RequestPayload'
+call_is 'a payload without its end' 2 operation Archive "${payload%?}"
+call_is 'no payload' 2 operation Archive
+call_is 'no name' 2 operation
+KMIP_RECORD=$work/calls call_is 'an operation is not recorded' 2 operation Archive "$payload"
+[[ ! -s $work/calls ]]
+verdict 'and nothing is'
+call_is 'a file that is not there' 2 operation Archive @nowhere.json
+says 'is said' '"GrammarError".*file'
+printf '%s\0\n' "$payload" >zero.json
+call_is 'a file with a byte of zero' 2 operation Archive @zero.json
+long='{"tag":"RequestPayload","value":[{"tag":"Data","type":"ByteString","value":"'$(head -c 131000 /dev/zero | tr '\0' 0)'"}]}'
+printf %s "$long" >long.json
+script_is 'a payload longer than a word may be, and a call after it' 0 '
+    open; kmip operation Archive @long.json && exit 9; kmip query; kmip_close'
+says 'it is said what it is' '"GrammarError".*131071'
+message='{"tag":"RequestMessage","value":[{"tag":"RequestHeader","value":[{"tag":"ProtocolVersion","value":[
+    {"tag":"ProtocolVersionMajor","type":"Integer","value":1},{"tag":"ProtocolVersionMinor","type":"Integer","value":2}]},
+    {"tag":"BatchCount","type":"Integer","value":1}]},{"tag":"BatchItem","value":[
+    {"tag":"Operation","type":"Enumeration","value":"Archive"},{"tag":"RequestPayload","value":[
+    {"tag":"UniqueIdentifier","type":"TextString","value":"my key"}]}]}]}'
+printf '%s\n' "$message" >message.json
+call_is 'a whole message' 0 message "$message"
+says 'its answer is the whole response' '^\{"answer":\{"tag":"ResponseMessage","value":\[\{"tag":"ResponseHeader",.*"my key"'
+call_is 'the message of a file' 0 message @message.json
+call_is 'a payload in the place of a message' 2 message "$payload"
+says 'what is wrong' '"GrammarError".*not the JSON of a RequestMessage'
+call_is 'a message and a word more' 2 message "$message" more
+fake batch_two
+call_is 'two answers to a message' 0 message "$message"
+says 'both are told' '"BatchItem".*"BatchItem"'
+fake not_utf8
+call_is 'a response that is malformed' 3 message "$message"
+fake other_operation
+call_is 'an answer to another operation' 1 operation Archive "$payload"
+says 'the skeleton of what came is told' '"InternalError","text":"Response does not match request operation Archive","response":"7B\['
+fake unknown_reason
+call_is 'a failure whose reason is in no table' 1 operation Archive "$payload"
+says "its number and the server's message are told" '"ServerError","text":"Operation Archive failed for reason 32767: not today"'
+fake digest
+data=$(head -c 30000 /dev/zero | tr '\0' Q | tee "$work/data" | od -An -v -tx1 | tr -d ' \n')
+printf '{"tag":"RequestPayload","value":[{"tag":"UniqueIdentifier","type":"TextString","value":"k"},
+    {"tag":"Data","type":"ByteString","value":"%s"}]}' "$data" >sign.json
+script 'open; kmip_field "value[] | select(.tag == \"SignatureData\").value" operation Sign @sign.json; kmip_close'
+got=$(printf '%b' "$(sed 's/../\\x&/g' "$said")")
+[[ $got == "30000 $(sha256sum <"$work/data" | cut -d' ' -f1)" ]]
+verdict 'all of 30000 bytes of a payload arrive'
