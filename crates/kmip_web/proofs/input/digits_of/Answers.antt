@@ -1,7 +1,7 @@
 use Rattle.std.proofs.Common.{◌≡◌, ◌∙◌, ℕ, List, length, drop, get_or, sym, ap, arith, rules, tests, ◌++◌, ◌+◌, ◌<◌}
 use Rattle.std.specs.List.{slice_split}
 use Rattle.std.proofs.lemmas.Iterator.Splits.{YieldsList-from_slice_split}
-use Rattle.std.proofs.lemmas.Iterator.Consumers.{YieldsList-turn, YieldsList-end}
+use Rattle.std.proofs.lemmas.Iterator.Consumers.{YieldsList-at, YieldsList-turn, YieldsList-end}
 use Rattle.std.proofs.lemmas.List.{at_drop_all, at_drop_more, length_push, append_assoc, append-nil}
 use Rattle.kmip_web.specs.Input.{digits_of, is_feed, part_digits, part_of}
 use Rattle.kmip_web.proofs.input.digits_of.Goals as goal
@@ -19,8 +19,10 @@ loop-line-preserved c =
     let l = c.loop-line in
     let side = c.args.side in
     let all = slice_split is_feed c.args.text.now in
-    let t = YieldsList-turn (YieldsList-from_slice_split _ is_feed c.args.text.now c.split.ensures.rest
-    c.split.ensures.done c.split.ensures.closure (λ x b q k. search (rules, tests)))
+    let t = YieldsList-turn (YieldsList-at c.into_iter-line-iterator.ensures.into_iter_gives
+    (YieldsList-from_slice_split _ is_feed c.args.text.now c.split-line-items.ensures.rest
+    c.split-line-items.ensures.done c.split-line-items.ensures.closure
+    (λ x b q k. search (rules, tests))))
     l.yielded _ l.yielded_by _ _ c.in-Some.line c.in-Some.is c.next.ensures.steps in
     let n = length_push l.yielded c.in-Some.line in
     let line = part_digits side (part_of c.in-Some.line.now) in
@@ -36,8 +38,10 @@ returns c =
     let l = c.loop-line in
     let side = c.args.side in
     let all = slice_split is_feed c.args.text.now in
-    let t = YieldsList-end (YieldsList-from_slice_split _ is_feed c.args.text.now c.split.ensures.rest
-    c.split.ensures.done c.split.ensures.closure (λ x b q k. search (rules, tests)))
+    let t = YieldsList-end (YieldsList-at c.into_iter-line-iterator.ensures.into_iter_gives
+    (YieldsList-from_slice_split _ is_feed c.args.text.now c.split-line-items.ensures.rest
+    c.split-line-items.ensures.done c.split-line-items.ensures.closure
+    (λ x b q k. search (rules, tests))))
     l.yielded _ l.yielded_by _ _ c.in-None.is c.next.ensures.steps in
     sym (l.invariant ∙ ap (λ x. l.digits.items ++ x)
     (at_drop_all (digits_of side) all (length l.yielded) (omega (arith, t.1)))
