@@ -38,8 +38,8 @@ returns-clause-key_wrapping_data c =
     (and_field (an_option (exact c.key_information_equality.ensures.encryption_key_information))
     (and_field
     (an_option (exact c.key_information_equality.ensures.mac_or_signature_key_information))
-    (and_field (an_option (exact c.field_equality.ensures.mac_or_signature))
-    (and_field (an_option (exact c.field_equality.ensures.iv_or_counter_or_nonce))
+    (and_field (an_option (exact c.byte_string_equality.ensures.mac_or_signature))
+    (and_field (an_option (exact c.byte_string_equality.ensures.iv_or_counter_or_nonce))
     (an_option (a_list (exact c.attribute_equality.ensures.attribute))))))))
 
 abbrev key_wrapping_specification_fields : KeyWrappingSpecification → WrappingMethod

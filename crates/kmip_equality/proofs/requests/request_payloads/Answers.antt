@@ -29,7 +29,7 @@ returns c = by_cases go laws-law
     go : (x y : RequestPayload) → partial.ghosts.eq x y ≡ true → x ≡ y
     go (Create x0 x1) (Create y0 y1) h =
         ap (λ (t : ObjectType × TemplateAttribute). Create t.0 t.1)
-        (((and_field (exact c.field_equality.ensures.object_type)
+        (((and_field (exact c.code_equality.ensures.object_type)
         (exact c.request_values.ensures.template_attribute)).decides (x0, x1) (y0, y1)).0 h)
     go (CreateKeyPair x0 x1 x2) (CreateKeyPair y0 y1 y2) h =
         ap (λ (t : Option CommonTemplateAttribute
@@ -42,7 +42,7 @@ returns c = by_cases go laws-law
     go (Register x0 x1 x2) (Register y0 y1 y2) h =
         ap (λ (t : ObjectType × (TemplateAttribute × Option ManagedObject)).
         Register t.0 (t.1).0 (t.1).1)
-        (((and_field (exact c.field_equality.ensures.object_type)
+        (((and_field (exact c.code_equality.ensures.object_type)
         (and_field (exact c.request_values.ensures.template_attribute)
         (an_option (exact c.request_values.ensures.managed_object)))).decides (x0, (x1, x2))
         (y0, (y1, y2))).0 h)
@@ -52,8 +52,8 @@ returns c = by_cases go laws-law
         × (Option KeyFormatType × (Option KeyCompressionType × Option KeyWrappingSpecification))).
         Get t.0 (t.1).0 ((t.1).1).0 ((t.1).1).1)
         (((and_field (an_option (exact c.field_equality.ensures.unique_identifier))
-        (and_field (an_option (exact c.field_equality.ensures.key_format_type))
-        (and_field (an_option (exact c.field_equality.ensures.key_compression_type))
+        (and_field (an_option (exact c.code_equality.ensures.key_format_type))
+        (and_field (an_option (exact c.code_equality.ensures.key_compression_type))
         (an_option (exact c.request_values.ensures.key_wrapping_specification))))).decides
         (x0, (x1, (x2, x3))) (y0, (y1, (y2, y3)))).0 h)
     go (GetAttributes x0 x1) (GetAttributes y0 y1) h =
@@ -91,7 +91,7 @@ returns c = by_cases go laws-law
         (x0, (x1, x2)) (y0, (y1, y2))).0 h)
     go (Destroy x0) (Destroy y0) h = ap Destroy
         (((an_option (exact c.field_equality.ensures.unique_identifier)).decides x0 y0).0 h)
-    go (Query x0) (Query y0) h = ap Query (((a_list (exact c.field_equality.ensures.query_function)).decides x0 y0).0 h)
+    go (Query x0) (Query y0) h = ap Query (((a_list (exact c.code_equality.ensures.query_function)).decides x0 y0).0 h)
     go (DiscoverVersions x0) (DiscoverVersions y0) h =
         ap DiscoverVersions (((a_list (exact c.version_equality.ensures)).decides x0 y0).0 h)
     go (Sign x0 x1 x2) (Sign y0 y1 y2) h =

@@ -13,5 +13,5 @@ whole t = record { 0 = t.0; 1 = t.1 }
 
 pub returns : goal.returns
 returns c = by_fields fields whole (λ x. refl)
-    (and_field (exact c.field_equality.ensures.protocol_version_major)
-    (exact c.field_equality.ensures.protocol_version_minor))
+    (and_field (exact c.number_equality.ensures.protocol_version_major)
+    (exact c.number_equality.ensures.protocol_version_minor))

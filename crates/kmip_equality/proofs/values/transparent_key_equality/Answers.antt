@@ -7,7 +7,7 @@ use Rattle.kmip_types.specs.TheTransparentDSAPublicKey.{TransparentDSAPublicKey}
 use Rattle.kmip_types.specs.TheTransparentRSAPrivateKey.{TransparentRSAPrivateKey}
 use Rattle.kmip_types.specs.TheTransparentRSAPublicKey.{TransparentRSAPublicKey}
 use Rattle.kmip_equality.proofs.Exact.{an_option, and_field, by_fields, exact}
-use Rattle.kmip_equality.proofs.request_objects.transparent_key_equality.Goals as goal
+use Rattle.kmip_equality.proofs.values.transparent_key_equality.Goals as goal
 
 abbrev transparent_dsa_private_key_fields : TransparentDSAPrivateKey → List ℕ × (List ℕ × (List ℕ × List ℕ))
 transparent_dsa_private_key_fields x = (x.p, (x.q, (x.g, x.x)))

@@ -14,7 +14,7 @@ use Rattle.kmip_types.specs.ThePaddingMethod.{PaddingMethod}
 use Rattle.kmip_types.specs.TheRandomIV.{RandomIV}
 use Rattle.kmip_types.specs.TheTagLength.{TagLength}
 use Rattle.kmip_equality.proofs.Exact.{an_option, and_field, by_fields, exact}
-use Rattle.kmip_equality.proofs.request_objects.parameters_equality.Goals as goal
+use Rattle.kmip_equality.proofs.values.parameters_equality.Goals as goal
 
 abbrev cryptographic_parameters_fields : CryptographicParameters → Option BlockCipherMode
     × (Option PaddingMethod × (Option HashingAlgorithm ×

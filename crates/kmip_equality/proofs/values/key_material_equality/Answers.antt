@@ -5,7 +5,7 @@ use Rattle.std.proofs.lemmas.Slice.Eq.{bytes_eq-Decides}
 use Rattle.kmip_types.specs.TheKeyMaterial.{KeyMaterial}
 use Rattle.kmip_types.specs.TheKeyMaterial.TheVariants as materials
 use Rattle.kmip_equality.proofs.Exact.{exact, one_case}
-use Rattle.kmip_equality.proofs.request_objects.key_material_equality.Goals as goal
+use Rattle.kmip_equality.proofs.values.key_material_equality.Goals as goal
 
 -- which variant
 abbrev place : KeyMaterial → ℕ
