@@ -1,4 +1,4 @@
-use Rattle.std.proofs.Common.{Bool, List, Option, refl, ℕ, ◌≡◌}
+use Rattle.std.proofs.Common.{Bool, List, None, Option, Some, refl, ℕ, ◌≡◌}
 use Rattle.std.proofs.lemmas.Slice.Eq.{bytes_eq-Decides}
 use Rattle.kmip_enums.specs.declared.object_type.ObjectType.{ObjectType}
 use Rattle.kmip_enums.specs.declared.operation.Operation.{Operation}
