@@ -1,6 +1,6 @@
 //! Laws that `==` says exactly whether two values are equal: of the payloads of requests and of
-//! responses, of what they are made of, and of a client's errors. Each is the contract of a function
-//! that does nothing, called where the law is needed.
+//! responses, of what they are made of, and of a client's errors. Each is the contract of a
+//! function that does nothing, called where the law is needed.
 #![tactic(auto)]
 
 mod errors;

@@ -11,9 +11,19 @@ use Rattle.kmip_equality.proofs.response_objects.key_block_equality.Goals as goa
 
 abbrev key_block_fields : KeyBlock → KeyFormatType × (Option KeyCompressionType × (KeyValue
     × (Option CryptographicAlgorithm × (Option ℤ × Option KeyWrappingData))))
-key_block_fields x =
-    (x.key_format_type, (x.key_compression_type, (x.key_value, (x.cryptographic_algorithm,
-    (x.cryptographic_length, x.key_wrapping_data)))))
+key_block_fields x = (
+  x.key_format_type,
+  (
+    x.key_compression_type,
+    (
+      x.key_value,
+      (
+        x.cryptographic_algorithm,
+        (x.cryptographic_length, x.key_wrapping_data),
+      ),
+    ),
+  ),
+)
 
 abbrev key_block_whole : KeyFormatType × (Option KeyCompressionType × (KeyValue
     × (Option CryptographicAlgorithm × (Option ℤ × Option KeyWrappingData)))) → KeyBlock

@@ -10,9 +10,16 @@ use Rattle.kmip_equality.proofs.response_objects.wrapping_equality.Goals as goal
 abbrev key_wrapping_data_fields : KeyWrappingData → WrappingMethod
     × (Option EncryptionKeyInformation × (Option MACOrSignatureKeyInformation × (Option (List ℕ)
     × Option (List ℕ))))
-key_wrapping_data_fields x =
-    (x.wrapping_method, (x.encryption_key_information, (x.mac_or_signature_key_information,
-    (x.mac_or_signature, x.iv_or_counter_or_nonce))))
+key_wrapping_data_fields x = (
+  x.wrapping_method,
+  (
+    x.encryption_key_information,
+    (
+      x.mac_or_signature_key_information,
+      (x.mac_or_signature, x.iv_or_counter_or_nonce),
+    ),
+  ),
+)
 
 abbrev key_wrapping_data_whole : WrappingMethod × (Option EncryptionKeyInformation
     × (Option MACOrSignatureKeyInformation × (Option (List ℕ) × Option (List ℕ)))) → KeyWrappingData
