@@ -49,6 +49,20 @@ HIDDEN void kmip_wire_close(kmip_wire *wire);
 /* Writes {"error":..,"text":..}, in which the text is cut to the room. */
 HIDDEN void kmip_error_line(char *into, size_t room, const char *kind, const char *text);
 
+/* Writes the first character of a text as a string of JSON has it, and says how many bytes of the
+   text that was. A byte that is not UTF-8 becomes a question mark. */
+HIDDEN size_t kmip_write_character(const char *text, char into[8]);
+
+/* Writes a value of the answer to an operation, whose line is given, to room that is made for it,
+   and says how many bytes it has, and that room has one more; -1: there is no such value, or memory
+   ran out. The path is one of kmip_text. */
+HIDDEN int64_t kmip_item_value(const char *line, const char *path, bool hex, kmip_room *into);
+
+/* Writes the payload of a request to register a certificate; or says what is wrong with it. Without
+   bytes, memory ran out. `name` and `usage` may be null. */
+HIDDEN const char *kmip_write_certificate(kmip_room *into, const uint8_t *certificate,
+                                          size_t length, const char *name, const char *usage);
+
 /* Whether a text is UTF-8. */
 HIDDEN bool kmip_is_utf8(const char *text);
 

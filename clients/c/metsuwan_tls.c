@@ -246,7 +246,7 @@ int kmip_operation(kmip_client *client, const char *name, const char *version,
     if (!client) return KMIP_LOST;
     int status = begin(client);
     if (status != KMIP_ANSWERED) return status;
-    /* No words are a call that has no value at any path. */
+    /* No words: values are those of the line. */
     if (!kmip_room_has(&client->call, 1)) return out_of_memory(client);
     client->call.bytes[0] = 0;
     client->name = name;
@@ -254,6 +254,23 @@ int kmip_operation(kmip_client *client, const char *name, const char *version,
     client->payload = payload;
     status = call_operation(client);
     client->name = client->version = client->payload = NULL;
+    return status;
+}
+
+int kmip_register_certificate(kmip_client *client, const void *certificate, size_t length,
+                              const char *name, const char *usage) {
+    if (!client) return KMIP_LOST;
+    int status = begin(client);
+    if (status != KMIP_ANSWERED) return status;
+    kmip_room payload = {NULL, 0};
+    const char *wrong = kmip_write_certificate(&payload, certificate, length, name, usage);
+    if (wrong)
+        status = fails_as(client, KMIP_CALL_GRAMMAR, "GrammarError", wrong);
+    else if (!payload.bytes)
+        status = out_of_memory(client);
+    else
+        status = kmip_operation(client, "Register", "1.0", (const char *)payload.bytes);
+    kmip_room_free(&payload);
     return status;
 }
 
@@ -282,11 +299,21 @@ const char *kmip_line(const kmip_client *client) {
     return client && client->line.bytes ? (const char *)client->line.bytes : "";
 }
 
+/* The same of the answer to an operation, which is looked up in its line. */
+static bool take_item(kmip_client *client, const char *path, bool hex, size_t *length) {
+    int64_t found = kmip_item_value(kmip_line(client), path, hex, &client->value);
+    if (found < 0) return false;
+    client->value.bytes[found] = 0;
+    *length = (size_t)found;
+    return true;
+}
+
 /* Writes the value at a path of the last answer to client->value, with a byte 0 after it. */
 static bool take(kmip_client *client, const char *path, bool hex, size_t *length) {
     if (!client || client->status != KMIP_ANSWERED) return false;
     if (!kmip_room_has(&client->value, 4096)) return false;
     const char *call = (const char *)client->call.bytes;
+    if (!*call) return take_item(client, path, hex, length);
     for (;;) {
         int64_t found = kmip_value(client->call.bytes, strlen(call), client->response.bytes,
                                    client->response_len, (const uint8_t *)path, strlen(path), hex,

@@ -94,9 +94,23 @@ int kmip_call_words(kmip_client *client, const char *call, const char *const *wo
 
        kmip_operation(client, "Encrypt", "1.2", "{\"tag\":\"RequestPayload\",\"value\":[..]}")
 
-   The answer is the line, {"answer":TREE}; kmip_text, kmip_bytes and kmip_pem have none of its
-   values. Whether it is about the object that was asked about is the caller's to look at. */
+   The answer is the line, {"answer":ITEM}, with the response's payload. kmip_text and kmip_bytes
+   have its values, and kmip_pem has none. Whether it is about the object that was asked about is
+   the caller's to look at. */
 int kmip_operation(kmip_client *client, const char *name, const char *version, const char *payload);
+
+/* Has the server keep an X.509 certificate, and returns the status, as kmip_operation does:
+
+       kmip_register_certificate(client, pem, length, "root", "Verify,CertificateSign")
+
+   certificate, length  DER, or a PEM that holds the certificate and no other
+   name                 the object's name, as UTF-8; null: none is told
+   usage                KMIP's names of what it is for, with a comma between two; null: none are told
+
+   Its identifier is then kmip_text(client, "UniqueIdentifier", NULL). KMIP_CALL_GRAMMAR: it is
+   neither DER nor PEM, or the name or the usage is none; nothing was sent. */
+int kmip_register_certificate(kmip_client *client, const void *certificate, size_t length,
+                              const char *name, const char *usage);
 
 /* The line of JSON of the last call, without its line feed: {"answer":..} after KMIP_ANSWERED, and
    {"error":..,"text":..} after KMIP_REFUSED, KMIP_CALL_GRAMMAR and KMIP_LOST; "" where memory ran
@@ -106,6 +120,12 @@ const char *kmip_line(const kmip_client *client);
 /* A value of the last answer, at a path of kmip_value: as the bytes that a string of hex digits
    stands for, or as text. A byte 0 follows it, which `length` does not count. A null pointer where
    the last call was not answered, its answer has no such value, or memory ran out.
+
+   After kmip_operation the path is one of tags below the response's payload, with a dot between two,
+   as KeyBlock.KeyFormatType. A number after a tag counts, from 0, among the items with this tag:
+   Attribute.1.AttributeName. kmip_bytes has Byte Strings and Big Integers; kmip_text a text without
+   its quotes and escapes, an Enumeration by its name, or as 0x00000001, and numbers, dates and
+   booleans as the line writes them.
 
    `length` may be null. Where it is, kmip_text is null for a text that has a byte 0 within, which C
    would take for its end.

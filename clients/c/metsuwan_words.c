@@ -190,9 +190,7 @@ bool kmip_is_utf8(const char *text) {
     return true;
 }
 
-/* Writes the first character of a text as a string of JSON has it, and says how many bytes of the
-   text that was. A byte that is not UTF-8 becomes a question mark. */
-static size_t write_character(const char *text, char into[8]) {
+size_t kmip_write_character(const char *text, char into[8]) {
     size_t count = character((const unsigned char *)text);
     unsigned char byte = (unsigned char)*text;
     if (count == 0)
@@ -216,7 +214,7 @@ void kmip_error_line(char *into, size_t room, const char *kind, const char *text
     size_t done = (size_t)front;
     while (*text) {
         char shown[8];
-        text += write_character(text, shown);
+        text += kmip_write_character(text, shown);
         size_t width = strlen(shown);
         if (done + width + sizeof end > room) break;
         memcpy(into + done, shown, width);

@@ -61,6 +61,7 @@ objects() { # FOLDER
     openssl rsa -in "$1/rsa.pem" -traditional -outform DER -out "$1/PrivateKey.PKCS1.der"
     openssl pkcs8 -topk8 -nocrypt -in "$1/rsa.pem" -outform DER -out "$1/PrivateKey.PKCS8.der"
     openssl ec -in "$1/ec.pem" -outform DER -out "$1/PrivateKey.ECPrivateKey.der"
+    openssl pkcs8 -topk8 -nocrypt -in "$1/ec.pem" -outform DER -out "$1/EC.PKCS8.der"
     openssl x509 -in client.pem -outform DER -out "$1/Certificate.X509.der"
     printf 'raw bytes of key' >"$1/SymmetricKey.Raw.der"
 }

@@ -22,6 +22,7 @@ PLAIN = {}              # those that get the connection before there is TLS
 # The server's certificate is that of certs.sh with this name; what it answers is good.
 CERTIFICATES = ('expired_server', 'wrong_host', 'address', 'other/server')
 QUERY, CREATE_KEY_PAIR, GET, ACTIVATE, SIGN = 0x18, 0x02, 0x0A, 0x12, 0x21
+ADD_ATTRIBUTE, MODIFY_ATTRIBUTE, DELETE_ATTRIBUTE, RNG_RETRIEVE = 0x0D, 0x0E, 0x0F, 0x25
 SUCCESS, FAILED, PENDING, UNDONE = 0, 1, 2, 3
 
 
@@ -131,7 +132,15 @@ def answer_of(request):
         return GOOD_QUERY
     if operation == CREATE_KEY_PAIR:
         return response(operation, KEYS)
+    if operation == RNG_RETRIEVE:
+        count = int.from_bytes(value_of(request, '4200C4', 2), 'big')
+        return response(operation, [octets(0x4200C2, bytes(range(count)))])
     asked = value_of(request, '420094', 7) or b'1'
+    if operation in (ADD_ATTRIBUTE, MODIFY_ATTRIBUTE):
+        return response(operation, [identifier(asked), structure(0x420008, value_of(request, '420008', 1))])
+    if operation == DELETE_ATTRIBUTE:
+        gone = structure(0x420008, text(0x42000A, value_of(request, '42000A', 7)), text(0x42000B, 'gone'))
+        return response(operation, [identifier(asked), gone])
     if operation == SIGN:
         return response(operation, [identifier(asked), octets(0x4200C3, b'signature by ' + asked)])
     return response(operation, [identifier(asked)])
@@ -141,7 +150,7 @@ def answer_of(request):
 
 @fake
 def good(wire, request):
-    """answers query, create-rsa, sign (with the words `signature by` and the identifier) and what answers an identifier"""
+    """answers query, create-rsa, rng, attribute-.., sign (with `signature by` and the identifier), and what gives an identifier"""
     wire.sendall(answer_of(request))
 
 

@@ -163,7 +163,11 @@ static void operation(kmip_client *client) {
                "{\"answer\":{\"tag\":\"ResponsePayload\",\"value\":[{\"tag\":"
                "\"UniqueIdentifier\",\"type\":\"TextString\",\"value\":\"k1\"}]}}",
                "its answer is the payload of the response");
-    check(kmip_text(client, "tag", NULL) == NULL, "which has no value at a path");
+    check_text(kmip_text(client, "UniqueIdentifier", NULL), "k1",
+               "whose values have paths of tags");
+    check(kmip_bytes(client, "UniqueIdentifier", NULL) == NULL, "a text is no bytes");
+    check(kmip_text(client, "tag", NULL) == NULL, "a value that is missing is none");
+    check(kmip_pem(client) == NULL, "it is no key of a get");
     check(kmip_operation(client, "encrypt", "1.2", encrypt) == KMIP_CALL_GRAMMAR,
           "another name is no call");
     check(kmip_operation(client, "Encrypt", "1.2", "{}") == KMIP_CALL_GRAMMAR,
@@ -172,9 +176,26 @@ static void operation(kmip_client *client) {
                "{\"error\":\"GrammarError\",\"text\":\"the name, the version and the payload are "
                "no call of an operation\"}",
                "the reason is said");
+    check(kmip_text(client, "UniqueIdentifier", NULL) == NULL, "after it there is no value");
     check(kmip_call(client, "query", NULL) == KMIP_ANSWERED, "the next call is one of words");
     check(kmip_text(client, "vendor_identification", NULL) != NULL, "and has its values");
     check(kmip_operation(NULL, "Encrypt", "1.2", encrypt) == KMIP_LOST, "a null client is lost");
+}
+
+/* Certificates that are registered, and what is none. */
+static void certificate(kmip_client *client) {
+    check(kmip_register_certificate(client, "\x30\x00", 2, "root", "Verify") == KMIP_ANSWERED,
+          "a certificate is registered");
+    check_text(kmip_text(client, "UniqueIdentifier", NULL), "1", "and its identifier is known");
+    check(kmip_register_certificate(client, "x", 1, NULL, NULL) == KMIP_CALL_GRAMMAR,
+          "what is no certificate is refused");
+    check_text(kmip_line(client),
+               "{\"error\":\"GrammarError\",\"text\":\"the certificate is neither DER nor PEM\"}",
+               "and why");
+    check(kmip_text(client, "UniqueIdentifier", NULL) == NULL, "after it there is no value");
+    check(kmip_call(client, "query", NULL) == KMIP_ANSWERED, "the connection is good");
+    check(kmip_register_certificate(NULL, "\x30\x00", 2, NULL, NULL) == KMIP_LOST,
+          "a null client is lost");
 }
 
 int main(int argc, char **argv) {
@@ -192,6 +213,7 @@ int main(int argc, char **argv) {
     if (strcmp(mode, "ended") == 0) ended(client);
     if (strcmp(mode, "values") == 0) values(client);
     if (strcmp(mode, "operation") == 0) operation(client);
+    if (strcmp(mode, "certificate") == 0) certificate(client);
     if (strcmp(mode, "refused") == 0) refused(client);
     kmip_close(client);
     return 0;

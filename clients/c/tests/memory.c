@@ -20,6 +20,13 @@ void *__wrap_calloc(size_t count, size_t size) {
     return ++asked == refused ? NULL : __real_calloc(count, size);
 }
 
+/* A certificate as PEM is registered, which the server answers with another operation. */
+static bool registers(kmip_client *client) {
+    static const char pem[] = "-----BEGIN CERTIFICATE-----\nMAA=\n-----END CERTIFICATE-----\n";
+    int status = kmip_register_certificate(client, pem, sizeof pem - 1, "root", "Verify");
+    return status == KMIP_NO_MEMORY || status == KMIP_REFUSED;
+}
+
 /* One session, of which the request of number `refused` is refused: whether all of it is as it has
    to be. */
 static bool session(const kmip_settings *settings) {
@@ -32,6 +39,7 @@ static bool session(const kmip_settings *settings) {
         /* With no memory for its copy, no credential would have been sent. */
         const char *vendor = kmip_text(client, "vendor_identification", NULL);
         right = vendor ? strcmp(vendor, "alice:secret") == 0 : refused != 0;
+        right = registers(client) && right;
     } else {
         right = right && *kmip_line(client) == 0 && kmip_call(client, "query", NULL) == KMIP_LOST;
     }

@@ -11,10 +11,11 @@ from .client import Client
 from .errors import (ConnectError, ConnectionLost, DeserializeError, GrammarError, InternalError,
                      ItemNotFound, KmipError, MissingValue, OtherObject, Refused, RequestWriteError,
                      ResponseReadError, SerializeError, ServerError)
+from .items import Item
 from .objects import KeyPair, ManagedObject, Signed
 
 __all__ = [
     'Client', 'ConnectError', 'ConnectionLost', 'DeserializeError', 'GrammarError', 'InternalError',
-    'ItemNotFound', 'KeyPair', 'KmipError', 'ManagedObject', 'MissingValue', 'OtherObject',
+    'Item', 'ItemNotFound', 'KeyPair', 'KmipError', 'ManagedObject', 'MissingValue', 'OtherObject',
     'Refused', 'RequestWriteError', 'ResponseReadError', 'SerializeError', 'ServerError', 'Signed',
 ]

@@ -130,6 +130,27 @@ OPTIONS: Dict[str, Dict[str, Kind]] = {
 }
 
 
+# KMIP's names of what an object is for, each with its bit (1.0, 9.1.3.3.1).
+USES = {name: 1 << at for at, name in enumerate((
+    'Sign', 'Verify', 'Encrypt', 'Decrypt', 'WrapKey', 'UnwrapKey', 'Export', 'MacGenerate',
+    'MacVerify', 'DeriveKey', 'ContentCommitmentNonRepudiation', 'KeyAgreement', 'CertificateSign',
+    'CrlSign', 'GenerateCryptogram', 'ValidateCryptogram', 'TranslateEncrypt', 'TranslateDecrypt',
+    'TranslateWrap', 'TranslateUnwrap'))}
+
+
+def uses_of(names: Union[str, Sequence[str]]) -> int:
+    """The bits of uses, which are given as the option ``usage`` has them.
+
+    :raises GrammarError: a name is none of a use
+    """
+    bits = 0
+    for name in names.split(',') if isinstance(names, str) else names:
+        if name not in USES:
+            raise GrammarError('usage is not names of KMIP: there is no use %s' % name)
+        bits |= USES[name]
+    return bits
+
+
 def _kinds_of(name: str, count: int) -> Tuple[Kind, ...]:
     """The kinds of a call's words, which are so many."""
     if name not in CALLS:

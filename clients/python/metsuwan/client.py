@@ -5,16 +5,19 @@ import json
 import threading
 from typing import Any, Dict, List, Mapping, Optional, Sequence, Tuple, Union
 
-from .calls import Bytes, Option, Word, line_of
+from .calls import Bytes, Option, Word, line_of, uses_of
 from .errors import (ConnectError, ConnectionLost, DeserializeError, GrammarError, MissingValue,
                      RequestWriteError, ResponseReadError, SerializeError, error_of)
+from .items import Item, attribute
 from .library import (ANSWERED, CALL_GRAMMAR, GRAMMAR, LOST, NO_FORM, NO_MEMORY, TOO_LONG,
                       Call, Credential, Library, Operation)
 from .objects import KeyPair, ManagedObject, Signed, bytes_at, text_at, value_at
+from .pem import certificate_der
 from .wire import Passphrase, Port, Wire, context_of
 
 HEAD = 8
 Names = Union[str, Sequence[str], None]
+Payload = Union[str, Mapping[str, Any], Sequence[Mapping[str, Any]]]
 
 
 def _credential(user: Optional[str], password: Optional[str]) -> Credential:
@@ -96,25 +99,27 @@ class Client:
         return self._answer_to(line_of(name, words, options),
                                '%s and its words are not of the grammar' % name)
 
-    def operation(self, name: str, payload: Union[str, Mapping[str, Any]], *,
-                  version: str = '1.2') -> Dict[str, Any]:
+    def operation(self, name: str, payload: Payload, *, version: str = '1.2') -> Item:
         """Makes a call of any operation of KMIP 1.0 to 1.2, by its name, as ``Encrypt``.
 
-        ``payload`` is the request's payload in the JSON of KMIP's Additional Message Encodings, as
-        a text or as a dict: ``{'tag': 'RequestPayload', 'value': [{'tag': 'Data', 'type':
-        'ByteString', 'value': '00FF'}]}``. What is returned is the response's payload as such a
-        dict. Whether it is about the object that was asked about is the caller's to look at.
+        ``payload`` has the items of the request's payload, as ``[Item('UniqueIdentifier', '4'),
+        Item('Data', b'hello')]``; or it is the whole payload, tagged ``RequestPayload``, as an item
+        or as a text in the JSON of KMIP's Additional Message Encodings. What is returned is the
+        response's payload. Whether it is about the object that was asked about is the caller's to
+        look at.
 
         :raises KmipError: by kind, as ``ItemNotFound``, with the server's message
         :raises GrammarError: the operation or the version has another name, or the payload is none
         """
+        if not isinstance(payload, (str, Mapping)):
+            payload = Item('RequestPayload', list(payload))
         text = payload if isinstance(payload, str) else json.dumps(payload)
         wrong = '%s, %s and the payload are no call of an operation' % (name, version)
         try:
             call = Operation(name.encode(), version.encode(), text.encode())
         except UnicodeEncodeError:
             raise GrammarError(wrong) from None
-        return self._answer_to(call, wrong)
+        return Item.of_json(self._answer_to(call, wrong))
 
     def _answer_to(self, call: Call, wrong: str) -> Dict[str, Any]:
         """The answer to a call; ``wrong`` is what is said of one that the library does not take."""
@@ -159,6 +164,28 @@ class Client:
         answer = self.call('register', kind, material, format=format, algorithm=algorithm,
                            length=length, usage=usage, name=name)
         return text_at(answer, 'unique_identifier')
+
+    def register_certificate(self, certificate: Union[str, Bytes], *, usage: Names = None,
+                             name: Optional[str] = None) -> str:
+        """Has the server keep an X.509 certificate, and returns its identifier. It is given as DER
+        or as a PEM that holds it and no other. Where ``usage`` or ``name`` is not given, the server
+        is told nothing of it.
+
+        :raises GrammarError: it is neither DER nor PEM, or ``usage`` is no names of KMIP
+        """
+        parts = [Item('CertificateType', 'X509', 'Enumeration'),
+                 Item('CertificateValue', certificate_der(certificate))]
+        attributes = []
+        if usage is not None:
+            attributes.append(attribute('Cryptographic Usage Mask', uses_of(usage)))
+        if name is not None:
+            attributes.append(attribute('Name', [
+                Item('NameValue', name),
+                Item('NameType', 'UninterpretedTextString', 'Enumeration')]))
+        answer = self.operation('Register', [
+            Item('ObjectType', 'Certificate', 'Enumeration'),
+            Item('TemplateAttribute', attributes), Item('Certificate', parts)], version='1.0')
+        return answer.text_at('UniqueIdentifier')
 
     def rng_retrieve(self, count: int) -> bytes:
         """So many random bytes."""

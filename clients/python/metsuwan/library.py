@@ -37,7 +37,10 @@ def _parts(call: Call) -> List[bytes]:
 
 
 def _with_lengths(parts: List[bytes]) -> List[Union[bytes, int]]:
-    return [it for part in parts for it in (part, len(part))]
+    made: List[Union[bytes, int]] = []
+    for part in parts:
+        made += part, len(part)
+    return made
 
 
 class Library:

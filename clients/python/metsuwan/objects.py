@@ -1,21 +1,11 @@
 """What answers hold."""
 from __future__ import annotations
 
-import base64
 from dataclasses import dataclass, field
 from typing import Any, Dict, NamedTuple
 
+from . import pem
 from .errors import MissingValue
-
-# What objects are called in PEM (RFC 7468, and OpenSSL's own for PKCS#1 and SEC 1).
-PEM_LABELS = {
-    ('PublicKey', 'PKCS1'): 'RSA PUBLIC KEY',
-    ('PublicKey', 'X509'): 'PUBLIC KEY',
-    ('PrivateKey', 'PKCS1'): 'RSA PRIVATE KEY',
-    ('PrivateKey', 'PKCS8'): 'PRIVATE KEY',
-    ('PrivateKey', 'ECPrivateKey'): 'EC PRIVATE KEY',
-    ('Certificate', 'X509'): 'CERTIFICATE',
-}
 
 
 def value_at(answer: Any, path: str) -> Any:
@@ -119,10 +109,7 @@ class ManagedObject:
         """
         certificate = self.object_type == 'Certificate'
         format_name = self.certificate_type if certificate else self.key_format_type
-        label = PEM_LABELS.get((self.object_type, format_name))
+        label = pem.label_of(self.object_type, format_name)
         if label is None:
             raise MissingValue('%s in %s has no PEM form' % (self.object_type, format_name))
-        der = self.certificate_value if certificate else self.key_material
-        text = base64.b64encode(der).decode()
-        lines = [text[at:at + 64] for at in range(0, len(text), 64)]
-        return '\n'.join(['-----BEGIN %s-----' % label, *lines, '-----END %s-----' % label, ''])
+        return pem.write(label, self.certificate_value if certificate else self.key_material)

@@ -1,8 +1,9 @@
 """Calls of any operation, by its name and a payload in JSON."""
 import unittest
-from typing import Any, Dict, List
+from typing import Any, Dict, List, Tuple
 
-from metsuwan import GrammarError, SerializeError
+from metsuwan import GrammarError, Item, SerializeError
+from metsuwan.client import Payload
 
 from .servers import client_of
 
@@ -25,12 +26,22 @@ class Operations(unittest.TestCase):
                 {'tag': 'VendorIdentification', 'type': 'TextString', 'value': 'fake'},
                 tag='ResponsePayload'))
 
+    def test_a_payload_may_be_its_items(self) -> None:
+        with client_of('good') as kmip:
+            answer = kmip.operation('Encrypt', [Item('UniqueIdentifier', 'k\u00e9')])
+            self.assertEqual(answer, payload(ITEM, tag='ResponsePayload'))
+            self.assertEqual(answer.text_at('UniqueIdentifier'), 'k\u00e9')
+            self.assertEqual(kmip.operation('Encrypt', [ITEM]), answer)
+            self.assertEqual(kmip.operation('Encrypt', ()).text_at('UniqueIdentifier'), '1')
+
     def test_what_is_no_call_is_an_error_and_nothing_is_sent(self) -> None:
         with client_of('good') as kmip:
-            for name, version, given in (
-                    ('encrypt', '1.2', payload()), ('Encrypt', '1.3', payload()),
-                    ('Encrypt', '1.2', payload(tag='ResponsePayload')), ('Encrypt', '1.2', ''),
-                    ('Encrypt', '1.2', payload({'tag': 'Data'})), ('\ud800', '1.2', payload())):
+            rows: List[Tuple[str, str, Payload]] = [
+                ('encrypt', '1.2', payload()), ('Encrypt', '1.3', payload()),
+                ('Encrypt', '1.2', payload(tag='ResponsePayload')), ('Encrypt', '1.2', ''),
+                ('Encrypt', '1.2', payload({'tag': 'Data'})), ('\ud800', '1.2', payload()),
+                ('Encrypt', '1.2', [Item('Count', 1 << 31)]), ('Encrypt', '1.2', [{}])]
+            for name, version, given in rows:
                 with self.subTest(name=name, version=version), self.assertRaises(GrammarError):
                     kmip.operation(name, given, version=version)
             with self.assertRaises(SerializeError):

@@ -8,7 +8,7 @@ from metsuwan.calls import (BYTES, CALLS, IDENTIFIER, NAME, NUMBER, TEXT, Option
 from metsuwan.library import GRAMMAR, Library
 
 SAMPLES: Dict[Any, Word] = {IDENTIFIER: '1', TEXT: 'a name', BYTES: b'\x01', NUMBER: 16,
-                           NAME: 'AES'}
+                            NAME: 'AES'}
 # What a call needs beside its words, and first words that it takes alone.
 NEEDED: Dict[str, Dict[str, Option]] = {
     'register': {'format': 'Raw', 'algorithm': 'AES', 'length': 8},
@@ -56,16 +56,19 @@ class Written(unittest.TestCase):
 
     def test_options_are_words_of_their_own(self) -> None:
         rows: List[Tuple[str, List[Word], Dict[str, Option], bytes]] = [
-            ('sign', ['k', b''], {'hash': 'SHA384', 'padding': 'PSS'}, b'sign k - hash=SHA384 padding=PSS'),
+            ('sign', ['k', b''], {'hash': 'SHA384', 'padding': 'PSS'},
+             b'sign k - hash=SHA384 padding=PSS'),
             ('sign', ['k', b''], {'hash': None, 'prehashed': True}, b'sign k - prehashed'),
             ('sign', ['k', b''], {'prehashed': False}, b'sign k -'),
             ('revoke', ['k'], {'reason': 'KeyCompromise', 'message': 'a b, c', 'since': 5},
              b'revoke k reason=KeyCompromise message=a%20b%2C%20c since=5'),
             ('locate', [], {'name': 'a=b', 'state': 'Active'}, b'locate name=a%3Db state=Active'),
-            ('create', ['AES', 256, 'n'], {'usage': 'Encrypt,Decrypt'}, b'create AES 256 n usage=Encrypt,Decrypt'),
+            ('create', ['AES', 256, 'n'], {'usage': 'Encrypt,Decrypt'},
+             b'create AES 256 n usage=Encrypt,Decrypt'),
             ('create-rsa', [2048, 'a', 'b'], {'private_usage': ['Sign', 'Decrypt']},
              b'create-rsa 2048 a b private-usage=Sign,Decrypt'),
-            ('attribute-modify', ['k'], {'name': '', 'index': 0}, b'attribute-modify k name=- index=0'),
+            ('attribute-modify', ['k'], {'name': '', 'index': 0},
+             b'attribute-modify k name=- index=0'),
         ]
         for name, words, options, line in rows:
             with self.subTest(line):
@@ -75,7 +78,8 @@ class Written(unittest.TestCase):
         rows: List[Tuple[str, List[Word], Dict[str, Option]]] = [
             ('sign', ['k', b''], {'reason': 'x'}), ('query', [], {'hash': 'SHA256'}),
             ('sign', ['k', b''], {'hash': 'SHA 256'}), ('sign', ['k', b''], {'hash': ''}),
-            ('revoke', ['k'], {'since': -1}), ('create', ['AES', 1, 'n'], {'usage': 'Sign, Verify'}),
+            ('revoke', ['k'], {'since': -1}),
+            ('create', ['AES', 1, 'n'], {'usage': 'Sign, Verify'}),
         ]
         for name, words, options in rows:
             with self.subTest((name, options)), self.assertRaises(GrammarError):

@@ -1,12 +1,9 @@
 //! A client over a stream.
 use crate::answer::Answer;
 use crate::error::{Error, Result};
-use crate::json::Json;
+use crate::item::Item;
 use crate::library::{self, BadHead, NoRequest, Operation, Status};
-use crate::payload::{
-    Attribute, GetResponsePayload, ModifyAttributeResponsePayload, ProtocolVersion,
-    QueryResponsePayload, RNGRetrieveResponsePayload, SignResponsePayload,
-};
+use crate::options::Given;
 use crate::word::{self, Word};
 use std::fmt::{self, Debug, Formatter};
 use std::io::{self, ErrorKind, Read, Write};
@@ -100,7 +97,7 @@ pub struct Client<T> {
     before_call: BeforeCall<T>,
 }
 
-/// Options of a call: each with its name and its value, which for `prehashed` is empty.
+/// Options of a call by their names, each with its value, which for `prehashed` is empty.
 pub type Options<'a> = &'a [(&'a str, &'a str)];
 
 impl<T> Debug for Client<T> {
@@ -113,144 +110,28 @@ impl<T> Debug for Client<T> {
 }
 
 impl<T: Read + Write> Client<T> {
-    /// What can the server do?
-    pub fn query(&self) -> Result<QueryResponsePayload> {
-        QueryResponsePayload::of(self.call("query", &[])?)
-    }
-
-    /// Makes an RSA pair of so many bits, under these names, and gives the identifiers of the
-    /// private and the public key.
-    pub fn create_rsa_key_pair(
-        &self,
-        key_length: i32,
-        private_key_name: String,
-        public_key_name: String,
-    ) -> Result<(String, String)> {
-        let names = [Word::Text(&private_key_name), Word::Text(&public_key_name)];
-        let answer = self.call("create-rsa", &[Word::Number(key_length), names[0], names[1]])?;
-        Ok((answer.text_at("private_key")?.into(), answer.text_at("public_key")?.into()))
-    }
-
-    /// Makes an AES key of so many bits to encrypt and decrypt with, under this name, and gives its
-    /// identifier.
-    pub fn create_aes(&self, key_length: i32, name: &str) -> Result<String> {
-        let answer = self.call("create-aes", &[Word::Number(key_length), Word::Text(name)])?;
-        Ok(answer.text_at("unique_identifier")?.into())
-    }
-
-    /// So many random bytes.
-    pub fn rng_retrieve(&self, num_bytes: i32) -> Result<RNGRetrieveResponsePayload> {
-        let answer = self.call("rng", &[Word::Number(num_bytes)])?;
-        Ok(RNGRetrieveResponsePayload { data: answer.bytes_at("random_bytes")? })
-    }
-
-    /// Signs these bytes with this private key.
-    pub fn sign(&self, private_key_id: &str, in_bytes: &[u8]) -> Result<SignResponsePayload> {
-        let answer = self.call("sign", &[Word::Text(private_key_id), Word::Bytes(in_bytes)])?;
-        Ok(SignResponsePayload {
-            unique_identifier: answer.text_at("unique_identifier")?.into(),
-            signature_data: answer.bytes_at("signature_data")?,
-        })
-    }
-
-    /// The same with options, as `&[("hash", "SHA384"), ("padding", "PSS")]`.
-    pub fn sign_with(
-        &self,
-        private_key_id: &str,
-        in_bytes: &[u8],
-        options: Options<'_>,
-    ) -> Result<SignResponsePayload> {
-        let words = [Word::Text(private_key_id), Word::Bytes(in_bytes)];
-        let answer = self.call_with("sign", &words, options)?;
-        Ok(SignResponsePayload {
-            unique_identifier: answer.text_at("unique_identifier")?.into(),
-            signature_data: answer.bytes_at("signature_data")?,
-        })
-    }
-
-    /// Makes a key active.
-    pub fn activate_key(&self, private_key_id: &str) -> Result<()> {
-        self.call("activate", &[Word::Text(private_key_id)]).map(drop)
-    }
-
-    /// Takes a key out of use.
-    pub fn revoke_key(&self, private_key_id: &str) -> Result<()> {
-        self.call("revoke", &[Word::Text(private_key_id)]).map(drop)
-    }
-
-    /// The same with options, as `&[("reason", "KeyCompromise"), ("message", "stolen")]`.
-    pub fn revoke_key_with(&self, private_key_id: &str, options: Options<'_>) -> Result<()> {
-        self.call_with("revoke", &[Word::Text(private_key_id)], options).map(drop)
-    }
-
-    /// Destroys a key that is not active.
-    pub fn destroy_key(&self, key_id: &str) -> Result<()> {
-        self.call("destroy", &[Word::Text(key_id)]).map(drop)
-    }
-
-    /// Gives a key another name.
-    pub fn rename_key(
-        &self,
-        key_id: &str,
-        new_name: String,
-    ) -> Result<ModifyAttributeResponsePayload> {
-        let answer = self.call("rename", &[Word::Text(key_id), Word::Text(&new_name)])?;
-        Ok(ModifyAttributeResponsePayload {
-            unique_identifier: answer.text_at("unique_identifier")?.into(),
-            attribute: Attribute::at(&answer, "attribute")?,
-        })
-    }
-
-    /// An object itself.
-    pub fn get_key(&self, key_id: &str) -> Result<GetResponsePayload> {
-        GetResponsePayload::of(self.call("get", &[Word::Text(key_id)])?)
-    }
-
-    /// The same with options, as `&[("format", "PKCS8")]`.
-    pub fn get_key_with(&self, key_id: &str, options: Options<'_>) -> Result<GetResponsePayload> {
-        GetResponsePayload::of(self.call_with("get", &[Word::Text(key_id)], options)?)
-    }
-
-    /// The identifiers of the objects with this name; none, where there are no such objects.
-    pub fn locate(&self, name: &str) -> Result<Vec<String>> {
-        self.call("locate", &[Word::Text(name)])?.texts_at("unique_identifiers")
-    }
-
-    /// The identifiers of the objects with all of these attributes, as
-    /// `&[("name", "issuing"), ("state", "Active")]`.
-    pub fn locate_with(&self, attributes: Options<'_>) -> Result<Vec<String>> {
-        self.call_with("locate", &[], attributes)?.texts_at("unique_identifiers")
-    }
-
-    /// All attributes of an object.
-    pub fn attributes(&self, object_id: &str) -> Result<Vec<Attribute>> {
-        let answer = self.call("attributes", &[Word::Text(object_id)])?;
-        let count = answer.list_at("attributes")?.len();
-        (0..count).map(|at| Attribute::at(&answer, &format!("attributes.{at}"))).collect()
-    }
-
-    /// The versions of KMIP that the server speaks.
-    pub fn discover(&self) -> Result<Vec<ProtocolVersion>> {
-        let answer = self.call("discover", &[])?;
-        let none = || Error::missing("the answer has no number of a version");
-        let part = |it: &Json, name| it.member(name).and_then(Json::as_number).ok_or_else(none);
-        let version = |it: &Json| {
-            Ok(ProtocolVersion { major: part(it, "major")?, minor: part(it, "minor")? })
-        };
-        answer.list_at("supported_versions")?.iter().map(version).collect()
-    }
-
     /// Makes any call of the grammar: its name, and the words after it.
     pub fn call(&self, name: &str, words: &[Word<'_>]) -> Result<Answer> {
         self.call_line(&word::line(name, words)?)
     }
 
-    /// The same with options, which stand after the other words.
+    /// The same with options by their names, which stand after the other words.
     pub fn call_with(
         &self,
         name: &str,
         words: &[Word<'_>],
         options: Options<'_>,
+    ) -> Result<Answer> {
+        let options = options.iter().map(|(option, value)| Word::Option(option, value));
+        self.call(name, &words.iter().copied().chain(options).collect::<Vec<_>>())
+    }
+
+    /// The same with options by their types.
+    pub(crate) fn call_given(
+        &self,
+        name: &str,
+        words: &[Word<'_>],
+        options: &Given<'_>,
     ) -> Result<Answer> {
         let options = options.iter().map(|(option, value)| Word::Option(option, value));
         self.call(name, &words.iter().copied().chain(options).collect::<Vec<_>>())
@@ -262,10 +143,23 @@ impl<T: Read + Write> Client<T> {
     }
 
     /// Makes a call of any operation of KMIP 1.0 to 1.2 by its name, as `Encrypt`, with this version,
-    /// as `1.2`. The request's payload is given in the JSON of KMIP's Additional Message Encodings,
-    /// and the answer is the response's payload in the same JSON:
+    /// as `1.2`. The request's payload is a structure of these items, and what is given back is the
+    /// response's payload. Whether it is about the object that was asked about is the caller's to
+    /// look at.
+    ///
+    /// # Errors
+    /// `GrammarError`: the operation or the version has another name, or an item is none of KMIP's;
+    /// and those of every call.
+    pub fn do_operation(&self, name: &str, version: &str, items: Vec<Item>) -> Result<Item> {
+        let payload = Item::new("RequestPayload", items).to_json().to_string();
+        let answer = self.operation(name, version, &payload)?;
+        let none = || Error::missing("the answer is no item");
+        Item::of_json(answer.json()).ok_or_else(none)
+    }
+
+    /// The same with the request's payload in the JSON of KMIP's Additional Message Encodings; the
+    /// answer is the response's payload in the same JSON:
     /// `{"tag":"RequestPayload","value":[{"tag":"Data","type":"ByteString","value":"00FF"}]}`.
-    /// Whether it is about the object that was asked about is the caller's to look at.
     pub fn operation(&self, name: &str, version: &str, payload: &str) -> Result<Answer> {
         self.make(Asked::Operation(Operation { name, version, payload }))
     }

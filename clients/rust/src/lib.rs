@@ -23,10 +23,14 @@
 #![warn(missing_docs)]
 
 mod answer;
+mod calls;
 mod client;
 mod error;
+mod item;
 mod json;
 pub mod library;
+mod names;
+mod options;
 mod payload;
 mod pem;
 #[cfg(feature = "openssl")]
@@ -36,7 +40,15 @@ mod word;
 pub use answer::Answer;
 pub use client::{Client, ClientBuilder, Options, DEFAULT_LIMIT};
 pub use error::{Details, Error, Result};
+pub use item::{Item, Value};
 pub use json::Json;
+pub use names::{
+    CryptographicAlgorithm, CryptographicUsageMask, HashingAlgorithm, KeyFormatType, ObjectType,
+    PaddingMethod, RevocationReasonCode, State,
+};
+pub use options::{
+    AttributeValue, Create, CreateRsa, Get, KeyKind, NewKey, Register, Revoke, Sign,
+};
 pub use payload::{
     Attribute, GetResponsePayload, ModifyAttributeResponsePayload, ProtocolVersion,
     QueryResponsePayload, RNGRetrieveResponsePayload, SignResponsePayload,

@@ -1,4 +1,6 @@
 //! Keys and certificates as texts (RFC 7468).
+use crate::error::{Error, Result};
+use std::borrow::Cow;
 
 /// What an object of this type and format is called in PEM: the labels of RFC 7468, and OpenSSL's
 /// own for PKCS#1 and SEC 1.
@@ -28,15 +30,76 @@ pub(crate) fn write(label: &str, der: &[u8]) -> String {
     made
 }
 
+const DIGITS: &[u8; 64] = b"ABCDEFGHIJKLMNOPQRSTUVWXYZabcdefghijklmnopqrstuvwxyz0123456789+/";
+
 /// One to three bytes as four characters of base64.
 fn push_group(made: &mut String, group: &[u8]) {
-    const DIGITS: &[u8; 64] = b"ABCDEFGHIJKLMNOPQRSTUVWXYZabcdefghijklmnopqrstuvwxyz0123456789+/";
     let number = (0..3)
         .fold(0, |number: u32, at| number << 8 | u32::from(group.get(at).copied().unwrap_or(0)));
     for at in 0..4 {
         let digit = (number >> (18 - 6 * at) & 63) as usize;
         made.push(if at <= group.len() { char::from(DIGITS[digit]) } else { '=' });
     }
+}
+
+const BEGIN: &str = "-----BEGIN CERTIFICATE-----";
+const END: &str = "-----END CERTIFICATE-----";
+
+/// The DER of a certificate: the bytes themselves, or those of the one certificate in a text, with
+/// whatever else stands around it.
+pub(crate) fn certificate_der(given: &[u8]) -> Result<Cow<'_, [u8]>> {
+    let no = |why| Error::grammar(format!("the certificate {why}"));
+    if is_whole(given) {
+        return Ok(Cow::Borrowed(given));
+    }
+    let text = String::from_utf8_lossy(given);
+    let mut parts = text.split(BEGIN).skip(1);
+    let Some(part) = parts.next() else {
+        let is_der = given.first() == Some(&0x30);
+        let torn = "is not one whole structure of DER";
+        return Err(no(if is_der { torn } else { "is neither DER nor PEM" }));
+    };
+    if parts.next().is_some() {
+        return Err(no("is several in one PEM, and one at a time is registered"));
+    }
+    let (base64, _) = part.split_once(END).ok_or_else(|| no("has no end in its PEM"))?;
+    let der = bytes_of(base64).ok_or_else(|| no("is not base64 in its PEM"))?;
+    if !is_whole(&der) {
+        return Err(no("is not one whole structure of DER in its PEM"));
+    }
+    Ok(Cow::Owned(der))
+}
+
+/// Whether bytes are a sequence of DER (X.690, 8.1) and nothing after it.
+fn is_whole(der: &[u8]) -> bool {
+    let [0x30, first, rest @ ..] = der else { return false };
+    let count = match *first {
+        length @ 0..=0x7F => return rest.len() == usize::from(length),
+        count @ 0x81..=0x84 => usize::from(count - 0x80),
+        _ => return false,
+    };
+    let Some(length) = rest.get(..count) else { return false };
+    let length = length.iter().fold(0, |length: u64, byte| length << 8 | u64::from(*byte));
+    u64::try_from(rest.len() - count) == Ok(length)
+}
+
+/// The bytes of base64 (RFC 4648, 4) with white space anywhere.
+fn bytes_of(base64: &str) -> Option<Vec<u8>> {
+    let digits: Vec<u8> = base64.bytes().filter(|byte| !byte.is_ascii_whitespace()).collect();
+    let padding = digits.iter().rev().take_while(|byte| **byte == b'=').count();
+    if digits.len() % 4 != 0 || padding > 2 {
+        return None;
+    }
+    let mut bytes = Vec::with_capacity(digits.len() / 4 * 3);
+    for group in digits[..digits.len() - padding].chunks(4) {
+        let number = group.iter().try_fold(0, |number: u32, byte| {
+            let digit = DIGITS.iter().position(|digit| digit == byte)?;
+            Some(number << 6 | u32::try_from(digit).ok()?)
+        })?;
+        let number = number << (6 * (4 - group.len()));
+        bytes.extend(&number.to_be_bytes()[1..group.len()]);
+    }
+    Some(bytes)
 }
 
 #[cfg(test)]
@@ -56,6 +119,47 @@ mod tests {
         ] {
             let pem = write("X", bytes.as_bytes());
             assert_eq!(pem, format!("-----BEGIN X-----\n{wanted}\n-----END X-----\n"));
+            assert_eq!(bytes_of(wanted).as_deref(), Some(bytes.as_bytes()));
+        }
+        assert_eq!(bytes_of("\r\n Zm9v\tYg\n=="), Some(b"foob".to_vec()));
+        assert_eq!(bytes_of(""), Some(vec![]));
+        for wrong in ["Zg", "Zg=", "Z===", "====", "Zg==Zg==", "Zm9*", "=Zg="] {
+            assert_eq!(bytes_of(wrong), None, "{wrong}");
+        }
+    }
+
+    #[test]
+    fn certificates_are_der_or_pem() {
+        let long = [vec![0x30, 0x82, 0x01, 0x00], vec![7; 256]].concat();
+        for der in [vec![0x30, 0x00], vec![0x30, 0x01, 0xFF], long] {
+            assert_eq!(certificate_der(&der).unwrap(), der);
+            let pem = write("CERTIFICATE", &der);
+            assert_eq!(certificate_der(pem.as_bytes()).unwrap(), der);
+            let pem = format!("0: \u{e9}\r\n{}after", pem.replace('\n', "\r\n"));
+            assert_eq!(certificate_der(pem.as_bytes()).unwrap(), der);
+        }
+    }
+
+    fn refused(given: &[u8], why: &str) {
+        let error = certificate_der(given).unwrap_err().to_string();
+        assert_eq!(error, format!("GrammarError: the certificate {why}"));
+    }
+
+    #[test]
+    fn what_is_no_certificate_is_refused() {
+        let one = write("CERTIFICATE", &[0x30, 0x00]);
+        let neither = "is neither DER nor PEM";
+        for given in ["", "x", &write("PRIVATE KEY", &[0x30, 0x00])] {
+            refused(given.as_bytes(), neither);
+        }
+        refused(b"\xFF", neither);
+        refused(one.repeat(2).as_bytes(), "is several in one PEM, and one at a time is registered");
+        refused(&one.as_bytes()[..40], "has no end in its PEM");
+        refused(one.replace("MAA", "MA*").as_bytes(), "is not base64 in its PEM");
+        for der in [&[0x30][..], &[0x30, 0x01], &[0x30, 0x00, 0x00], &[0x30, 0x80, 0x00, 0x00]] {
+            refused(der, "is not one whole structure of DER");
+            let why = "is not one whole structure of DER in its PEM";
+            refused(write("CERTIFICATE", der).as_bytes(), why);
         }
     }
 

@@ -21,4 +21,5 @@ test_run calls in_order
 fake good
 test_run calls values
 test_run calls operation
+test_run calls certificate
 test_run calls refused

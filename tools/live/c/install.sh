@@ -26,7 +26,7 @@ done
     'answer contents_len operation_answer operation_request request value' ]]
 verdict 'libmetsuwan.so has its six calls, and no other names'
 [[ $(names_of libmetsuwan_tls.so | sed 's/kmip_//g') == \
-    'bytes call call_words close line open operation pem text word' ]]
+    'bytes call call_words close line open operation pem register_certificate text word' ]]
 verdict 'libmetsuwan_tls.so has the calls of its header, and no other names'
 version=$(sed -n 's/^VERSION := //p' "$top/clients/c/Makefile")
 [[ $(pkg-config --modversion metsuwan metsuwan_tls | sort -u) == "$version" ]]

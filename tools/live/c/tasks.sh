@@ -33,7 +33,7 @@ CODE
 }
 CODE
 } >tasks.c
-gcc -std=c11 -Wall -Wextra -Werror "${sanitized[@]}" -I"$top/clients/c" -o tasks tasks.c "$top"/clients/c/metsuwan_{tls,wire,words}.c \
+gcc -std=c11 -Wall -Wextra -Werror "${sanitized[@]}" -I"$top/clients/c" -o tasks tasks.c "$top"/clients/c/metsuwan_{tls,wire,words,items,register}.c \
     "$built/libmetsuwan.a" -lssl -lcrypto -pthread >"$said" 2>&1
 verdict 'the tasks are built'
 timeout $((200 * slack)) ./tasks "$host" "$port" "$certificate" "$key" "$authority" >"$said" 2>&1

@@ -1,6 +1,7 @@
 //! Responses of KMIP servers, by hand (KMIP 1.2, 9.1).
+#![allow(dead_code)] // each test takes what it needs
 
-fn item(tag: u32, kind: u8, value: &[u8]) -> Vec<u8> {
+pub fn item(tag: u32, kind: u8, value: &[u8]) -> Vec<u8> {
     let mut made = tag.to_be_bytes()[1..].to_vec();
     made.push(kind);
     made.extend(u32::try_from(value.len()).unwrap().to_be_bytes());

@@ -1,0 +1,303 @@
+//! Calls with options by their types send what the same words send.
+mod ttlv;
+
+use metsuwan::{library, Client, ClientBuilder, Error, Item, Json};
+use metsuwan::{AttributeValue, Create, CreateRsa, Get, KeyKind, NewKey, Register, Revoke, Sign};
+use metsuwan::{
+    CryptographicAlgorithm, CryptographicUsageMask, HashingAlgorithm, KeyFormatType, ObjectType,
+    PaddingMethod, RevocationReasonCode, State,
+};
+use std::fmt::Debug;
+use std::io::{self, Cursor, Read, Write};
+use std::sync::{Arc, Mutex};
+use ttlv::{bytes, enumeration, response, structure, text};
+
+const LOCATE: u32 = 0x08;
+const GET_ATTRIBUTES: u32 = 0x0B;
+const ENCRYPT: u32 = 0x1F;
+
+/// A stream that keeps what is sent, and gives one answer.
+struct Recorder {
+    sent: Arc<Mutex<Vec<u8>>>,
+    answer: Cursor<Vec<u8>>,
+}
+
+impl Write for Recorder {
+    fn write(&mut self, bytes: &[u8]) -> io::Result<usize> {
+        self.sent.lock().unwrap().write(bytes)
+    }
+
+    fn flush(&mut self) -> io::Result<()> {
+        Ok(())
+    }
+}
+
+impl Read for Recorder {
+    fn read(&mut self, into: &mut [u8]) -> io::Result<usize> {
+        self.answer.read(into)
+    }
+}
+
+fn client(answer: Vec<u8>) -> (Client<Recorder>, Arc<Mutex<Vec<u8>>>) {
+    let sent = Arc::new(Mutex::new(Vec::new()));
+    let recorder = Recorder { sent: sent.clone(), answer: Cursor::new(answer) };
+    (ClientBuilder::new(recorder).build(), sent)
+}
+
+/// What a call sends.
+fn sent_by<T: Debug>(call: impl Fn(&Client<Recorder>) -> metsuwan::Result<T>) -> Vec<u8> {
+    let (client, sent) = client(vec![]);
+    let error = call(&client).unwrap_err();
+    assert!(matches!(error, Error::ResponseReadError(_)), "{error}");
+    let sent = sent.lock().unwrap();
+    sent.clone()
+}
+
+fn is_line<T: Debug>(line: &str, call: impl Fn(&Client<Recorder>) -> metsuwan::Result<T>) {
+    let request = library::request(line, None).expect(line);
+    assert!(sent_by(call) == request, "{line}");
+}
+
+#[test]
+fn options_of_sign() {
+    is_line("sign k 00", |it| it.sign_with("k", b"\0", Sign::default()));
+    is_line("sign k 00 hash=SHA384 padding=PSS algorithm=RSA", |it| {
+        let how = Sign::default().with_hash(HashingAlgorithm::SHA384);
+        let how = how.with_padding(PaddingMethod::PSS).with_algorithm(CryptographicAlgorithm::RSA);
+        it.sign_with("k", b"\0", how)
+    });
+    is_line("sign k 00 prehashed", |it| it.sign_with("k", b"\0", Sign::default().prehashed()));
+    is_line("sign k 00 prehashed hash=MD5", |it| {
+        it.sign_with("k", b"\0", Sign::default().prehashed().with_hash(HashingAlgorithm::MD5))
+    });
+}
+
+#[test]
+fn defaults_are_those_that_are_told() {
+    use CryptographicUsageMask as Usage;
+    is_line("sign k 00", |it| {
+        let how = Sign::default().with_hash(HashingAlgorithm::SHA256);
+        let how = how.with_padding(PaddingMethod::PKCS1_v1_5);
+        it.sign_with("k", b"\0", how.with_algorithm(CryptographicAlgorithm::RSA))
+    });
+    is_line("revoke k", |it| {
+        let why = Revoke::default().with_reason(RevocationReasonCode::CessationOfOperation);
+        it.revoke_key_with("k", why)
+    });
+    is_line("create AES 256 n", |it| {
+        let uses = Create::default().with_usage(Usage::Encrypt | Usage::Decrypt);
+        it.create_with(CryptographicAlgorithm::AES, 256, "n", uses)
+    });
+    is_line("create-rsa 2048 a b", |it| {
+        let uses = CreateRsa::default().with_private_usage(Usage::Sign);
+        let uses = uses.with_public_usage(Usage::Verify);
+        it.create_rsa_key_pair_with(2048, "a".into(), "b".into(), uses)
+    });
+}
+
+#[test]
+fn options_of_other_calls() {
+    use CryptographicUsageMask as Usage;
+    is_line("revoke k reason=KeyCompromise message=a%20b since=5", |it| {
+        let why = Revoke::default().with_reason(RevocationReasonCode::KeyCompromise);
+        it.revoke_key_with("k", why.with_message("a b").with_since(5))
+    });
+    is_line("get k format=PKCS8 wrap=7", |it| {
+        it.get_key_with("k", Get::default().with_format(KeyFormatType::PKCS8).with_wrap("7"))
+    });
+    is_line("create TRIPLE_DES 168 n usage=Sign,MacVerify", |it| {
+        let uses = Create::default().with_usage(Usage::MacVerify | Usage::Sign);
+        it.create_with(CryptographicAlgorithm::TRIPLE_DES, 168, "n", uses)
+    });
+    is_line("create AES 128 n", |it| it.create(CryptographicAlgorithm::AES, 128, "n"));
+    is_line("create-rsa 2048 a b private-usage=Decrypt public-usage=Encrypt,WrapKey", |it| {
+        let uses = CreateRsa::default().with_private_usage(Usage::Decrypt);
+        let uses = uses.with_public_usage(Usage::Encrypt | Usage::WrapKey);
+        it.create_rsa_key_pair_with(2048, "a".into(), "b".into(), uses)
+    });
+    is_line("attributes k State x-y%20z", |it| it.attributes_with("k", &["State", "x-y z"]));
+    is_line("attributes k", |it| it.attributes_with("k", &[]));
+}
+
+#[test]
+fn keys_are_registered() {
+    let (kind, format) = (KeyKind::SymmetricKey, KeyFormatType::Raw);
+    let algorithm = CryptographicAlgorithm::AES;
+    let aes = NewKey { kind, format, algorithm, length: 8, material: &[0xAB] };
+    is_line("register symmetric AB format=Raw algorithm=AES length=8", |it| it.register(&aes));
+    let words = "format=Raw algorithm=AES length=8 usage=Encrypt,Decrypt name=a%20b";
+    is_line(&format!("register symmetric AB {words}"), |it| {
+        let uses = CryptographicUsageMask::Encrypt | CryptographicUsageMask::Decrypt;
+        it.register_with(&aes, Register::default().with_usage(uses).with_name("a b"))
+    });
+    for (kind, word) in [(KeyKind::PublicKey, "public"), (KeyKind::PrivateKey, "private")] {
+        let (format, algorithm) = (KeyFormatType::PKCS1, CryptographicAlgorithm::RSA);
+        let key = NewKey { kind, format, algorithm, length: 2048, material: b"key" };
+        let line = format!("register {word} 6B6579 format=PKCS1 algorithm=RSA length=2048");
+        is_line(&line, |it| it.register(&key));
+        assert!(format!("{key:?}").ends_with("length: 2048, material: of length 3 }"));
+    }
+}
+
+#[test]
+fn attributes_have_types() {
+    let all = [
+        (AttributeValue::Name("a=b"), "name=a%3Db"),
+        (AttributeValue::ObjectGroup("g"), "group=g"),
+        (AttributeValue::ContactInformation(""), "contact=-"),
+        (AttributeValue::ObjectType(ObjectType::PrivateKey), "type=PrivateKey"),
+        (AttributeValue::State(State::Active), "state=Active"),
+        (AttributeValue::CryptographicAlgorithm(CryptographicAlgorithm::RSA), "algorithm=RSA"),
+        (AttributeValue::CryptographicLength(2048), "length=2048"),
+        (AttributeValue::ActivationDate(1_700_000_000), "activation=1700000000"),
+    ];
+    for (value, word) in all {
+        is_line(&format!("attribute-add k {word}"), |it| it.add_attribute("k", value));
+        is_line(&format!("attribute-modify k {word}"), |it| it.modify_attribute("k", value, None));
+        is_line(&format!("attribute-modify k {word} index=2"), |it| {
+            it.modify_attribute("k", value, Some(2))
+        });
+    }
+    let words = all.map(|(_, word)| word).join(" ");
+    is_line(&format!("locate {words}"), |it| it.locate_with(&all.map(|(value, _)| value)));
+    is_line("locate", |it| it.locate_with(&[]));
+    is_line("attribute-delete k Object%20Group", |it| {
+        it.delete_attribute("k", "Object Group", None)
+    });
+    is_line("attribute-delete k x-a index=1", |it| it.delete_attribute("k", "x-a", Some(1)));
+}
+
+/// The names that the library has for the numbers of the enumeration with this tag, in order.
+fn names_of(tag: u32) -> Vec<String> {
+    let numbers: Vec<_> = (1..=64).map(|number| enumeration(tag, number)).collect();
+    let payload = r#"{"tag":"RequestPayload","value":[]}"#;
+    let call = library::Operation { name: "Locate", version: "1.2", payload };
+    let (_, line) = library::operation_answer(&call, &response(LOCATE, &numbers));
+    let line = Json::parse(&line).unwrap();
+    let items = line.at("answer.value").unwrap().as_list().unwrap();
+    let names = items.iter().map(|it| it.member("value").unwrap().as_text().unwrap());
+    names.filter(|name| !name.starts_with("0x")).map(str::to_string).collect()
+}
+
+#[test]
+fn names_are_those_of_the_library() {
+    macro_rules! are_named {
+        ($($kind:ident $tag:literal $call:literal)+) => {$(
+            let names = $kind::ALL.iter().map(|it| it.name().to_string()).collect::<Vec<_>>();
+            let all = names_of($tag);
+            // The library knows more algorithms by their numbers than calls of words take.
+            let all: Vec<_> = all.into_iter().filter(|it| takes(&format!($call, it))).collect();
+            assert_eq!(names, all);
+        )+};
+    }
+    fn takes(line: &str) -> bool {
+        library::request(line, None).is_ok()
+    }
+    are_named! {
+        HashingAlgorithm 0x42_0038 "sign k 00 hash={}"
+        PaddingMethod 0x42_005F "sign k 00 padding={}"
+        CryptographicAlgorithm 0x42_0028 "sign k 00 algorithm={}"
+        KeyFormatType 0x42_0042 "get k format={}"
+        ObjectType 0x42_0057 "locate type={}"
+        State 0x42_008D "locate state={}"
+        RevocationReasonCode 0x42_0082 "revoke k reason={}"
+    }
+}
+
+#[test]
+fn uses_have_the_bits_of_the_library() {
+    assert_eq!(CryptographicUsageMask::ALL.len(), 20);
+    for (at, usage) in CryptographicUsageMask::ALL.iter().enumerate() {
+        assert_eq!(usage.bits(), 1 << at);
+        let line = format!("create AES 256 n usage={usage}");
+        let request = library::request(&line, None).expect(&line);
+        let item = [&[0x42, 0, 0x0B, 2, 0, 0, 0, 4][..], &usage.bits().to_be_bytes()].concat();
+        assert!(request.windows(item.len()).any(|it| it == item), "{usage}");
+    }
+}
+
+/// What the operation with this payload sends.
+fn operation_request(name: &str, version: &str, payload: &str) -> Vec<u8> {
+    let call = library::Operation { name, version, payload };
+    library::operation_request(&call, None).unwrap()
+}
+
+#[test]
+fn certificates_are_registered() {
+    let der = [0x30, 0x01, 0xAB];
+    let payload = |attributes: &str| {
+        format!(
+            r#"{{"tag":"RequestPayload","value":[
+            {{"tag":"ObjectType","type":"Enumeration","value":"0x00000001"}},
+            {{"tag":"TemplateAttribute","value":[{attributes}]}},
+            {{"tag":"Certificate","value":[
+                {{"tag":"CertificateType","type":"Enumeration","value":"0x00000001"}},
+                {{"tag":"CertificateValue","type":"ByteString","value":"3001AB"}}]}}]}}"#
+        )
+    };
+    let plain = operation_request("Register", "1.0", &payload(""));
+    let pem = "-----BEGIN CERTIFICATE-----\nMAGr\n-----END CERTIFICATE-----\n";
+    assert!(sent_by(|it| it.register_certificate(&der)) == plain);
+    assert!(sent_by(|it| it.register_certificate(pem.as_bytes())) == plain);
+    let attributes = r#"
+        {"tag":"Attribute","value":[
+            {"tag":"AttributeName","type":"TextString","value":"Cryptographic Usage Mask"},
+            {"tag":"AttributeValue","type":"Integer","value":4098}]},
+        {"tag":"Attribute","value":[
+            {"tag":"AttributeName","type":"TextString","value":"Name"},
+            {"tag":"AttributeValue","value":[
+                {"tag":"NameValue","type":"TextString","value":"the \"root\""},
+                {"tag":"NameType","type":"Enumeration","value":"0x00000001"}]}]}"#;
+    let uses = CryptographicUsageMask::Verify | CryptographicUsageMask::CertificateSign;
+    let options = Register::default().with_usage(uses).with_name("the \"root\"");
+    let request = operation_request("Register", "1.0", &payload(attributes));
+    assert!(sent_by(|it| it.register_certificate_with(&der, options)) == request);
+    let (client, sent) = client(vec![]);
+    let error = client.register_certificate(b"none").unwrap_err();
+    assert_eq!(error.to_string(), "GrammarError: the certificate is neither DER nor PEM");
+    assert!(sent.lock().unwrap().is_empty() && !error.is_lost());
+}
+
+#[test]
+fn any_operation_takes_and_gives_items() {
+    let answer = response(ENCRYPT, &[text(0x42_0094, "k"), bytes(0x42_00C2, b"\0\xFF")]);
+    let (client, sent) = client(answer);
+    let how = Item::new("CryptographicParameters", vec![Item::enumeration("0x420011", "CBC")]);
+    let items = vec![Item::new("UniqueIdentifier", "k"), how, Item::new("Data", b"\x01")];
+    let answer = client.do_operation("Encrypt", "1.2", items).unwrap();
+    let payload = r#"{"tag":"RequestPayload","value":[
+        {"tag":"UniqueIdentifier","type":"TextString","value":"k"},
+        {"tag":"CryptographicParameters","value":[
+            {"tag":"BlockCipherMode","type":"Enumeration","value":"0x00000001"}]},
+        {"tag":"Data","type":"ByteString","value":"01"}]}"#;
+    assert!(*sent.lock().unwrap() == operation_request("Encrypt", "1.2", payload));
+    assert_eq!(answer.tag, "ResponsePayload");
+    assert_eq!(answer.text_at("UniqueIdentifier").unwrap(), "k");
+    assert_eq!(answer.bytes_at("Data").unwrap(), b"\0\xFF");
+    assert!(matches!(answer.number_at("Data"), Err(Error::MissingValue(_))));
+}
+
+#[test]
+fn items_of_an_answer_have_their_types() {
+    let item = |tag: u32, kind: u8, value: &[u8]| ttlv::item(tag, kind, value);
+    let long = (1_i64 << 53) + 1;
+    let answer = structure(
+        0x42_0008,
+        &[
+            item(0x42_0092, 9, &0x47DA_67F8_i64.to_be_bytes()),
+            item(0x42_009A, 3, &long.to_be_bytes()),
+            item(0x42_0049, 10, &864_000_u32.to_be_bytes()),
+            item(0x42_0052, 4, &[0, 0, 0, 0, 0, 0, 1, 0]),
+            enumeration(0x42_0057, 2),
+            enumeration(0x42_0057, 0x7F),
+        ],
+    );
+    let (client, _) = client(response(GET_ATTRIBUTES, &[answer]));
+    let answer = client.do_operation("GetAttributes", "1.0", vec![]).unwrap();
+    assert_eq!(answer.number_at("Attribute.TimeStamp").unwrap(), 0x47DA_67F8);
+    assert_eq!(answer.number_at("Attribute.ValidityDate").unwrap(), long);
+    assert_eq!(answer.number_at("Attribute.LeaseTime").unwrap(), 864_000);
+    assert_eq!(answer.bytes_at("Attribute.Modulus").unwrap(), [0, 0, 0, 0, 0, 0, 1, 0]);
+    assert_eq!(answer.name_at("Attribute.ObjectType").unwrap(), "SymmetricKey");
+    assert_eq!(answer.name_at("Attribute.ObjectType.1").unwrap(), "0x0000007F");
+}
