@@ -28,6 +28,7 @@ CODE
     puts("the end");
     free(key);
     free(new);
+    free(taken);
     kmip_close(client);
     return 0;
 }
@@ -36,7 +37,9 @@ CODE
 gcc -std=c11 -Wall -Wextra -Werror "${sanitized[@]}" -I"$top/clients/c" -o tasks tasks.c "$top"/clients/c/metsuwan_{tls,wire,words,items,register}.c \
     "$built/libmetsuwan.a" -lssl -lcrypto -pthread >"$said" 2>&1
 verdict 'the tasks are built'
+cp "$authority" ca.pem
 timeout $((200 * slack)) ./tasks "$host" "$port" "$certificate" "$key" "$authority" >"$said" 2>&1
 verdict 'all tasks'
 says 'to their end' '^the end$'
 says 'the public key is PEM' '^-----BEGIN RSA PUBLIC KEY-----$'
+says 'so is the certificate' '^-----BEGIN CERTIFICATE-----$'

@@ -12,9 +12,11 @@ with Client(host, port, cert=cert, key=key, ca=ca, timeout=120) as kmip, open('l
     print(state)
 print('the end')
 CODE
+cp "$authority" ca.pem
 PYTHONPATH=$top/clients/python LIBMETSUWAN=$built/libmetsuwan.so timeout $((200 * slack)) "$python" -B tasks.py \
     "$host" "$port" "$certificate" "$key" "$authority" >"$said" 2>&1
 verdict 'all tasks'
 says 'to their end' '^the end$'
 says 'the state of the key is told' '^Active$'
 says 'the public key is PEM' '^-----BEGIN RSA PUBLIC KEY-----$'
+says 'so is the certificate' '^-----BEGIN CERTIFICATE-----$'

@@ -20,7 +20,9 @@ CODE
 } >"$run/rust/source/examples/tasks.rs"
 cargo_of_copy build --release --features openssl --example tasks >"$said" 2>&1
 verdict 'the tasks are built'
+cp "$authority" ca.pem
 patience=200 client_run tasks >"$said" 2>&1
 verdict 'all tasks'
 says 'to their end' '^the end$'
 says 'the public key is PEM' '^-----BEGIN RSA PUBLIC KEY-----$'
+says 'so is the certificate' '^-----BEGIN CERTIFICATE-----$'
