@@ -62,7 +62,10 @@ if [[ -z $built ]]; then
     built=$work/built
     "$top/clients/web/build.sh" --unproved "$built" || give_up 'no page'
 fi
-[[ -f $built/kmip.html && -f $built/kmip.wasm && -f $built/kmip.ll ]] || give_up "$built is no folder of clients/web/build.sh"
+[[ -f $built/kmip.html && -f $built/kmip.wasm && -f $built/kmip.ll && -f $built/build.log ]] || give_up "$built is no folder of clients/web/build.sh"
+
+proved=unproved
+if grep -q ': built, and proved$' "$built/build.log"; then proved=proved; fi
 
 # The same code for this machine.
 mkdir "$work/page"
@@ -84,7 +87,7 @@ for it in "${browsers[@]}"; do
         printf 'skipped %s: it is not here (Debian: apt-get install %s)\n' "$it" "$package"
         continue
     fi
-    words=("$it" "$program" "$work/page")
+    words=("$it" "$program" "$work/page" "$proved")
     [[ $it == chromium && -n $shots ]] && words+=("$shots")
     node ${options[@]+"${options[@]}"} "$top/tools/page/check.js" "${words[@]}" || status=1
 done

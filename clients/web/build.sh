@@ -91,21 +91,25 @@ lowered() { # the same for a memory of 32 bits
         --enable-multivalue --memory64-lowering -O1 "$folder/kmip.wasm" -o "$folder/kmip32.wasm"
 }
 
+# What the page says of its code.
 if [[ -n $text ]]; then
+    about='Computed here. Whether its code was proved, its build did not see.'
     [[ $text -ef $folder/kmip.ll ]] || cp "$text" "$folder/kmip.ll"
 elif [[ -n $unproved ]]; then
+    about='Computed here, by code that was compiled with no proof.'
     echo 'Compiled with no proof: a few minutes.'
     step 'kmip_web' python3 "$top/tools/unproved_build.py" module kmip_web "$folder/kmip.ll" "$top"
 else
+    about='Computed here by proved code.'
     echo "Proved: minutes over what rt ci kept here, hours from nothing. $log shows how far it is."
     step 'kmip_web' python3 "$top/tools/proved_build.py" module kmip_web "$folder/kmip.ll" "$top"
 fi
 step 'the module' module
-step 'kmip.html' python3 "$here/page.py" "$folder/kmip.wasm" "$folder/kmip.html"
+step 'kmip.html' python3 "$here/page.py" "$folder/kmip.wasm" "$folder/kmip.html" "$about"
 rm -f "$folder/kmip32.html"
 if type -P wasm-opt >/dev/null; then
     step 'the module for 32-bit memory' lowered
-    step 'kmip32.html' python3 "$here/page.py" "$folder/kmip32.wasm" "$folder/kmip32.html"
+    step 'kmip32.html' python3 "$here/page.py" "$folder/kmip32.wasm" "$folder/kmip32.html" "$about"
 else
     echo 'kmip32.html is left out: there is no wasm-opt (Debian: apt-get install binaryen)'
 fi

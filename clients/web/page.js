@@ -1,6 +1,6 @@
 'use strict';
 // Moves bytes and draws. What is said of a message is text that the module returned.
-const MODULE = '{{MODULE}}';
+const MODULE = '{{MODULE}}', ABOUT = '{{ABOUT}}';
 const SIDES = ['sent', 'received'];
 const MOST = 300; // rows that are drawn at once
 const SHOWN = 4000; // characters of a value or of a skeleton that are drawn at once
@@ -299,7 +299,7 @@ $('clear').onclick = () => {
   try {
     const bytes = Uint8Array.from(atob(MODULE), it => it.charCodeAt(0));
     wasm = (await WebAssembly.instantiate(bytes, {})).instance.exports;
-    $('state').textContent = 'Computed here by proved code. No request is made, and nothing is kept.';
+    $('state').textContent = ABOUT + ' No request is made, and nothing is kept.';
   } catch (error) {
     $('state').className = 'bad';
     $('state').textContent = 'This browser does not run the module (' + error.message + '). It may run kmip32.html, which needs no 64-bit memory.';

@@ -1,8 +1,8 @@
 'use strict';
-// node check.js BROWSER PROGRAM FOLDER [SHOTS]: the page of FOLDER in a browser, held to the native program FOLDER/native.
+// node check.js BROWSER PROGRAM FOLDER IS_PROVED [SHOTS]: the page of FOLDER in a browser, held to the native program FOLDER/native.
 const { execFileSync } = require('child_process'), fs = require('fs'), path = require('path');
 const messages = require('./messages.js');
-const [browser, program, folder, shots] = process.argv.slice(2);
+const [browser, program, folder, proved, shots] = process.argv.slice(2), isProved = proved === 'proved';
 const { launch } = require('./' + browser + '.js');
 const room = fs.mkdtempSync(path.join(require('os').tmpdir(), 'kmip-page-'));
 let passed = 0, failed = 0;
@@ -212,7 +212,7 @@ function limited(module, isKnown) {
 }
 function pageOf(module, name) {
   const made = path.join(room, name + '.html');
-  execFileSync('python3', [path.join(__dirname, '../../clients/web/page.py'), file(name + '.wasm', module), made]);
+  execFileSync('python3', [path.join(__dirname, '../../clients/web/page.py'), file(name + '.wasm', module), made, 'Computed here.']);
   return made;
 }
 async function refusals(sent, received) {
@@ -246,6 +246,7 @@ async function refusals(sent, received) {
   await until(page, READY);
   const state = await page.evaluate("document.getElementById('state').textContent");
   verdict('the page runs its module', state.startsWith('Computed here'), state);
+  verdict('it calls its code proved only where it was', state.includes('by proved code') === isProved, state);
   await exports(page, 'messages', lists);
   await exports(page, 'faults', Object.fromEntries(Object.entries(messages.faults).map(([name, it]) => [name, it[0]])));
   await listings(page, { 'all types': messages.allTypes, 'a request': lists['a request'], 'a stream': sent, 'the other': received });
