@@ -1,9 +1,8 @@
 -- What is answered over a link in memory that holds all that is to be read, and what is told of it.
-use Rattle.std.proofs.Common.{◌≡◌, ◌≢◌, ℕ, ◌+◌, ◌-◌, length, List, [], ◌++◌, take, drop, refl, ◌∙◌, ap, sym, subst, arith, zero-add, Result, Ok, Err, IfOk}
+use Rattle.std.proofs.Common.{◌≡◌, ℕ, ◌+◌, ◌-◌, length, List, [], take, drop, refl, ◌∙◌, ap, sym, subst, zero-add, Result, Ok, Err, IfOk}
 use Rattle.kmip_wire.specs.Tree.{Tree}
 use Rattle.kmip_link.specs.Plan.{MemoryState, memory_state}
 use Rattle.kmip_client.specs.declared.error.Error.{Error}
-use Rattle.kmip_client.specs.declared.error.Error.TheVariants.{InternalError, OutOfMemory}
 use Rattle.kmip_client.specs.Outcome.{OutcomeOf, outcome_by, Moves}
 use Rattle.kmip_client.specs.Calls.{CallKind, IsCallOf}
 use Rattle.kmip_client.specs.Client.{ClientState}
