@@ -9,7 +9,8 @@
 #   FOLDER/metsuwan.h        its header
 #
 # Without --unproved the crates kmip_call and kmip_c, and those below them, are proved first: hours from nothing, and
-# minutes where `rt ci` passed here before. The crate that is proved is shown, as one of how many.
+# minutes where `rt ci` passed on this machine before, in whichever checkout of these files. Each crate is shown, as one of
+# how many, and nothing is written into the checkout.
 #
 #   --unproved       compiles at once, and checks no contract: to try things out. It takes two to four minutes
 #   --program FILE   takes this kmip_call, which was built before
@@ -72,21 +73,6 @@ folder=$(cd "$folder" && pwd)
 log=$folder/build.log
 : >"$log"
 
-# The crates of the repository below these and these, lowest first, one a line.
-crates_below() { # CRATE..
-    awk -v wanted="$*" '
-        { sub(/#.*/, "") }
-        match($0, /:/) { split(substr($0, 1, RSTART - 1), name, " "); uses[name[1]] = substr($0, RSTART + 1) }
-        function visit(it, list, n, i) {
-            if (!(it in uses) || it in seen) return
-            seen[it] = 1
-            n = split(uses[it], list, " ")
-            for (i = 1; i <= n; i++) visit(list[i])
-            print it
-        }
-        END { n = split(wanted, list, " "); for (i = 1; i <= n; i++) visit(list[i]) }' "$top/crates.txt"
-}
-
 step() { # TEXT COMMAND..: a line before and after
     local text=$1 from=$SECONDS
     shift
@@ -99,41 +85,36 @@ step() { # TEXT COMMAND..: a line before and after
     printf '%d s\n' $((SECONDS - from))
 }
 
-proved() { # CRATE VERB..: `rt VERB` in its folder
-    cd "$top/crates/$1" && rt "${@:2}" </dev/null
+proved() { # KIND CRATE FILE: a line for each crate
+    if ! python3 "$top/tools/proved_build.py" "$@" "$top" 2>>"$log"; then
+        tail -20 "$log" >&2
+        give_up "$log has the whole of it"
+    fi
 }
 
-prove_all() { # CRATE..: the programs and static libraries to build
-    local list=() number=0 it
-    mapfile -t list < <(crates_below "$@")
-    for it in "${list[@]}"; do
-        number=$((number + 1))
-        case $it in
-        kmip_call) step "[$number/${#list[@]}] $it" proved "$it" run -- --version ;;
-        *) step "[$number/${#list[@]}] $it" proved "$it" lib ;;
-        esac
-    done
+made() { # KIND CRATE FILE TEXT
+    if [[ -n $unproved ]]; then
+        step "$4" python3 "$top/tools/unproved_build.py" "${@:1:3}" "$top"
+    else
+        echo "$4:"
+        proved "${@:1:3}"
+    fi
 }
 
-wanted=()
-[[ -n $program ]] || wanted+=(kmip_call)
-[[ -n $library ]] || wanted+=(kmip_c)
-if [[ -z $unproved ]] && ((${#wanted[@]})); then
-    echo 'Each crate is proved: hours from nothing, minutes where it was proved here before. --unproved takes two to four minutes.'
-    (prove_all "${wanted[@]}")
-    [[ -n $program ]] || program=$top/crates/kmip_call/out/kmip_call
-    [[ -n $library ]] || library=$top/crates/kmip_c/out/libkmip_c.a
-fi
-if [[ -n $unproved ]] && ((${#wanted[@]})); then
-    echo 'Compiled with no proof: two to four minutes in all.'
+if [[ -z $program || -z $library ]]; then
+    if [[ -n $unproved ]]; then
+        echo 'Compiled with no proof: two to four minutes in all.'
+    else
+        echo 'Each crate is proved: hours from nothing, minutes where rt ci passed here before. --unproved takes two to four minutes.'
+    fi
 fi
 if [[ -z $program ]]; then
-    step '[1/2] kmip_call' python3 "$top/tools/unproved_build.py" program kmip_call "$folder/kmip_call" "$top"
+    made program kmip_call "$folder/kmip_call" 'kmip_call'
 elif [[ ! $program -ef $folder/kmip_call ]]; then
     cp "$program" "$folder/kmip_call"
 fi
 if [[ -z $library ]]; then
-    step '[2/2] the library' python3 "$top/tools/unproved_build.py" library kmip_c "$folder/libkmip_c.a" "$top"
+    made library kmip_c "$folder/libkmip_c.a" 'the library'
 elif [[ ! $library -ef $folder/libkmip_c.a ]]; then
     cp "$library" "$folder/libkmip_c.a"
 fi

@@ -3,12 +3,14 @@
 #
 #   tools/check_clients.sh [--built DIR] [--seconds N] [--client NAME].. [--topic NAME]..
 #
+# (as tools/live.sh has them; with a topic, the linters of all files are left out)
+#
 # It needs no proof. What the clients stand on is taken from DIR, which clients/build.sh made before; without it, from the
 # proved builds in crates/*/out where those are newer than the sources, and the rest is compiled with no proof, where the
 # toolchain is there. A check whose tool is missing is skipped, and it says so with the name of the Debian package; what a
 # linter finds in another version than it was tried with fails nothing, nor does a check that tools/live/open.txt has. A case
 # file that fails is run once more, with nothing beside it, and that run counts. Nothing is begun after N seconds (190), and
-# none is waited for 80 seconds later, so that it ends within five minutes. The last line is `N passed, M failed`; the
+# nothing is waited for 100 seconds later, so that it ends within five minutes. The last line is `N passed, M failed`; the
 # status is 1 where one failed.
 # shellcheck disable=SC1090,SC1091,SC2030,SC2031,SC2034,SC2154 # harness.sh sets and uses them
 set -u
@@ -19,7 +21,7 @@ usage() {
     sed -n '4s/^# */usage: /p' "$0" >&2
     exit 2
 }
-built='' chosen=() until=190 again=1 slack=4
+built='' chosen=() until=190 again=1 slack=10 may_skip=1
 while (($#)); do
     case $1 in
     --help) sed -n '2,/^# shellcheck/{/shellcheck/d;s/^# \{0,1\}//p}' "$0" && exit ;;
@@ -40,7 +42,10 @@ done
 ((${#chosen[@]} == 0)) || clients=("${chosen[@]}")
 for who in "${clients[@]}"; do [[ -d $here/$who ]] || give_up "there is no client $who"; done
 
-run=$(mktemp -d -t kmip-check-XXXXXX)
+if ! run=$(mktemp -d -t kmip-check-XXXXXX); then
+    printf 'skipped all: no temporary folder can be made\n0 passed, 0 failed\n'
+    exit 0
+fi
 trap 'rm -rf "$run"' EXIT
 trap 'exit 130' INT TERM
 
@@ -70,12 +75,23 @@ proved_build() { # FILE
     [[ -f $1 && -z $(find "$top/crates" -path '*/src/*' -newer "$1" -print -quit) ]] && printf '%s\n' "$1"
 }
 
+# The first of these that is missing, with its package.
+lacking() { # COMMAND:PACKAGE..
+    local it
+    for it in "$@"; do
+        type -P "${it%:*}" >/dev/null && continue
+        printf '%s (Debian: apt-get install %s)\n' "${it%:*}" "${it#*:}"
+        return
+    done
+}
+
 # Begins to build what the clients stand on, both parts at once, in $run/kmip_call and $run/libkmip_c.a.
 begin_builds() {
-    local made left=$((until > SECONDS ? until - SECONDS : 1)) it kind file
+    local made left=$((until > SECONDS ? until - SECONDS : 1)) it kind file parts=(program:kmip_call:kmip_call)
     if [[ -n $built ]] || ! type -P rt >/dev/null; then return; fi
+    [[ -n $no_library ]] || parts+=(library:kmip_c:libkmip_c.a)
     mkdir -p "$run/tmp"
-    for it in program:kmip_call:kmip_call library:kmip_c:libkmip_c.a; do
+    for it in "${parts[@]}"; do
         IFS=: read -r kind it file <<<"$it"
         if made=$(proved_build "$top/crates/$it/out/$file"); then
             cp "$made" "$run/$file"
@@ -120,6 +136,10 @@ cases() {
             build_clients
             run_cases fakes 8 "${clients[@]}"
         fi
+        if [[ -n $no_library ]]; then
+            echo "skipped the clients but the shell's: there is no $no_library"
+            return
+        fi
         is_built library || return
         if ! "$top/clients/build.sh" --program "$run/kmip_call" --library "$run/libkmip_c.a" "$built" >"$run/build" 2>&1; then
             echo 'FAILED  build: clients/build.sh'
@@ -149,21 +169,22 @@ rest_of_cases() {
 }
 
 check() {
-    local needed it
+    local missing no_library
     local -A builders=()
-    begin_builds
-    lint
-    for needed in openssl:openssl timeout:coreutils flock:util-linux; do
-        type -P "${needed%:*}" >/dev/null && continue
-        echo "skipped the clients: there is no ${needed%:*} (Debian: apt-get install ${needed#*:})"
+    missing=$(lacking openssl:openssl timeout:coreutils flock:util-linux)
+    no_library=$(lacking gcc:gcc ar:binutils make:make)
+    [[ -n $missing ]] || begin_builds
+    if ((${#topics[@]} == 0)); then lint; fi
+    if [[ -n $missing ]]; then
+        echo "skipped the clients: there is no $missing"
         return
-    done
+    fi
     unset KMIP_USER KMIP_PASSWORD KMIP_LIMIT KMIP_RECORD KMIP_TIMEOUT KMIP_PASSPHRASE KMIP_PASSPHRASE_FILE
     certs=$run/certs
     if "$here/certs.sh" "$certs" >"$run/certs.log" 2>&1 && start_fakes; then
         cases
     else
-        echo 'skipped the clients: the certificates are not made, or the fake servers do not listen'
+        echo 'skipped the clients: the certificates are not made, or the fake servers are not reached at localhost'
         tail -5 "$run/certs.log"
     fi
 }

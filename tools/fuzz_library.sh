@@ -4,9 +4,10 @@
 #   tools/fuzz_library.sh [--seed N] [--library FILE] ROUNDS
 #
 # The library is built with no proof and with its own code instrumented (two to ten minutes). Then fuzz.c of tools/fuzz makes
-# ROUNDS rounds of the four calls, with bytes changed at random in buffers of exactly the size that is told; trees.py makes a
-# tenth of ROUNDS, with responses that are well formed and changed in structure, and compares kmip_value with the JSON; and
-# each line of JSON is read by Python. What is found ends it with a status other than 0.
+# ROUNDS rounds of the six calls, with bytes changed at random in buffers of exactly the size that is told; trees.py makes a
+# tenth of ROUNDS, with responses that are well formed and changed in structure, and compares kmip_value with the JSON, and
+# the answer to any operation with the response's payload; and each line of JSON is read by Python. What is found ends it with
+# a status other than 0.
 #
 #   --seed N         another number gives other rounds; 1 if it is not given
 #   --library FILE   takes this libkmip_c.a, which `unproved_build.py --sanitize library kmip_c FILE` made before

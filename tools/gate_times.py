@@ -1,37 +1,64 @@
 #!/usr/bin/env python3
-"""Runs `rt ci` and says what each crate took of it, in processor minutes.
+"""Runs `rt ci` and says what each crate took of it, in processor minutes and in memory.
 
 usage: gate_times.py [--anew] [NAME..]      at the top of the repository; the words are those of `rt ci`
        gate_times.py --read LOG..           prints the table of earlier runs again: of each count the largest
 
 It watches the prover's processes five times a second, and counts the processor time of each to its crate: its own
 proof, the proof of its tests, and its must-fail edits with the check that they begin with. What a process takes in its
-last fifth of a second is not counted. Each count is also written to gate_times.log beside what `rt ci` says.
+last fifth of a second is not counted. The memory of a crate is the most that one process of it held. Each count is also
+written to gate_times.log beside what `rt ci` says.
+
 The longest chain is the largest sum of own proofs of crates of which each stands on the one before: no number of
-processors makes a run shorter than that. What an earlier run kept takes no time, so give --anew for a run from nothing. A run that is ended by a signal prints
+processors makes a run shorter than that. The most memory at once is the sum over all processes of the run, and what some
+of them share is counted for each. What an earlier run kept takes no time, so give --anew for a run from nothing. To see
+what fewer processors make of it, run `taskset -c 0,1 python3 tools/gate_times.py`. A run that is ended by a signal prints
 what it took up to there.
 """
-import os, re, signal, subprocess, sys, time
+import os
+import re
+import signal
+import subprocess
+import sys
+import time
 
 PHASES = ('own', 'tests', 'edits')
 TICKS = os.sysconf('SC_CLK_TCK')
+PAGE = os.sysconf('SC_PAGE_SIZE')
+
+
+class Seen:
+    """What a run took up to now."""
+
+    def __init__(self):
+        self.known = {}     # by process: the crate and the phase, or None
+        self.taken = {}     # by process: the same, and its processor seconds
+        self.memory = {}    # by crate: the most bytes of one process
+        self.at_once = 0    # the most bytes of all processes
+
+    def spent(self):
+        sums = {}
+        for key, seconds in self.taken.values():
+            sums[key] = sums.get(key, 0) + seconds
+        return sums
 
 
 def crates_of(top):
     rows = {}
-    for line in open(f'{top}/crates.txt'):
-        line = line.split('#')[0]
-        if ':' in line:
-            name, deps = line.split(':', 1)
-            rows[name.split()[0]] = deps.split()
+    with open(f'{top}/crates.txt', encoding='utf-8') as lines:
+        for line in lines:
+            line = line.split('#')[0]
+            if ':' in line:
+                name, deps = line.split(':', 1)
+                rows[name.split()[0]] = deps.split()
     return rows
 
 
 def stat_of(pid):
-    """Returns the parent of a process, and the processor seconds that it took itself."""
-    with open(f'/proc/{pid}/stat') as it:
+    """Returns the parent of a process, and the processor seconds and the bytes of memory that it took itself."""
+    with open(f'/proc/{pid}/stat', encoding='utf-8', errors='replace') as it:
         fields = it.read().rpartition(')')[2].split()
-    return int(fields[1]), (int(fields[11]) + int(fields[12])) / TICKS
+    return int(fields[1]), (int(fields[11]) + int(fields[12])) / TICKS, int(fields[21]) * PAGE
 
 
 def phase_of(words, folder):
@@ -44,31 +71,44 @@ def phase_of(words, folder):
     return name, 'tests' if '--test' in words else 'own'
 
 
-def watched(root, known, seen):
-    """Adds what the processes below `root` took so far."""
-    parents, times = {}, {}
+def processes_below(root):
+    """Returns the processor seconds and the bytes of memory of the processes that `root` began, and those began, by process."""
+    found = {}
     for pid in filter(str.isdigit, os.listdir('/proc')):
         try:
-            parents[int(pid)], times[int(pid)] = stat_of(pid)
+            found[int(pid)] = stat_of(pid)
         except (OSError, IndexError):
             continue
-    for pid, spent in times.items():
-        at, steps = pid, 0
-        while at not in (0, 1, root) and steps < 50:
-            at, steps = parents.get(at, 0), steps + 1
-        if at != root:
-            continue
-        if not known.get(pid):  # a process that was just forked has the words of its parent until it becomes the prover
+
+    def is_below(pid):
+        for _ in range(50):
+            if pid == root or pid not in found:
+                return pid == root
+            pid = found[pid][0]
+        return False
+    return {pid: it[1:] for pid, it in found.items() if is_below(pid)}
+
+
+def watch(root, seen):
+    """Adds what the processes below `root` took so far."""
+    at_once = 0
+    for pid, (seconds, memory) in processes_below(root).items():
+        at_once += memory
+        if not seen.known.get(pid):  # a process that was just forked has the words of its parent until it becomes the prover
             try:
-                words = open(f'/proc/{pid}/cmdline').read().split('\0')
-                known[pid] = phase_of(words, os.readlink(f'/proc/{pid}/cwd'))
+                with open(f'/proc/{pid}/cmdline', encoding='utf-8', errors='replace') as it:
+                    words = it.read().split('\0')
+                seen.known[pid] = phase_of(words, os.readlink(f'/proc/{pid}/cwd'))
             except OSError:
                 continue
-        if known[pid]:
-            seen[pid] = known[pid], spent
+        if seen.known[pid]:
+            crate = seen.known[pid][0]
+            seen.taken[pid] = seen.known[pid], seconds
+            seen.memory[crate] = max(memory, seen.memory.get(crate, 0))
+    seen.at_once = max(at_once, seen.at_once)
 
 
-def table(crates, spent, wall):
+def table(crates, spent, memory, at_once, wall):
     minutes = lambda name, phase: spent.get((name, phase), 0) / 60
     chains = {}
 
@@ -77,26 +117,44 @@ def table(crates, spent, wall):
             below = max((chain(it) for it in crates[name] if it in crates), key=lambda it: it[0], default=(0, []))
             chains[name] = below[0] + minutes(name, 'own'), below[1] + [name]
         return chains[name]
-    print('| crate | own proof | tests | edits | together |\n|---|---|---|---|---|')
+    print('| crate | own proof | tests | edits | together | memory, GB |\n|---|---|---|---|---|---|')
     for name in crates:
         row = [minutes(name, phase) for phase in PHASES]
-        print(f'| {name} | {row[0]:.1f} | {row[1]:.1f} | {row[2]:.1f} | {sum(row):.1f} |')
+        if any(row):
+            print(f'| {name} | {row[0]:.1f} | {row[1]:.1f} | {row[2]:.1f} | {sum(row):.1f} | {memory.get(name, 0) / 1e9:.1f} |')
     sums = [sum(minutes(name, phase) for name in crates) for phase in PHASES]
-    print(f'| all | {sums[0]:.1f} | {sums[1]:.1f} | {sums[2]:.1f} | {sum(sums):.1f} |')
+    print(f'| all | {sums[0]:.1f} | {sums[1]:.1f} | {sums[2]:.1f} | {sum(sums):.1f} | {max(memory.values(), default=0) / 1e9:.1f} |')
     length, names = max((chain(name) for name in crates), key=lambda it: it[0])
     print(f'\nlongest chain: {length:.1f} processor minutes: {", ".join(names)}')
+    print(f'most memory at once: {at_once / 1e9:.1f} GB')
     print(f'from first to last: {wall / 60:.1f} minutes')
 
 
 def read(logs):
-    spent, wall = {}, 0
-    for line in (line for log in logs for line in open(log)):
-        row = re.fullmatch(r'gate_times: (\w+) (own|tests|edits) ([\d.]+)\n', line)
-        if row:
+    spent, memory, whole = {}, {}, {'wall': 0, 'at_once': 0}
+    lines = []
+    for log in logs:
+        with open(log, encoding='utf-8', errors='replace') as it:
+            lines += it.read().splitlines()
+    for line in lines:
+        row = re.fullmatch(r'gate_times: (\w+) (own|tests|edits|memory) ([\d.]+)', line)
+        if row and row[2] == 'memory':
+            memory[row[1]] = max(float(row[3]), memory.get(row[1], 0))
+        elif row:
             spent[row[1], row[2]] = max(float(row[3]), spent.get((row[1], row[2]), 0))
-        whole = re.fullmatch(r'gate_times: wall ([\d.]+)\n', line)
-        wall += float(whole[1]) if whole else 0
-    return spent, wall
+        if row := re.fullmatch(r'gate_times: wall ([\d.]+)', line):
+            whole['wall'] += float(row[1])
+        if row := re.fullmatch(r'gate_times: at_once ([\d.]+)', line):
+            whole['at_once'] = max(float(row[1]), whole['at_once'])
+    return spent, memory, whole['at_once'], whole['wall']
+
+
+def write(log, seen, wall):
+    for (name, phase), seconds in sorted(seen.spent().items()):
+        log.write(f'gate_times: {name} {phase} {seconds:.1f}\n')
+    for name, most in sorted(seen.memory.items()):
+        log.write(f'gate_times: {name} memory {most}\n')
+    log.write(f'gate_times: at_once {seen.at_once}\ngate_times: wall {wall:.1f}\n')
 
 
 def ended(*_):
@@ -106,27 +164,25 @@ def ended(*_):
 def main():
     if sys.argv[1:2] == ['--read']:
         return table(crates_of('.'), *read(sys.argv[2:]))
-    begin, known, seen = time.time(), {}, {}
-    with open('gate_times.log', 'w') as log:
+    begin, seen = time.time(), Seen()
+    with open('gate_times.log', 'w', encoding='utf-8') as log:
         run = subprocess.Popen(['rt', 'ci', *sys.argv[1:]], stdout=log, stderr=subprocess.STDOUT, stdin=subprocess.DEVNULL)
         signal.signal(signal.SIGTERM, ended)
         try:
             while run.poll() is None:
-                watched(run.pid, known, seen)
+                watch(run.pid, seen)
                 time.sleep(0.2)
         except KeyboardInterrupt:
             run.terminate()
             run.wait()
-        spent, wall = {}, time.time() - begin
-        for key, seconds in seen.values():
-            spent[key] = spent.get(key, 0) + seconds
-        log.flush()
-        for (name, phase), seconds in sorted(spent.items()):
-            log.write(f'gate_times: {name} {phase} {seconds:.1f}\n')
-        log.write(f'gate_times: wall {wall:.1f}\n')
-    print(open('gate_times.log').read().split('gate_times: ')[0].rstrip('\n').rpartition('\n')[2])
-    table(crates_of('.'), spent, wall)
+        wall = time.time() - begin
+        log.seek(0, os.SEEK_END)
+        write(log, seen, wall)
+    with open('gate_times.log', encoding='utf-8', errors='replace') as it:
+        print(it.read().split('gate_times: ')[0].rstrip('\n').rpartition('\n')[2])
+    table(crates_of('.'), seen.spent(), seen.memory, seen.at_once, wall)
     return run.returncode
 
 
-sys.exit(main())
+if __name__ == '__main__':
+    sys.exit(main())

@@ -1,17 +1,20 @@
 #!/usr/bin/env python3
-"""Builds a program or a static library of this repository over what `rt ci` proved and kept on this machine.
+"""Builds kmip_call or libkmip_c.a, proved, over what `rt ci` passed on this machine before.
 
 usage: proved_build.py program CRATE FILE [TOP]     the program of this crate, as FILE
        proved_build.py library CRATE FILE [TOP]     the static library of this crate, as FILE
        proved_build.py module CRATE FILE [TOP]      the same as LLVM's text, not compiled, as FILE
        TOP: the top of a checkout; if it is left out, that of this script
 
-It runs `rt ci` on a copy of the crates that are needed. What an earlier `rt ci` proved of the same files, in any checkout on
-this machine, is taken from there; the rest is proved now, and kept. `rt lib` takes nothing of that, so it would prove each
-crate anew. A static library's own crate is proved once more where it is compiled.
+`rt ci` keeps the proof of each crate by the contents of its files and of the crates below it. So `rt ci` over a copy of
+the crates that are wanted, without their must-fail edits, takes those that passed before in seconds, and proves the
+others. The library is then proved once more and built over the crates of that run, by the toolchain's `rattle`, as `rt ci`
+itself does for a program. Nothing is written into the checkout. It prints a line for each crate, as one of how many, and at
+a failure, on standard error, what `rt ci` or `rattle` wrote.
 """
 import argparse
 import os
+import re
 import shutil
 import subprocess
 import sys
@@ -20,37 +23,48 @@ import tempfile
 sys.dont_write_bytecode = True
 from unproved_build import KIT, TARGET, TOOLS, crate_rows, own_crates  # noqa: E402
 
-
-def copied(top, names, repo):
-    """A repository of these crates alone, without what was made of them."""
-    os.makedirs(os.path.join(repo, '.git'))
-    for name in names:
-        shutil.copytree(os.path.join(top, 'crates', name), os.path.join(repo, 'crates', name),
-                        ignore=lambda folder, _, own=name: {'out', 'must-fail'} if os.path.basename(folder) == own else set())
-    shutil.copyfile(os.path.join(top, 'HANDLES'), os.path.join(repo, 'HANDLES'))
-    with open(os.path.join(top, 'crates.txt'), encoding='utf-8') as lines, open(os.path.join(repo, 'crates.txt'), 'w', encoding='utf-8') as out:
-        for line in lines:
-            named = line.split('#')[0].partition(':')[0].split()
-            if named and named[0] in names:
-                out.write(line)
+# What a verdict on a crate rests on: its tests run too.
+PARTS = ('src', 'specs', 'proofs', 'c', 'data', 'args', 'stdin', 'stdout', 'status')
+ENDED = re.compile(r'^rt: (\w+) (is kept|proved|NOT PROVED)\b')
 
 
-def library_words(crate, rows, repo, own, kit):
-    """What `rt lib` says to the prover, of libraries that stand in the copy."""
-    words = ['--crate-name', crate, 'src/lib.rt', '-L', 'dependency=%s/rlibs' % KIT]
-    for name in ['std'] + [it for it in rows[crate] if it in kit]:
-        words += ['--extern', '%s=%s/rlibs/%s.rlib' % (name, KIT, name)]
-    for name in own:
-        words += ['-L', 'dependency=%s/crates/%s/out/rlib' % (repo, name)]
-        if name in rows[crate]:
-            words += ['--extern', '%s=%s/crates/%s/out/rlib/%s.rlib' % (name, repo, name, name)]
-    return words + ['--antt-project', KIT + '/rattle/logic/antt-project.json', '--logic-built', KIT + '/logic_built', '--jobs', '2',
-                    '--links', crate + '=', '--crate-type', 'staticlib', '--backend', 'llvm']
+def copy_of(top, wanted, room):
+    """A repository of these crates alone, as `rt ci` wants one."""
+    os.makedirs(os.path.join(room, '.git'))
+    shutil.copy(os.path.join(top, 'HANDLES'), room)
+    with open(os.path.join(top, 'crates.txt'), encoding='utf-8') as file:
+        lines = [line for line in file if line.split('#')[0].split(':')[0].split(' ')[0].strip() in wanted]
+    with open(os.path.join(room, 'crates.txt'), 'w', encoding='utf-8') as file:
+        file.writelines(lines)
+    for name in wanted:
+        for part in PARTS:
+            source, target = (os.path.join(it, 'crates', name, part) for it in (top, room))
+            if os.path.isdir(source):
+                shutil.copytree(source, target)
+            elif os.path.exists(source):
+                shutil.copy(source, target)
 
 
-def keeping_chain(work, module):
-    """A toolchain whose clang keeps the module that it is given, as the file `module`."""
-    chain = os.path.join(work, 'toolchain')
+def passes(room, wanted):
+    """Whether `rt ci` passes there. A line is printed for each crate, and on standard error all that it wrote where one fails."""
+    said, count = [], 0
+    ran = subprocess.Popen(['rt', 'ci'], cwd=room, stdin=subprocess.DEVNULL, stdout=subprocess.PIPE, stderr=subprocess.STDOUT,
+                           text=True, errors='replace')
+    for line in ran.stdout:
+        said.append(line.replace(room + '/', ''))
+        ended = ENDED.match(line)
+        if ended and ended[1] in wanted:
+            count += 1
+            print('[%d/%d] %s: %s' % (count, len(wanted), ended[1], ended[2].replace('is ', '')), flush=True)
+    status = ran.wait()
+    if status:
+        sys.stderr.writelines(said)
+    return status == 0
+
+
+def keeping(work):
+    """A toolchain whose clang keeps the module that it compiles as the file KEPT_MODULE."""
+    chain = os.path.join(work, 'chain')
     os.makedirs(chain + '/bin')
     os.symlink(TOOLS + '/lib', chain + '/lib')
     for name in os.listdir(TOOLS + '/bin'):
@@ -61,43 +75,53 @@ def keeping_chain(work, module):
                    'for it in "$@"; do case $it in *.bc) cp -- "$it" "$KEPT_MODULE" || exit 1 ;; esac; done\n'
                    'exec -a "$0" "$KEPT_CLANG" "$@"\n')
     os.chmod(chain + '/bin/clang', 0o755)
-    return chain, dict(os.environ, KEPT_MODULE=module, KEPT_CLANG=TOOLS + '/bin/clang')
+    return chain
 
 
-def run(words, **how):
-    """Runs a command, whose failure is this one's."""
-    status = subprocess.run(words, stdin=subprocess.DEVNULL, check=False, **how).returncode
-    if status:
-        sys.exit('proved_build.py: %s ended with status %d' % (' '.join(words[:2]), status))
+def library(room, crate, rows, target, chain, words, **kept):
+    """Proves a static library over the crates of a run of `rt ci`, and builds it. `kept` is what the toolchain keeps."""
+    own, _ = own_crates(rows, crate)
+    words = ['--crate-name', crate, 'src/lib.rt', '-L', 'dependency=%s/rlibs' % KIT, *words]
+    for name in ['std'] + [it for it in rows[crate] if it not in rows]:
+        words += ['--extern', '%s=%s/rlibs/%s.rlib' % (name, KIT, name)]
+    for name in own:
+        folder = '%s/crates/%s/out/rlib' % (room, name)
+        words += ['-L', 'dependency=' + folder]
+        if name in rows[crate]:
+            words += ['--extern', '%s=%s/%s.rlib' % (name, folder, name)]
+    words += ['--antt-project', KIT + '/rattle/logic/antt-project.json', '--logic-built', KIT + '/logic_built', '--jobs', '2',
+              '--links', crate + '=', '--crate-type', 'staticlib', '--toolchain', chain, '--backend', 'llvm', '-o', target]
+    ran = subprocess.run([KIT + '/bin/rattle', 'build', *words], cwd='%s/crates/%s' % (room, crate), stdin=subprocess.DEVNULL,
+                         stdout=subprocess.PIPE, stderr=subprocess.STDOUT, text=True, errors='replace', check=False,
+                         env=dict(os.environ, **kept))
+    last = next((it for it in reversed(ran.stdout.splitlines()) if it.startswith('logic=')), '')
+    if ran.returncode or not last.startswith('logic=proved '):
+        sys.exit('%s\n%s is not proved, or not built' % (ran.stdout, crate))
 
 
 def build(kind, crate, target, top, work):
     rows = crate_rows(top)
-    own, kit = own_crates(rows, crate)
-    repo = os.path.join(work, 'repo')
-    # A program is built by rt ci itself. A static library is only checked by it, so its crate is left to the build below.
-    copied(top, own + [crate] if kind == 'program' else own, repo)
-    run(['rt', 'ci'], cwd=repo)
+    own, _ = own_crates(rows, crate)
+    room = os.path.join(work, 'repository')
+    copy_of(top, [*own, crate], room)
+    if not passes(room, [*own, crate]):
+        sys.exit('%s: rt ci did not pass' % crate)
+    made = os.path.join(work, 'made')
     if kind == 'program':
-        shutil.copyfile('%s/crates/%s/out/%s' % (repo, crate, crate), target)
-        os.chmod(target, 0o755)
-        return
-    folder, module = os.path.join(top, 'crates', crate), os.path.join(work, 'module.bc')
-    os.makedirs(folder + '/out', exist_ok=True)
-    words = [KIT + '/bin/rattle', 'build'] + library_words(crate, rows, repo, own, kit) + ['--incremental', 'out/incremental']
-    if kind == 'library':
-        run(words + ['--toolchain', TOOLS, '-o', target], cwd=folder)
-        return
-    chain, environment = keeping_chain(work, module)
-    run(words + ['--toolchain', chain, '--cpu', 'x86-64', '-o', work + '/unused.a'], cwd=folder, env=environment)
-    if not os.path.exists(module):
-        sys.exit('proved_build.py: the prover handed no module to clang')
-    run([TOOLS + '/bin/clang', '--target=' + TARGET, '-S', '-emit-llvm', '-O0', '-Xclang', '-disable-llvm-passes', '-x', 'ir', module, '-o', target])
+        shutil.copy('%s/crates/%s/out/%s' % (room, crate, crate), made)
+    elif kind == 'library':
+        library(room, crate, rows, made, TOOLS, [])
+    else:
+        module = os.path.join(work, 'module.bc')
+        library(room, crate, rows, made + '.a', keeping(work), ['--cpu', 'x86-64'], KEPT_MODULE=module, KEPT_CLANG=TOOLS + '/bin/clang')
+        subprocess.run([TOOLS + '/bin/clang', '--target=' + TARGET, '-S', '-emit-llvm', '-O0', '-Xclang', '-disable-llvm-passes',
+                        '-x', 'ir', module, '-o', made], check=True)
+    shutil.copy(made, target)
 
 
 def main():
     here = os.path.dirname(os.path.dirname(os.path.abspath(__file__)))
-    words = argparse.ArgumentParser(description='Builds a program or a static library over what rt ci proved and kept.')
+    words = argparse.ArgumentParser(description='Builds a program or a static library, proved, over what rt ci kept.')
     words.add_argument('kind', choices=['program', 'library', 'module'])
     words.add_argument('crate')
     words.add_argument('file')
@@ -106,11 +130,8 @@ def main():
     top = os.path.abspath(given.top)
     if given.crate not in crate_rows(top):
         sys.exit('%s is no crate of this repository' % given.crate)
-    work = tempfile.mkdtemp(prefix='proved-')
-    try:
+    with tempfile.TemporaryDirectory(prefix='proved-') as work:
         build(given.kind, given.crate, os.path.abspath(given.file), top, work)
-    finally:
-        shutil.rmtree(work)
     print('%s: built, and proved' % given.file)
 
 

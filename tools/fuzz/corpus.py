@@ -1,9 +1,12 @@
 #!/usr/bin/python3
 """Writes calls and responses to them for the fuzzers: corpus.py FOLDER CERTS.
 
-Each pair is NAME.call and NAME.response in FOLDER. The responses are those of the fake servers of
-tools/live; CERTS is a folder that certs.sh of tools/live made. LIBMETSUWAN is the library.
+Each pair is NAME.call and NAME.response in FOLDER, with the same call as any operation in
+NAME.operation: its name, its version and its payload in JSON, on three lines. The responses are
+those of the fake servers of tools/live; CERTS is a folder that certs.sh of tools/live made.
+LIBMETSUWAN is the library. The request of such an operation is that of the call, byte for byte.
 """
+import json
 import pathlib
 import sys
 from typing import Any, Dict, List, Tuple
@@ -11,11 +14,15 @@ from typing import Any, Dict, List, Tuple
 TOP = pathlib.Path(__file__).resolve().parents[2]
 sys.path[:0] = [str(TOP / 'tools' / 'live'), str(TOP / 'clients' / 'python')]
 import fakes                                    # noqa: E402
-from metsuwan.library import Library            # noqa: E402
+import trees                                    # noqa: E402
+from metsuwan.library import Library, Operation  # noqa: E402
 
 ONE = b'1'
 IDENTIFIED = fakes.identifier('1')
 OPERATIONS = {'activate': 0x12, 'revoke': 0x13, 'destroy': 0x14}
+NAMES = {1: 'Create', 2: 'CreateKeyPair', 8: 'Locate', 0x0A: 'Get', 0x0B: 'GetAttributes',
+         0x0E: 'ModifyAttribute', 0x12: 'Activate', 0x13: 'Revoke', 0x14: 'Destroy', 0x18: 'Query',
+         0x1E: 'DiscoverVersions', 0x21: 'Sign', 0x25: 'RNGRetrieve'}
 
 
 def attribute(name: str, *value: bytes) -> bytes:
@@ -86,11 +93,24 @@ def all_pairs(certs: str) -> Dict[str, Tuple[bytes, bytes]]:
     return pairs
 
 
+def operation_of(library: Library, call: bytes) -> Operation:
+    """A call of words as one of any operation."""
+    request: Any = library.request(call)
+    minor = request[request.index(bytes.fromhex('42006B02')) + 11]
+    payload = json.dumps(trees.json_of(trees.payload_of(trees.parsed(request), trees.REQUEST)))
+    made = Operation(NAMES[fakes.operation_of(request)].encode(), b'1.%d' % minor, payload.encode())
+    if library.request(made) != request:
+        trees.found('another request', call, made, request.hex())
+    return made
+
+
 def main() -> None:
-    folder = pathlib.Path(sys.argv[1])
+    folder, library = pathlib.Path(sys.argv[1]), Library()
     for name, (call, response) in all_pairs(sys.argv[2]).items():
         (folder / (name + '.call')).write_bytes(call)
         (folder / (name + '.response')).write_bytes(response)
+        (folder / (name + '.operation')).write_bytes(b'\n'.join(operation_of(library, call)))
 
 
-main()
+if __name__ == '__main__':
+    main()

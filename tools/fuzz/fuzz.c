@@ -2,12 +2,14 @@
 
    fuzz CORPUS SEED ROUNDS LINES
 
-   CORPUS has calls and responses, as NAME.call and NAME.response; they and mutations of them are
-   the input. Each line of kmip_answer is written to LINES with its status in front. What is
-   checked: the results are among those of the header; nothing is written where it does not fit,
-   and nothing past the length that is told; the same input gives the same output; a request is
-   one message; kmip_contents_len is as its definition says. What is read or written out of place,
-   and what is not freed, is found by the sanitizers. A round of over 20 seconds ends the run. */
+   CORPUS has calls and responses, as NAME.call and NAME.response, and each call as any operation:
+   NAME.operation is its name, its version and its payload in JSON, on three lines. They and
+   mutations of them are the input of the six calls. Each line of an answer is written to LINES with
+   its status in front. What is checked: the results are among those of the header; nothing is
+   written where it does not fit, and nothing past the length that is told; the same input gives the
+   same output; a request is one message; kmip_contents_len is as its definition says. What is read
+   or written out of place, and what is not freed, is found by the sanitizers. A round that takes
+   over 20 seconds of the processor ends the run. */
 #define _POSIX_C_SOURCE 200809L
 #include "metsuwan.h"
 
@@ -16,6 +18,7 @@
 #include <stdio.h>
 #include <stdlib.h>
 #include <string.h>
+#include <sys/time.h>
 #include <unistd.h>
 
 #define MOST_FILES 400
@@ -26,7 +29,14 @@ typedef struct {
     size_t length;
 } blob;
 
+/* A call: a line of words, or any operation's name, version and payload. */
+typedef struct {
+    blob parts[3];
+    bool any;
+} asked;
+
 static blob calls[MOST_FILES], responses[MOST_FILES];
+static asked operations[MOST_FILES];
 static size_t files;
 static uint64_t state;
 static volatile long at_round;
@@ -73,6 +83,29 @@ static blob load(const char *folder, const char *name, size_t stem, const char *
     return copy_of(bytes, length);
 }
 
+/* The line of a blob that begins at `from`, and where the one after it begins. */
+static blob line_of(blob it, size_t *from) {
+    size_t start = *from, end = start;
+    while (end < it.length && it.bytes[end] != '\n')
+        end++;
+    *from = end < it.length ? end + 1 : end;
+    return copy_of(it.bytes + start, end - start);
+}
+
+static asked operation_in(blob file) {
+    size_t at = 0;
+    asked it = {.any = true};
+    for (int i = 0; i < 3; i++)
+        it.parts[i] = line_of(file, &at);
+    free(file.bytes);
+    return it;
+}
+
+static void let_go(asked it) {
+    for (int i = 0; i < (it.any ? 3 : 1); i++)
+        free(it.parts[i].bytes);
+}
+
 static void load_all(const char *folder) {
     DIR *entries = opendir(folder);
     if (!entries) exit(9);
@@ -82,6 +115,7 @@ static void load_all(const char *folder) {
         size_t stem = (size_t)(end - it->d_name);
         calls[files] = load(folder, it->d_name, stem, ".call");
         responses[files] = load(folder, it->d_name, stem, ".response");
+        operations[files] = operation_in(load(folder, it->d_name, stem, ".operation"));
         files++;
     }
     closedir(entries);
@@ -256,6 +290,163 @@ static blob a_call(size_t file) {
     }
 }
 
+/* Changes of a text of JSON. */
+
+static const char *const tokens[] = {"{",
+                                     "}",
+                                     "[",
+                                     "]",
+                                     ",",
+                                     ":",
+                                     "\"\"",
+                                     "\"",
+                                     "null",
+                                     "true",
+                                     "false",
+                                     "0",
+                                     "-0",
+                                     "-1",
+                                     "1e9",
+                                     "1.5",
+                                     "007",
+                                     "9007199254740993",
+                                     "18446744073709551616",
+                                     "-2147483649",
+                                     "\"0x420094\"",
+                                     "\"0x54AAAA\"",
+                                     "\"0xFFFFFFFF\"",
+                                     "\"0x8000000000000000\"",
+                                     "\"0x\"",
+                                     "\"\\u0000\"",
+                                     "\"\\ud800\"",
+                                     "\"\\ud83d\\ude00\"",
+                                     "\"\\x\"",
+                                     "\"\xC3\xA9\"",
+                                     "\"\xFF\"",
+                                     " ",
+                                     "\n",
+                                     "\"tag\":",
+                                     "\"type\":",
+                                     "\"value\":",
+                                     "\"name\":",
+                                     "\"RequestPayload\"",
+                                     "\"UniqueIdentifier\"",
+                                     "\"CryptographicAlgorithm\"",
+                                     "\"Structure\"",
+                                     "\"Integer\"",
+                                     "\"LongInteger\"",
+                                     "\"BigInteger\"",
+                                     "\"Enumeration\"",
+                                     "\"Boolean\"",
+                                     "\"TextString\"",
+                                     "\"ByteString\"",
+                                     "\"DateTime\"",
+                                     "\"Interval\"",
+                                     "\"AES\"",
+                                     "\"Sign|Verify\"",
+                                     "\"2038-01-19T03:14:08+00:00\"",
+                                     "\"-0001-01-01T00:00:00+25:00\"",
+                                     "\"00FF\"",
+                                     "\"0\"",
+                                     "{\"tag\":\"Data\",\"type\":\"ByteString\",\"value\":\"\"},",
+                                     "{\"tag\":\"0x420008\",\"value\":[]},"};
+
+static bool is_sign(uint8_t byte) {
+    return byte && strchr("{}[],:", byte);
+}
+
+/* A token is put in, at a place where another begins, or takes the place of one or of some. */
+static void set_a_token(blob *it) {
+    size_t at = below(it->length + 1), end, more = 0;
+    while (at < it->length && !is_sign(it->bytes[at]))
+        at++;
+    for (end = at; below(3) && end < it->length; end++)
+        while (end + 1 < it->length && !is_sign(it->bytes[end]))
+            end++;
+    const char *token = below(6) ? tokens[below(sizeof tokens / sizeof *tokens)] : "";
+    more = strlen(token);
+    memmove(it->bytes + at + more, it->bytes + end, it->length - end);
+    memcpy(it->bytes + at, token, more);
+    it->length += more - (end - at);
+}
+
+/* A part is doubled: of many levels, then. */
+static void double_a_part(blob *it) {
+    if (!it->length) return;
+    size_t at = below(it->length), count = 1 + below(60);
+    if (count > it->length - at) count = it->length - at;
+    memmove(it->bytes + at + count, it->bytes + at, it->length - at);
+    it->length += count;
+}
+
+static blob changed_json(blob from) {
+    enum { MOST = 6 };
+    blob it = {malloc(from.length + 64 * MOST + 1), from.length};
+    if (!it.bytes) exit(9);
+    memcpy(it.bytes, from.bytes, from.length);
+    for (size_t left = 1 + below(MOST); left; left--) {
+        if (below(4))
+            set_a_token(&it);
+        else if (below(2))
+            double_a_part(&it);
+        else
+            changes[below(5)](&it);
+    }
+    blob exact = copy_of(it.bytes, it.length);
+    free(it.bytes);
+    return exact;
+}
+
+/* Structures within each other, so many, and what of them is not closed. */
+static blob nested_json(void) {
+    static const char in[] = "{\"tag\":\"RequestPayload\",\"value\":[", out[] = "]}";
+    size_t levels = below(4) ? below(80) : below(3000),
+           left = below(3) ? levels : below(levels + 1);
+    blob it = {malloc((sizeof in + sizeof out) * levels + 1), 0};
+    if (!it.bytes) exit(9);
+    for (size_t i = 0; i < levels; i++, it.length += sizeof in - 1)
+        memcpy(it.bytes + it.length, in, sizeof in - 1);
+    for (size_t i = 0; i < left; i++, it.length += sizeof out - 1)
+        memcpy(it.bytes + it.length, out, sizeof out - 1);
+    blob exact = copy_of(it.bytes, it.length);
+    free(it.bytes);
+    return exact;
+}
+
+static blob a_text(const char *const *some, size_t count, blob own) {
+    const char *text = some[below(count)];
+    switch (below(6)) {
+    case 0: return copy_of((const uint8_t *)text, strlen(text));
+    case 1: return below(4) ? changed(own, 1) : random_bytes(30);
+    default: return copy_of(own.bytes, own.length);
+    }
+}
+
+static blob a_payload(blob own) {
+    switch (below(8)) {
+    case 0: return copy_of(own.bytes, own.length);
+    case 1: return changed_json(operations[below(files)].parts[2]);
+    case 2: return below(4) ? changed(own, 2) : nested_json();
+    case 3: return below(4) ? changed_json(own) : random_bytes(80);
+    default: return changed_json(own);
+    }
+}
+
+static asked any_operation(size_t file) {
+    static const char *const names[] = {"Encrypt", "Decrypt",    "MACVerify", "Rekey",
+                                        "encrypt", "Encrypt ",   "",          "Query",
+                                        "Create",  "0x0000001F", "Re-key",    "Poll",
+                                        "Notify",  "Put",        "RNGSeed",   "CreateKeyPair"};
+    static const char *const versions[] = {"1.0", "1.1", "1.2",  "1.3", "2.0",
+                                           "1",   "",    "1.2 ", "01.2"};
+    const blob *own = operations[file].parts;
+    asked it = {.any = true};
+    it.parts[0] = a_text(names, sizeof names / sizeof *names, own[0]);
+    it.parts[1] = a_text(versions, sizeof versions / sizeof *versions, own[1]);
+    it.parts[2] = a_payload(own[2]);
+    return it;
+}
+
 static size_t a_room(void) {
     static const size_t most[] = {1, 16, 400, 5000, 70000};
     return below(most[below(5)]);
@@ -275,7 +466,28 @@ static void check_written(const uint8_t *into, size_t room, int64_t length) {
         if (into[i] != UNTOUCHED) found("a byte is written past what is told");
 }
 
-static void check_request(blob call) {
+static int64_t request_of(asked it, bool has, blob user, blob password, uint8_t *into,
+                          size_t room) {
+    const blob *part = it.parts;
+    if (!it.any)
+        return kmip_request(part->bytes, part->length, has, user.bytes, user.length, password.bytes,
+                            password.length, into, room);
+    return kmip_operation_request(part[0].bytes, part[0].length, part[1].bytes, part[1].length,
+                                  part[2].bytes, part[2].length, has, user.bytes, user.length,
+                                  password.bytes, password.length, into, room);
+}
+
+static int32_t answer_of(asked it, blob response, uint8_t *into, size_t room, int64_t *length) {
+    const blob *part = it.parts;
+    if (!it.any)
+        return kmip_answer(part->bytes, part->length, response.bytes, response.length, into, room,
+                           length);
+    return kmip_operation_answer(part[0].bytes, part[0].length, part[1].bytes, part[1].length,
+                                 part[2].bytes, part[2].length, response.bytes, response.length,
+                                 into, room, length);
+}
+
+static void check_request(asked call) {
     bool has = below(2);
     blob user = random_bytes(40), password = random_bytes(40);
     for (size_t i = 0; i < user.length; i++)
@@ -284,15 +496,13 @@ static void check_request(blob call) {
         password.bytes[i] &= below(20) ? 0x7F : 0xFF;
     size_t room = a_room();
     uint8_t *into = to_write(room);
-    int64_t length = kmip_request(call.bytes, call.length, has, user.bytes, user.length,
-                                  password.bytes, password.length, into, room);
+    int64_t length = request_of(call, has, user, password, into, room);
     check_written(into, room, length);
     if (length < 0) {
         if (length != KMIP_GRAMMAR && length != KMIP_NO_FORM) found("another code of a request");
     } else {
         uint8_t *again = to_write((size_t)length);
-        if (kmip_request(call.bytes, call.length, has, user.bytes, user.length, password.bytes,
-                         password.length, again, (size_t)length) != length)
+        if (request_of(call, has, user, password, again, (size_t)length) != length)
             found("another length of the same request");
         if (length < 8 || number_at(again) != 0x42007801 || number_at(again + 4) + 8 != length)
             found("a request that is not one message");
@@ -322,21 +532,18 @@ static void check_contents_len(blob response) {
     free(head.bytes);
 }
 
-static void check_answer(blob call, blob response, FILE *lines) {
+static void check_answer(asked call, blob response, FILE *lines) {
     size_t room = below(4) ? 4096 + 8 * response.length : a_room();
     uint8_t *into = to_write(room);
     int64_t length = -77, again = -78;
-    int32_t status =
-        kmip_answer(call.bytes, call.length, response.bytes, response.length, into, room, &length);
+    int32_t status = answer_of(call, response, into, room, &length);
     if (status != KMIP_ANSWERED && status != KMIP_REFUSED && status != KMIP_CALL_GRAMMAR &&
         status != KMIP_LOST)
         found("another status");
     if (length < 0 || (status == KMIP_CALL_GRAMMAR) != (length == 0)) found("another length");
     check_written(into, room, length);
     uint8_t *same = to_write((size_t)length);
-    if (kmip_answer(call.bytes, call.length, response.bytes, response.length, same, (size_t)length,
-                    &again) != status ||
-        again != length)
+    if (answer_of(call, response, same, (size_t)length, &again) != status || again != length)
         found("another answer of the same response");
     if ((uint64_t)length <= room && length && memcmp(into, same, (size_t)length) != 0)
         found("another line of the same response");
@@ -385,27 +592,39 @@ static void check_value(blob call, blob response) {
     free(exact.bytes);
 }
 
+static void a_round(FILE *lines) {
+    size_t file = below(files);
+    asked call = {.parts = {a_call(file)}}, any = any_operation(file);
+    blob response = a_response(file);
+    check_request(call);
+    check_request(any);
+    check_contents_len(response);
+    check_answer(call, response, lines);
+    check_answer(any, response, lines);
+    check_value(call.parts[0], response);
+    let_go(call);
+    let_go(any);
+    free(response.bytes);
+}
+
 int main(int argc, char **argv) {
+    static const struct itimerval some = {.it_value = {20, 0}}, none;
     if (argc != 5) return 2;
     load_all(argv[1]);
     state = strtoull(argv[2], NULL, 10) * 0x9E3779B97F4A7C15U + 1;
     long rounds = strtol(argv[3], NULL, 10);
     FILE *lines = fopen(argv[4], "wb");
     if (!lines) return 9;
-    signal(SIGALRM, is_late);
+    signal(SIGPROF, is_late);
     for (at_round = 0; at_round < rounds; at_round++) {
-        alarm(20);
-        size_t file = below(files);
-        blob call = a_call(file), response = a_response(file);
-        check_request(call);
-        check_contents_len(response);
-        check_answer(call, response, lines);
-        check_value(call, response);
-        free(call.bytes);
-        free(response.bytes);
+        setitimer(ITIMER_PROF, &some, NULL);
+        a_round(lines);
     }
-    alarm(0);
-    for (size_t i = 0; i < files; i++)
-        free(calls[i].bytes), free(responses[i].bytes);
+    setitimer(ITIMER_PROF, &none, NULL);
+    for (size_t i = 0; i < files; i++) {
+        free(calls[i].bytes);
+        free(responses[i].bytes);
+        let_go(operations[i]);
+    }
     return fclose(lines) == 0 ? 0 : 9;
 }

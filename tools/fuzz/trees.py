@@ -8,7 +8,9 @@
 
 What is checked of a line: it is one line of strict JSON in UTF-8, without a name twice, with the
 members that its status wants. What is checked of the library: kmip_value at each path of an answer
-gives what the JSON has there, and nothing at paths that it has not. LIBMETSUWAN is the library.
+gives what the JSON has there, and nothing at paths that it has not; and the answer to any operation
+is the payload of the response: as the payload of a request it gives the same bytes. LIBMETSUWAN is
+the library.
 """
 import collections
 import ctypes
@@ -22,9 +24,11 @@ from typing import Any, Iterator, List, Optional, Tuple
 
 TOP = pathlib.Path(__file__).resolve().parents[2]
 sys.path.insert(0, str(TOP / 'clients' / 'python'))
-from metsuwan.library import Library            # noqa: E402
+from metsuwan.library import Library, Operation  # noqa: E402
 
 Item = List[Any]                                # tag, type, and bytes or a list of items
+TYPES = ['', 'Structure', 'Integer', 'LongInteger', 'BigInteger', 'Enumeration', 'Boolean',
+         'TextString', 'ByteString', 'DateTime', 'Interval']
 REFUSALS = ('ServerError', 'ItemNotFound', 'InternalError')
 MEMBERS = {'error', 'text', 'response', 'reason', 'message'}
 LOSSES = ('DeserializeError', 'ResponseReadError', 'InternalError')
@@ -38,6 +42,7 @@ NUMBERS = [0, 1, 2, 3, 4, 5, 6, 8, 10, 18, 0x21, 0x25, 0xFF, 0x100, 1 << 31, (1 
            (1 << 32) - 1, 0x80000001]
 LARGE = [0, 1, (1 << 53) + 1, (1 << 63) - 1, 1 << 63, (1 << 64) - 1, 1700000000]
 WIDTHS = {2: 4, 5: 4, 10: 4, 3: 8, 6: 8, 9: 8}
+REQUEST, RESPONSE = 0x420079, 0x42007C          # the tags of payloads
 
 
 def found(*what: object) -> None:
@@ -108,6 +113,28 @@ def written(items: List[Item]) -> bytes:
         head = tag.to_bytes(3, 'big') + bytes([kind]) + len(body).to_bytes(4, 'big')
         message += head + body + b'\0' * (-len(body) % 8)
     return message
+
+
+def payload_of(message: List[Item], tag: int) -> Item:
+    """The payload of a message; one of no items where there is none."""
+    for _, _, value in message[0][2]:
+        for item in value if isinstance(value, list) else []:
+            if item[0] == tag:
+                return list(item)
+    return [tag, 1, []]
+
+
+def json_of(item: Item) -> Any:
+    """An item in KMIP's JSON, with tags, numbers of enumerations and dates in hex digits."""
+    tag, kind, value = item
+    it = {'tag': '0x%06X' % tag, 'type': TYPES[kind]}
+    if kind == 1:
+        return {**it, 'value': [json_of(part) for part in value]}
+    if kind in (2, 10):
+        return {**it, 'value': int.from_bytes(value, 'big', signed=kind == 2)}
+    if kind in (6, 7):
+        return {**it, 'value': value[-1] == 1 if kind == 6 else value.decode()}
+    return {**it, 'value': ('' if kind == 8 else '0x') + value.hex().upper()}
 
 
 def places(items: List[Item]) -> Iterator[Tuple[List[Item], int]]:
@@ -220,26 +247,59 @@ class Values:
                 found('a value at', path, call, response.hex())
 
 
+def check_payload(library: Library, asked: Operation, answer: Any, tree: List[Item]) -> None:
+    """That the JSON of an answer is the payload of the response. One that is no structure is shown
+    too, but no request has such a payload."""
+    if answer.get('type', 'Structure') != 'Structure':
+        return
+    if answer['tag'] != 'ResponsePayload':
+        found('another tag', asked, answer)
+    again = asked._replace(payload=json.dumps({**answer, 'tag': 'RequestPayload'}).encode())
+    request = library.request(again)
+    if not isinstance(request, bytes):
+        found('no request of an answer', request, again)
+    elif payload_of(parsed(request), REQUEST)[1:] != payload_of(tree, RESPONSE)[1:]:
+        found('another payload', again, request.hex(), written(tree).hex())
+
+
+def try_tree(library: Library, values: Values, call: bytes, asked: Operation,
+             tree: List[Item]) -> Iterator[Tuple[str, int]]:
+    """The statuses of a response to a call of words, and to one of any operation."""
+    response = written(tree)
+    status, line = library.answer(call, response)
+    yield 'words', status
+    it = check_line(status, line.encode('utf-8'))
+    if status == 0:
+        values.check(call, response, it['answer'])
+    elif values.value(call, response, b'unique_identifier', False) is not None:
+        found('a value of an error', call, response.hex())
+    status, line = library.answer(asked, response)
+    yield 'operation', status
+    it = check_line(status, line.encode('utf-8'))
+    if status == 0:
+        check_payload(library, asked, it['answer'], tree)
+
+
 def try_trees(folder: str, seed: int, rounds: int) -> None:
     library, values, changes = Library(), Values(), Changes(seed)
     corpus = []
     for path in sorted(pathlib.Path(folder).glob('*.call')):
-        corpus.append((path.read_bytes(), parsed(path.with_suffix('.response').read_bytes())))
-    statuses: 'collections.Counter[int]' = collections.Counter()
+        asked = Operation(*path.with_suffix('.operation').read_bytes().split(b'\n'))
+        tree = parsed(path.with_suffix('.response').read_bytes())
+        corpus.append((path.read_bytes(), asked, tree))
+    statuses: 'collections.Counter[Tuple[str, int]]' = collections.Counter()
     for _ in range(rounds):
-        call, tree = changes.random.choice(corpus)
-        response = written(changes.changed(tree))
-        status, line = library.answer(call, response)
-        statuses[status] += 1
-        it = check_line(status, line.encode('utf-8'))
-        if status == 0:
-            values.check(call, response, it['answer'])
-        elif values.value(call, response, b'unique_identifier', False) is not None:
-            found('a value of an error', call, response.hex())
+        call, asked, tree = changes.random.choice(corpus)
+        statuses.update(try_tree(library, values, call, asked, changes.changed(tree)))
     print('trees:', dict(sorted(statuses.items())))
 
 
-if sys.argv[1] == '--lines':
-    check_lines(sys.argv[2])
-else:
-    try_trees(sys.argv[1], int(sys.argv[2]), int(sys.argv[3]))
+def main() -> None:
+    if sys.argv[1] == '--lines':
+        check_lines(sys.argv[2])
+    else:
+        try_trees(sys.argv[1], int(sys.argv[2]), int(sys.argv[3]))
+
+
+if __name__ == '__main__':
+    main()

@@ -1,13 +1,19 @@
 #!/usr/bin/python3
 """Fake KMIP servers over TLS, each of which does what no good server does: one process, one port for each.
 
-    fakes.py CERTS      CERTS: a folder that certs.sh made
-    fakes.py --list     says what each of them does
+    fakes.py CERTS                  CERTS: a folder that certs.sh made
+    fakes.py --list                 says what each of them does
+    fakes.py --reach CERTS PORTS    a client: whether `good` of PORTS, what the first has written, is reached as localhost
 
 It writes a line `NAME PORT` for each, then `ready`, and serves on 127.0.0.1 until it is killed. A new one is a function
 below, `@fake` above it: it is called for each request with the connection and the request's bytes, and returns True where
 it is done with the connection.
+
+What a test waits for is told, and takes no time of its own: a busy machine changes no outcome. So an end comes with the
+last bytes, and `control` says what `held` has.
 """
+import collections
+import contextlib
 import hashlib
 import os
 import socket
@@ -24,6 +30,7 @@ CERTIFICATES = ('expired_server', 'wrong_host', 'address', 'other/server')
 QUERY, CREATE_KEY_PAIR, GET, ACTIVATE, SIGN = 0x18, 0x02, 0x0A, 0x12, 0x21
 ADD_ATTRIBUTE, MODIFY_ATTRIBUTE, DELETE_ATTRIBUTE, RNG_RETRIEVE = 0x0D, 0x0E, 0x0F, 0x25
 SUCCESS, FAILED, PENDING, UNDONE = 0, 1, 2, 3
+FOR_EVER = 1 << 30      # seconds
 
 
 def fake(function):
@@ -156,11 +163,56 @@ def good(wire, request):
 
 @fake
 def slow(wire, request):
-    """is good, but takes 3 seconds where the identifier begins with `slow`, and 10 where it does with `slower`"""
+    """is good, but takes 3 seconds where the identifier begins with `slow`, and for ever where it is `never`"""
     asked = value_of(request, '420094', 7) or b''
     if asked.startswith(b'slow'):
-        time.sleep(10 if asked.startswith(b'slower') else 3)
+        time.sleep(3)
+    if asked == b'never':
+        time.sleep(FOR_EVER)
     wire.sendall(answer_of(request))
+
+
+class Held:
+    """A request that `held` has, or will have."""
+
+    def __init__(self):
+        self.arrived, self.released, self.answered = (threading.Event() for _ in range(3))
+
+
+HELD = collections.defaultdict(Held)    # by the identifier
+
+
+@fake
+def held(wire, request):
+    """is good, but answers about an identifier that begins with `held` when it is told to by `control`"""
+    asked = value_of(request, '420094', 7) or b''
+    if not asked.startswith(b'held'):
+        return good(wire, request)
+    it = HELD[asked.decode()]
+    it.arrived.set()
+    it.released.wait()
+    try:
+        wire.sendall(answer_of(request))
+    finally:
+        it.answered.set()
+
+
+@plain
+def control(listener):
+    """is asked `arrived IDENTIFIER`, or told `release IDENTIFIER`: says `yes` once `held` has it, or has answered"""
+    def serve(wire):
+        with wire, wire.makefile('rw') as lines:
+            for line in lines:
+                what, name = line.split()
+                it = HELD[name]
+                if what == 'release':
+                    it.released.set()
+                    # A call that was given up before its request came is none to wait for.
+                    done = it.arrived.wait(5) and it.answered.wait(60)
+                else:
+                    done = it.arrived.wait(60)
+                print('yes' if done else 'no', file=lines, flush=True)
+    serve_each(listener, serve)
 
 
 @fake
@@ -219,19 +271,33 @@ def objects(wire, request):
     wire.sendall(response(GET, [number, identifier(asked), body]))
 
 
-LAST_END = ['none']     # how the last connection of `ends` ended
+class End:
+    """How a connection of `ends` ends, and when."""
+
+    def __init__(self):
+        self.how, self.told = 'torn', threading.Event()
+
+
+LAST_END = {}           # by the user: that of the last connection
 
 
 @fake
 def ends(wire, request):
-    """answers query; the vendor is how the connection before it ended: `in order`, or `torn`"""
-    wire.sendall(response(QUERY, [text(0x42009D, LAST_END[0])]))
+    """answers one query; the vendor is how the connection of this user before it ended: `in order`, `torn`, or `none`"""
+    user, how = value_of(request, '420099', 7), 'none'
+    if user in LAST_END:
+        LAST_END[user].told.wait(60)
+        how = LAST_END[user].how
+    wire.end = LAST_END[user] = End()
+    wire.sendall(response(QUERY, [text(0x42009D, how)]))
 
 
 @fake
 def end_after(wire, request):
-    """is good once, and then ends the connection"""
-    good(wire, request)
+    """is good once, and then ends the connection: the end comes with the answer"""
+    wire.write(answer_of(request))
+    wire.say_end()
+    wire.flush()
     return True
 
 
@@ -239,7 +305,7 @@ def end_after(wire, request):
 def no_close(wire, request):
     """is good once, and then neither reads nor ends the connection"""
     good(wire, request)
-    time.sleep(120)
+    time.sleep(FOR_EVER)
 
 
 # Messages that break off, or don't come, or come slowly.
@@ -276,13 +342,13 @@ def half_head(wire, request):
 def half_hold(wire, request):
     """sends the first part of a message, and keeps the connection open"""
     wire.sendall(GOOD_QUERY[:-13])
-    time.sleep(120)
+    time.sleep(FOR_EVER)
 
 
 @fake
 def silent(wire, request):
     """answers nothing, and keeps the connection open"""
-    time.sleep(120)
+    time.sleep(FOR_EVER)
 
 
 @fake
@@ -320,15 +386,17 @@ def unaccepting(listener):
         waiting.append(socket.socket())
         waiting[-1].setblocking(False)
         waiting[-1].connect_ex(listener.getsockname())
-    time.sleep(1 << 30)
+    time.sleep(FOR_EVER)
 
 
 @plain
 def no_tls(listener):
     """speaks HTTP with no TLS"""
     def serve(wire):
-        wire.sendall(b'HTTP/1.1 200 OK\r\n\r\nhello')
-        wire.close()
+        with wire:
+            wire.recv(1)
+            wire.sendall(b'HTTP/1.1 200 OK\r\n\r\nhello')
+            finish(wire)
     serve_each(listener, serve)
 
 
@@ -357,7 +425,7 @@ def echo(wire, request):
 def huge(wire, request):
     """announces nearly 4 GiB, and sends a thousand bytes"""
     wire.sendall(bytes.fromhex('42007B01FFFFFFF8') + b'\0' * 1000)
-    time.sleep(120)
+    time.sleep(FOR_EVER)
 
 
 @fake
@@ -388,9 +456,28 @@ def trailing(wire, request):
 
 
 @fake
+def levels(wire, request):
+    """answers with 64 levels of structures"""
+    wire.sendall(response(operation_of(request), [nested(61)]))
+
+
+@fake
 def deep(wire, request):
     """answers with 65 levels of structures"""
-    wire.sendall(structure(0x42007B, header(), batch_item(operation_of(request), [nested(62)])))
+    wire.sendall(response(operation_of(request), [nested(62)]))
+
+
+@fake
+def abyss(wire, request):
+    """answers with 10,000 levels of structures"""
+    wire.sendall(response(operation_of(request), [nested(9997)]))
+
+
+@fake
+def endless(wire, request):
+    """answers query, again and again"""
+    while True:
+        wire.sendall(GOOD_QUERY)
 
 
 @fake
@@ -429,9 +516,54 @@ def batch_two(wire, request):
 
 
 @fake
+def batch_one(wire, request):
+    """says that there is one answer, and has two"""
+    one = batch_item(operation_of(request), [identifier('1')])
+    wire.sendall(structure(0x42007B, header(), one, one))
+
+
+@fake
 def pending(wire, request):
     """says that the operation is pending"""
     wire.sendall(response(operation_of(request), None, status=PENDING))
+
+
+@fake
+def undone(wire, request):
+    """says that the operation was undone"""
+    wire.sendall(response(operation_of(request), None, status=UNDONE))
+
+
+@fake
+def other_status(wire, request):
+    """answers with a status that is in no table"""
+    wire.sendall(response(operation_of(request), [identifier('1')], status=9))
+
+
+@fake
+def no_operation(wire, request):
+    """answers, and doesn't say to which operation"""
+    wire.sendall(response(None, [identifier('1')]))
+
+
+@fake
+def doubled(wire, request):
+    """answers with two identifiers where one belongs"""
+    wire.sendall(response(operation_of(request), [identifier('1'), identifier('1')]))
+
+
+@fake
+def odd_payload(wire, request):
+    """answers with a date in the place of the payload"""
+    answered = [enumeration(0x42005C, operation_of(request)), enumeration(0x42007F, SUCCESS)]
+    wire.sendall(structure(0x42007B, header(), structure(0x42000F, *answered, date(0x42007C, 1))))
+
+
+@fake
+def large_text(wire, request):
+    """fails with a message of 180,000 characters"""
+    message = 'E"\\\n\x01\x7f\u2028\U0001f600!' * 20000
+    wire.sendall(response(operation_of(request), None, status=FAILED, reason=0x100, message=message))
 
 
 @fake
@@ -484,29 +616,80 @@ def closing(wire, request):
 
 @fake
 def early(wire, request):
-    """has answered query before it was asked (see connection)"""
-    time.sleep(120)
+    """has answered query before it was asked: the answer comes with the last bytes of the handshake (see connection)"""
+    time.sleep(FOR_EVER)
 
 
-def connection(name, context, wire):
-    try:
-        with context.wrap_socket(wire, server_side=True, suppress_ragged_eofs=False) as wire:
-            if name == 'early':
-                wire.sendall(GOOD_QUERY)
-            if name == 'closing':
-                wire.recv(10)
-                wire.shutdown(socket.SHUT_WR)
-                time.sleep(0.3)
-                return
+class Together:
+    """The TLS of a server, whose bytes go when they are flushed, or before it waits for more: so all go at once."""
+
+    def __init__(self, wire, context):
+        self.wire, self.came, self.goes = wire, ssl.MemoryBIO(), ssl.MemoryBIO()
+        self.tls = context.wrap_bio(self.came, self.goes, server_side=True)
+        self.write = self.tls.write
+        self.in_steps(self.tls.do_handshake)
+
+    def in_steps(self, call, *words):
+        while True:
+            try:
+                return call(*words)
+            except ssl.SSLWantReadError:
+                self.flush()
+                piece = self.wire.recv(65536)
+                if piece:
+                    self.came.write(piece)
+                else:
+                    self.came.write_eof()
+
+    def recv(self, count):
+        return self.in_steps(self.tls.read, count)
+
+    def say_end(self):
+        with contextlib.suppress(ssl.SSLWantReadError):
+            self.tls.unwrap()
+
+    def flush(self):
+        self.wire.sendall(self.goes.read())
+
+
+def finish(wire):
+    """Ends a connection. All that still comes is read: of bytes that are unread at its end the system makes a reset."""
+    wire.shutdown(socket.SHUT_WR)
+    while wire.recv(65536):
+        pass
+
+
+def by_steps(name, context, plain):
+    """A connection of `early` or `end_after`."""
+    with plain:
+        wire = Together(plain, context)
+        if name == 'early':
+            wire.write(GOOD_QUERY)
+        wire.flush()
+        request = message_of(wire)
+        if request and FAKES[name](wire, request):
+            finish(plain)
+
+
+def connection(name, context, plain):
+    with context.wrap_socket(plain, server_side=True, suppress_ragged_eofs=False) as wire:
+        if name == 'closing':
+            wire.recv(10)
+            wire.shutdown(socket.SHUT_WR)
+            time.sleep(0.3)
+            return
+        try:
             while True:
                 request = message_of(wire)
-                if not request and name == 'ends':
-                    LAST_END[0] = 'in order'
+                if not request and hasattr(wire, 'end'):
+                    wire.end.how = 'in order'
                 if not request or FAKES[name](wire, request):
-                    return
-    except OSError:
-        if name == 'ends':
-            LAST_END[0] = 'torn'
+                    break
+        finally:
+            if hasattr(wire, 'end'):
+                wire.end.told.set()
+        if request and wire.fileno() >= 0:
+            finish(wire)
 
 
 def serve_each(listener, serve):
@@ -539,20 +722,37 @@ def context_of(certs, name):
     return context
 
 
+def reach(certs, ports):
+    with open(ports, encoding='ascii') as lines:
+        port = dict(line.split() for line in lines if ' ' in line)['good']
+    context = ssl.create_default_context(cafile=certs + '/ca.pem')
+    context.load_cert_chain(certs + '/client.pem', certs + '/client.key')
+    with socket.create_connection(('localhost', int(port)), 60) as plain:
+        context.wrap_socket(plain, server_hostname='localhost').close()
+
+
 def main():
     if sys.argv[1:] == ['--list']:
         for name, function in {**FAKES, **PLAIN}.items():
             print('%-16s %s' % (name, function.__doc__))
         print('%-16s %s' % ('/'.join(CERTIFICATES), 'is good, but for its certificate'))
         print('%-16s %s' % ('address6', 'is good, at ::1, with the certificate `address`'))
+        print('%-16s %s' % ('nobody', 'is a port where nobody listens, and that no other process gets'))
+        return
+    if sys.argv[1:2] == ['--reach'] and len(sys.argv) == 4:
+        reach(*sys.argv[2:])
         return
     if len(sys.argv) != 2 or sys.argv[1].startswith('-'):
-        sys.exit('usage: fakes.py CERTS | --list')
+        sys.exit('usage: fakes.py CERTS | --list | --reach CERTS PORTS')
     certs = sys.argv[1]
 
     def over_tls(name, certificate):
         context = context_of(certs, certificate)
-        return lambda listener: serve_each(listener, lambda wire: connection(name, context, wire))
+        if name == 'early':
+            # In TLS 1.2 the last bytes of the handshake are the server's.
+            context.maximum_version = ssl.TLSVersion.TLSv1_2
+        serve = by_steps if name in ('early', 'end_after') else connection
+        return lambda listener: serve_each(listener, lambda wire: serve(name, context, wire))
 
     for name in FAKES:
         listen(name, over_tls(name, 'server'))
@@ -564,6 +764,9 @@ def main():
         pass  # this machine has no IPv6
     for name, serve in PLAIN.items():
         listen(name, serve)
+    nobody = socket.socket()
+    nobody.bind(('127.0.0.1', 0))
+    print('nobody', nobody.getsockname()[1])
     print('ready', flush=True)
     while True:
         time.sleep(3600)

@@ -1,4 +1,4 @@
-# shellcheck shell=bash
+# shellcheck shell=bash disable=SC2030,SC2031
 # What the cases of the live test stand on; tools/live.sh and tools/check_clients.sh source it.
 #
 # A CASE FILE is a file of bash, each/TOPIC.sh for every client or CLIENT/TOPIC.sh for one, where CLIENT is shell, c,
@@ -50,11 +50,13 @@ give_up() { # TEXT
     exit 1
 }
 
-# What stop_all ends: processes by their number.
+# What stop_all ends: processes by their number, and groups of processes by that of their first, with all that they began.
 started=()
+groups=()
 stop_all() {
     local process
     for process in ${started[@]+"${started[@]}"}; do kill "$process" 2>/dev/null; done
+    for process in ${groups[@]+"${groups[@]}"}; do kill -- "-$process" 2>/dev/null; done
 }
 
 verdict() { # WHAT
@@ -155,7 +157,7 @@ gate() { # MODE
 start_fakes() {
     "$python" "$here/fakes.py" "$certs" >"$run/fakes" 2>"$run/fakes.err" &
     started+=($!)
-    wait_for ready "$run/fakes" && return
+    wait_for ready "$run/fakes" && "$python" "$here/fakes.py" --reach "$certs" "$run/fakes" 2>>"$run/fakes.err" && return
     cat "$run/fakes.err" >&2
     return 1
 }
@@ -168,16 +170,17 @@ run_case() { # NUMBER CLIENT FILE
         mkdir -p "$work"
         cd "$work" || exit
         : >"$said"
-        started=()
+        started=() groups=()
         trap stop_all EXIT
         trap 'exit 130' INT TERM
         . "$here/$client/client.sh"
         printf -- '--      %s: %s\n' "$client" "$3"
         . "$here/$3"
         printf 'ended   %s\n' "$3"
-    ) >"$run/$1.raw" 2>&1
+    ) >"$run/$1.raw" 2>&1 </dev/null
     grep -q '^ended ' "$run/$1.raw" || printf 'FAILED  %s: %s broke off\n' "$2" "$3" >>"$run/$1.raw"
-    without_open <"$run/$1.raw" >"$run/$1.out"
+    without_open <"$run/$1.raw" >"$run/$1.all"
+    mv "$run/$1.all" "$run/$1.out"
 }
 
 # What is printed, with `open` in the place of FAILED where open.txt has the check.
@@ -208,8 +211,8 @@ cases_of() { # CLIENT server|fakes
     done
 }
 
-# Where `until` is set, no case is begun after so many seconds of the script, none is run again 40 seconds later, and none
-# is waited for 80 seconds later.
+# Where `until` is set, no case is begun after so many seconds of the script, none is waited for 80 seconds later, none is
+# run again 40 seconds later, and such a second run is not waited for 100 seconds later: then the first one counts.
 is_before() { # SECONDS
     ((SECONDS < ${until:-SECONDS + 1} + $1))
 }
@@ -236,7 +239,7 @@ run_cases() { # server|fakes AT-ONCE CLIENT..
             sleep 0.1
         done
         is_before 0 || break
-        run_case "${file//[ \/]/.}" "${file% *}" "${file#* }" &
+        begin_case "${file//[ \/]/.}" "$file"
         processes+=("$!")
     done
     while ((shown < ${#processes[@]})) && is_before 80; do
@@ -245,6 +248,14 @@ run_cases() { # server|fakes AT-ONCE CLIENT..
     done
     give_up_rest
     for file in ${failed[@]+"${failed[@]}"}; do run_again "$file"; done
+}
+
+# Begins a case file, in a group of its own, whose process is then $!.
+begin_case() { # NUMBER "CLIENT FILE"
+    set -m
+    run_case "$1" "${2% *}" "${2#* }" &
+    set +m
+    groups+=("$!")
 }
 
 # Of the list of run_cases: those that have ended, up to the first that has not.
@@ -260,10 +271,11 @@ give_up_rest() {
     for (( ; shown < ${#list[@]}; shown++)); do
         if [[ -z ${processes[shown]-} ]]; then
             printf 'skipped %s: no time is left\n' "${list[shown]/ /: }"
-        elif kill "${processes[shown]}" 2>/dev/null; then
-            printf 'skipped %s: given up for want of time\n' "${list[shown]/ /: }"
-        else
+        elif [[ -e $run/${list[shown]//[ \/]/.}.out ]]; then
             show_case "${list[shown]}"
+        else
+            kill -- "-${processes[shown]}" 2>/dev/null
+            printf 'skipped %s: given up for want of time\n' "${list[shown]/ /: }"
         fi
     done
 }
@@ -274,12 +286,16 @@ show_case() { # "CLIENT FILE"
 }
 
 run_again() { # "CLIENT FILE"
-    local name=${1//[ \/]/.}
-    if ! is_before 40; then
+    local name=${1//[ \/]/.} process
+    if is_before 40; then
+        begin_case "$name.again" "$1"
+        process=$!
+        while is_before 100 && kill -0 "$process" 2>/dev/null; do sleep 0.1; done
+    fi
+    if [[ ! -e $run/$name.again.out ]]; then
         cat "$run/$name.out"
         return
     fi
-    run_case "$name.again" "${1% *}" "${1#* }"
     cat "$run/$name.again.out"
     if ! grep -q '^FAILED ' "$run/$name.again.out"; then
         printf 'note    %s: at first, with others beside it:\n' "${1/ /: }"
@@ -304,6 +320,8 @@ build_clients() {
             able+=("$client")
         elif ((status == 124)); then
             printf 'skipped %s: no time is left to build it\n' "$client"
+        elif ((status > 128)) || grep -qE 'signal: 9|Killed signal' "$run/$client/build.log"; then
+            printf 'skipped %s: its build was killed, most likely for memory\n' "$client"
         else
             printf 'FAILED  %s: its build\n' "$client"
             tail -20 "$run/$client/build.log" | sed 's/^/        /'
@@ -313,11 +331,11 @@ build_clients() {
 }
 
 # Runs a function whose processes end with it, and writes the last line, `N passed, M failed`, with what failed and what was
-# skipped before it. Its status is 0 where none failed.
+# skipped before it. Its status is 0 where none failed, and some passed, or `may_skip` is set.
 count() { # FUNCTION
     local passed failed
     (
-        started=()
+        started=() groups=()
         trap stop_all EXIT
         trap 'exit 130' INT TERM
         "$1"
@@ -327,5 +345,5 @@ count() { # FUNCTION
     grep '^skipped ' "$run/log" | sort -u
     grep '^FAILED ' "$run/log" | sort -u
     printf '%d passed, %d failed\n' "$passed" "$failed"
-    ((failed == 0 && passed > 0))
+    [[ $failed == 0 && ($passed != 0 || -n ${may_skip-}) ]]
 }

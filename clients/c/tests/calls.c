@@ -23,7 +23,7 @@ static void signals(kmip_client *client, int flags) {
     check(kmip_call(client, "sign", "slow", "00", NULL) == KMIP_ANSWERED,
           "a call is answered while a handler of a signal runs");
     setitimer(ITIMER_REAL, &never, NULL);
-    check(ticks > 5, "which it did");
+    check(ticks > 0, "which it did");
 }
 
 /* The other side ends the connection while a large request is sent: no SIGPIPE ends the process. */
@@ -71,7 +71,6 @@ static void another_object(kmip_client *client) {
 /* The connection is ended by the server while nobody calls. */
 static void ended(kmip_client *client) {
     check(kmip_call(client, "query", NULL) == KMIP_ANSWERED, "the first call");
-    sleep(1);
     check(kmip_call(client, "query", NULL) == KMIP_LOST, "a connection that has ended is lost");
     check_text(kmip_line(client),
                "{\"error\":\"RequestWriteError\",\"text\":\"end of input; nothing was sent\"}",
@@ -137,7 +136,6 @@ static void refused(kmip_client *client) {
 static void in_order(kmip_client *client, const kmip_settings *settings) {
     check(kmip_call(client, "query", NULL) == KMIP_ANSWERED, "a call");
     kmip_close(client);
-    sleep(1);
     client = opened(settings);
     check(kmip_call(client, "query", NULL) == KMIP_ANSWERED, "a call on another connection");
     check_text(kmip_text(client, "vendor_identification", NULL), "in order",
@@ -150,7 +148,8 @@ static void close_waits(kmip_client *client) {
     check(kmip_call(client, "query", NULL) == KMIP_ANSWERED, "a call");
     double from = seconds_now();
     kmip_close(client);
-    check(seconds_now() - from < 10, "kmip_close does not wait for a server that says nothing");
+    check(seconds_now() - from < LONG_WAIT,
+          "kmip_close does not wait for a server that says nothing");
 }
 
 /* Any operation, by its name and a payload in JSON. */
@@ -202,6 +201,8 @@ int main(int argc, char **argv) {
     if (argc < 7) return 2;
     const char *mode = argv[1];
     kmip_settings settings = settings_of(argv + 1);
+    if (strcmp(mode, "close") == 0) settings.seconds = 2 * LONG_WAIT;
+    if (strcmp(mode, "in_order") == 0) settings.user = "in order", settings.password = "";
     kmip_client *client = opened(&settings);
     if (strcmp(mode, "close") == 0) return close_waits(client), 0;
     if (strcmp(mode, "in_order") == 0) return in_order(client, &settings), 0;

@@ -6,11 +6,13 @@
 #include <arpa/inet.h>
 #include <netdb.h>
 #include <netinet/in.h>
+#include <semaphore.h>
 #include <unistd.h>
 
-/* In place of the system's: a name is searched for until long after the deadline, or it has two
-   addresses, at the first of which nobody listens. */
+/* In place of the system's: a name is searched for until the search is given up, long after the
+   deadline, or it has two addresses, at the first of which nobody listens. */
 static bool slow = true;
+static sem_t given_up, over;
 
 static struct addrinfo *address_of(int port, struct addrinfo *next) {
     struct sockaddr_in *at = calloc(1, sizeof *at);
@@ -31,7 +33,9 @@ int getaddrinfo(const char *host, const char *port, const struct addrinfo *hints
     (void)host;
     if (hints->ai_flags & AI_NUMERICHOST) return EAI_NONAME;
     if (slow) {
-        sleep(7);
+        while (sem_wait(&given_up) != 0)
+            continue;
+        sem_post(&over);
         return EAI_NONAME;
     }
     *found = address_of(1, address_of(atoi(port), NULL));
@@ -49,15 +53,16 @@ void freeaddrinfo(struct addrinfo *it) {
 
 /* The second address is reached where the first is not, and that connection is ended in order; the
    server says how the one before ended. */
-static void two_addresses(const kmip_settings *settings) {
+static void two_addresses(kmip_settings it) {
+    it.user = "two addresses";
+    it.password = "";
     for (int i = 0; i < 2; i++) {
-        kmip_client *client = opened(settings);
+        kmip_client *client = opened(&it);
         check(kmip_call(client, "query", NULL) == KMIP_ANSWERED, "the second address is reached");
         if (i == 1)
             check_text(kmip_text(client, "vendor_identification", NULL), "in order",
                        "and its connection is ended in order");
         kmip_close(client);
-        sleep(1);
     }
 }
 
@@ -125,10 +130,8 @@ static void words(void) {
 
 static void slow_names(kmip_settings it) {
     char error[300];
-    double from = seconds_now();
     it.seconds = 1.5;
     check(kmip_open(&it, error, sizeof error) == NULL, "a name that is not found in time");
-    check(seconds_now() - from < 5, "the deadline holds");
     check_text(error,
                "{\"error\":\"ConnectError\",\"text\":\"connect: the host is not found within 1.5 "
                "seconds\"}",
@@ -144,9 +147,13 @@ int main(int argc, char **argv) {
     check(kmip_call(NULL, "query", NULL) == KMIP_LOST, "a null client is lost");
     check_text(kmip_line(NULL), "", "and has no line");
     kmip_close(NULL);
+    if (sem_init(&given_up, 0, 0) != 0 || sem_init(&over, 0, 0) != 0) return 1;
     slow_names(settings);
-    sleep(7); /* the search ends, and frees what is its own */
     slow = false;
-    two_addresses(&settings);
+    sem_post(&given_up);
+    while (sem_wait(&over) != 0)
+        continue;
+    sleep(1); /* the search frees what is its own */
+    two_addresses(settings);
     return 0;
 }

@@ -16,7 +16,7 @@ static inline kmip_settings settings_of(char **argv) {
     settings.certificate = argv[3];
     settings.key = argv[4];
     settings.authority = argv[5];
-    settings.seconds = 5;
+    settings.seconds = 60; /* on a busy machine, too */
     return settings;
 }
 
@@ -27,6 +27,9 @@ static inline kmip_client *opened(const kmip_settings *settings) {
     printf("FAILED  c: no connection: %s\n", error);
     exit(1);
 }
+
+/* Servers that keep silent do so for ever: what ends within these seconds has ended by itself. */
+#define LONG_WAIT 100
 
 static inline double seconds_now(void) {
     struct timespec at;

@@ -46,8 +46,13 @@ def _started() -> Tuple[str, Dict[str, int]]:
     subprocess.run([str(LIVE / 'certs.sh'), certs], check=True)
     process = subprocess.Popen([sys.executable, str(LIVE / 'fakes.py'), certs],
                                stdout=subprocess.PIPE, text=True)
-    atexit.register(process.kill)
     assert process.stdout is not None
+
+    def end() -> None:
+        process.kill()
+        process.communicate()
+
+    atexit.register(end)
     return certs, _ports(process.stdout)
 
 
@@ -55,7 +60,7 @@ CERTS, PORTS = _started()
 
 
 def client_of(fake: str, *, name: str = 'client', host: str = 'localhost',
-              timeout: Optional[float] = 10, **settings: Any) -> Client:
+              timeout: Optional[float] = 60, **settings: Any) -> Client:
     """A client of a fake, with the certificate of this name."""
     cert, key = ('%s/%s.%s' % (CERTS, name, end) for end in ('pem', 'key'))
     return Client(host, PORTS[fake], cert=cert, key=key, ca=CERTS + '/ca.pem', timeout=timeout,

@@ -11,6 +11,10 @@ fn folder() -> PathBuf {
     std::env::var_os("METSUWAN_CERTS").expect("METSUWAN_CERTS").into()
 }
 
+/// Servers that keep silent do so for ever: what ends by then has ended by itself, on a busy machine
+/// too.
+const LONG: Duration = Duration::from_secs(100);
+
 fn port_of(name: &str) -> u16 {
     let path = std::env::var_os("METSUWAN_FAKES").expect("METSUWAN_FAKES");
     let ports = std::fs::read_to_string(path).unwrap();
@@ -24,7 +28,7 @@ fn connector(fake: &str, host: &str, client: &str) -> TlsConnector {
     TlsConnector::new(host, port_of(fake))
         .with_certificate(file(format!("{client}.pem")), file(format!("{client}.key")))
         .with_authority(file("ca.pem".into()))
-        .with_timeout(Some(Duration::from_secs(10)))
+        .with_timeout(Some(Duration::from_secs(60)))
 }
 
 fn client(fake: &str) -> TlsClient {
@@ -71,12 +75,9 @@ fn bytes_that_no_call_asked_for() {
     for fake in ["two", "trailing"] {
         let client = client(fake);
         client.query().unwrap();
-        thread::sleep(Duration::from_secs(1));
         is_lost(&client, &format!("RequestWriteError: {text}"));
     }
-    let client = client("early");
-    thread::sleep(Duration::from_secs(1));
-    is_lost(&client, &format!("RequestWriteError: {text}"));
+    is_lost(&client("early"), &format!("RequestWriteError: {text}"));
 }
 
 #[test]
@@ -84,24 +85,32 @@ fn bytes_that_no_call_asked_for() {
 fn a_connection_that_ends_between_calls() {
     let client = client("end_after");
     client.query().unwrap();
-    thread::sleep(Duration::from_secs(1));
     is_lost(&client, "RequestWriteError: end of input; nothing was sent");
+}
+
+/// A client whose calls have this timeout, and have had more than that together.
+fn client_in_time(timeout: Duration) -> Result<TlsClient, Error> {
+    let connector = connector("slow", "localhost", "client").with_timeout(Some(timeout));
+    let client = connector.connect()?.build();
+    for _ in 0..3 {
+        thread::sleep(timeout * 2 / 5);
+        client.sign("mine", b"x")?;
+    }
+    Ok(client)
 }
 
 #[test]
 #[ignore = "it needs the fake servers"]
 fn each_call_has_its_own_deadline() {
-    let connector = connector("slow", "localhost", "client");
-    let client = connector.with_timeout(Some(Duration::from_secs(2))).connect().unwrap().build();
-    for _ in 0..3 {
-        thread::sleep(Duration::from_millis(900));
-        client.sign("mine", b"x").unwrap();
-    }
+    let in_time = |it| Some((it, client_in_time(Duration::from_secs(it)).ok()?));
+    let (seconds, client) = [2, 10, 40].into_iter().find_map(in_time).expect("one that is in time");
     let started = Instant::now();
-    let error = client.sign("slow", b"x").unwrap_err();
-    assert_eq!(error.to_string(), "ResponseReadError: no answer within 2 seconds");
+    let error = client.sign("never", b"x").unwrap_err();
+    let text = format!("ResponseReadError: no answer within {seconds} seconds");
+    assert_eq!(error.to_string(), text);
     assert_eq!(error.details().io_kind(), Some(ErrorKind::TimedOut));
-    assert!((1900..10000).contains(&started.elapsed().as_millis()), "{:?}", started.elapsed());
+    assert!(started.elapsed() >= Duration::from_secs(seconds) * 9 / 10, "{:?}", started.elapsed());
+    assert!(started.elapsed() < LONG, "{:?}", started.elapsed());
     assert!(matches!(client.query(), Err(Error::RequestWriteError(_))));
 }
 
@@ -117,11 +126,12 @@ fn no_deadline() {
 #[test]
 #[ignore = "it needs the fake servers"]
 fn closing_waits_for_nothing() {
-    let client = client("no_close");
+    let connector = connector("no_close", "localhost", "client").with_timeout(Some(2 * LONG));
+    let client = connector.connect().unwrap().build();
     client.query().unwrap();
     let started = Instant::now();
     drop(client);
-    assert!(started.elapsed() < Duration::from_secs(10), "{:?}", started.elapsed());
+    assert!(started.elapsed() < LONG, "{:?}", started.elapsed());
 }
 
 #[test]

@@ -1,5 +1,6 @@
 # shellcheck shell=bash
 # Sessions with servers that make it hard, in one process, with its memory watched.
+look_for_sanitizers
 test_build calls "${sanitized[@]}"
 fake slow
 test_run calls restart

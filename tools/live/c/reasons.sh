@@ -18,9 +18,14 @@ reason 'an end' 3 'ResponseReadError.*end of input' query
 fake reset
 reason 'a reset' 3 'ResponseReadError.*[Rr]eset by peer' query
 fake silent
-KMIP_TIMEOUT=4 reason 'a deadline' 3 'ResponseReadError.*no answer within 4 seconds' query
+# The deadline is the shortest within which there is a connection.
+for seconds in 2 10 60; do
+    KMIP_TIMEOUT=$seconds client_run call query >"$said" 2>&1
+    grep -q ConnectError "$said" || break
+done
+KMIP_TIMEOUT=$seconds reason 'a deadline' 3 "ResponseReadError.*no answer within $seconds seconds" query
 fake unanswered
-KMIP_TIMEOUT=4 reason 'one in the handshake' 3 'ConnectError.*no answer within 4 seconds' query
+KMIP_TIMEOUT=2 reason 'one in the handshake' 3 'ConnectError.*no answer within 2 seconds' query
 fake over_limit
 reason 'a limit' 3 'DeserializeError.*limit of 1048576 bytes' query
 fake expired_server
@@ -33,10 +38,12 @@ fake good
 certificate=$certs/none.pem reason 'no certificate' 3 'none\.pem: No such file' query
 certificate=$certs reason 'a folder as a certificate' 3 'ConnectError' query
 key=$certs/plain.key reason 'another key' 3 '[Kk]ey values mismatch|KEY_VALUES_MISMATCH' query
-port=$(free_port) reason 'nobody' 3 'Connection refused' query
-RES_OPTIONS='timeout:1 attempts:1' host=no.such.invalid reason 'no such host' 3 'ConnectError' query
+fake nobody
+reason 'nobody' 3 'Connection refused' query
 refusals='ConnectError.*(refused|unreachable|Cannot assign)'
-host='[::1]' port=$(free_port) reason 'nobody at an address of IPv6' 3 "$refusals" query
+host='[::1]' reason 'nobody at an address of IPv6' 3 "$refusals" query
+fake good
+RES_OPTIONS='timeout:1 attempts:1' host=no.such.invalid reason 'no such host' 3 'ConnectError' query
 KMIP_USER=alice reason 'a user without a password' 2 'a credential is a user and a password' query
 KMIP_TIMEOUT=soon reason 'a deadline that is none' 2 'KMIP_TIMEOUT' query
 KMIP_LIMIT=-1 reason 'a limit that is none' 2 'KMIP_LIMIT|limit' query

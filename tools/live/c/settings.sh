@@ -1,5 +1,6 @@
 # shellcheck shell=bash
 # Settings, words, a name that is not found in time, values of items, and memory that runs out.
+look_for_sanitizers
 test_build settings "${sanitized[@]}"
 fake ends
 test_run settings

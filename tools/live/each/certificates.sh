@@ -9,7 +9,8 @@ host=127.0.0.1 call_is 'another host than the certificate names' 3 query
 certificate=$certs/expired.pem key=$certs/expired.key call_is "a client's certificate that has ended" 3 query
 certificate=$certs/none.pem call_is 'a certificate that is not there' 3 query
 key=$certs/plain.key call_is 'the key of another certificate' 3 query
-port=$(free_port) call_is 'nobody listens' 3 query
+fake nobody
+call_is 'nobody listens' 3 query
 fake other/server
 call_is "a server's certificate of another authority" 3 query
 mkdir system

@@ -1,9 +1,20 @@
 # shellcheck shell=bash
 # Servers that break off, or send what no good server sends.
-for name in end reset half half_head rubbish deep; do
-    fake "$name"
-    call_is "a server that $("$python" "$here/fakes.py" --list | sed -n "s/^$name  *//p")" 3 query
-done
+"$python" "$here/fakes.py" --list >"$work/list"
+server_has() { # STATUS NAME..: where these servers are asked, a call ends so
+    local name
+    for name in "${@:2}"; do
+        fake "$name"
+        call_is "a server that $(sed -n "s/^$name  *//p" "$work/list")" "$1" activate 1
+    done
+}
+server_has 3 end reset half half_head rubbish deep abyss
+server_has 1 batch_none batch_one batch_two other_operation no_operation no_payload odd_payload doubled pending undone \
+    other_status large_text
+fake levels
+call_is 'a server that answers with as many levels as may be' 0 query
+fake endless
+call_is 'a server that answers again and again: the first answer' 0 query
 fake no_length
 call_is 'an empty structure, which is a whole message and no response' 1 query
 fake echo
@@ -18,12 +29,6 @@ fake over_limit
 call_is 'a response of 2 MiB, past the limit that holds where none is set' 3 query
 KMIP_LIMIT=3000000 call_is 'a response within a larger limit' 0 query
 KMIP_LIMIT=0 call_is 'the same where there is no limit' 0 query
-fake other_operation
-call_is 'an answer to another operation' 1 query
-fake batch_two
-call_is 'two answers to one request' 1 activate 1
-fake pending
-call_is 'an operation that is pending' 1 activate 1
 fake not_utf8
 call_is 'a message that is not UTF-8' 3 query
 fake odd_text

@@ -7,29 +7,44 @@ fi
 copy="$work/a copy"
 kit="$work/a kit"
 mkdir -p "$copy/crates" "$copy/tools" "$kit/c" "$kit/bin"
-cp -r "$top/clients" "$top/crates.txt" "$copy"
+cp -r "$top/clients" "$top/crates.txt" "$top/HANDLES" "$copy"
+cp "$top/tools/proved_build.py" "$copy/tools"
 printf 'int memory(void) { return 1; }\n' >memory.c
 printf 'int kmip_request(void) { return 2; }\n' >library.c
 gcc -c memory.c library.c && ar rc "$kit/c/liblibc_c.a" memory.o && ar rc ready.a library.o
-while read -r it _; do mkdir -p "$copy/crates/${it%:}"; done < <(grep '^[a-z]' "$copy/crates.txt")
-# `rt` of this kit notes what it was asked for, and leaves what is built.
+while read -r it _; do mkdir -p "$copy/crates/${it%:}/src" "$copy/crates/${it%:}/must-fail"; done \
+    < <(grep '^[a-z]' "$copy/crates.txt")
+# `rt ci` of this kit takes all for proved, and notes it and the folders of the crates; it leaves what is built. So does
+# its `rattle`, for the library.
 cat >"$kit/bin/rt" <<RT
 #!/bin/bash
 if [[ \$1 == doc ]]; then echo "$kit/START-HERE.md"; exit; fi
-it=\${PWD##*/}
-echo "\$it \$*" >>"$work/asked"
-if [[ \$it == "\${BROKEN-}" ]]; then echo "\$it is not proved"; exit 1; fi
-mkdir -p out
-case \$it in
-kmip_call) printf '#!/bin/bash\necho kmip_call of the copy\n' >out/kmip_call && chmod +x out/kmip_call ;;
-kmip_c) cp "$work/ready.a" out/libkmip_c.a ;;
-esac
+[[ -d .git && -f HANDLES && \$* == ci ]] || exit 2
+ls -d crates/*/* >>"$work/asked"
+while IFS=' :' read -r it _; do
+    echo "\$it" >>"$work/asked"
+    mkdir "crates/\$it/out"
+    if [[ \$it == "\${BROKEN-}" ]]; then echo "rt: \$it NOT PROVED" && exit 1; fi
+    echo "rt: \$it is kept: it was proved"
+done < <(grep '^[a-z]' crates.txt)
+if [[ -d crates/kmip_call ]]; then
+    printf '#!/bin/bash\necho kmip_call of the copy\n' >crates/kmip_call/out/kmip_call
+    chmod +x crates/kmip_call/out/kmip_call
+fi
 RT
-cat >"$copy/tools/unproved_build.py" <<'PY'
+cat >"$kit/bin/rattle" <<RATTLE
+#!/bin/bash
+echo "rattle \$*" >>"$work/asked"
+cp "$work/ready.a" "\${*: -1}" && echo "logic=\${LOGIC-proved} functions=9"
+RATTLE
+cat >"$copy/tools/unproved_build.py" <<PY
 import shutil, sys
-shutil.copy('/bin/true' if sys.argv[1] == 'program' else 'ready.a', sys.argv[3])
+if __name__ == '__main__':
+    shutil.copy('/bin/true' if sys.argv[1] == 'program' else 'ready.a', sys.argv[3])
+else:
+    exec(open('$top/tools/unproved_build.py').read())
 PY
-chmod +x "$kit/bin/rt"
+chmod +x "$kit/bin/rt" "$kit/bin/rattle"
 built_is() { # WHAT STATUS WORD..: build.sh has this status, in this folder
     PATH="$kit/bin:$PATH" "$copy/clients/build.sh" "${@:3}" >"$said" 2>&1
     (($? == $2))
@@ -37,19 +52,29 @@ built_is() { # WHAT STATUS WORD..: build.sh has this status, in this folder
 }
 
 built_is 'build.sh: proved, into a relative path with a space' 0 'the folder'
-says 'each crate is shown, of how many' '^\[1/[0-9]+\] kmip_[a-z_]+ \.\. [0-9]+ s$'
-crates=$(grep -cE '^kmip_(call|c |.*lib$)' asked)
-((crates > 2)) && [[ $(tail -1 asked) == 'kmip_c lib' ]] && grep -q '^kmip_call run -- --version$' asked
-verdict 'the crates below come before the program and the library'
+says 'each crate is shown, of how many' '^\[1/[0-9]+\] kmip_[a-z_]+: kept$'
+wanted=$(sed -n 's/^kmip_c staticlib: *//p' "$copy/crates.txt")
+[[ $(tail -1 asked) == *" --crate-type staticlib "* ]]
+verdict 'the library is built last'
+for it in $wanted; do [[ $(tail -1 asked) == *" $it="*"/crates/$it/out/rlib/$it.rlib "* ]] || break; done
+verdict 'over the crates that rt ci has passed'
+grep -qx kmip_c asked && grep -qx kmip_call asked && ! grep -qE '^kmip_(run|web|server)|/must-fail' asked
+verdict 'which are those that are wanted, without their edits'
+[[ -z $(find "$copy/crates" -name out) ]]
+verdict 'nothing is written into the checkout'
 [[ $("the folder/kmip_call") == 'kmip_call of the copy' && -e $(echo "the folder/"lib*.a) && -e $(echo "the folder/"*.h) ]]
 verdict 'the folder has the program, the library and its header'
 for library in "the folder/"lib*.a "the folder/"lib*.so; do nm -g "$library" 2>/dev/null | grep -q ' T kmip_request$' || break; done
 [[ $library == *.so ]] && nm -g "$library" | grep -q ' T kmip_request$'
 verdict 'the library has its calls, static and shared'
 BROKEN=kmip_types built_is 'a crate that is not proved ends it' 1 broken
-says 'what rt wrote is shown' 'kmip_types is not proved'
+says 'what rt wrote is shown' 'kmip_types NOT PROVED'
 [[ ! -e broken/kmip_call ]]
 verdict 'and nothing is made'
+LOGIC=unproved built_is 'a library that is not proved ends it' 1 broken
+says 'which is said' 'kmip_c is not proved'
+[[ ! -e $(echo broken/lib*.a) ]]
+verdict 'and there is no library'
 built_is 'build.sh FOLDER --unproved' 0 second --unproved
 built_is 'build.sh --unproved FOLDER' 0 --unproved third
 says 'it says how long it takes' 'minutes'

@@ -19,23 +19,34 @@ export top here built run work certs python host port certificate key authority
 
 # A bash script: kmip.sh is sourced, and there are
 #   open             opens a connection to the server that is set
-#   until_true COMMAND..    its status is 0 where this command is true within 15 seconds
-#   ended PROCESS    waits so for the end of a process, and `arrived` for bytes from the server
-#   calling WORD     waits so for a kmip_call that has this word, and leaves its process in CALLING
-# and $slow is an identifier that no other script has, for the server `slow`. What it writes is in $said. Where `apart` is set,
-# it is in a process group of its own.
+#   until_true COMMAND..    its status is 0 where this command is true within a minute
+#   ended PROCESS    waits so for the end of a process, and `arrived` for bytes from the server, or its end
+#   calling          waits until the server `held` has a request about $held, and leaves the process of kmip_call in CALLING
+#   release          has that server answer it, and waits for that; `late` also waits for the bytes, which no call takes
+# and $held is an identifier that no other script has, about which `held` answers late. What it writes is in $said. Where
+# `apart` is set, it is in a process group of its own.
+control=$(awk '$1 == "control" { print $2 }' "$run/fakes")
+export control
 script() { # TEXT
-    slow=slow$BASHPID.$RANDOM
-    export slow
+    held=held$BASHPID.$RANDOM
+    export held
     timeout -k 2 $((${patience:-20} * slack)) ${apart:+setsid -w} bash -c '. "$top/clients/shell/kmip.sh"
         open() { kmip_open "$host:$port" "$certificate" "$key" "$authority"; }
-        until_true() { local try; for ((try = 0; try < 150; try++)); do "$@" && return; sleep 0.1; done; return 1; }
+        until_true() { local try; for ((try = 0; try < 600; try++)); do "$@" && return; sleep 0.1; done; return 1; }
         is_gone() { ! grep -qs "^State:[[:space:]]*[^Z[:space:]]" "/proc/$1/status"; }
         ended() { until_true is_gone "$1"; }
         has_bytes() { read -r -t 0 -u "$KMIP_IN"; }
         arrived() { until_true has_bytes; }
-        calls() { CALLING=$(pgrep -f "^[^ ]*kmip_call .* $1( |$)"); }
-        calling() { until_true calls "$1"; }
+        told() {
+            local to is=no
+            exec {to}<>"/dev/tcp/127.0.0.1/$control" || return
+            echo "$1 $held" >&"$to" && read -r -t 90 is <&"$to"
+            exec {to}>&-
+            [[ $is == yes ]]
+        }
+        calling() { told arrived && CALLING=$(pgrep -f "^[^ ]*kmip_call .* $held( |$)"); }
+        release() { told release; }
+        late() { release; arrived; }
         '"$1" >"$said" 2>&1 </dev/null
 }
 

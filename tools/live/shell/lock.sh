@@ -22,11 +22,11 @@ printf '%d answers are wrong\n' "$wrong" >>"$said"
 verdict 'twelve times two calls at once: each has its own answer'
 
 # The deadline of a call counts from its beginning, also where it waits for another.
-fake slow
-script 'open; kmip sign "slower$slow" 41 >/dev/null & calling "slower$slow"
+fake held
+script 'open; kmip sign "$held" 41 >/dev/null & calling
     KMIP_TIMEOUT=1 kmip query; echo "status: $?"
     [[ -n $(jobs -r) ]] && echo in time
-    wait; kmip query; kmip_close'
+    release; wait; kmip query; kmip_close'
 says 'a call that waits for another ends with its deadline' '^in time$'
 says 'it has status 3' '^status: 3$'
 says 'the call that it waited for is not disturbed' '^\{"answer":'

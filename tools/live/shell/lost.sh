@@ -1,43 +1,43 @@
 # shellcheck shell=bash
 # After a lost connection no call takes the answer of another: each says 3 until kmip_open, and openssl has ended.
 
-fake slow
+fake held
 # shellcheck disable=SC2016 # the script's own variables
-after='kmip sign "$slow" 4141 >/dev/null; echo "first: $?"; unset KMIP_TIMEOUT
-    sleep 3.5; kmip sign other 4242; echo "second: $?"
+after='kmip sign "$held" 4141 >/dev/null; echo "first: $?"; unset KMIP_TIMEOUT
+    late; kmip sign other 4242; echo "second: $?"
     kmip query; echo "third: $?"
     open || echo no open
     kmip_field signature_data sign other 4242; echo "fourth: $?"; kmip_close'
 # What the line of the fourth call is: the bytes `signature by other`.
 other_signed=$(printf 'signature by other' | od -An -tx1 | tr -d ' \n' | tr a-f A-F)
 
-script 'KMIP_TIMEOUT=1; open; '"$after"
+script 'open; kmip query >/dev/null; KMIP_TIMEOUT=1; '"$after"
 says 'after its deadline a call has status 3' '^first: 3$'
 says 'the next call does not take the late answer' '^second: 3$'
 says 'nor the one after it' '^third: 3$'
-says_not 'the late answer is nowhere' "$(printf 'signature by slow' | od -An -tx1 | tr -d ' \n' | tr a-f A-F)"
+says_not 'the late answer is nowhere' "$(printf 'signature by held' | od -An -tx1 | tr -d ' \n' | tr a-f A-F)"
 says 'kmip_open opens a new connection' "^$other_signed\$"
 says 'whose calls are answered' '^fourth: 0$'
 says 'each failure is a line of JSON' '^\{"error":"RequestWriteError","text":".*kmip_open.*"\}$'
 
 for signal in INT TERM KILL; do
     # kmip_call alone is ended by a signal.
-    script 'open; (calling "$slow" && kill -'"$signal"' "$CALLING") & '"$after"
+    script 'open; (calling && kill -'"$signal"' "$CALLING") & '"$after"
     says "SIG$signal to kmip_call: status 3" '^first: 3$'
     says "SIG$signal to kmip_call: the next call does not take the late answer" '^second: 3$'
     says "SIG$signal to kmip_call: after kmip_open all is well" '^fourth: 0$'
 done
 
 # Ctrl-C in a script that goes on after it: all processes of the call get the signal.
-apart=1 script 'trap "echo caught >&2" INT; (calling "$slow"; kill -INT 0) & '"open; $after"
+apart=1 script 'trap "echo caught >&2" INT; (calling; kill -INT 0) & '"open; $after"
 says 'Ctrl-C: a script that catches it goes on' '^caught$'
 says 'Ctrl-C: status 3' '^first: 3$'
 says 'Ctrl-C: the next call does not take the late answer' '^second: 3$'
 says 'Ctrl-C: after kmip_open all is well' '^fourth: 0$'
 
 # The whole of the call is ended, as by `kill -9`: the next call finds that one was begun.
-script 'open; kmip sign "$slow" 4141 >/dev/null & calling "$slow"; kill -KILL $!; wait
-    kill -KILL "$CALLING"; sleep 3; kmip sign other 4242; echo "second: $?"; kmip_close'
+script 'open; kmip sign "$held" 4141 >/dev/null & calling; kill -KILL $!; wait
+    kill -KILL "$CALLING"; late; kmip sign other 4242; echo "second: $?"; kmip_close'
 says 'a call that was killed leaves the connection lost' '^second: 3$'
 
 for answer in half rubbish end reset; do
@@ -56,8 +56,9 @@ script_is 'the end of the script ends it' 0 '
     ended "$process"'
 
 # An interactive shell and Ctrl-C.
-fake slow
-"$python" "$here/shell/terminal.py" "$top/clients/shell/kmip.sh" "$host:$port" "$certificate" "$key" "$authority" >"$said" 2>&1
+fake held
+"$python" "$here/shell/terminal.py" "$top/clients/shell/kmip.sh" "$control" "$host:$port" "$certificate" "$key" "$authority" \
+    >"$said" 2>&1
 verdict 'Ctrl-C at a terminal: the shell goes on, and the next call has status 3'
 
 # Bytes that no call asked for are no answer.

@@ -25,13 +25,13 @@ says 'at a terminal: status 3' '^status 3'
 says_not 'at a terminal: no question' 'Enter pass'
 
 # While a call waits, the words of all processes, and the environment of openssl and kmip_call.
-fake slow
+fake held
 export here_pid=$$
-script 'KMIP_USER=alice; export KMIP_PASSWORD=geheim2 KMIP_PASSPHRASE=geheim1; open; kmip sign "$slow" 41 & calling "$slow"
+script 'KMIP_USER=alice; export KMIP_PASSWORD=geheim2 KMIP_PASSPHRASE=geheim1; open; kmip sign "$held" 41 & calling
     ps -eo args | grep -v grep | grep -c "geheim[12]" | sed "s/^/words /"
     tr "\0" "\n" <"/proc/$KMIP_PID/environ" | grep -c "geheim" | sed "s/^/openssl /"
     for it in $CALLING; do tr "\0" "\n" <"/proc/$it/environ"; done | grep -c geheim1 | sed "s/^/passphrase /"
-    wait; kmip_close'
+    release; wait; kmip_close'
 says 'no secret in the words of a process' '^words 0$'
 says 'no secret in the environment of openssl' '^openssl 0$'
 says 'no passphrase in the environment of kmip_call' '^passphrase 0$'

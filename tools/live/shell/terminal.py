@@ -1,28 +1,29 @@
 #!/usr/bin/python3
 """An interactive bash on a terminal of its own: Ctrl-C within a call, and a call after it.
 
-    terminal.py KMIP.SH HOST:PORT CERTIFICATE KEY AUTHORITY
+    terminal.py KMIP.SH CONTROL HOST:PORT CERTIFICATE KEY AUTHORITY
 
+CONTROL is the port of that fake server, and HOST:PORT is the fake `held`.
 Its status is 0 where the shell went on, the second call had status 3, and bash said nothing of jobs.
 """
 import os
 import pty
 import select
-import subprocess
+import socket
 import sys
 import time
 
 
 def main() -> int:
-    script, server = sys.argv[1:3]
-    files = sys.argv[3:6]
+    script, control, server = sys.argv[1:4]
+    files = sys.argv[4:7]
     process, terminal = pty.fork()
     if process == 0:
         os.environ['PS1'] = 'ready> '
         os.execvp('bash', ['bash', '--norc', '--noprofile', '-i'])
     seen = ''
 
-    def wait_for(word, seconds=30.0):
+    def wait_for(word, seconds=100.0):
         nonlocal seen
         until = time.monotonic() + seconds
         while word not in seen:
@@ -36,6 +37,12 @@ def main() -> int:
     def enter(line):
         os.write(terminal, line.encode() + b'\n')
 
+    def tell(what):
+        with socket.create_connection(('127.0.0.1', int(control)), 100) as wire, wire.makefile('rw') as lines:
+            print(what, held, file=lines, flush=True)
+            if lines.readline() != 'yes\n':
+                sys.exit('%s %s: no' % (what, held))
+
     wait_for('ready> ')
     enter("bind 'set enable-bracketed-paste off'")
     wait_for('ready> ')
@@ -44,15 +51,12 @@ def main() -> int:
     enter('kmip_open %s "%s" "%s" "%s"; echo op""ened $?' % (server, *files))
     opened = wait_for('opened 0')
     wait_for('ready> ')
-    slow = 'slow%d' % os.getpid()
-    enter('kmip sign %s 4141' % slow)
-    for _ in range(150):
-        if subprocess.call(['pgrep', '-f', '^[^ ]*kmip_call .* %s ' % slow], stdout=subprocess.DEVNULL) == 0:
-            break
-        time.sleep(0.1)
+    held = 'held%d' % os.getpid()
+    enter('kmip sign %s 4141' % held)
+    tell('arrived')
     os.write(terminal, b'\3')
     wait_for('ready> ')
-    time.sleep(3)
+    tell('release')
     enter('kmip sign other 4242; echo sta""tus $?')
     answer = wait_for('status ')
     status = wait_for('\n').strip()
