@@ -183,7 +183,7 @@ async function screens(page, sent, received) {
   await clear(page);
   await page.evaluate(`(raw.sent = ${b64(sent)}, raw.received = ${b64(received)}, show())`);
   await page.shot(at('page-exchanges.png'));
-  await page.view(1000, 700, false);
+  await page.view(1000, 730, false);
   await page.evaluate("(document.querySelectorAll('tr.exchange')[0].click(), document.querySelector('tr.opened').scrollIntoView())");
   await page.shot(at('page-exchange.png'));
   await page.view(1000, 520, true);
