@@ -147,7 +147,7 @@ fn wrong_operation(name: &str, version: &str) -> &'static str
 
 /// Which of the words of a call whose payload or message is in JSON is not what it should be.
 fn wrong_tree(words: TreeWords<'_>) -> &'static str
-    ensures { result.now ≡ wrong_tree (tree_text words) }
+    ensures { result.now ≡ wrong_tree (tree_text words.entry) }
 {
     match words {
         TreeWords::Operation { name, version, .. } => wrong_operation(name, version),
@@ -158,7 +158,7 @@ fn wrong_tree(words: TreeWords<'_>) -> &'static str
 /// Why no call whose payload or message is in JSON is made: it is to be recorded, or one of the
 /// words is wrong.
 fn no_tree(file: &Option<Text>, words: TreeWords<'_>) -> &'static str
-    ensures { result.now ≡ no_tree file.now (tree_text words) }
+    ensures { result.now ≡ no_tree file.now (tree_text words.entry) }
 {
     match file {
         Some(_) => NOT_RECORDED,

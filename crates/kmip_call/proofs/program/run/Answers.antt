@@ -1,35 +1,26 @@
 use Rattle.std.proofs.Common.{refl}
-use Rattle.kmip_call.specs.Exchange.{response_if}
-use Rattle.kmip_call.specs.Program.{Reports, streams}
+use Rattle.kmip_call.specs.Program.{streams}
 use Rattle.kmip_call.proofs.Runs.{made, refused, broken_off}
 use Rattle.kmip_call.proofs.program.run.Goals as goal
 
 pub returns-in-Ok-Some : goal.returns-in-Ok-Some
 returns-in-Ok-Some g c =
     let e = c.report.ensures in
-    let reports : Reports c.args.order.now
-    (response_if c.in-Ok-Some.end.by_response c.deref.result.now)
-    c.as_str.result.now c.in-Ok-Some.end.ending
-    (g.F.Sink.state c.args.kept.now) (g.F.Sink.state c.report.new.kept)
-    (g.K.Sink.state c.args.told.now) (g.K.Sink.state c.report.new.told) c.report.result =
-    record {
-      status_is = e.status;
-      recorded = e.recorded;
-      recorded_part = e.recorded_part;
-      told =
-          e.told;
-      told_part = e.told_part;
-      still_told = e.still_told;
-      cause = e.cause;
-    } in
     made c.args.order.now (g.W.Sink.state c.args.wire.now) (g.W.Sink.state c.make_call.new.wire)
     (g.S.Source.state c.args.source.now) (g.S.Source.state c.make_call.new.source)
     (g.F.Sink.state c.args.kept.now) (g.F.Sink.state c.report.new.kept)
     (g.K.Sink.state c.args.told.now) (g.K.Sink.state c.report.new.told)
-    (response_if c.in-Ok-Some.end.by_response c.make_call.new.response.items)
-    c.make_call.new.line c.in-Ok-Some.end.ending c.report.result
+    _ _ _ c.report.result
     (rw c.in-Ok-Some.field-0-is at c.in-Ok-Some.ensures.made)
-    (rw (c.deref.ensures.value, c.as_str.ensures.bytes) at reports)
+    (record {
+      status_is = e.status;
+      recorded = e.recorded;
+      recorded_part = e.recorded_part;
+      told = e.told;
+      told_part = e.told_part;
+      still_told = e.still_told;
+      cause = e.cause;
+    })
 
 pub returns-in-Ok-None : goal.returns-in-Ok-None
 returns-in-Ok-None g c =
@@ -44,15 +35,14 @@ returns-in-Ok-None g c =
     (record {
       status_is = e.status;
       wire = c.make_call.ensures.wire none;
-      source =
-          c.make_call.ensures.source none;
+      source = c.make_call.ensures.source none;
       kept = refl;
       told = e.line;
       told_part = e.part;
     })
 
-pub returns : goal.returns
-returns g c =
+pub returns-in-Err : goal.returns-in-Err
+returns-in-Err g c =
     broken_off c.args.order.now (g.W.Sink.state c.args.wire.now)
     (g.W.Sink.state c.make_call.new.wire) (g.S.Source.state c.args.source.now)
     (g.S.Source.state c.make_call.new.source)
