@@ -10,6 +10,7 @@ use Rattle.kmip_words.specs.Lookup.{value_at}
 use Rattle.kmip_words.specs.declared.call.Call.{Call}
 use Rattle.kmip_words.specs.declared.ending.Ending.{Ending}
 use Rattle.kmip_words.specs.declared.ending.Ending.TheVariants.{Answered, Refused, Lost}
+use Rattle.kmip_c.specs.declared.call.Credential.{Credential}
 use Rattle.kmip_exports.specs.Exports.{IsReported}
 use Rattle.kmip_c.specs.Codes.{grammar, no_form, no_value}
 
@@ -38,6 +39,14 @@ settings_of true user password =
       buffered = false;
     })
     else None
+
+-- the settings of calls that carry this credential
+abbrev pub settings_with : Credential → Settings
+settings_with credential = record {
+  credential = credential_for credential.user credential.password;
+  limit = None;
+  buffered = false;
+}
 
 -- what C gets for a request, memory aside: its bytes, or that it has no wire form, or that what was
 -- given is not of the grammar

@@ -1,6 +1,8 @@
 use Rattle.std.proofs.Common.{◌∙◌, ap, rules, w32, w64, SFits, pos, length, List, ℕ}
 use Rattle.std.proofs.lemmas.Int.{to_z-of_z}
+use Rattle.kmip_words.specs.Exchange.{Settings}
 use Rattle.kmip_operations.specs.Calls.{request_of}
+use Rattle.kmip_operations.specs.Answers.{operation_ending, operation_json_line}
 use Rattle.kmip_exports.specs.Exports.{room_with}
 use Rattle.kmip_c.proofs.Operations.{operation_answered}
 use Rattle.kmip_c.proofs.kmip_operation_answer.Goals as goal
@@ -10,11 +12,17 @@ returns-in-Ok-clause-answer c = λ some.
     let status : SFits w32 c.status_of.result = search rules in
     let told : SFits w64 c.copy_out.result = search rules in
     let asks = rw c.in-Ok-Some.field-0-is at c.in-Ok-Some.ensures in
+    let ending = c.in-Ok.ensures.ending ∙ ap (λ (settings : Settings).
+    operation_ending settings (request_of c.in-Ok-Some.call) c.args.response.now)
+    c.new-settings.ensures in
+    let line = c.in-Ok.ensures.line ∙ ap (λ (settings : Settings).
+    operation_json_line settings (request_of c.in-Ok-Some.call) c.args.response.now)
+    c.new-settings.ensures in
     rw (to_z-of_z w32 c.status_of.result status)
     (rw (to_z-of_z w64 c.copy_out.result told)
     (operation_answered (request_of c.in-Ok-Some.call)
     c.args.name.now c.args.version.now c.args.payload.now c.args.response.now c.args.into.now c.copy_out.new.room
-    c.in-Ok.answer.line.items c.in-Ok.answer.ending c.status_of.result c.copy_out.result asks c.in-Ok.ensures.ending c.in-Ok.ensures.line c.status_of.ensures
+    c.in-Ok.answer.line.items c.in-Ok.answer.ending c.status_of.result c.copy_out.result asks ending line c.status_of.ensures
     (c.copy_out.ensures.len ∙ ap (λ (x : List ℕ). pos (length x)) c.deref.ensures.value)
     (c.copy_out.ensures.room ∙ ap (λ (x : List ℕ). room_with x c.args.into.now)
     c.deref.ensures.value)))

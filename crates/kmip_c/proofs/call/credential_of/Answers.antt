@@ -1,6 +1,6 @@
 use Rattle.std.proofs.Common.{sym}
 use Rattle.kmip_c.proofs.Calls.{no_user, no_password, both}
-use Rattle.kmip_c.proofs.call.settings_of.Goals as goal
+use Rattle.kmip_c.proofs.call.credential_of.Goals as goal
 
 pub returns-in_default : goal.returns-in_default
 returns-in_default c = sym
