@@ -1,10 +1,13 @@
 -- The lines of diagnostics, one after the other.
-use Rattle.std.proofs.Common.{◌≡◌, ℕ, ◌+◌, List, [], ◌∷◌, ◌++◌, length, refl, ◌∙◌, ap, sym, append_assoc, Some, None}
-use Rattle.std.specs.Str.{is_utf8, IsUtf8}
+use Rattle.std.proofs.Common.{◌≡◌, ℕ, ◌+◌, List, [], ◌∷◌, ◌++◌, length, refl, ◌∙◌, sym, append_assoc, Some, None}
+use Rattle.std.specs.Str.{IsUtf8}
 use Rattle.std.proofs.lemmas.Str.{is_utf8-from_IsUtf8}
 use Rattle.kmip_diag.specs.Expansion.{expansion}
 use Rattle.kmip_run.specs.Script.{lines_of}
 use Rattle.kmip_run.specs.Transcript.{Transcript, only_text, bad_line, then_text, line_expansion, explanations_from}
+use Rattle.kmip_run.specs.declared.status.ScriptEnd.TheVariants.{Answered}
+use Rattle.kmip_run.specs.declared.status.Status.{Status}
+use Rattle.kmip_run.specs.declared.status.Status.TheVariants.{Ended}
 use Rattle.kmip_words.proofs.Calls.{not_utf8}
 use Rattle.kmip_run.proofs.Runs.{append_none, no_lines}
 
@@ -27,7 +30,7 @@ pub explained_bad : (line : List ℕ) (lines : List (List ℕ)) (number : ℕ)
 unfolding explanations_from
 explained_bad line lines number is = rw (sym is, explanations_from) refl
 
-pub explained_none : (lines : List (List ℕ)) (number : ℕ) → lines ≡ [] → explanations_from lines number ≡ only_text [] 0
+pub explained_none : (lines : List (List ℕ)) (number : ℕ) → lines ≡ [] → explanations_from lines number ≡ only_text [] (Ended Answered)
 unfolding explanations_from
 explained_none lines number is = rw is refl
 
@@ -72,13 +75,13 @@ pub next_bad : {all : Transcript} {old now : List ℕ} (script line later : List
     SoFar all old now (explanations_from (lines_of script) number) → SoFar all old now (bad_line number)
 next_bad script line later number lines is so_far = rw (lines, explained_bad line (lines_of later) number is) at so_far
 
-pub ended : {all : Transcript} {old now : List ℕ} {status : ℕ}
+pub ended : {all : Transcript} {old now : List ℕ} {status : Status}
     → SoFar all old now (only_text [] status) → (old ++ all.text ≡ now) × (all.status ≡ status)
 ended {now = now} so_far = (so_far.text ∙ sym (append_none now), so_far.status)
 
 -- no line is left
 pub no_more : {all : Transcript} {old now : List ℕ} (script : List ℕ) (number : ℕ)
     → length script ≡ 0 → SoFar all old now (explanations_from (lines_of script) number)
-    → (old ++ all.text ≡ now) × (all.status ≡ 0)
+    → (old ++ all.text ≡ now) × (all.status ≡ Ended Answered)
 no_more script number none so_far =
     ended (rw (explained_none (lines_of script) number (no_lines script none)) at so_far)

@@ -1,5 +1,5 @@
 -- Exchanges that are made from a number, one after the other.
-use Rattle.std.proofs.Common.{◌≡◌, ◌≢◌, ℕ, zero, suc, ◌+◌, ◌-◌, ◌*◌, ◌/◌, ◌%◌, ◌^◌, ◌==◌, ◌<◌, ◌≤◌, Bool, true, false, cond, nat_lt, List, [], ◌++◌, length, take, drop, refl, ◌∙◌, ap, sym, subst, arith, append_assoc, Option, Some, None, Result, Ok, Err, length-append, length-drop}
+use Rattle.std.proofs.Common.{◌≡◌, ℕ, suc, ◌+◌, ◌-◌, ◌*◌, ◌%◌, ◌^◌, ◌≤◌, Bool, true, false, cond, nat_lt, List, [], ◌++◌, length, take, drop, refl, ◌∙◌, ap, sym, subst, arith, append_assoc, Option, Some, None, Result, Ok, Err, length-append, length-drop}
 use Rattle.std.proofs.Math.Nat.{mod-add-mod, mul_comm}
 use Rattle.std.proofs.lemmas.List.{length-take}
 use Rattle.std.proofs.lemmas.Bool.Decides.{nat_tests}
@@ -7,16 +7,17 @@ use Rattle.kmip_wire.specs.Heads.{head_says}
 use Rattle.kmip_wire.specs.declared.error.HeadError.{HeadError}
 use Rattle.kmip_link.specs.Plan.{MemoryState}
 use Rattle.kmip_enums.specs.declared.operation.Operation.{Operation}
-use Rattle.kmip_request.specs.Message.{request_bytes, operation_of}
 use Rattle.kmip_client.specs.Client.{ClientState}
-use Rattle.kmip_client.specs.Message.{Message, Ended, Refused, Whole, message_at, message_by, taken_for}
-use Rattle.kmip_client.specs.Outcome.{Outcome, outcome_of}
+use Rattle.kmip_client.specs.Message.{Ended, Whole, message_at, message_by, taken_for}
+use Rattle.kmip_client.specs.Outcome.{outcome_of}
 use Rattle.kmip_words.specs.Exchange.{Settings, settings_of, request_asked, fails, Step, step, Answers}
 use Rattle.kmip_words.specs.declared.ending.Ending.{Ending}
 use Rattle.kmip_run.specs.Making.{next_of, made_of, Counts, no_counts, one_ok, one_error, then_made, counts_after, made_text, MakesCall, Makes}
 use Rattle.kmip_run.specs.Transcript.{counted_transcript, Replays}
 use Rattle.kmip_words.specs.declared.call.Call.{Call}
 use Rattle.kmip_words.specs.declared.call.Recorded.{Recorded}
+use Rattle.kmip_run.specs.declared.status.ScriptEnd.TheVariants.{Answered}
+use Rattle.kmip_run.specs.declared.status.Status.TheVariants.{Ended}
 use Rattle.kmip_run.proofs.Runs.{append_none}
 
 pub next_is : (x : ℕ) → (x * 6364136223846793005 % 2 ^ 64 + 1442695040888963407) % 2 ^ 64 ≡ next_of x
@@ -201,7 +202,7 @@ pub tells_all : {c : Counts} {before after : MemoryState} (count ok errors sent 
     (old new : List ℕ) → Makes c before after ok errors taken →
     sent ≡ length after.sent - length before.sent
     → new ≡ old ++ made_text count ok errors sent taken
-    → Replays (counted_transcript count c) before after 0 old new
+    → Replays (counted_transcript count c) before after (Ended Answered) old new
 tells_all {c = c} {before = before} {after = after} count ok errors sent taken old new makes sent_is text =
     let whole : length after.sent ≡ length before.sent + length c.sent =
     ap length makes.sent ∙ length-append before.sent c.sent in

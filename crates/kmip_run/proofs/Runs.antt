@@ -5,9 +5,13 @@ use Rattle.kmip_link.specs.Plan.{MemoryState}
 use Rattle.kmip_run.specs.Script.{lines_of}
 use Rattle.kmip_words.specs.Calls.{call_of}
 use Rattle.kmip_words.specs.Exchange.{Settings, Step, step, call_text}
-use Rattle.kmip_run.specs.Transcript.{Transcript, only_text, status_after, bad_line, then_later, replay_from, RunsCall, Replays}
+use Rattle.kmip_run.specs.Transcript.{Transcript, only_text, end_after, bad_line, then_later, replay_from, RunsCall, Replays}
 use Rattle.kmip_words.specs.declared.call.Call.{Call}
 use Rattle.kmip_words.specs.declared.call.Recorded.{Recorded}
+use Rattle.kmip_run.specs.declared.status.ScriptEnd.{ScriptEnd}
+use Rattle.kmip_run.specs.declared.status.ScriptEnd.TheVariants.{NotOfGrammar}
+use Rattle.kmip_run.specs.declared.status.Status.{Status}
+use Rattle.kmip_run.specs.declared.status.Status.TheVariants.{Ended}
 
 pub append_none : (xs : List ℕ) → xs ≡ xs ++ []
 append_none xs = grind (arith, common_steps)
@@ -70,29 +74,29 @@ one_more {before = before} {now = now} {old = old} fed s rest so_far line = reco
 }
 
 pub replayed_call : (settings : Settings) (line : List ℕ) (lines : List (List ℕ))
-    (number status : ℕ) (rest : List ℕ) (it : Recorded) → Some it ≡ call_of line →
-    replay_from settings (line ∷ lines) number status rest ≡
+    (number : ℕ) (end : ScriptEnd) (rest : List ℕ) (it : Recorded) → Some it ≡ call_of line →
+    replay_from settings (line ∷ lines) number end rest ≡
     then_later it.response (step settings it.call (rest ++ it.response))
     (replay_from settings lines (number + 1)
-    (status_after status (step settings it.call (rest ++ it.response)).failed)
+    (end_after end (step settings it.call (rest ++ it.response)).failed)
     (drop (step settings it.call (rest ++ it.response)).taken (rest ++ it.response)))
 unfolding replay_from
-replayed_call settings line lines number status rest it is = rw (sym is, replay_from) refl
+replayed_call settings line lines number end rest it is = rw (sym is, replay_from) refl
 
-pub replayed_bad : (settings : Settings) (line : List ℕ) (lines : List (List ℕ)) (number status : ℕ)
-    (rest : List ℕ) → None ≡ call_of line
-    → replay_from settings (line ∷ lines) number status rest ≡ bad_line number
+pub replayed_bad : (settings : Settings) (line : List ℕ) (lines : List (List ℕ)) (number : ℕ)
+    (end : ScriptEnd) (rest : List ℕ) → None ≡ call_of line
+    → replay_from settings (line ∷ lines) number end rest ≡ bad_line number
 unfolding replay_from
-replayed_bad settings line lines number status rest is = rw (sym is, replay_from) refl
+replayed_bad settings line lines number end rest is = rw (sym is, replay_from) refl
 
-pub replayed_none : (settings : Settings) (lines : List (List ℕ)) (number status : ℕ)
-    (rest : List ℕ) → lines ≡ [] → replay_from settings lines number status rest
-    ≡ only_text [] status
+pub replayed_none : (settings : Settings) (lines : List (List ℕ)) (number : ℕ) (end : ScriptEnd)
+    (rest : List ℕ) → lines ≡ [] → replay_from settings lines number end rest
+    ≡ only_text [] (Ended end)
 unfolding replay_from
-replayed_none settings lines number status rest is = rw is refl
+replayed_none settings lines number end rest is = rw is refl
 
 -- nothing more is to come but this text
-pub ended : {all : Transcript} {before now : MemoryState} {old between : List ℕ} (text : List ℕ) (status : ℕ) →
+pub ended : {all : Transcript} {before now : MemoryState} {old between : List ℕ} (text : List ℕ) (status : Status) →
     SoFar all before now old between (only_text text status) → Replays all before now status old (between ++ text)
 ended {before = before} {old = old} text status so_far = record {
   text = ap (λ (l : List ℕ). l ++ text) so_far.new_is ∙ append_assoc old so_far.wrote text
@@ -114,15 +118,15 @@ under {before = before} {after = after} {failed = failed} {old = old} {new = new
 -- the next line is a call
 pub next_call : {all : Transcript} {before now after : MemoryState} {old between new : List ℕ}
     {failed : Bool} (settings : Settings) (it : Recorded) (script line later : List ℕ)
-    (number status next : ℕ) →
-    lines_of script ≡ line ∷ lines_of later → Some it ≡ call_of line → next ≡ status_after status failed →
-    SoFar all before now old between (replay_from settings (lines_of script) number status (drop now.pos now.ever)) →
+    (number : ℕ) (end next : ScriptEnd) →
+    lines_of script ≡ line ∷ lines_of later → Some it ≡ call_of line → next ≡ end_after end failed →
+    SoFar all before now old between (replay_from settings (lines_of script) number end (drop now.pos now.ever)) →
     RunsCall (step settings it.call (drop now.pos now.ever ++ it.response)) it.response now after failed between new →
     SoFar all before after old new (replay_from settings (lines_of later) (number + 1) next (drop after.pos after.ever))
-next_call {now = now} {failed = failed} settings it script line later number status next lines is next_is so_far runs =
+next_call {now = now} {failed = failed} settings it script line later number end next lines is next_is so_far runs =
     let here = rw (
       lines,
-      replayed_call settings line (lines_of later) number status
+      replayed_call settings line (lines_of later) number end
           (drop now.pos now.ever) it is,
     ) at so_far in
     rw (next_is, runs.failed_is, runs.left)
@@ -131,15 +135,15 @@ next_call {now = now} {failed = failed} settings it script line later number sta
 
 -- the next line is not of the grammar
 pub next_bad : {all : Transcript} {before now : MemoryState} {old between : List ℕ}
-    (settings : Settings) (script line later : List ℕ) (number status : ℕ) →
+    (settings : Settings) (script line later : List ℕ) (number : ℕ) (end : ScriptEnd) →
     lines_of script ≡ line ∷ lines_of later → None ≡ call_of line →
-    SoFar all before now old between (replay_from settings (lines_of script) number status (drop now.pos now.ever)) →
-    Replays all before now 2 old (between ++ (bad_line number).text)
-next_bad {now = now} settings script line later number status lines is so_far =
-    ended (bad_line number).text 2
+    SoFar all before now old between (replay_from settings (lines_of script) number end (drop now.pos now.ever)) →
+    Replays all before now (Ended NotOfGrammar) old (between ++ (bad_line number).text)
+next_bad {now = now} settings script line later number end lines is so_far =
+    ended (bad_line number).text (Ended NotOfGrammar)
     (rw (
       lines,
-      replayed_bad settings line (lines_of later) number status
+      replayed_bad settings line (lines_of later) number end
           (drop now.pos now.ever) is,
     ) at so_far)
 
@@ -149,10 +153,10 @@ no_lines (c ∷ script) none = absurd (omega arith)
 
 -- no line is left
 pub no_more : {all : Transcript} {before now : MemoryState} {old between : List ℕ}
-    (settings : Settings) (script : List ℕ) (number status : ℕ) → length script ≡ 0 →
+    (settings : Settings) (script : List ℕ) (number : ℕ) (end : ScriptEnd) → length script ≡ 0 →
     SoFar all before now old between
-    (replay_from settings (lines_of script) number status (drop now.pos now.ever))
-    → Replays all before now status old between
-no_more {now = now} {between = between} settings script number status none so_far =
-    rw (append_none between) (ended [] status (rw (replayed_none settings (lines_of script)
-    number status (drop now.pos now.ever) (no_lines script none)) at so_far))
+    (replay_from settings (lines_of script) number end (drop now.pos now.ever))
+    → Replays all before now (Ended end) old between
+no_more {now = now} {between = between} settings script number end none so_far =
+    rw (append_none between) (ended [] (Ended end) (rw (replayed_none settings (lines_of script)
+    number end (drop now.pos now.ever) (no_lines script none)) at so_far))

@@ -1,5 +1,5 @@
 -- What a session sends.
-use Rattle.std.proofs.Common.{◌≡◌, ℕ, Bool, true, false, cond, List, [], ◌∷◌, ◌++◌, length, take, drop, map, refl, ◌∙◌, sym, ap, subst, Option, Some, None, Result, Ok, Err, IfOk, ◌⊎◌, inl, inr}
+use Rattle.std.proofs.Common.{◌≡◌, ℕ, Bool, true, false, cond, List, [], ◌∷◌, ◌++◌, length, take, drop, map, refl, ◌∙◌, ap, subst, Option, Some, None, Result, Ok, Err, IfOk, inl, inr}
 use Rattle.kmip_wire.specs.Tree.{Tree}
 use Rattle.kmip_wire.specs.Parses.{Parses, AreTexts, joined_texts}
 use Rattle.kmip_types.specs.declared.auth.CredentialType.{CredentialType}
@@ -14,7 +14,7 @@ use Rattle.kmip_request.specs.Message.{request_bytes, operation_of}
 use Rattle.kmip_request.specs.declared.payload.RequestPayload.{RequestPayload}
 use Rattle.kmip_client.specs.Client.{loses_connection}
 use Rattle.kmip_client.specs.Outcome.{outcome, outcome_of}
-use Rattle.kmip_client.specs.Session.{Turn, turn_of, then_on, session, all_sent}
+use Rattle.kmip_client.specs.Session.{Turn, turn_of, session, all_sent}
 use Rattle.kmip_request_read.specs.declared.reading.RequestReadError.{RequestReadError}
 use Rattle.kmip_request_read.specs.declared.reading.RequestReadError.TheVariants.{Malformed, NotCanonical, OutOfMemory}
 use Rattle.kmip_run.specs.Sent.{with_message, messages_of, AreHeld, IsSent, GivesBack}

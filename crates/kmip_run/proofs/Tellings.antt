@@ -1,5 +1,5 @@
 -- What the diagnostics of sessions show, where the requests are valid and the messages parse.
-use Rattle.std.proofs.Common.{◌≡◌, ℕ, ◌+◌, ◌-◌, Bool, true, false, cond, List, [], ◌∷◌, take, drop, map, refl, ◌∙◌, sym, ap, arith, Option, Some, None}
+use Rattle.std.proofs.Common.{◌≡◌, ℕ, ◌+◌, ◌-◌, Bool, true, false, cond, List, [], ◌∷◌, drop, map, refl, ◌∙◌, sym, ap, arith, Option, Some, None}
 use Rattle.std.specs.Prelude.{IsSome, ◌↔◌}
 use Rattle.std.specs.Option.{option_map, option_and_then}
 use Rattle.std.proofs.lemmas.List.{get_or-drop}
@@ -15,7 +15,7 @@ use Rattle.kmip_request.specs.Message.{request_bytes}
 use Rattle.kmip_request.specs.declared.payload.RequestPayload.{RequestPayload}
 use Rattle.kmip_client.specs.Client.{loses_connection}
 use Rattle.kmip_client.specs.Outcome.{outcome}
-use Rattle.kmip_client.specs.Session.{Turn, turn_of, then_on, session}
+use Rattle.kmip_client.specs.Session.{Turn, turn_of, session}
 use Rattle.kmip_client.specs.Skeletons.{taken_by, Parse, AllParse, skeletons_of, texts_of}
 use Rattle.kmip_shape.proofs.Parts.{some_same}
 use Rattle.kmip_run.specs.Sent.{AreHeld}

@@ -1,23 +1,27 @@
 -- What the program does with its words and its script.
-use Rattle.std.proofs.Common.{◌≡◌, ◌≢◌, ℕ, ◌+◌, ◌<◌, ◌≤◌, ◌⊎◌, List, [], ◌∷◌, ◌++◌, length, take, drop, min, refl, ◌∙◌, ap, sym, arith, codes, Some, None, Result, Ok, Err, IfOk, Bool, true, false, IsSome, IsTrue}
+use Rattle.std.proofs.Common.{◌≡◌, ℕ, ◌+◌, ◌<◌, ◌≤◌, ◌⊎◌, inl, inr, List, [], ◌∷◌, ◌++◌, length, take, drop, min, refl, ◌∙◌, ap, sym, arith, codes, Option, Some, None, Result, Ok, Err, IfOk, Bool, true, false, IsSome, IsTrue}
 use Rattle.std.proofs.lemmas.Bool.Decides.{nat_tests}
 use Rattle.std.proofs.lemmas.List.{length-take, take_all}
 use Rattle.std.specs.List.{All}
 use Rattle.std.proofs.lemmas.List.Elements.{All-head, All-tail}
 use Rattle.kmip_link.specs.Plan.{MemoryState}
-use Rattle.kmip_link.specs.State.{SinkState}
+use Rattle.kmip_link.specs.State.{SourceState, SinkState, SourceKeeps, SinkKeeps, FaultCountRose, source_left}
 use Rattle.kmip_run.specs.Script.{lines_of}
 use Rattle.kmip_words.specs.Calls.{call_of}
-use Rattle.kmip_run.specs.Commands.{command_of}
 use Rattle.kmip_words.specs.Exchange.{Settings, Step, step}
 use Rattle.kmip_run.specs.Setup.{settings_for}
 use Rattle.kmip_words.specs.Streams.{WrotePart}
-use Rattle.kmip_run.specs.Transcript.{Transcript, only_text, status_after, replay_from, line_expansion, explanations_from, joined, report_transcript, audit_transcript, lines_transcript, most_script, reads_script, script_transcript, command_transcript, transcript, IsLineOf, AreLinesOf, IsOfGrammar, Replays}
+use Rattle.kmip_run.specs.Transcript.{Transcript, only_text, end_after, replay_from, line_expansion, explanations_from, joined, report_transcript, audit_transcript, lines_transcript, most_script, reads_script, makes_calls, script_transcript, command_transcript, IsLineOf, AreLinesOf, IsOfGrammar, Replays}
+use Rattle.kmip_run.specs.Program.{is_whole, is_cut, is_unbegun, streams, RunsCommand}
 use Rattle.kmip_run.specs.Auditing.{captured_in, AreStreams}
 use Rattle.kmip_run.specs.declared.auditing.Captured.{Captured}
 use Rattle.kmip_run.specs.declared.auditing.Captured.TheVariants.{Streams, Bad}
 use Rattle.kmip_run.specs.declared.command.Command.{Command}
 use Rattle.kmip_run.specs.declared.command.Command.TheVariants.{Replay, Explain, Make, Audit, Joined}
+use Rattle.kmip_run.specs.declared.status.ScriptEnd.{ScriptEnd}
+use Rattle.kmip_run.specs.declared.status.ScriptEnd.TheVariants.{Answered, Failed, NotOfGrammar}
+use Rattle.kmip_run.specs.declared.status.Status.{Status}
+use Rattle.kmip_run.specs.declared.status.Status.TheVariants.{Ended, SourceFailed, SinkFailed, OutOfMemory, TooLong}
 use Rattle.kmip_joined.specs.Lines.{helper_call}
 use Rattle.kmip_joined.specs.World.{World, joined_step, nothing_yet}
 use Rattle.kmip_run.proofs.Joins.{joined_call, joined_none, joined_alone}
@@ -28,8 +32,8 @@ pub most : most_script ≡ 16777216
 unfolding most_script
 most = refl
 
-pub transcript_long : (command : Command) (script : List ℕ) → reads_script (Some command) ≡ true
-    → 16777216 < length script → script_transcript command script ≡ only_text [] 6
+transcript_long : (command : Command) (script : List ℕ) → reads_script (Some command) ≡ true
+    → 16777216 < length script → script_transcript command script ≡ only_text [] TooLong
 unfolding script_transcript most_script
 transcript_long command script reads long = rw reads (grind (arith, nat_tests))
 
@@ -43,7 +47,7 @@ transcript_fits Audit script fits = grind (arith, nat_tests)
 transcript_fits (Joined options) script fits = grind (arith, nat_tests)
 
 -- a command that reads no script makes the same of each
-pub transcript_same : (command : Command) (script : List ℕ) → reads_script (Some command) ≡ false
+transcript_same : (command : Command) (script : List ℕ) → reads_script (Some command) ≡ false
     → script_transcript command script ≡ script_transcript command []
 unfolding script_transcript
 transcript_same (Replay options) script unread = cc
@@ -51,24 +55,6 @@ transcript_same Explain script unread = cc
 transcript_same (Make count) script unread = refl
 transcript_same Audit script unread = cc
 transcript_same (Joined options) script unread = cc
-
-pub transcript_words : (words : List (List ℕ)) (script : List ℕ) → None ≡ command_of words
-    → transcript words script ≡ only_text (codes "! words\n") 2
-unfolding transcript
-transcript_words words script none = rw (sym none) refl
-
-pub transcript_command : (words : List (List ℕ)) (script : List ℕ) (command : Command)
-    → Some command ≡ command_of words → transcript words script
-    ≡ command_transcript (Some command) script
-unfolding transcript
-transcript_command words script command is = rw (sym is) refl
-
--- words that read no script
-pub transcript_unread : (words : List (List ℕ)) (script : List ℕ) (command : Command)
-    → Some command ≡ command_of words → reads_script (Some command) ≡ false
-    → transcript words script ≡ script_transcript command []
-transcript_unread words script command is unread =
-    transcript_command words script command is ∙ transcript_same command script unread
 
 -- more was read than the longest script
 pub script_long : (most : ℕ) (script left : List ℕ) → script ≡ take (most + 1) left
@@ -84,121 +70,112 @@ script_whole most script left is fits =
     is ∙ take_all (most + 1) left (omega arith)
 
 -- a text that was made first and is written then
-pub onto : {t : Transcript} {before after : MemoryState} {status : ℕ} {out : List ℕ} (old : List ℕ)
+onto : {t : Transcript} {before after : MemoryState} {status : Status} {out : List ℕ} (old : List ℕ)
     → Replays t before after status [] out → Replays t before after status old (old ++ out)
 onto old it = record {
   text = ap (λ (l : List ℕ). old ++ l) it.text;
-  status_is =
-      it.status_is;
+  status_is = it.status_is;
   ever = it.ever;
   sent = it.sent;
   pos = it.pos;
 }
 
-pub nothing_written : (link : MemoryState) (status : ℕ) (old : List ℕ)
-    → Replays (only_text [] status) link link status old old
-nothing_written link status old = record {
-  text = append_none old;
-  status_is = refl;
-  ever = append_none link.ever;
-  sent =
-      append_none link.sent;
-  pos = omega arith;
-}
-
-pub text_alone : (link : MemoryState) (text : List ℕ) (status : ℕ) (old : List ℕ)
+text_alone : (link : MemoryState) (text : List ℕ) (status : Status) (old : List ℕ)
     → Replays (only_text text status) link link status old (old ++ text)
 text_alone link text status old = record {
   text = refl;
   status_is = refl;
   ever = append_none link.ever;
-  sent =
-      append_none link.sent;
+  sent = append_none link.sent;
   pos = omega arith;
 }
 
+nothing_written : (link : MemoryState) (status : Status) (old : List ℕ)
+    → Replays (only_text [] status) link link status old old
+nothing_written link status old = rw (append_none old) at text_alone link [] status old
+
 -- a command that was done with no script
-pub alone_replays : {before after : MemoryState} {status : ℕ} {out : List ℕ} (command : Command)
+pub alone_replays : {before after : MemoryState} {status : Status} {out : List ℕ} (command : Command)
     → Replays (lines_transcript command []) before after status [] out
     → Replays (script_transcript command []) before after status [] out
 alone_replays command did = rw (transcript_fits command [] (omega arith)) did
 
-pub alone_status : {before after : MemoryState} {old out : List ℕ} (command : Command)
-    (result status : ℕ) → Replays (lines_transcript command []) before after status old out →
-    (result ≡ status) ⊎ ((result ≡ 4) ⊎ (result ≡ 5))
-    → (result ≡ (script_transcript command []).status) ⊎ ((result ≡ 4) ⊎ (result ≡ 5))
-alone_status command result status did cases = rw (transcript_fits command [] (omega arith), sym did.status_is) cases
-
 -- nothing at all is a part of a text
-pub no_part : (sink : SinkState) (text : List ℕ) → WrotePart sink sink text
+no_part : (sink : SinkState) (text : List ℕ) → WrotePart sink sink text
 no_part sink text = (0, omega arith, append_none sink.sent)
 
-status_small : (status : ℕ) (failed : Bool) → status < 2 → status_after status failed < 2
-status_small status true small = omega arith
-status_small status false small = small
+-- an end of calls that were all of the grammar
+abbrev IsFollowed : Status → Type 0
+IsFollowed status = (status ≡ Ended Answered) ⊎ (status ≡ Ended Failed)
 
--- calls of the grammar end with the status 0 or 1
-replayed_small : (settings : Settings) (lines : List (List ℕ)) (number status : ℕ) (rest : List ℕ)
-    → status < 2 → All (λ line. IsSome (call_of line)) lines
-    → (replay_from settings lines number status rest).status < 2
-replayed_small settings [] number status rest small good = rw (replayed_none settings [] number status rest refl) small
-replayed_small settings (line ∷ lines) number status rest small good =
+followed_after : (end : ScriptEnd) (failed : Bool) → IsFollowed (Ended end) → IsFollowed (Ended (end_after end failed))
+followed_after end true followed = inr refl
+followed_after end false followed = followed
+
+-- calls of the grammar
+replay_followed : (settings : Settings) (lines : List (List ℕ)) (number : ℕ) (end : ScriptEnd) (rest : List ℕ)
+    → IsFollowed (Ended end) → All (λ line. IsSome (call_of line)) lines
+    → IsFollowed (replay_from settings lines number end rest).status
+replay_followed settings [] number end rest followed good =
+    rw (replayed_none settings [] number end rest refl) followed
+replay_followed settings (line ∷ lines) number end rest followed good =
     elim (call_of line) as (λ o. call_of line ≡ o → IsSome o
-    → (replay_from settings (line ∷ lines) number status rest).status < 2) [
-      | None ↦ λ e some. cc
+    → IsFollowed (replay_from settings (line ∷ lines) number end rest).status) [
+      | None ↦ λ e some. absurd (cc)
       | Some it ↦ λ e some.
           let s : Step = step settings it.call (rest ++ it.response) in
-          rw (replayed_call settings line lines number status rest it (sym e))
-          (replayed_small settings lines (number + 1) (status_after status s.failed)
-          (drop s.taken (rest ++ it.response)) (status_small status s.failed small)
+          rw (replayed_call settings line lines number end rest it (sym e))
+          (replay_followed settings lines (number + 1) (end_after end s.failed)
+          (drop s.taken (rest ++ it.response)) (followed_after end s.failed followed)
           (All-tail (λ l. IsSome (call_of l)) line lines good))
     ] refl (All-head (λ l. IsSome (call_of l)) line lines good)
 
--- and diagnostics with the status 0
-explained_small : (lines : List (List ℕ)) (number : ℕ)
-    → All (λ line. IsSome (line_expansion line)) lines → (explanations_from lines number).status < 2
-explained_small [] number good = rw (explained_none [] number refl) (omega arith)
-explained_small (line ∷ lines) number good =
+-- diagnostics
+explain_followed : (lines : List (List ℕ)) (number : ℕ)
+    → All (λ line. IsSome (line_expansion line)) lines → IsFollowed (explanations_from lines number).status
+explain_followed [] number good = rw (explained_none [] number refl) (inl refl)
+explain_followed (line ∷ lines) number good =
     elim (line_expansion line) as (λ o. line_expansion line ≡ o → IsSome o →
-    (explanations_from (line ∷ lines) number).status < 2) [
-      | None ↦ λ e some. cc
+    IsFollowed (explanations_from (line ∷ lines) number).status) [
+      | None ↦ λ e some. absurd (cc)
       | Some text ↦ λ e some. rw (explained_line line lines number text (sym e))
-          (explained_small lines (number + 1)
+          (explain_followed lines (number + 1)
           (All-tail (λ l. IsSome (line_expansion l)) line lines good))
     ] refl (All-head (λ l. IsSome (line_expansion l)) line lines good)
 
--- and two streams with the status 0
-reported_small : (captured : Captured) → AreStreams captured → (report_transcript captured).status < 2
-reported_small (Streams sent received) good = omega arith
-reported_small (Bad number) good = absurd good
+-- two streams
+report_followed : (captured : Captured) → AreStreams captured → IsFollowed (report_transcript captured).status
+report_followed (Streams sent received) good = inl refl
+report_followed (Bad number) good = absurd good
 
--- and calls over a server with the status 0 or 1
-joined_small : (settings : Settings) (lines : List (List ℕ)) (number status : ℕ) (world : World)
-    → status < 2 → All (λ line. IsSome (helper_call line)) lines
-    → (joined settings lines number status world).status < 2
-joined_small settings [] number status world small good = rw (joined_none settings [] number status world refl) small
-joined_small settings (line ∷ lines) number status world small good =
+-- calls over a server
+joined_followed : (settings : Settings) (lines : List (List ℕ)) (number : ℕ) (end : ScriptEnd) (world : World)
+    → IsFollowed (Ended end) → All (λ line. IsSome (helper_call line)) lines
+    → IsFollowed (joined settings lines number end world).status
+joined_followed settings [] number end world followed good =
+    rw (joined_none settings [] number end world refl) followed
+joined_followed settings (line ∷ lines) number end world followed good =
     elim (helper_call line) as (λ o. helper_call line ≡ o → IsSome o →
-    (joined settings (line ∷ lines) number status world).status < 2) [
-      | None ↦ λ e some. cc
+    IsFollowed (joined settings (line ∷ lines) number end world).status) [
+      | None ↦ λ e some. absurd (cc)
       | Some call ↦ λ e some.
           let it = joined_step settings call world in
-          rw (joined_call settings line lines number status world call (sym e))
-          (joined_small settings lines (number + 1) (status_after status it.step.failed) it.after
-          (status_small status it.step.failed small)
+          rw (joined_call settings line lines number end world call (sym e))
+          (joined_followed settings lines (number + 1) (end_after end it.step.failed) it.after
+          (followed_after end it.step.failed followed)
           (All-tail (λ l. IsSome (helper_call l)) line lines good))
     ] refl (All-head (λ l. IsSome (helper_call l)) line lines good)
 
-lines_small : (command : Command) (lines : List (List ℕ))
+lines_followed : (command : Command) (lines : List (List ℕ))
     → (IsTrue (reads_script (Some command)) → All (IsLineOf (Some command)) lines)
-    → AreLinesOf (Some command) lines → (lines_transcript command lines).status < 2
-lines_small (Replay options) lines good together =
-    replayed_small (settings_for options) lines 1 0 [] (omega arith) (good refl)
-lines_small Explain lines good together = explained_small lines 1 (good refl)
-lines_small (Make count) lines good together = omega arith
-lines_small Audit lines good together = reported_small (captured_in lines) together
-lines_small (Joined options) lines good together =
-    joined_small (settings_for options) lines 1 0 nothing_yet (omega arith) (good refl)
+    → AreLinesOf (Some command) lines → IsFollowed (lines_transcript command lines).status
+lines_followed (Replay options) lines good together =
+    replay_followed (settings_for options) lines 1 Answered [] (inl refl) (good refl)
+lines_followed Explain lines good together = explain_followed lines 1 (good refl)
+lines_followed (Make count) lines good together = inl refl
+lines_followed Audit lines good together = report_followed (captured_in lines) together
+lines_followed (Joined options) lines good together =
+    joined_followed (settings_for options) lines 1 Answered nothing_yet (inl refl) (good refl)
 
 -- the script of a command, where it reads one and this is not too long
 lines_whole : (command : Command) (script : List ℕ)
@@ -211,44 +188,42 @@ lines_whole (Joined options) script fits = transcript_fits (Joined options) scri
 lines_whole (Make count) script fits =
     transcript_same (Make count) script refl ∙ transcript_fits (Make count) [] (omega arith)
 
--- a script of the grammar ends with the status 0 or 1
-pub grammar_status : (words : List (List ℕ)) (script : List ℕ) (command : Command)
-    → Some command ≡ command_of words → IsOfGrammar words script
-    → (transcript words script).status < 2
-grammar_status words script command is good =
-    let fits : IsTrue (reads_script (Some command)) → length script ≤ 16777216 = rw (sym is, most) at good.fits in
-    rw (transcript_command words script command is, lines_whole command script fits)
-    (lines_small command (lines_of script) (rw (sym is) at good.lines_are)
-    (rw (sym is) at good.together))
+-- a script of the grammar
+script_followed : (command : Command) (script : List ℕ) → IsOfGrammar (Some command) script
+    → IsFollowed (script_transcript command script).status
+script_followed command script good =
+    let fits : IsTrue (reads_script (Some command)) → length script ≤ 16777216 = rw most at good.fits in
+    rw (lines_whole command script fits)
+    (lines_followed command (lines_of script) good.lines_are good.together)
 
-text_now : (t : Transcript) (link : MemoryState) (status : ℕ) (old new : List ℕ)
+text_now : (t : Transcript) (link : MemoryState) (status : Status) (old new : List ℕ)
     → t ≡ only_text t.text t.status → status ≡ t.status → new ≡ old ++ t.text
     → Replays t link link status old new
 text_now t link status old new alone status_is text = rw (status_is, text, alone) (text_alone link t.text t.status old)
 
 -- a text alone was written, and nothing is on the link
-writes : {E : Type 0} (t : Transcript) (link : MemoryState) (result : Result ℕ E) (old new : List ℕ)
+writes : {E : Type 0} (t : Transcript) (link : MemoryState) (result : Result ScriptEnd E) (old new : List ℕ)
     → t ≡ only_text t.text t.status →
-    IfOk result (λ status. status ≡ t.status) → IfOk result (λ status. new ≡ old ++ t.text)
-    → IfOk result (λ status. Replays t link link status old new)
-writes t link (Ok status) old new alone status_is text = text_now t link status old new alone status_is text
+    IfOk result (λ end. Ended end ≡ t.status) → IfOk result (λ end. new ≡ old ++ t.text)
+    → IfOk result (λ end. Replays t link link (Ended end) old new)
+writes t link (Ok end) old new alone status_is text = text_now t link (Ended end) old new alone status_is text
 writes t link (Err error) old new alone status_is text = tt
 
-pub explains : {E : Type 0} (link : MemoryState) (lines : List (List ℕ)) (result : Result ℕ E) (old new : List ℕ) →
-    IfOk result (λ status. status ≡ (explanations_from lines 1).status)
-    → IfOk result (λ status. new ≡ old ++ (explanations_from lines 1).text)
-    → IfOk result (λ status. Replays (explanations_from lines 1) link link status old new)
+pub explains : {E : Type 0} (link : MemoryState) (lines : List (List ℕ)) (result : Result ScriptEnd E) (old new : List ℕ) →
+    IfOk result (λ end. Ended end ≡ (explanations_from lines 1).status)
+    → IfOk result (λ end. new ≡ old ++ (explanations_from lines 1).text)
+    → IfOk result (λ end. Replays (explanations_from lines 1) link link (Ended end) old new)
 explains link lines result old new = writes (explanations_from lines 1) link result old new (explained_alone lines 1)
 
 pub joins : {E : Type 0} (link : MemoryState) (settings : Settings) (lines : List (List ℕ))
-    (result : Result ℕ E) (old new : List ℕ) →
-    IfOk result (λ status. status ≡ (joined settings lines 1 0 nothing_yet).status)
-    → IfOk result (λ status. new ≡ old ++ (joined settings lines 1 0 nothing_yet).text)
-    → IfOk result (λ status. Replays (joined settings lines 1 0 nothing_yet)
-    link link status old new)
+    (result : Result ScriptEnd E) (old new : List ℕ) →
+    IfOk result (λ end. Ended end ≡ (joined settings lines 1 Answered nothing_yet).status)
+    → IfOk result (λ end. new ≡ old ++ (joined settings lines 1 Answered nothing_yet).text)
+    → IfOk result (λ end. Replays (joined settings lines 1 Answered nothing_yet)
+    link link (Ended end) old new)
 joins link settings lines result old new =
-    writes (joined settings lines 1 0 nothing_yet) link result old new
-    (joined_alone settings lines 1 0 nothing_yet)
+    writes (joined settings lines 1 Answered nothing_yet) link result old new
+    (joined_alone settings lines 1 Answered nothing_yet)
 
 -- nothing is on the link
 reported_alone : (captured : Captured)
@@ -257,21 +232,269 @@ reported_alone : (captured : Captured)
 reported_alone (Streams sent received) = refl
 reported_alone (Bad number) = refl
 
-pub audits : {E : Type 0} (link : MemoryState) (lines : List (List ℕ)) (result : Result ℕ E) (old new : List ℕ) →
-    IfOk result (λ status. status ≡ (audit_transcript lines).status)
-    → IfOk result (λ status. new ≡ old ++ (audit_transcript lines).text)
-    → IfOk result (λ status. Replays (audit_transcript lines) link link status old new)
+pub audits : {E : Type 0} (link : MemoryState) (lines : List (List ℕ)) (result : Result ScriptEnd E) (old new : List ℕ) →
+    IfOk result (λ end. Ended end ≡ (audit_transcript lines).status)
+    → IfOk result (λ end. new ≡ old ++ (audit_transcript lines).text)
+    → IfOk result (λ end. Replays (audit_transcript lines) link link (Ended end) old new)
 audits link lines result old new = writes (audit_transcript lines) link result old new
     (reported_alone (captured_in lines))
 
--- the status that is left, where the writing did not end otherwise
-pub status_left : (result status : ℕ) → (result ≡ status) ⊎ ((result ≡ 4) ⊎ (result ≡ 5))
-    → result ≢ 4 → result ≢ 5 → result ≡ status
-status_left result status cases no4 no5 = grind arith
+-- What `finish` did with a text, whose script came to this end.
+pub record Finishes (text : List ℕ) (end : ScriptEnd) (before after : SinkState) (status : Status) : Type 0 where
+  pub keeps : SinkKeeps before after
+  pub fault : status ≡ SinkFailed → FaultCountRose before.faults after.faults
+  pub status_is : (status ≡ Ended end) ⊎ ((status ≡ SinkFailed) ⊎ (status ≡ OutOfMemory))
+  pub written : IsTrue before.tells → status ≡ Ended end → after.sent ≡ before.sent ++ text
+  pub part : IsTrue before.tells → WrotePart before after text
 
-pub not_read_fault : (result : ℕ) → (result < 3) ⊎ ((result ≡ 4) ⊎ (result ≡ 5)) → result ≢ 3
-not_read_fault result cases = grind arith
+-- the status of a run that was not cut
+uncut : (status : Status) (end : ScriptEnd) → (status ≡ Ended end) ⊎ ((status ≡ SinkFailed) ⊎ (status ≡ OutOfMemory))
+    → is_cut status ≡ false → status ≡ Ended end
+uncut status end (inl is) no = is
+uncut status end (inr (inl is)) no = let e : is_cut SinkFailed ≡ false = rw is at no in absurd (cc)
+uncut status end (inr (inr is)) no = let e : is_cut OutOfMemory ≡ false = rw is at no in absurd (cc)
 
-pub completes : (result status : ℕ) → result ≢ 3 → result ≢ 4 → (result ≢ 5 → result ≡ status)
-    → status < 2 → (result ≡ 0) ⊎ ((result ≡ 1) ⊎ (result ≡ 5))
-completes result status no3 no4 is small = grind (arith, nat_tests)
+whole_uncut : (status : Status) → IsTrue (is_whole status) → is_cut status ≡ false
+whole_uncut (Ended end) whole = refl
+whole_uncut SourceFailed whole = absurd (cc)
+whole_uncut SinkFailed whole = absurd (cc)
+whole_uncut OutOfMemory whole = absurd (cc)
+whole_uncut TooLong whole = refl
+
+-- the status is this one, or the run was cut
+or_cut : (status end : Status) → (status ≡ end) ⊎ ((status ≡ SinkFailed) ⊎ (status ≡ OutOfMemory))
+    → (status ≡ end) ⊎ IsTrue (is_cut status)
+or_cut status end (inl is) = inl is
+or_cut status end (inr (inl is)) = inr (rw is refl)
+or_cut status end (inr (inr is)) = inr (rw is refl)
+
+-- a run that began
+begun : (status : Status) (end : ScriptEnd) → (status ≡ Ended end) ⊎ ((status ≡ SinkFailed) ⊎ (status ≡ OutOfMemory))
+    → is_unbegun status ≡ false
+begun status end (inl is) = rw is refl
+begun status end (inr (inl is)) = rw is refl
+begun status end (inr (inr is)) = rw is refl
+
+begun_not : (status : Status) → is_unbegun status ≡ false → IsTrue (is_unbegun status) → ⊥
+begun_not status no yes = cc
+
+not_source_failed : (status : Status) → is_unbegun status ≡ false → status ≡ SourceFailed → ⊥
+not_source_failed status no is = let e : is_unbegun SourceFailed ≡ false = rw is at no in cc
+
+not_too_long : (status : Status) → is_unbegun status ≡ false → status ≡ TooLong → ⊥
+not_too_long status no is = let e : is_unbegun TooLong ≡ false = rw is at no in cc
+
+-- the link is as it was, where the command makes no calls or did not begin
+either : {A B C : Type 0} → (A → C) → (B → C) → A ⊎ B → C
+either f g (inl a) = f a
+either f g (inr b) = g b
+
+-- words and a script of the grammar, and no fault
+completes : (status t : Status) (end : ScriptEnd)
+    → (status ≡ Ended end) ⊎ ((status ≡ SinkFailed) ⊎ (status ≡ OutOfMemory))
+    → (status ≡ SinkFailed → ⊥) → Ended end ≡ t → IsFollowed t
+    → (status ≡ Ended Answered) ⊎ ((status ≡ Ended Failed) ⊎ (status ≡ OutOfMemory))
+completes status t end (inl is) steady same (inl followed) = inl (is ∙ same ∙ followed)
+completes status t end (inl is) steady same (inr followed) = inr (inl (is ∙ same ∙ followed))
+completes status t end (inr (inl is)) steady same followed = absurd (steady is)
+completes status t end (inr (inr is)) steady same followed = inr (inr is)
+
+source_same : (source : SourceState) → SourceKeeps source source
+source_same source = record { tells = refl; faults = omega arith }
+
+sink_same : (sink : SinkState) → SinkKeeps sink sink
+sink_same sink = record { tells = refl; faults = omega arith }
+
+-- memory ran out before anything was written
+pub memory_ended : (command : Option Command) (s0 s1 : SourceState) (k : SinkState) (l0 l1 : MemoryState) →
+    SourceKeeps s0 s1 → (reads_script command ≡ false → s1 ≡ s0) → (makes_calls command ≡ false → l1 ≡ l0)
+    → RunsCommand command (streams s0 k l0) (streams s1 k l1) OutOfMemory
+memory_ended command s0 s1 k l0 l1 keeps unread kept = record {
+  source_keeps = keeps;
+  sink_keeps = sink_same k;
+  whole = λ source sink is. absurd (cc);
+  part = λ source sink is. no_part k _;
+  read_fault = λ is. absurd (cc);
+  write_fault = λ is. absurd (cc);
+  refused = λ none. inr refl;
+  refused_text = λ none sink is. absurd (cc);
+  refused_part = λ none sink. no_part k _;
+  unread = unread;
+  scriptless = λ none sink is. absurd (cc);
+  scriptless_part = λ none sink is. no_part k _;
+  scriptless_status = λ none. inr refl;
+  kept = either kept (λ is. absurd (cc));
+  silent = λ is. refl;
+  too_long = λ source is. absurd (cc);
+  long = λ source reads long. inr (inr refl);
+  read = λ source is. absurd (cc);
+  complete = λ source sound steady good. inr (inr refl);
+}
+
+-- the source failed
+pub source_ended : (command : Command) (s0 s1 : SourceState) (k : SinkState) (l : MemoryState) →
+    reads_script (Some command) ≡ true → SourceKeeps s0 s1 → FaultCountRose s0.faults s1.faults
+    → RunsCommand (Some command) (streams s0 k l) (streams s1 k l) SourceFailed
+source_ended command s0 s1 k l reads keeps rose = record {
+  source_keeps = keeps;
+  sink_keeps = sink_same k;
+  whole = λ source sink is. absurd (cc);
+  part = λ source sink is. absurd (cc);
+  read_fault = λ is. rose;
+  write_fault = λ is. absurd (cc);
+  refused = λ none. absurd (cc);
+  refused_text = λ none sink is. absurd (cc);
+  refused_part = λ none sink. absurd (cc);
+  unread = λ none. absurd (cc);
+  scriptless = λ none sink is. absurd (cc);
+  scriptless_part = λ none sink is. absurd (cc);
+  scriptless_status = λ none. absurd (cc);
+  kept = λ is. refl;
+  silent = λ is. refl;
+  too_long = λ source is. absurd (cc);
+  long = λ source is long. inr (inl refl);
+  read = λ source is. absurd (cc);
+  complete = λ source sound steady good. absurd (sound rose);
+}
+
+-- the script is too long
+pub long_ended : (command : Command) (s0 s1 : SourceState) (k : SinkState) (l : MemoryState) →
+    reads_script (Some command) ≡ true → SourceKeeps s0 s1
+    → (IsTrue s0.tells → 16777216 < length (source_left s0))
+    → (IsTrue s0.tells → s1.pos ≡ s0.pos + min 16777217 (length (source_left s0)))
+    → RunsCommand (Some command) (streams s0 k l) (streams s1 k l) TooLong
+long_ended command s0 s1 k l reads keeps long read = record {
+  source_keeps = keeps;
+  sink_keeps = sink_same k;
+  whole = λ source sink is. rw (transcript_long command (source_left s0) reads (long source))
+      (nothing_written l TooLong k.sent);
+  part = λ source sink is. absurd (cc);
+  read_fault = λ is. absurd (cc);
+  write_fault = λ is. absurd (cc);
+  refused = λ none. absurd (cc);
+  refused_text = λ none sink is. absurd (cc);
+  refused_part = λ none sink. absurd (cc);
+  unread = λ none. absurd (cc);
+  scriptless = λ none sink is. absurd (cc);
+  scriptless_part = λ none sink is. absurd (cc);
+  scriptless_status = λ none. absurd (cc);
+  kept = λ is. refl;
+  silent = λ is. refl;
+  too_long = λ source is. (reads, rw most (long source));
+  long = λ source is more. inl refl;
+  read = λ source is. rw (reads, most) (read source);
+  complete = λ source sound steady good.
+      let fits : length (source_left s0) ≤ 16777216 = rw most at (good.fits reads) in
+      absurd (omega (arith, long source));
+}
+
+-- a script that was read whole and done, and whose text was written, or a part of it
+pub script_ended : (command : Command) (s0 s1 : SourceState) (k0 k1 : SinkState) (l0 l1 : MemoryState)
+    (end : ScriptEnd) (out : List ℕ) (status : Status) → reads_script (Some command) ≡ true → SourceKeeps s0 s1 →
+    (IsTrue s0.tells → length (source_left s0) ≤ 16777216) →
+    (IsTrue s0.tells → s1.pos ≡ s0.pos + min 16777217 (length (source_left s0))) →
+    (IsTrue s0.tells → Replays (script_transcript command (source_left s0)) l0 l1 (Ended end) [] out) →
+    (makes_calls (Some command) ≡ false → l1 ≡ l0) → Finishes out end k0 k1 status
+    → RunsCommand (Some command) (streams s0 k0 l0) (streams s1 k1 l1) status
+script_ended command s0 s1 k0 k1 l0 l1 end out status reads keeps fits read did kept f =
+    let began : is_unbegun status ≡ false = begun status end f.status_is in
+    record {
+      source_keeps = keeps;
+      sink_keeps = f.keeps;
+      whole = λ source sink is.
+          let ended : status ≡ Ended end = uncut status end f.status_is (whole_uncut status is) in
+          rw (ended, f.written sink ended) (onto k0.sent (did source));
+      part = λ source sink is. rw (sym (did source).text) (f.part sink);
+      read_fault = λ is. absurd (not_source_failed status began is);
+      write_fault = f.fault;
+      refused = λ none. absurd (cc);
+      refused_text = λ none sink is. absurd (cc);
+      refused_part = λ none sink. absurd (cc);
+      unread = λ none. absurd (cc);
+      scriptless = λ none sink is. absurd (cc);
+      scriptless_part = λ none sink is. absurd (cc);
+      scriptless_status = λ none. absurd (cc);
+      kept = either kept (λ is. absurd (begun_not status began is));
+      silent = λ is. absurd (begun_not status began is);
+      too_long = λ source is. absurd (not_too_long status began is);
+      long = λ source is long.
+          let more : 16777216 < length (source_left s0) = rw most at long in
+          absurd (omega (arith, fits source));
+      read = λ source is. rw (reads, most) (read source);
+      complete = λ source sound steady good.
+          completes status _ end f.status_is (λ is. steady (f.fault is)) (did source).status_is
+          (script_followed command (source_left s0) good);
+    }
+
+-- a command that reads no script, done and written like that
+pub alone_ended : (command : Command) (s : SourceState) (k0 k1 : SinkState) (l0 l1 : MemoryState)
+    (end : ScriptEnd) (out : List ℕ) (status : Status) → reads_script (Some command) ≡ false →
+    Replays (script_transcript command []) l0 l1 (Ended end) [] out →
+    (makes_calls (Some command) ≡ false → l1 ≡ l0) → Finishes out end k0 k1 status
+    → RunsCommand (Some command) (streams s k0 l0) (streams s k1 l1) status
+alone_ended command s k0 k1 l0 l1 end out status unread did kept f =
+    let began : is_unbegun status ≡ false = begun status end f.status_is in
+    let same : script_transcript command (source_left s) ≡ script_transcript command [] =
+    transcript_same command (source_left s) unread in
+    let uncut_is : is_cut status ≡ false → status ≡ Ended end = uncut status end f.status_is in
+    let all : IsTrue k0.tells → is_cut status ≡ false →
+    Replays (script_transcript command []) l0 l1 status k0.sent k1.sent =
+    λ sink is. rw (uncut_is is, f.written sink (uncut_is is)) (onto k0.sent did) in
+    let part : IsTrue k0.tells → WrotePart k0 k1 (script_transcript command []).text =
+    λ sink. rw (sym did.text) (f.part sink) in
+    record {
+      source_keeps = source_same s;
+      sink_keeps = f.keeps;
+      whole = λ source sink is. rw same (all sink (whole_uncut status is));
+      part = λ source sink is. rw same (part sink);
+      read_fault = λ is. absurd (not_source_failed status began is);
+      write_fault = f.fault;
+      refused = λ none. absurd (cc);
+      refused_text = λ none sink is. absurd (cc);
+      refused_part = λ none sink. absurd (cc);
+      unread = λ none. refl;
+      scriptless = λ none sink is. all sink is;
+      scriptless_part = λ none sink is. part sink;
+      scriptless_status = λ none. or_cut status _ (rw did.status_is at f.status_is);
+      kept = either kept (λ is. absurd (begun_not status began is));
+      silent = λ is. absurd (begun_not status began is);
+      too_long = λ source is. absurd (not_too_long status began is);
+      long = λ source reads long. absurd (cc);
+      read = λ source is. rw unread (omega arith);
+      complete = λ source sound steady good.
+          completes status _ end f.status_is (λ is. steady (f.fault is)) (did.status_is ∙ sym (ap (λ (t : Transcript). t.status) same))
+          (script_followed command (source_left s) good);
+    }
+
+-- words that are not of the grammar
+pub refusal_ended : (s : SourceState) (k0 k1 : SinkState) (l : MemoryState) (status : Status)
+    → Finishes (codes "! words\n") NotOfGrammar k0 k1 status
+    → RunsCommand None (streams s k0 l) (streams s k1 l) status
+refusal_ended s k0 k1 l status f =
+    let began : is_unbegun status ≡ false = begun status NotOfGrammar f.status_is in
+    let ended : is_cut status ≡ false → status ≡ Ended NotOfGrammar = uncut status NotOfGrammar f.status_is in
+    let all : IsTrue k0.tells → is_cut status ≡ false →
+    Replays (only_text (codes "! words\n") (Ended NotOfGrammar)) l l status k0.sent k1.sent =
+    λ sink is. rw (ended is, f.written sink (ended is))
+    (text_alone l (codes "! words\n") (Ended NotOfGrammar) k0.sent) in
+    record {
+      source_keeps = source_same s;
+      sink_keeps = f.keeps;
+      whole = λ source sink is. all sink (whole_uncut status is);
+      part = λ source sink is. f.part sink;
+      read_fault = λ is. absurd (not_source_failed status began is);
+      write_fault = f.fault;
+      refused = λ none. or_cut status (Ended NotOfGrammar) f.status_is;
+      refused_text = λ none sink is. f.written sink is;
+      refused_part = λ none sink. f.part sink;
+      unread = λ none. refl;
+      scriptless = λ none sink is. all sink is;
+      scriptless_part = λ none sink is. f.part sink;
+      scriptless_status = λ none. or_cut status (Ended NotOfGrammar) f.status_is;
+      kept = λ is. refl;
+      silent = λ is. absurd (begun_not status began is);
+      too_long = λ source is. absurd (not_too_long status began is);
+      long = λ source reads long. absurd (cc);
+      read = λ source is. omega arith;
+      complete = λ source sound steady good. let some = good.words_are in absurd (cc);
+    }

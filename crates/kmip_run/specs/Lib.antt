@@ -4,6 +4,7 @@ pub mod Setup
 pub mod Making
 pub mod Auditing
 pub mod Transcript
+pub mod Program
 pub mod Sent
 pub mod Told
 pub mod Reported

@@ -1,5 +1,5 @@
 -- The exchanges that `make N` makes, each from a number, and their results.
-use Rattle.std.specs.Prelude.{◌≡◌, ℕ, zero, suc, ℤ, pos, ◌+◌, ◌*◌, ◌/◌, ◌%◌, ◌^◌, ◌==◌, List, [], ◌∷◌, ◌++◌, length, drop, replicate, Bool, true, false, None, if◌then◌else◌, codes}
+use Rattle.std.specs.Prelude.{◌≡◌, ℕ, zero, suc, ℤ, pos, ◌+◌, ◌*◌, ◌/◌, ◌%◌, ◌^◌, ◌==◌, List, [], ◌∷◌, ◌++◌, drop, replicate, Bool, true, false, None, if◌then◌else◌, codes}
 use Rattle.kmip_tags.specs.Tags.{BATCH_COUNT, BATCH_ITEM, DATA, OPERATION, PROTOCOL_VERSION, PROTOCOL_VERSION_MAJOR, PROTOCOL_VERSION_MINOR, RESPONSE_HEADER, RESPONSE_MESSAGE, RESPONSE_PAYLOAD, RESULT_MESSAGE, RESULT_REASON, RESULT_STATUS, TIME_STAMP, UNIQUE_IDENTIFIER}
 use Rattle.std.specs.Fmt.{decimal}
 use Rattle.kmip_wire.specs.Tree.{Tree, scalar, structure, trees_of, integer, enumeration, text_string, byte_string, date_time}

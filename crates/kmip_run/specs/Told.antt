@@ -1,5 +1,5 @@
 -- What the diagnostics of a session show, with its requests and messages as bytes.
-use Rattle.std.specs.Prelude.{ℕ, List, [], ◌∷◌, map, Option, Some, None, IsSome}
+use Rattle.std.specs.Prelude.{ℕ, List, [], ◌∷◌, map, Option, IsSome}
 use Rattle.std.specs.Option.{option_map, option_and_then}
 use Rattle.kmip_wire.specs.Tree.{Tree}
 use Rattle.kmip_wire.specs.Parses.{Parses}

@@ -20,28 +20,33 @@ use Rattle.kmip_run.specs.declared.auditing.Captured.{Captured}
 use Rattle.kmip_run.specs.declared.auditing.Captured.TheVariants.{Streams, Bad}
 use Rattle.kmip_run.specs.declared.command.Command.{Command}
 use Rattle.kmip_run.specs.declared.command.Command.TheVariants.{Replay, Explain, Make, Audit}
+use Rattle.kmip_run.specs.declared.status.ScriptEnd.{ScriptEnd}
+use Rattle.kmip_run.specs.declared.status.ScriptEnd.TheVariants.{Answered, Failed, NotOfGrammar}
+use Rattle.kmip_run.specs.declared.status.Status.{Status}
+use Rattle.kmip_run.specs.declared.status.Status.TheVariants.{Ended, TooLong}
 
 -- what is written, the status, the bytes that are fed to the link and that are sent over it, and
 -- how many are taken from it
 pub record Transcript : Type 0 where
   pub text : List ℕ
-  pub status : ℕ
+  pub status : Status
   pub fed : List ℕ
   pub sent : List ℕ
   pub taken : ℕ
 
 -- a text, and nothing on the link
-abbrev pub only_text : List ℕ → ℕ → Transcript
+abbrev pub only_text : List ℕ → Status → Transcript
 only_text text status = record { text = text; status = status; fed = []; sent = []; taken = 0 }
 
 -- a line that is not of the grammar, by its number
 abbrev pub bad_line : ℕ → Transcript
-bad_line number = only_text (codes "! line " ++ (decimal number ++ codes "\n")) 2
+bad_line number =
+    only_text (codes "! line " ++ (decimal number ++ codes "\n")) (Ended NotOfGrammar)
 
--- the status after a call: 1 once some answer was an error
-abbrev pub status_after : ℕ → Bool → ℕ
-status_after status true = 1
-status_after status false = status
+-- the end after a call: `Failed` once some answer was an error
+abbrev pub end_after : ScriptEnd → Bool → ScriptEnd
+end_after end true = Failed
+end_after end false = end
 
 -- a call that is fed this response, and the later lines
 abbrev pub then_later : List ℕ → Step → Transcript → Transcript
@@ -53,15 +58,15 @@ then_later fed s later = record {
   taken = s.taken + later.taken;
 }
 
--- the calls of these lines, given the number of the first, the status so far, and the bytes left
-unfoldable pub replay_from : Settings → List (List ℕ) → ℕ → ℕ → List ℕ → Transcript
-replay_from settings [] number status rest = only_text [] status
-replay_from settings (line ∷ lines) number status rest = elim (call_of line) [
+-- the calls of these lines, given the number of the first, the end so far, and the bytes left
+unfoldable pub replay_from : Settings → List (List ℕ) → ℕ → ScriptEnd → List ℕ → Transcript
+replay_from settings [] number end rest = only_text [] (Ended end)
+replay_from settings (line ∷ lines) number end rest = elim (call_of line) [
   | None ↦ bad_line number
   | Some it ↦
       let s : Step = step settings it.call (rest ++ it.response) in
       then_later it.response s
-      (replay_from settings lines (number + 1) (status_after status s.failed)
+      (replay_from settings lines (number + 1) (end_after end s.failed)
       (drop s.taken (rest ++ it.response)))
 ]
 
@@ -75,27 +80,28 @@ then_text text later = only_text (text ++ later.text) later.status
 
 -- the expansions of these lines, given the number of the first
 unfoldable pub explanations_from : List (List ℕ) → ℕ → Transcript
-explanations_from [] number = only_text [] 0
+explanations_from [] number = only_text [] (Ended Answered)
 explanations_from (line ∷ lines) number = elim (line_expansion line) [
   | None ↦ bad_line number
   | Some text ↦ then_text text (explanations_from lines (number + 1))
 ]
 
--- the calls of these lines over a server in memory, given the number of the first, the status so
--- far, and the state of client and server
-unfoldable pub joined : Settings → List (List ℕ) → ℕ → ℕ → World → Transcript
-joined settings [] number status world = only_text [] status
-joined settings (line ∷ lines) number status world = elim (helper_call line) [
+-- the calls of these lines over a server in memory, given the number of the first, the end so far,
+-- and the state of client and server
+unfoldable pub joined : Settings → List (List ℕ) → ℕ → ScriptEnd → World → Transcript
+joined settings [] number end world = only_text [] (Ended end)
+joined settings (line ∷ lines) number end world = elim (helper_call line) [
   | None ↦ bad_line number
   | Some call ↦
       let it : Joined = joined_step settings call world in
       then_text (call_text it.step)
-      (joined settings lines (number + 1) (status_after status it.step.failed) it.after)
+      (joined settings lines (number + 1) (end_after end it.step.failed) it.after)
 ]
 
 -- the report on two captured streams
 abbrev pub report_transcript : Captured → Transcript
-report_transcript (Streams sent received) = only_text (report_text (report_of sent received)) 0
+report_transcript (Streams sent received) =
+    only_text (report_text (report_of sent received)) (Ended Answered)
 report_transcript (Bad number) = bad_line number
 
 abbrev pub audit_transcript : List (List ℕ) → Transcript
@@ -106,7 +112,7 @@ abbrev pub counted_transcript : ℕ → Counts → Transcript
 counted_transcript count c =
     record {
       text = made_text count c.ok c.errors (length c.sent) c.taken;
-      status = 0;
+      status = Ended Answered;
       fed = c.fed;
       sent = c.sent;
       taken = c.taken;
@@ -118,12 +124,13 @@ made_transcript count = counted_transcript count (counts_after made_settings cou
 
 -- what a command makes of the lines of its script
 abbrev pub lines_transcript : Command → List (List ℕ) → Transcript
-lines_transcript (Replay options) lines = replay_from (settings_for options) lines 1 0 []
+lines_transcript (Replay options) lines =
+    replay_from (settings_for options) lines 1 Answered []
 lines_transcript Explain lines = explanations_from lines 1
 lines_transcript (Make count) lines = made_transcript count
 lines_transcript Audit lines = audit_transcript lines
 lines_transcript (Command.Joined options) lines =
-    joined (settings_for options) lines 1 0 nothing_yet
+    joined (settings_for options) lines 1 Answered nothing_yet
 
 -- whether the command reads a script
 abbrev pub reads_script : Option Command → Bool
@@ -140,15 +147,16 @@ most_script = 16777216
 
 unfoldable pub script_transcript : Command → List ℕ → Transcript
 script_transcript command script =
-    if reads_script (Some command) && nat_lt most_script (length script) then only_text [] 6
+    if reads_script (Some command) && nat_lt most_script (length script) then only_text [] TooLong
     else lines_transcript command (lines_of script)
 
+-- what the program does for a command, or for words that are not of the grammar
 abbrev pub command_transcript : Option Command → List ℕ → Transcript
-command_transcript None script = only_text (codes "! words\n") 2
+command_transcript None script = only_text (codes "! words\n") (Ended NotOfGrammar)
 command_transcript (Some command) script = script_transcript command script
 
 -- what the program does with these words over this script
-unfoldable pub transcript : List (List ℕ) → List ℕ → Transcript
+abbrev pub transcript : List (List ℕ) → List ℕ → Transcript
 transcript words script = command_transcript (command_of words) script
 
 -- how many of the bytes left a command reads: all, but at most one more than a script may have; and
@@ -180,14 +188,13 @@ abbrev pub AreLinesOf : Option Command → List (List ℕ) → Type 0
 AreLinesOf (Some Audit) lines = AreStreams (captured_in lines)
 AreLinesOf command lines = Unit {0}
 
--- The words are of the grammar; and where their command reads a script, the script is not too long,
--- and each line of it is of the grammar.
-pub record IsOfGrammar (words : List (List ℕ)) (script : List ℕ) : Type 0 where
-  pub words_are : IsSome (command_of words)
-  pub lines_are : IsTrue (reads_script (command_of words)) →
-      All (IsLineOf (command_of words)) (lines_of script)
-  pub together : AreLinesOf (command_of words) (lines_of script)
-  pub fits : IsTrue (reads_script (command_of words)) → length script ≤ most_script
+-- The words are a command; and where it reads a script, the script is not too long, and each line
+-- of it is of the grammar.
+pub record IsOfGrammar (command : Option Command) (script : List ℕ) : Type 0 where
+  pub words_are : IsSome command
+  pub lines_are : IsTrue (reads_script command) → All (IsLineOf command) (lines_of script)
+  pub together : AreLinesOf command (lines_of script)
+  pub fits : IsTrue (reads_script command) → length script ≤ most_script
 
 -- what a call did to the link, and to the text
 pub record RunsCall (s : Step) (fed : List ℕ) (before after : MemoryState) (failed : Bool)
@@ -200,7 +207,7 @@ pub record RunsCall (s : Step) (fed : List ℕ) (before after : MemoryState) (fa
   pub left : drop after.pos after.ever ≡ drop s.taken (drop before.pos before.ever ++ fed)
 
 -- what the lines did to the link, and to the text
-pub record Replays (t : Transcript) (before after : MemoryState) (status : ℕ)
+pub record Replays (t : Transcript) (before after : MemoryState) (status : Status)
     (old new : List ℕ) : Type 0 where
   pub text : new ≡ old ++ t.text
   pub status_is : status ≡ t.status

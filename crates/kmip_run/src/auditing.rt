@@ -1,10 +1,12 @@
 //! A script of two captured streams, and what is reported of them.
-ghost use Rattle.std.specs.Prelude.{◌≡◌, ◌<◌, ◌++◌, option_map, IfOk};
+ghost use Rattle.std.specs.Prelude.{◌≡◌, ◌++◌, option_map, IfOk};
 ghost use Rattle.kmip_run.specs.Script.{lines_of};
 ghost use Rattle.kmip_run.specs.Auditing.{stream_of, next_stream, captured_in};
 ghost use Rattle.kmip_run.specs.Transcript.{audit_transcript};
+ghost use Rattle.kmip_run.specs.declared.status.Status.TheVariants.{Ended};
 
 use crate::script::{first_line, show_bad_line};
+use crate::status::ScriptEnd;
 use kmip_audit::audit;
 use kmip_wire::{Blob, OutOfMemory, Text};
 use kmip_words::bytes_of;
@@ -70,23 +72,26 @@ fn captured_in(alloc: Global, script: &[u8]) -> Result<Captured, OutOfMemory>
 }
 
 /// Adds the report on the two streams of a script, or which line is not of the grammar, and returns
-/// the status.
-pub fn audit_script(alloc: Global, script: &[u8], output: &mut Text) -> Result<u8, OutOfMemory>
-    ensures bound { IfOk result (λ status. status < 3) }
-    ensures status { IfOk result (λ status. status ≡
+/// how the script ended.
+pub fn audit_script(
+    alloc: Global,
+    script: &[u8],
+    output: &mut Text,
+) -> Result<ScriptEnd, OutOfMemory>
+    ensures status { IfOk result (λ end. Ended end ≡
         (audit_transcript (lines_of script.now)).status) }
     ensures text { IfOk result
-        (λ status. output.new ≡ output.old ++ (audit_transcript (lines_of script.now)).text) }
+        (λ end. output.new ≡ output.old ++ (audit_transcript (lines_of script.now)).text) }
 {
     match captured_in(alloc, script)? {
         Captured::Streams(sent, received) => {
             let report = audit(alloc, sent.as_slice(), received.as_slice())?;
             report.show(alloc, output)?;
-            Ok(0)
+            Ok(ScriptEnd::Answered)
         }
         Captured::Bad(number) => {
             show_bad_line(alloc, number, output)?;
-            Ok(2)
+            Ok(ScriptEnd::NotOfGrammar)
         }
     }
 }

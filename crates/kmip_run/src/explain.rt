@@ -1,9 +1,11 @@
 //! The lines of a script, each a diagnostic that is expanded.
-ghost use Rattle.std.specs.Prelude.{◌≡◌, ◌<◌, ◌++◌, Some, IfOk};
+ghost use Rattle.std.specs.Prelude.{◌≡◌, ◌++◌, Some, IfOk};
 ghost use Rattle.kmip_run.specs.Script.{lines_of};
 ghost use Rattle.kmip_run.specs.Transcript.{line_expansion, explanations_from};
+ghost use Rattle.kmip_run.specs.declared.status.Status.TheVariants.{Ended};
 
 use crate::script::{first_line, show_bad_line};
+use crate::status::ScriptEnd;
 use kmip_diag::{DiagError, PrettyPrinter};
 use kmip_wire::{OutOfMemory, Text};
 use std::alloc::Global;
@@ -28,13 +30,13 @@ fn line_expansion(
     }
 }
 
-/// Adds the expansions of the lines, up to a line that is no diagnostic, and returns the status.
-pub fn explain(alloc: Global, script: &[u8], output: &mut Text) -> Result<u8, OutOfMemory>
-    ensures bound { IfOk result (λ status. status < 3) }
-    ensures status { IfOk result (λ status. status ≡
+/// Adds the expansions of the lines, up to a line that is no diagnostic, and returns how they
+/// ended.
+pub fn explain(alloc: Global, script: &[u8], output: &mut Text) -> Result<ScriptEnd, OutOfMemory>
+    ensures status { IfOk result (λ end. Ended end ≡
         (explanations_from (lines_of script.now) 1).status) }
     ensures text { IfOk result
-        (λ status. output.new ≡ output.old ++ (explanations_from (lines_of script.now) 1).text) }
+        (λ end. output.new ≡ output.old ++ (explanations_from (lines_of script.now) 1).text) }
 {
     let mut printer = PrettyPrinter::new();
     printer.with_tag_prefix(0x4200);
@@ -45,10 +47,10 @@ pub fn explain(alloc: Global, script: &[u8], output: &mut Text) -> Result<u8, Ou
         number += 1;
         let Some(text) = line_expansion(alloc, &printer, line)? else {
             show_bad_line(alloc, number, output)?;
-            return Ok(2);
+            return Ok(ScriptEnd::NotOfGrammar);
         };
         output.push_str(text.as_str())?;
         rest = later;
     }
-    Ok(0)
+    Ok(ScriptEnd::Answered)
 }

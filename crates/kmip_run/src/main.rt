@@ -3,8 +3,8 @@
 //!
 //! Its words say what to do. Its standard input is the script: one call or one diagnostic a line,
 //! or two lines of captured bytes; `make` reads none. It writes what each call sent and returned,
-//! what each diagnostic shows, the outcome of each captured exchange, or how many exchanges were made
-//! and their results. It ends with a status from 0 to 6, as `program::run` says.
+//! what each diagnostic shows, the outcome of each captured exchange, or how many exchanges were
+//! made and their results. It ends with a status from 0 to 6, as `Status::code` says.
 #![tactic(auto)]
 
 mod auditing;
@@ -21,11 +21,13 @@ mod replay;
 mod respond;
 mod script;
 mod setup;
+mod status;
 #[cfg(test)]
 mod tests;
 
 use kmip_link::{MemoryLink, StdSink, StdSource};
 use kmip_wire::{List, OutOfMemory, Text};
+use status::Status;
 use std::env;
 use std::process::ExitCode;
 
@@ -43,7 +45,7 @@ fn given_words(rt: &HostRuntime) -> Result<List<Text>, OutOfMemory> {
 
 fn main(rt: HostRuntime) -> ExitCode {
     let Ok(words) = given_words(&rt) else {
-        return ExitCode::from(5);
+        return ExitCode::from(Status::OutOfMemory.code());
     };
     let mut source = StdSource::new(rt.stdin());
     let mut sink = StdSink::new(rt.stdout());

@@ -4,9 +4,11 @@ ghost use Rattle.kmip_words.specs.Exchange.{settings_of, step};
 ghost use Rattle.kmip_run.specs.Making.{next_of, one_ok, one_error, counts_after, made_text};
 ghost use Rattle.kmip_run.specs.Making.{MakesCall, Makes};
 ghost use Rattle.kmip_run.specs.Transcript.{counted_transcript, Replays};
+ghost use Rattle.kmip_run.specs.declared.status.Status.TheVariants.{Ended};
 
 use crate::exchange::{feed, sent_len};
 use crate::respond::exchange_of;
+use crate::status::ScriptEnd;
 use kmip_client::Client;
 use kmip_link::MemoryLink;
 use kmip_shape::Style;
@@ -134,23 +136,22 @@ fn show_tally(
     output.push_str(text.as_str())
 }
 
-/// Makes `count` exchanges, adds their results as five lines, and returns the status.
+/// Makes `count` exchanges, and adds their results as five lines. It returns `Answered`.
 pub fn make(
     alloc: Global,
     client: &mut Client<MemoryLink>,
     count: u32,
     output: &mut Text,
-) -> Result<u8, OutOfMemory>
-    ensures bound { IfOk result (λ status. status < 3) }
-    ensures replays { IfOk result (λ status. Replays
+) -> Result<ScriptEnd, OutOfMemory>
+    ensures { IfOk result (λ end. Replays
         (counted_transcript count
         (counts_after (settings_of client.old) count 1
         (drop client.old.link.pos client.old.link.ever)))
-        client.old.link client.new.link status output.old output.new) }
+        client.old.link client.new.link (Ended end) output.old output.new) }
 {
     let before = sent_len(client);
     let tally = make_calls(alloc, client, count)?;
     let sent = sent_len(client) - before;
     show_tally(alloc, count, tally, sent, output)?;
-    Ok(0)
+    Ok(ScriptEnd::Answered)
 }

@@ -114,25 +114,26 @@ fn rows_hold(rt: &impl Abort, alloc: Global, rows: &[Row]) -> Result<(), Fail> {
 }
 
 #[test]
-fn exchanges_are_made(rt: HostRuntime) -> Result<(), Fail> {
+fn make_counts_answers_errors_and_bytes(rt: HostRuntime) -> Result<(), Fail> {
     rows_hold(&rt, rt.alloc(), ROWS)
 }
 
 #[test]
-fn many_exchanges_are_made(rt: HostRuntime) -> Result<(), Fail> {
+fn a_thousand_exchanges_give_the_same_counts_each_time(rt: HostRuntime) -> Result<(), Fail> {
     rows_hold(&rt, rt.alloc(), MANY)
 }
 
 /// The request for 43 random bytes.
-const REQUEST: &[u8] =
-    b"\x42\x00\x78\x01\x00\x00\x00\x70\x42\x00\x77\x01\x00\x00\x00\x38\x42\x00\x69\x01\x00\x00\x00\x20\
-\x42\x00\x6A\x02\x00\x00\x00\x04\x00\x00\x00\x01\x00\x00\x00\x00\x42\x00\x6B\x02\x00\x00\x00\x04\x00\x00\x00\x02\x00\x00\x00\x00\
+const REQUEST: &[u8] = b"\x42\x00\x78\x01\x00\x00\x00\x70\x42\x00\x77\x01\x00\x00\x00\x38\
+\x42\x00\x69\x01\x00\x00\x00\x20\
+\x42\x00\x6A\x02\x00\x00\x00\x04\x00\x00\x00\x01\x00\x00\x00\x00\
+\x42\x00\x6B\x02\x00\x00\x00\x04\x00\x00\x00\x02\x00\x00\x00\x00\
 \x42\x00\x0D\x02\x00\x00\x00\x04\x00\x00\x00\x01\x00\x00\x00\x00\x42\x00\x0F\x01\x00\x00\x00\x28\
 \x42\x00\x5C\x05\x00\x00\x00\x04\x00\x00\x00\x25\x00\x00\x00\x00\x42\x00\x79\x01\x00\x00\x00\x10\
 \x42\x00\xC4\x02\x00\x00\x00\x04\x00\x00\x00\x2B\x00\x00\x00\x00";
 
 /// Runs `make 1` on a link of these pieces, and looks at what it was sent and what is left to read.
-fn one_is_made(rt: &impl Abort, alloc: Global, pieces: &[usize]) -> Result<(), Fail> {
+fn one_exchange_is_sent(rt: &impl Abort, alloc: Global, pieces: &[usize]) -> Result<(), Fail> {
     let words = list_of(alloc, &["make", "1"])?;
     let mut source = MemorySource::new(alloc, b"", &[])?;
     let mut sink = MemorySink::new(alloc, &[])?;
@@ -150,13 +151,13 @@ fn one_is_made(rt: &impl Abort, alloc: Global, pieces: &[usize]) -> Result<(), F
 }
 
 #[test]
-fn the_link_keeps_what_was_sent(rt: HostRuntime) -> Result<(), Fail> {
-    one_is_made(&rt, rt.alloc(), &[])
+fn make_sends_over_the_link_handed_in(rt: HostRuntime) -> Result<(), Fail> {
+    one_exchange_is_sent(&rt, rt.alloc(), &[])
 }
 
 #[test]
-fn pieces_of_seven_give_the_same(rt: HostRuntime) -> Result<(), Fail> {
-    one_is_made(&rt, rt.alloc(), &[7])
+fn make_gives_the_same_over_pieces_of_seven_bytes(rt: HostRuntime) -> Result<(), Fail> {
+    one_exchange_is_sent(&rt, rt.alloc(), &[7])
 }
 
 /// Runs the program on `make 4`, where the source fails at its first read and these writes fail:
@@ -171,7 +172,7 @@ fn made_over_faults(alloc: Global, writes: &[u64]) -> Result<(u8, usize), Fail> 
 }
 
 #[test]
-fn no_script_is_read(rt: HostRuntime) -> Result<(), Fail> {
+fn make_reads_nothing_from_a_source_that_fails(rt: HostRuntime) -> Result<(), Fail> {
     let (status, written) = made_over_faults(rt.alloc(), &[])?;
     assert_eq!(rt; status, 0);
     assert_eq!(rt; written, 45);
@@ -179,7 +180,7 @@ fn no_script_is_read(rt: HostRuntime) -> Result<(), Fail> {
 }
 
 #[test]
-fn a_failing_sink_ends_it(rt: HostRuntime) -> Result<(), Fail> {
+fn make_ends_with_status_4_where_the_sink_fails(rt: HostRuntime) -> Result<(), Fail> {
     let (status, written) = made_over_faults(rt.alloc(), &[0])?;
     assert_eq!(rt; status, 4);
     assert_eq!(rt; written, 0);

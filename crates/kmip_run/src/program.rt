@@ -1,15 +1,13 @@
 //! The program.
-ghost use Rattle.std.specs.Prelude.{◌≡◌, ◌≢◌, ◌+◌, ◌<◌, ◌≤◌, ◌++◌, ◌⊎◌, [], length, drop, codes};
-ghost use Rattle.std.specs.Prelude.{false, true, None, Some, IsTrue, IfOk};
-ghost use Rattle.kmip_link.specs.State.{SourceKeeps, SinkKeeps, FaultCountRose, source_left};
-ghost use Rattle.kmip_run.specs.Script.{lines_of};
-ghost use Rattle.kmip_run.specs.Commands.{command_of};
-ghost use Rattle.kmip_run.specs.Setup.{settings_for};
+ghost use Rattle.std.specs.Prelude.{◌≡◌, ◌++◌, ◌⊎◌, [], drop, false, true, Some, IsTrue, IfOk};
+ghost use Rattle.kmip_link.specs.State.{SourceState, SinkKeeps, FaultCountRose};
 ghost use Rattle.kmip_words.specs.Streams.{WrotePart};
+ghost use Rattle.kmip_run.specs.Script.{lines_of};
+ghost use Rattle.kmip_run.specs.Setup.{settings_for};
 ghost use Rattle.kmip_run.specs.Making.{counts_after, made_settings};
-ghost use Rattle.kmip_run.specs.Transcript.{most_script, reads_script, read_by, makes_calls};
-ghost use Rattle.kmip_run.specs.Transcript.{replay_from, counted_transcript, lines_transcript};
-ghost use Rattle.kmip_run.specs.Transcript.{script_transcript, transcript, IsOfGrammar, Replays};
+ghost use Rattle.kmip_run.specs.Transcript.{counted_transcript, lines_transcript, makes_calls};
+ghost use Rattle.kmip_run.specs.Transcript.{reads_script, replay_from, Replays};
+ghost use Rattle.kmip_run.specs.Program.{streams, RunsCommand, Runs, RunsTo};
 
 use crate::auditing::audit_script;
 use crate::command::{Command, Options, command_of};
@@ -18,6 +16,7 @@ use crate::joined::run_joined;
 use crate::make::make;
 use crate::replay::replay;
 use crate::setup::client_of;
+use crate::status::{ScriptEnd, Status};
 use kmip_client::Client;
 use kmip_link::{LinkError, MemoryLink, Sink, Source};
 use kmip_wire::{List, OutOfMemory, Text};
@@ -28,22 +27,22 @@ use std::mem;
 /// The most bytes that a script may have.
 const MAX_SCRIPT: usize = 16_777_216;
 
-/// Writes the whole text, and returns the status: 4 where the sink failed, and 5 where memory ran
-/// out.
-fn finish<K: Sink>(sink: &mut K, text: &str, status: u8) -> u8
-    requires { status < 3 }
+/// Writes the whole text, and returns how the run ends, this being the end of its script.
+fn finish<K: Sink>(sink: &mut K, text: &str, end: ScriptEnd) -> Status
     ensures keeps { SinkKeeps (K.state sink.old) (K.state sink.new) }
-    ensures fault { result ≡ 4 → FaultCountRose (K.state sink.old).faults (K.state sink.new).faults }
-    ensures status { (result ≡ status) ⊎ ((result ≡ 4) ⊎ (result ≡ 5)) }
-    ensures written { IsTrue (K.state sink.old).tells → result ≢ 4 → result ≢ 5 →
+    ensures fault { result ≡ Status.SinkFailed →
+        FaultCountRose (K.state sink.old).faults (K.state sink.new).faults }
+    ensures status { (result ≡ Status.Ended end)
+        ⊎ ((result ≡ Status.SinkFailed) ⊎ (result ≡ Status.OutOfMemory)) }
+    ensures written { IsTrue (K.state sink.old).tells → result ≡ Status.Ended end →
         (K.state sink.new).sent ≡ (K.state sink.old).sent ++ text.now }
     ensures part { IsTrue (K.state sink.old).tells →
         WrotePart (K.state sink.old) (K.state sink.new) text.now }
 {
     match write_out(sink, text.as_bytes()) {
-        Ok(()) => status,
-        Err(LinkError::Fault) => 4,
-        Err(LinkError::OutOfMemory) => 5,
+        Ok(()) => Status::Ended(end),
+        Err(LinkError::Fault) => Status::SinkFailed,
+        Err(LinkError::OutOfMemory) => Status::OutOfMemory,
     }
 }
 
@@ -61,19 +60,18 @@ fn replay_on(
     script: &[u8],
     link: &mut MemoryLink,
     output: &mut Text,
-) -> Result<u8, OutOfMemory>
-    ensures bound { IfOk result (λ status. status < 3) }
-    ensures replays { IfOk result (λ status. Replays
-        (replay_from (settings_for options) (lines_of script.now) 1 0
+) -> Result<ScriptEnd, OutOfMemory>
+    ensures { IfOk result (λ end. Replays
+        (replay_from (settings_for options) (lines_of script.now) 1 ScriptEnd.Answered
         (drop link.old.pos link.old.ever))
-        link.old link.new status output.old output.new) }
+        link.old link.new (Status.Ended end) output.old output.new) }
 {
     let moved = mem::replace(link, MemoryLink::new(alloc));
     let diag = options.diag;
     let mut client = client_of(moved, options);
-    let status = replay(alloc, &mut client, diag, script, output);
+    let end = replay(alloc, &mut client, diag, script, output);
     *link = link_of(alloc, &mut client);
-    status
+    end
 }
 
 /// Makes `count` exchanges on the link: moves it into a client, and back.
@@ -82,12 +80,11 @@ fn make_on(
     count: u32,
     link: &mut MemoryLink,
     output: &mut Text,
-) -> Result<u8, OutOfMemory>
-    ensures bound { IfOk result (λ status. status < 3) }
-    ensures replays { IfOk result (λ status. Replays
+) -> Result<ScriptEnd, OutOfMemory>
+    ensures { IfOk result (λ end. Replays
         (counted_transcript count
         (counts_after made_settings count 1 (drop link.old.pos link.old.ever)))
-        link.old link.new status output.old output.new) }
+        link.old link.new (Status.Ended end) output.old output.new) }
 {
     let moved = mem::replace(link, MemoryLink::new(alloc));
     let options = Options {
@@ -97,24 +94,23 @@ fn make_on(
         diag: false,
     };
     let mut client = client_of(moved, options);
-    let status = make(alloc, &mut client, count, output);
+    let end = make(alloc, &mut client, count, output);
     *link = link_of(alloc, &mut client);
-    status
+    end
 }
 
-/// Does what a command asks for with the whole script, and returns the status.
+/// Does what a command asks for with the whole script, and returns how it ended.
 fn perform(
     alloc: Global,
     command: Command,
     script: &[u8],
     link: &mut MemoryLink,
     output: &mut Text,
-) -> Result<u8, OutOfMemory>
+) -> Result<ScriptEnd, OutOfMemory>
     requires { drop link.old.pos link.old.ever ≡ [] }
-    ensures bound { IfOk result (λ status. status < 3) }
     ensures kept { makes_calls (Some command) ≡ false → link.new ≡ link.old }
-    ensures replays { IfOk result
-        (λ status. Replays (lines_transcript command (lines_of script.now)) link.old link.new status
+    ensures replays { IfOk result (λ end. Replays
+        (lines_transcript command (lines_of script.now)) link.old link.new (Status.Ended end)
         output.old output.new) }
 {
     match command {
@@ -136,84 +132,82 @@ fn reads_script(command: &Command) -> bool
     }
 }
 
-/// Does what a command asks for that reads no script, and returns the status.
-fn run_alone<K: Sink>(alloc: Global, command: Command, sink: &mut K, link: &mut MemoryLink) -> u8
+/// Does what a command asks for that reads no script, and returns how the run ended. Nothing is
+/// asked of the source, which stays as it is.
+fn run_alone<K: Sink>(
+    alloc: Global,
+    command: Command,
+    sink: &mut K,
+    link: &mut MemoryLink,
+) -> Status
     requires unread { reads_script (Some command) ≡ false }
     requires empty { drop link.old.pos link.old.ever ≡ [] }
-    ensures sink_keeps { SinkKeeps (K.state sink.old) (K.state sink.new) }
-    ensures status { (result ≡ (script_transcript command []).status)
-        ⊎ ((result ≡ 4) ⊎ (result ≡ 5)) }
-    ensures bound { (result < 3) ⊎ ((result ≡ 4) ⊎ (result ≡ 5)) }
-    ensures replays { IsTrue (K.state sink.old).tells → result ≢ 4 → result ≢ 5 →
-        Replays (script_transcript command []) link.old link.new result (K.state sink.old).sent
-        (K.state sink.new).sent }
-    ensures part { IsTrue (K.state sink.old).tells → (result ≡ 4) ⊎ (result ≡ 5) →
-        WrotePart (K.state sink.old) (K.state sink.new) (script_transcript command []).text }
-    ensures fault { result ≡ 4 → FaultCountRose (K.state sink.old).faults (K.state sink.new).faults }
-    ensures kept { makes_calls (Some command) ≡ false → link.new ≡ link.old }
+    ensures { (source : SourceState) → RunsCommand (Some command)
+        (streams source (K.state sink.old) link.old) (streams source (K.state sink.new) link.new)
+        result }
 {
     let mut output = Text::new(alloc);
     match perform(alloc, command, &[], link, &mut output) {
-        Ok(status) => finish(sink, output.as_str(), status),
-        Err(OutOfMemory) => 5,
+        Ok(end) => finish(sink, output.as_str(), end),
+        Err(OutOfMemory) => Status::OutOfMemory,
     }
 }
 
-/// Reads the whole script, does with it what the command asks for, and returns the status.
+/// Reads the whole script, does with it what the command asks for, and returns how the run ended.
 fn run_script<S: Source, K: Sink>(
     alloc: Global,
     command: Command,
     source: &mut S,
     sink: &mut K,
     link: &mut MemoryLink,
-) -> u8
+) -> Status
     requires reads { reads_script (Some command) ≡ true }
     requires empty { drop link.old.pos link.old.ever ≡ [] }
-    ensures source_keeps { SourceKeeps (S.state source.old) (S.state source.new) }
-    ensures sink_keeps { SinkKeeps (K.state sink.old) (K.state sink.new) }
-    ensures bound { result ≤ 6 }
-    ensures replays { IsTrue (S.state source.old).tells → IsTrue (K.state sink.old).tells →
-        result ≢ 3 → result ≢ 4 → result ≢ 5 →
-        Replays (script_transcript command (source_left (S.state source.old))) link.old link.new
-        result (K.state sink.old).sent (K.state sink.new).sent }
-    ensures status { IsTrue (S.state source.old).tells → result ≢ 3 → result ≢ 4 → result ≢ 5 →
-        result ≡ (script_transcript command (source_left (S.state source.old))).status }
-    ensures part { IsTrue (S.state source.old).tells → IsTrue (K.state sink.old).tells →
-        (result ≡ 4) ⊎ (result ≡ 5) →
-        WrotePart (K.state sink.old) (K.state sink.new)
-        (script_transcript command (source_left (S.state source.old))).text }
-    ensures read_fault { result ≡ 3 → FaultCountRose (S.state source.old).faults (S.state source.new).faults }
-    ensures write_fault { result ≡ 4 → FaultCountRose (K.state sink.old).faults (K.state sink.new).faults }
-    ensures kept { (makes_calls (Some command) ≡ false) ⊎ ((result ≡ 3) ⊎ (result ≡ 6)) →
-        link.new ≡ link.old }
-    ensures silent { (result ≡ 3) ⊎ (result ≡ 6) → K.state sink.new ≡ K.state sink.old }
-    ensures too_long { IsTrue (S.state source.old).tells → result ≡ 6 →
-        most_script < length (source_left (S.state source.old)) }
-    ensures long { IsTrue (S.state source.old).tells →
-        most_script < length (source_left (S.state source.old)) →
-        (result ≡ 6) ⊎ ((result ≡ 3) ⊎ (result ≡ 5)) }
-    ensures read { IsTrue (S.state source.old).tells → result ≢ 3 → result ≢ 4 → result ≢ 5 →
-        (S.state source.new).pos ≡
-        (S.state source.old).pos + read_by (Some command)
-        (length (source_left (S.state source.old))) }
+    ensures { RunsCommand (Some command)
+        (streams (S.state source.old) (K.state sink.old) link.old)
+        (streams (S.state source.new) (K.state sink.new) link.new) result }
 {
     let mut script = Vec::new(alloc);
     match read_up_to(alloc, source, MAX_SCRIPT + 1, &mut script) {
         Ok(()) => {}
-        Err(LinkError::Fault) => return 3,
-        Err(LinkError::OutOfMemory) => return 5,
+        Err(LinkError::Fault) => return Status::SourceFailed,
+        Err(LinkError::OutOfMemory) => return Status::OutOfMemory,
     }
     if script.len() > MAX_SCRIPT {
-        return 6;
+        return Status::TooLong;
     }
     let mut output = Text::new(alloc);
     match perform(alloc, command, &script, link, &mut output) {
-        Ok(status) => finish(sink, output.as_str(), status),
-        Err(OutOfMemory) => 5,
+        Ok(end) => finish(sink, output.as_str(), end),
+        Err(OutOfMemory) => Status::OutOfMemory,
     }
 }
 
-/// Runs the program on the words after its name, and returns its status.
+/// Does what the words ask for, and returns how the run ended.
+fn run_words<S: Source, K: Sink>(
+    alloc: Global,
+    words: &List<Text>,
+    source: &mut S,
+    sink: &mut K,
+    link: &mut MemoryLink,
+) -> Status
+    requires { drop link.old.pos link.old.ever ≡ [] }
+    ensures { Runs words.now (streams (S.state source.old) (K.state sink.old) link.old)
+        (streams (S.state source.new) (K.state sink.new) link.new) result }
+{
+    match command_of(alloc, words.as_slice()) {
+        Ok(Some(command)) => {
+            if reads_script(&command) {
+                return run_script(alloc, command, source, sink, link);
+            }
+            run_alone(alloc, command, sink, link)
+        }
+        Ok(None) => finish(sink, "! words\n", ScriptEnd::NotOfGrammar),
+        Err(OutOfMemory) => Status::OutOfMemory,
+    }
+}
+
+/// Runs the program on the words after its name, and returns its exit status.
 ///
 /// - 0: each call of the lines returned a payload, or each line was explained, or the report was
 ///   written, or the exchanges were made.
@@ -236,63 +230,8 @@ pub fn run<S: Source, K: Sink>(
     link: &mut MemoryLink,
 ) -> u8
     requires { drop link.old.pos link.old.ever ≡ [] }
-    ensures source_keeps { SourceKeeps (S.state source.old) (S.state source.new) }
-    ensures sink_keeps { SinkKeeps (K.state sink.old) (K.state sink.new) }
-    ensures bound { result ≤ 6 }
-    ensures transcript { IsTrue (S.state source.old).tells → IsTrue (K.state sink.old).tells →
-        result ≢ 3 → result ≢ 4 → result ≢ 5 →
-        Replays (transcript words.now (source_left (S.state source.old))) link.old link.new result
-        (K.state sink.old).sent (K.state sink.new).sent }
-    ensures part { IsTrue (S.state source.old).tells → IsTrue (K.state sink.old).tells →
-        (result ≡ 4) ⊎ (result ≡ 5) →
-        WrotePart (K.state sink.old) (K.state sink.new)
-        (transcript words.now (source_left (S.state source.old))).text }
-    ensures read_fault { result ≡ 3 → FaultCountRose (S.state source.old).faults (S.state source.new).faults }
-    ensures write_fault { result ≡ 4 → FaultCountRose (K.state sink.old).faults (K.state sink.new).faults }
-    ensures words { command_of words.now ≡ None → (result ≡ 2) ⊎ ((result ≡ 4) ⊎ (result ≡ 5)) }
-    ensures words_text { command_of words.now ≡ None → IsTrue (K.state sink.old).tells →
-        result ≡ 2 → (K.state sink.new).sent ≡ (K.state sink.old).sent ++ codes "! words\n" }
-    ensures words_part { command_of words.now ≡ None → IsTrue (K.state sink.old).tells →
-        WrotePart (K.state sink.old) (K.state sink.new) (codes "! words\n") }
-    ensures unread { reads_script (command_of words.now) ≡ false →
-        S.state source.new ≡ S.state source.old }
-    ensures scriptless { reads_script (command_of words.now) ≡ false →
-        IsTrue (K.state sink.old).tells → result ≢ 4 → result ≢ 5 →
-        Replays (transcript words.now []) link.old link.new result (K.state sink.old).sent
-        (K.state sink.new).sent }
-    ensures scriptless_part { reads_script (command_of words.now) ≡ false →
-        IsTrue (K.state sink.old).tells → (result ≡ 4) ⊎ (result ≡ 5) →
-        WrotePart (K.state sink.old) (K.state sink.new) (transcript words.now []).text }
-    ensures scriptless_status { reads_script (command_of words.now) ≡ false →
-        (result ≡ (transcript words.now []).status) ⊎ ((result ≡ 4) ⊎ (result ≡ 5)) }
-    ensures kept { (makes_calls (command_of words.now) ≡ false) ⊎ ((result ≡ 3) ⊎ (result ≡ 6)) →
-        link.new ≡ link.old }
-    ensures silent { (result ≡ 3) ⊎ (result ≡ 6) → K.state sink.new ≡ K.state sink.old }
-    ensures too_long { IsTrue (S.state source.old).tells → result ≡ 6 →
-        IsTrue (reads_script (command_of words.now))
-        × (most_script < length (source_left (S.state source.old))) }
-    ensures long { IsTrue (S.state source.old).tells →
-        IsTrue (reads_script (command_of words.now)) →
-        most_script < length (source_left (S.state source.old)) →
-        (result ≡ 6) ⊎ ((result ≡ 3) ⊎ (result ≡ 5)) }
-    ensures read { IsTrue (S.state source.old).tells → result ≢ 3 → result ≢ 4 → result ≢ 5 →
-        (S.state source.new).pos ≡
-        (S.state source.old).pos + read_by (command_of words.now)
-        (length (source_left (S.state source.old))) }
-    ensures complete { IsTrue (S.state source.old).tells →
-        (FaultCountRose (S.state source.old).faults (S.state source.new).faults → ⊥) →
-        (FaultCountRose (K.state sink.old).faults (K.state sink.new).faults → ⊥) →
-        IsOfGrammar words.now (source_left (S.state source.old)) →
-        (result ≡ 0) ⊎ ((result ≡ 1) ⊎ (result ≡ 5)) }
+    ensures { RunsTo words.now (streams (S.state source.old) (K.state sink.old) link.old)
+        (streams (S.state source.new) (K.state sink.new) link.new) result }
 {
-    match command_of(alloc, words.as_slice()) {
-        Ok(Some(command)) => {
-            if reads_script(&command) {
-                return run_script(alloc, command, source, sink, link);
-            }
-            run_alone(alloc, command, sink, link)
-        }
-        Ok(None) => finish(sink, "! words\n", 2),
-        Err(OutOfMemory) => 5,
-    }
+    run_words(alloc, words, source, sink, link).code()
 }

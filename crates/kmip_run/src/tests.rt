@@ -83,12 +83,12 @@ fn words_and_lines_out_of_the_grammar_are_refused(rt: HostRuntime) -> Result<(),
 }
 
 #[test]
-fn each_call_is_answered(rt: HostRuntime) -> Result<(), Fail> {
+fn each_kind_of_call_shows_its_payload_or_its_error(rt: HostRuntime) -> Result<(), Fail> {
     rows_hold(&rt, rt.alloc(), calls::CALLS)
 }
 
 #[test]
-fn requests_given_by_their_bytes_are_answered(rt: HostRuntime) -> Result<(), Fail> {
+fn raw_sends_a_request_given_by_its_bytes(rt: HostRuntime) -> Result<(), Fail> {
     rows_hold(&rt, rt.alloc(), raw::RAW)
 }
 
@@ -131,7 +131,7 @@ fn parts_are_cut(rt: &impl Abort, alloc: Global, response: &[u8]) -> Result<(), 
 }
 
 #[test]
-fn a_response_may_end_at_each_byte(rt: HostRuntime) -> Result<(), Fail> {
+fn a_response_cut_at_any_byte_is_the_end_of_the_input(rt: HostRuntime) -> Result<(), Fail> {
     is_cut(&rt, rt.alloc(), b"-")?;
     let response = expanded(&rt, rt.alloc(), hostile::CUT_RESPONSE);
     parts_are_cut(&rt, rt.alloc(), &response)
@@ -143,17 +143,17 @@ fn a_call_shows_its_diagnostics_where_words_ask_for_them(rt: HostRuntime) -> Res
 }
 
 #[test]
-fn diagnostics_are_explained(rt: HostRuntime) -> Result<(), Fail> {
+fn explain_writes_a_line_for_each_item_of_a_diagnostic(rt: HostRuntime) -> Result<(), Fail> {
     rows_hold(&rt, rt.alloc(), diagnostics::EXPLAINED)
 }
 
 #[test]
-fn captured_traffic_is_reported(rt: HostRuntime) -> Result<(), Fail> {
+fn audit_reports_each_exchange_and_how_each_side_ends(rt: HostRuntime) -> Result<(), Fail> {
     rows_hold(&rt, rt.alloc(), audit::REPORTS)
 }
 
 #[test]
-fn calls_over_a_server_are_answered(rt: HostRuntime) -> Result<(), Fail> {
+fn joined_answers_calls_from_a_server_in_memory(rt: HostRuntime) -> Result<(), Fail> {
     rows_hold(&rt, rt.alloc(), joined::JOINED)
 }
 
@@ -164,8 +164,8 @@ fn words_and_lines_of_diag_and_explain_out_of_the_grammar_are_refused(
     rows_hold(&rt, rt.alloc(), grammar::MORE_GRAMMAR)
 }
 
-/// Runs the program on `replay` over this script, where these reads and writes fail: its status, and how many
-/// bytes it wrote.
+/// Runs the program on `replay` over this script, where these reads and writes fail: its status,
+/// and how many bytes it wrote.
 fn replayed(
     alloc: Global,
     script: &[u8],
@@ -181,7 +181,7 @@ fn replayed(
 }
 
 #[test]
-fn a_failing_source_ends_the_program(rt: HostRuntime) -> Result<(), Fail> {
+fn a_source_that_fails_ends_with_status_3_and_no_text(rt: HostRuntime) -> Result<(), Fail> {
     for call in 0..2u64 {
         let (status, written) = replayed(rt.alloc(), b"rng 16 -\n", &[call], &[])?;
         assert_eq!(rt; status, 3, "call {call}");
@@ -191,7 +191,7 @@ fn a_failing_source_ends_the_program(rt: HostRuntime) -> Result<(), Fail> {
 }
 
 #[test]
-fn a_failing_sink_ends_the_program(rt: HostRuntime) -> Result<(), Fail> {
+fn a_sink_that_fails_ends_with_status_4(rt: HostRuntime) -> Result<(), Fail> {
     let (status, written) = replayed(rt.alloc(), b"rng 16 -\n", &[], &[0])?;
     assert_eq!(rt; status, 4);
     assert_eq!(rt; written, 0);
@@ -199,7 +199,9 @@ fn a_failing_sink_ends_the_program(rt: HostRuntime) -> Result<(), Fail> {
 }
 
 #[test]
-fn a_script_too_long_is_not_replayed(rt: HostRuntime) -> Result<(), Fail> {
+fn a_script_of_16_777_217_bytes_ends_with_status_6_and_no_text(
+    rt: HostRuntime,
+) -> Result<(), Fail> {
     let long = vec![in rt.alloc(); b'x'; 16_777_217]?;
     let (status, written) = replayed(rt.alloc(), &long, &[], &[])?;
     assert_eq!(rt; status, 6);

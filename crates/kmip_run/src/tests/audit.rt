@@ -53,7 +53,7 @@ pub const REPORTS: &[Row] = &[
         status: 2,
     },
     Row {
-        shows: "two words",
+        shows: "a first line of two words",
         words: &["audit"],
         script: b"- -\n-\n",
         written: "! line 1\n",
@@ -109,7 +109,7 @@ pub const REPORTS: &[Row] = &[
         status: 0,
     },
     Row {
-        shows: "more words",
+        shows: "a word after audit",
         words: &["audit", "x"],
         script: b"-\n-\n",
         written: "! words\n",

@@ -11,7 +11,7 @@ pub const HOSTILE: &[Row] = &[
         status: 1,
     },
     Row {
-        shows: "the same, over the greatest limit",
+        shows: "a length of nearly 2^32, over the greatest limit",
         words: &["replay", "limit=4294967295"],
         script: b"rng 16 42007B01FFFFFFF8\n",
         written: "> <REQ2(25, C4 i16)>\n- Deserialize error: response size 4294967296 exceeds limit 4294967295\n",

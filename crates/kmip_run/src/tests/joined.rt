@@ -46,7 +46,7 @@ pub const JOINED: &[Row] = &[
         status: 0,
     },
     Row {
-        shows: "a request by its bytes is no line of it",
+        shows: "a request by its bytes, which is no line of joined",
         words: &["joined"],
         script: b"rng 2\nraw <REQ0(12, 94 \"1\")>\n",
         written: "> <REQ2(25, C4 i2)>\n= {random_bytes=x\"0101\"}\n! line 2\n",
@@ -60,14 +60,14 @@ pub const JOINED: &[Row] = &[
         status: 2,
     },
     Row {
-        shows: "a call that no line has",
+        shows: "a call that no line of joined has",
         words: &["joined"],
         script: b"discover\n",
         written: "! line 1\n",
         status: 2,
     },
     Row {
-        shows: "a word that is no option",
+        shows: "a word after joined that is no option",
         words: &["joined", "x"],
         script: b"query\n",
         written: "! words\n",

@@ -74,7 +74,7 @@ pub const RAW: &[Row] = &[
         status: 2,
     },
     Row {
-        shows: "versions",
+        shows: "the versions that a server speaks",
         words: &["replay"],
         script: b"raw <REQ1(1E, )> <OK1(1E, 69{6A i1,6B i2},69{6A i1,6B i0})>\n",
         written: "> <REQ1(1E, )>\n= DiscoverVersions{supported_versions=[{major=1,minor=2},{major=1,minor=0}]}\n",

@@ -1,4 +1,4 @@
-use Rattle.std.proofs.Common.{◌∙◌, sym}
+use Rattle.std.proofs.Common.{sym}
 use Rattle.kmip_run.proofs.Audited.{stream_utf8, stream_other}
 use Rattle.kmip_run.proofs.auditing.stream_of.Goals as goal
 

@@ -1,4 +1,4 @@
-use Rattle.std.proofs.Common.{◌≡◌, ◌+◌, ◌≤◌, length}
+use Rattle.std.proofs.Common.{◌+◌, ◌≤◌, length}
 use Rattle.kmip_run.specs.Script.{lines_of}
 use Rattle.kmip_run.specs.Transcript.{explanations_from}
 use Rattle.kmip_run.proofs.Explained.{SoFar}

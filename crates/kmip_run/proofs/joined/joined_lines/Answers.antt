@@ -12,8 +12,6 @@ pub loop-rest-init : goal.loop-rest-init
 loop-rest-init c = record {
   settings = refl;
   ready = c.requires.joined;
-  bound =
-      omega arith;
   counted = omega arith;
   so_far = nothing_yet _ _;
 }
@@ -29,15 +27,14 @@ loop-rest-preserved c =
     record {
       settings = c.in_ok-failed.ensures.settings ∙ i.settings;
       ready = c.in_ok-failed.ensures.joined;
-      bound = c.status_after-status.ensures.bound i.bound;
       counted = omega (arith, c.first_line.ensures.shorter);
       so_far = next_call (settings_of c.args.client.now)
           (line_call c.in-Some.call)
           c.loop-rest.rest.now c.first_line.result.0.now c.first_line.result.1.now
-          (c.loop-rest.number + 1) c.loop-rest.status c.status_after-status.result
+          (c.loop-rest.number + 1) c.loop-rest.end c.end_after-end.result
           (world_of c.loop-rest.client.link)
           (world_of c.exchange.new.client.link)
-          c.first_line.ensures.lines is c.status_after-status.ensures.value i.so_far
+          c.first_line.ensures.lines is c.end_after-end.ensures i.so_far
           (subst (λ (s : Settings). Runs
           (joined_step s (line_call c.in-Some.call) (world_of c.loop-rest.client.link))
           (world_of c.exchange.new.client.link)
@@ -50,7 +47,7 @@ returns-in_default-clause-status c =
     let is = rw c.in_default.is at c.in_ok-call.ensures in
     sym (next_bad (settings_of c.args.client.now)
     c.loop-rest.rest.now c.first_line.result.0.now c.first_line.result.1.now
-    (c.loop-rest.number + 1) c.loop-rest.status
+    (c.loop-rest.number + 1) c.loop-rest.end
     (world_of c.loop-rest.client.link)
     c.first_line.ensures.lines is c.loop-rest.invariant.so_far).status
 
@@ -60,7 +57,7 @@ returns-in_default-clause-text c =
     c.in_ok-show_bad_line.ensures
     ∙ sym (next_bad (settings_of c.args.client.now)
     c.loop-rest.rest.now c.first_line.result.0.now c.first_line.result.1.now
-    (c.loop-rest.number + 1) c.loop-rest.status
+    (c.loop-rest.number + 1) c.loop-rest.end
     (world_of c.loop-rest.client.link)
     c.first_line.ensures.lines is c.loop-rest.invariant.so_far).text
 
@@ -68,12 +65,12 @@ pub returns-clause-status : goal.returns-clause-status
 returns-clause-status c =
     let none : length c.loop-rest.rest.now ≡ 0 = grind (arith, nat_tests) in
     sym (no_more (settings_of c.args.client.now) c.loop-rest.rest.now
-    (c.loop-rest.number + 1) c.loop-rest.status
+    (c.loop-rest.number + 1) c.loop-rest.end
     (world_of c.loop-rest.client.link) none c.loop-rest.invariant.so_far).1
 
 pub returns-clause-text : goal.returns-clause-text
 returns-clause-text c =
     let none : length c.loop-rest.rest.now ≡ 0 = grind (arith, nat_tests) in
     sym (no_more (settings_of c.args.client.now) c.loop-rest.rest.now
-    (c.loop-rest.number + 1) c.loop-rest.status
+    (c.loop-rest.number + 1) c.loop-rest.end
     (world_of c.loop-rest.client.link) none c.loop-rest.invariant.so_far).0

@@ -1,4 +1,4 @@
-use Rattle.std.proofs.Common.{◌≡◌, ◌+◌, ◌-◌, suc, drop, ◌++◌, ◌∙◌, sym, ap, arith, refl}
+use Rattle.std.proofs.Common.{◌+◌, ◌-◌, drop, ◌++◌, ◌∙◌, arith, refl}
 use Rattle.kmip_words.specs.Exchange.{settings_of}
 use Rattle.kmip_run.proofs.Makes.{none_made, next_made, under_same, all_made, one_in_all}
 use Rattle.kmip_run.proofs.make.make_calls.Goals as goal

@@ -1,22 +1,25 @@
-use Rattle.std.proofs.Common.{[], sym}
-use Rattle.kmip_run.proofs.Whole.{onto, alone_replays, alone_status, status_left}
+use Rattle.std.proofs.Common.{refl}
+use Rattle.kmip_run.proofs.Whole.{Finishes, alone_replays, alone_ended, memory_ended, source_same}
 use Rattle.kmip_run.proofs.program.run_alone.Goals as goal
 
-pub returns-in-Ok-clause-status : goal.returns-in-Ok-clause-status
-returns-in-Ok-clause-status g c =
-    alone_status c.args.command c.finish.result c.in-Ok.status c.in-Ok.ensures.replays c.finish.ensures.status
-
-pub returns-in-Ok-clause-replays : goal.returns-in-Ok-clause-replays
-returns-in-Ok-clause-replays g c = λ sink no4 no5.
+pub returns-in-Ok : goal.returns-in-Ok
+returns-in-Ok g c = λ source.
+    let e = c.finish.ensures in
     let did = rw c.new-output.ensures at c.in-Ok.ensures.replays in
-    rw (
-      status_left c.finish.result c.in-Ok.status c.finish.ensures.status no4 no5,
-      c.finish.ensures.written sink no4 no5,
-      c.as_str.ensures.bytes,
-    )
-    (onto (g.K.Sink.state c.args.sink.now).sent (alone_replays c.args.command did))
+    let wrote : Finishes c.as_str.result.now c.in-Ok.end (g.K.Sink.state c.args.sink.now)
+    (g.K.Sink.state c.finish.new.sink) c.finish.result =
+    record {
+      keeps = e.keeps;
+      fault = e.fault;
+      status_is = e.status;
+      written = e.written;
+      part = e.part;
+    } in
+    alone_ended c.args.command source (g.K.Sink.state c.args.sink.now) (g.K.Sink.state c.finish.new.sink)
+    c.args.link.now c.perform.new.link c.in-Ok.end c.perform.new.output c.finish.result c.requires.unread
+    (alone_replays c.args.command did) c.perform.ensures.kept (rw c.as_str.ensures.bytes at wrote)
 
-pub returns-in-Ok-clause-part : goal.returns-in-Ok-clause-part
-returns-in-Ok-clause-part g c = λ sink cases.
-    let did = rw c.new-output.ensures at c.in-Ok.ensures.replays in
-    rw (sym (alone_replays c.args.command did).text) (rw c.as_str.ensures.bytes at c.finish.ensures.part sink)
+pub returns : goal.returns
+returns g c = λ source.
+    memory_ended _ source source (g.K.Sink.state c.args.sink.now) c.args.link.now c.perform.new.link
+    (source_same source) (λ none. refl) c.perform.ensures.kept

@@ -1,19 +1,19 @@
-use Rattle.std.proofs.Common.{◌≡◌, ◌+◌, ◌≤◌, ◌<◌, drop, length}
+use Rattle.std.proofs.Common.{◌≡◌, ◌+◌, ◌≤◌, drop, length}
 use Rattle.kmip_run.specs.Script.{lines_of}
 use Rattle.kmip_words.specs.Exchange.{settings_of}
 use Rattle.kmip_run.specs.Transcript.{replay_from}
+use Rattle.kmip_run.specs.declared.status.ScriptEnd.TheVariants.{Answered}
 use Rattle.kmip_run.proofs.Runs.{SoFar}
 use Rattle.kmip_run.proofs.replay.replay.Given as goal
 
 abbrev pub invariant-loop-rest : goal.invariant-loop-rest
 invariant-loop-rest l = record {
   settings : settings_of l.client ≡ settings_of l.initial.client;
-  bound : l.status < 2;
   counted : l.number + length l.rest ≤ length l.script;
-  so_far : SoFar (replay_from (settings_of l.initial.client) (lines_of l.script) 1 0
+  so_far : SoFar (replay_from (settings_of l.initial.client) (lines_of l.script) 1 Answered
       (drop l.initial.client.link.pos l.initial.client.link.ever))
       l.initial.client.link l.client.link l.initial.output l.output
-      (replay_from (settings_of l.initial.client) (lines_of l.rest) (l.number + 1) l.status
+      (replay_from (settings_of l.initial.client) (lines_of l.rest) (l.number + 1) l.end
       (drop l.client.link.pos l.client.link.ever));
 }
 
