@@ -92,7 +92,13 @@ text_alone link text status old = record {
 
 nothing_written : (link : MemoryState) (status : Status) (old : List ℕ)
     → Replays (only_text [] status) link link status old old
-nothing_written link status old = rw (append_none old) at text_alone link [] status old
+nothing_written link status old = record {
+  text = append_none old;
+  status_is = refl;
+  ever = append_none link.ever;
+  sent = append_none link.sent;
+  pos = omega arith;
+}
 
 -- a command that was done with no script
 pub alone_replays : {before after : MemoryState} {status : Status} {out : List ℕ} (command : Command)
@@ -256,7 +262,7 @@ uncut status end (inr (inr is)) no = let e : is_cut OutOfMemory ≡ false = rw i
 
 whole_uncut : (status : Status) → IsTrue (is_whole status) → is_cut status ≡ false
 whole_uncut (Ended end) whole = refl
-whole_uncut SourceFailed whole = absurd (cc)
+whole_uncut SourceFailed whole = refl
 whole_uncut SinkFailed whole = absurd (cc)
 whole_uncut OutOfMemory whole = absurd (cc)
 whole_uncut TooLong whole = refl
@@ -284,10 +290,12 @@ not_source_failed status no is = let e : is_unbegun SourceFailed ≡ false = rw 
 not_too_long : (status : Status) → is_unbegun status ≡ false → status ≡ TooLong → ⊥
 not_too_long status no is = let e : is_unbegun TooLong ≡ false = rw is at no in cc
 
--- the link is as it was, where the command makes no calls or did not begin
-either : {A B C : Type 0} → (A → C) → (B → C) → A ⊎ B → C
-either f g (inl a) = f a
-either f g (inr b) = g b
+-- the link is as it was, where the command makes no calls
+kept_begun : {l0 l1 : MemoryState} (command : Option Command) (status : Status)
+    → (makes_calls command ≡ false → l1 ≡ l0) → is_unbegun status ≡ false
+    → (makes_calls command ≡ false) ⊎ IsTrue (is_unbegun status) → l1 ≡ l0
+kept_begun command status kept began (inl none) = kept none
+kept_begun command status kept began (inr unbegun) = absurd (begun_not status began unbegun)
 
 -- words and a script of the grammar, and no fault
 completes : (status t : Status) (end : ScriptEnd)
@@ -313,17 +321,17 @@ memory_ended command s0 s1 k l0 l1 keeps unread kept = record {
   source_keeps = keeps;
   sink_keeps = sink_same k;
   whole = λ source sink is. absurd (cc);
-  part = λ source sink is. no_part k _;
+  part = λ source sink is. no_part k (command_transcript command (source_left s0)).text;
   read_fault = λ is. absurd (cc);
   write_fault = λ is. absurd (cc);
   refused = λ none. inr refl;
   refused_text = λ none sink is. absurd (cc);
-  refused_part = λ none sink. no_part k _;
+  refused_part = λ none sink. no_part k (codes "! words\n");
   unread = unread;
   scriptless = λ none sink is. absurd (cc);
-  scriptless_part = λ none sink is. no_part k _;
+  scriptless_part = λ none sink is. no_part k (command_transcript command []).text;
   scriptless_status = λ none. inr refl;
-  kept = either kept (λ is. absurd (cc));
+  kept = kept_begun command OutOfMemory kept refl;
   silent = λ is. refl;
   too_long = λ source is. absurd (cc);
   long = λ source reads long. inr (inr refl);
@@ -382,14 +390,14 @@ long_ended command s0 s1 k l reads keeps long read = record {
   silent = λ is. refl;
   too_long = λ source is. (reads, rw most (long source));
   long = λ source is more. inl refl;
-  read = λ source is. rw (reads, most) (read source);
+  read = λ source is. rw (most, reads) (read source);
   complete = λ source sound steady good.
       let fits : length (source_left s0) ≤ 16777216 = rw most at (good.fits reads) in
       absurd (omega (arith, long source));
 }
 
 -- a script that was read whole and done, and whose text was written, or a part of it
-pub script_ended : (command : Command) (s0 s1 : SourceState) (k0 k1 : SinkState) (l0 l1 : MemoryState)
+script_ended : (command : Command) (s0 s1 : SourceState) (k0 k1 : SinkState) (l0 l1 : MemoryState)
     (end : ScriptEnd) (out : List ℕ) (status : Status) → reads_script (Some command) ≡ true → SourceKeeps s0 s1 →
     (IsTrue s0.tells → length (source_left s0) ≤ 16777216) →
     (IsTrue s0.tells → s1.pos ≡ s0.pos + min 16777217 (length (source_left s0))) →
@@ -414,17 +422,33 @@ script_ended command s0 s1 k0 k1 l0 l1 end out status reads keeps fits read did 
       scriptless = λ none sink is. absurd (cc);
       scriptless_part = λ none sink is. absurd (cc);
       scriptless_status = λ none. absurd (cc);
-      kept = either kept (λ is. absurd (begun_not status began is));
+      kept = kept_begun (Some command) status kept began;
       silent = λ is. absurd (begun_not status began is);
       too_long = λ source is. absurd (not_too_long status began is);
       long = λ source is long.
           let more : 16777216 < length (source_left s0) = rw most at long in
           absurd (omega (arith, fits source));
-      read = λ source is. rw (reads, most) (read source);
+      read = λ source is. rw (most, reads) (read source);
       complete = λ source sound steady good.
           completes status _ end f.status_is (λ is. steady (f.fault is)) (did source).status_is
           (script_followed command (source_left s0) good);
     }
+
+-- the same of a script that was read up to one byte more than it may have
+pub script_read : (command : Command) (s0 s1 : SourceState) (k0 k1 : SinkState) (l0 l1 : MemoryState)
+    (end : ScriptEnd) (out script : List ℕ) (status : Status) → reads_script (Some command) ≡ true →
+    SourceKeeps s0 s1 → (IsTrue s0.tells → script ≡ take 16777217 (source_left s0)) → length script ≤ 16777216 →
+    (IsTrue s0.tells → s1.pos ≡ s0.pos + min 16777217 (length (source_left s0))) →
+    Replays (lines_transcript command (lines_of script)) l0 l1 (Ended end) [] out →
+    (makes_calls (Some command) ≡ false → l1 ≡ l0) → Finishes out end k0 k1 status
+    → RunsCommand (Some command) (streams s0 k0 l0) (streams s1 k1 l1) status
+script_read command s0 s1 k0 k1 l0 l1 end out script status reads keeps bytes fits read did kept f =
+    let whole : IsTrue s0.tells → script ≡ source_left s0 =
+    λ source. script_whole 16777216 script (source_left s0) (bytes source) fits in
+    let within : IsTrue s0.tells → length (source_left s0) ≤ 16777216 =
+    λ source. rw (whole source) at fits in
+    script_ended command s0 s1 k0 k1 l0 l1 end out status reads keeps within read
+    (λ source. rw (transcript_fits command (source_left s0) (within source)) (rw (whole source) at did)) kept f
 
 -- a command that reads no script, done and written like that
 pub alone_ended : (command : Command) (s : SourceState) (k0 k1 : SinkState) (l0 l1 : MemoryState)
@@ -456,7 +480,7 @@ alone_ended command s k0 k1 l0 l1 end out status unread did kept f =
       scriptless = λ none sink is. all sink is;
       scriptless_part = λ none sink is. part sink;
       scriptless_status = λ none. or_cut status _ (rw did.status_is at f.status_is);
-      kept = either kept (λ is. absurd (begun_not status began is));
+      kept = kept_begun (Some command) status kept began;
       silent = λ is. absurd (begun_not status began is);
       too_long = λ source is. absurd (not_too_long status began is);
       long = λ source reads long. absurd (cc);

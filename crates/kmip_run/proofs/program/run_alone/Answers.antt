@@ -1,4 +1,4 @@
-use Rattle.std.proofs.Common.{refl}
+use Rattle.std.proofs.Common.{refl, Some}
 use Rattle.kmip_run.proofs.Whole.{Finishes, alone_replays, alone_ended, memory_ended, source_same}
 use Rattle.kmip_run.proofs.program.run_alone.Goals as goal
 
@@ -21,5 +21,5 @@ returns-in-Ok g c = λ source.
 
 pub returns : goal.returns
 returns g c = λ source.
-    memory_ended _ source source (g.K.Sink.state c.args.sink.now) c.args.link.now c.perform.new.link
+    memory_ended (Some c.args.command) source source (g.K.Sink.state c.args.sink.now) c.args.link.now c.perform.new.link
     (source_same source) (λ none. refl) c.perform.ensures.kept

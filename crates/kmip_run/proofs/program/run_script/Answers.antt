@@ -1,14 +1,20 @@
-use Rattle.std.proofs.Common.{◌≡◌, ℕ, ◌+◌, ◌<◌, ◌≤◌, List, [], length, take, IsTrue, arith, ap}
+use Rattle.std.proofs.Common.{◌≡◌, ℕ, ◌+◌, List, take, refl, Some, arith}
 use Rattle.kmip_link.specs.State.{source_left}
-use Rattle.kmip_run.specs.Transcript.{script_transcript, Replays}
-use Rattle.kmip_run.proofs.Whole.{Finishes, transcript_fits, script_long, script_whole, memory_ended, source_ended, long_ended, script_ended}
+use Rattle.kmip_run.proofs.Whole.{Finishes, script_long, memory_ended, source_ended, long_ended, script_read}
 use Rattle.kmip_run.proofs.program.run_script.Goals as goal
 
 pub returns-in-Err-Fault : goal.returns-in-Err-Fault
-returns-in-Err-Fault g c = ?
+returns-in-Err-Fault g c =
+    source_ended c.args.command (g.S.Source.state c.args.source.now) (g.S.Source.state c.read_up_to.new.source)
+    (g.K.Sink.state c.args.sink.now) c.args.link.now c.requires.reads c.read_up_to.ensures.keeps
+    (c.in-Err-Fault.ensures.cause c.in-Err-Fault.field-0-is)
 
 pub returns-in-Err-OutOfMemory : goal.returns-in-Err-OutOfMemory
-returns-in-Err-OutOfMemory g c = ?
+returns-in-Err-OutOfMemory g c =
+    let reads = c.requires.reads in
+    memory_ended (Some c.args.command) (g.S.Source.state c.args.source.now)
+    (g.S.Source.state c.read_up_to.new.source) (g.K.Sink.state c.args.sink.now) c.args.link.now c.args.link.now
+    c.read_up_to.ensures.keeps (λ none. absurd (cc)) (λ none. refl)
 
 pub returns-then-len-gt-MAX_SCRIPT : goal.returns-then-len-gt-MAX_SCRIPT
 returns-then-len-gt-MAX_SCRIPT g c =
@@ -23,7 +29,31 @@ returns-then-len-gt-MAX_SCRIPT g c =
     (λ source. ((c.in-Ok.ensures.ok source).0).pos)
 
 pub returns-in-Ok-perform : goal.returns-in-Ok-perform
-returns-in-Ok-perform g c = ?
+returns-in-Ok-perform g c =
+    let left : List ℕ = source_left (g.S.Source.state c.args.source.now) in
+    let e = c.finish.ensures in
+    let wrote : Finishes c.as_str.result.now c.in-Ok-perform.end (g.K.Sink.state c.args.sink.now)
+    (g.K.Sink.state c.finish.new.sink) c.finish.result =
+    record {
+      keeps = e.keeps;
+      fault = e.fault;
+      status_is = e.status;
+      written = e.written;
+      part = e.part;
+    } in
+    script_read c.args.command (g.S.Source.state c.args.source.now) (g.S.Source.state c.read_up_to.new.source)
+    (g.K.Sink.state c.args.sink.now) (g.K.Sink.state c.finish.new.sink) c.args.link.now c.perform.new.link
+    c.in-Ok-perform.end c.perform.new.output c.read_up_to.new.script.items c.finish.result c.requires.reads
+    c.read_up_to.ensures.keeps
+    (λ source. rw c.new-script.ensures.items at (c.in-Ok.ensures.ok source).1)
+    (omega (arith, c.read_up_to.new.script.ok))
+    (λ source. ((c.in-Ok.ensures.ok source).0).pos)
+    (rw (c.new-output.ensures, c.deref.ensures.value) at c.in-Ok-perform.ensures.replays)
+    c.perform.ensures.kept (rw c.as_str.ensures.bytes at wrote)
 
 pub returns : goal.returns
-returns g c = ?
+returns g c =
+    let reads = c.requires.reads in
+    memory_ended (Some c.args.command) (g.S.Source.state c.args.source.now)
+    (g.S.Source.state c.read_up_to.new.source) (g.K.Sink.state c.args.sink.now) c.args.link.now c.perform.new.link
+    c.read_up_to.ensures.keeps (λ none. absurd (cc)) c.perform.ensures.kept

@@ -1,13 +1,8 @@
-use Rattle.std.proofs.Common.{sym, ◌∙◌, refl, codes}
+use Rattle.std.proofs.Common.{sym, refl, codes}
+use Rattle.kmip_run.specs.Commands.{command_of}
 use Rattle.kmip_run.specs.declared.status.ScriptEnd.TheVariants.{NotOfGrammar}
 use Rattle.kmip_run.proofs.Whole.{Finishes, refusal_ended, memory_ended, source_same}
 use Rattle.kmip_run.proofs.program.run_words.Goals as goal
-
-pub run_script-requires-clause-reads : goal.run_script-requires-clause-reads
-run_script-requires-clause-reads g c = sym c.reads_script.ensures ∙ c.if-reads_script.true
-
-pub run_alone-requires-clause-unread : goal.run_alone-requires-clause-unread
-run_alone-requires-clause-unread g c = sym c.reads_script.ensures ∙ c.if-reads_script.false
 
 pub returns-then-reads_script : goal.returns-then-reads_script
 returns-then-reads_script g c =
@@ -38,6 +33,6 @@ returns-in-Ok-None g c =
 
 pub returns : goal.returns
 returns g c =
-    memory_ended _ (g.S.Source.state c.args.source.now) (g.S.Source.state c.args.source.now)
+    memory_ended (command_of c.args.words.now) (g.S.Source.state c.args.source.now) (g.S.Source.state c.args.source.now)
     (g.K.Sink.state c.args.sink.now) c.args.link.now c.args.link.now
     (source_same (g.S.Source.state c.args.source.now)) (λ none. refl) (λ none. refl)
