@@ -1,5 +1,5 @@
 -- What the program does with its words, and how it ends.
-use Rattle.std.specs.Prelude.{◌≡◌, ◌⊎◌, ℕ, ◌+◌, ◌<◌, List, [], ◌++◌, length, Bool, true, false, Option, Some, None, IsTrue, codes}
+use Rattle.std.specs.Prelude.{◌≡◌, ◌⊎◌, ℕ, ◌+◌, ◌<◌, List, [], ◌++◌, length, Bool, true, false, Option, None, IsTrue, codes}
 use Rattle.kmip_link.specs.State.{SourceState, SinkState, SourceKeeps, SinkKeeps, FaultCountRose, source_left}
 use Rattle.kmip_link.specs.Plan.{MemoryState}
 use Rattle.kmip_words.specs.Streams.{WrotePart}
