@@ -4,6 +4,7 @@ pub mod Setup
 pub mod Making
 pub mod Auditing
 pub mod Transcript
+pub mod Performed
 pub mod Program
 pub mod Sent
 pub mod Told

@@ -1,13 +1,17 @@
 //! A script of two captured streams, and what is reported of them.
 ghost use Rattle.std.specs.Prelude.{◌≡◌, ◌++◌, option_map, IfOk};
+ghost use Rattle.kmip_link.specs.Plan.{MemoryState};
 ghost use Rattle.kmip_run.specs.Script.{lines_of};
+ghost use Rattle.kmip_run.specs.Performed.{Performs};
 ghost use Rattle.kmip_run.specs.Auditing.{stream_of, next_stream, captured_in};
 ghost use Rattle.kmip_run.specs.Transcript.{audit_transcript};
 ghost use Rattle.kmip_run.specs.declared.status.Status.TheVariants.{Ended};
 
+use crate::output::{Cut, flush};
 use crate::script::{first_line, show_bad_line};
 use crate::status::ScriptEnd;
 use kmip_audit::audit;
+use kmip_link::Sink;
 use kmip_wire::{Blob, OutOfMemory, Text};
 use kmip_words::bytes_of;
 use std::alloc::Global;
@@ -73,11 +77,7 @@ fn captured_in(alloc: Global, script: &[u8]) -> Result<Captured, OutOfMemory>
 
 /// Adds the report on the two streams of a script, or which line is not of the grammar, and returns
 /// how the script ended.
-pub fn audit_script(
-    alloc: Global,
-    script: &[u8],
-    output: &mut Text,
-) -> Result<ScriptEnd, OutOfMemory>
+fn show_report(alloc: Global, script: &[u8], output: &mut Text) -> Result<ScriptEnd, OutOfMemory>
     ensures status { IfOk result (λ end. Ended end ≡
         (audit_transcript (lines_of script.now)).status) }
     ensures text { IfOk result
@@ -94,4 +94,16 @@ pub fn audit_script(
             Ok(ScriptEnd::NotOfGrammar)
         }
     }
+}
+
+/// Writes the report on the two streams of a script, or which line is not of the grammar, and
+/// returns how the script ended.
+pub fn audit_script<K: Sink>(alloc: Global, script: &[u8], sink: &mut K) -> Result<ScriptEnd, Cut>
+    ensures { (link : MemoryState) → Performs (audit_transcript (lines_of script.now))
+        (K.state sink.old) (K.state sink.new) link link result }
+{
+    let mut text = Text::new(alloc);
+    let end = show_report(alloc, script, &mut text)?;
+    flush(sink, &mut text)?;
+    Ok(end)
 }

@@ -1,12 +1,16 @@
 //! The lines of a script, each a diagnostic that is expanded.
 ghost use Rattle.std.specs.Prelude.{◌≡◌, ◌++◌, Some, IfOk};
+ghost use Rattle.kmip_link.specs.Plan.{MemoryState};
 ghost use Rattle.kmip_run.specs.Script.{lines_of};
+ghost use Rattle.kmip_run.specs.Performed.{Performs};
 ghost use Rattle.kmip_run.specs.Transcript.{line_expansion, explanations_from};
 ghost use Rattle.kmip_run.specs.declared.status.Status.TheVariants.{Ended};
 
+use crate::output::{Cut, flush};
 use crate::script::{first_line, show_bad_line};
 use crate::status::ScriptEnd;
 use kmip_diag::{DiagError, PrettyPrinter};
+use kmip_link::Sink;
 use kmip_wire::{OutOfMemory, Text};
 use std::alloc::Global;
 use std::str;
@@ -32,7 +36,7 @@ fn line_expansion(
 
 /// Adds the expansions of the lines, up to a line that is no diagnostic, and returns how they
 /// ended.
-pub fn explain(alloc: Global, script: &[u8], output: &mut Text) -> Result<ScriptEnd, OutOfMemory>
+fn explain_lines(alloc: Global, script: &[u8], output: &mut Text) -> Result<ScriptEnd, OutOfMemory>
     ensures status { IfOk result (λ end. Ended end ≡
         (explanations_from (lines_of script.now) 1).status) }
     ensures text { IfOk result
@@ -53,4 +57,16 @@ pub fn explain(alloc: Global, script: &[u8], output: &mut Text) -> Result<Script
         rest = later;
     }
     Ok(ScriptEnd::Answered)
+}
+
+/// Writes the expansions of the lines, up to a line that is no diagnostic, and returns how they
+/// ended.
+pub fn explain<K: Sink>(alloc: Global, script: &[u8], sink: &mut K) -> Result<ScriptEnd, Cut>
+    ensures { (link : MemoryState) → Performs (explanations_from (lines_of script.now) 1)
+        (K.state sink.old) (K.state sink.new) link link result }
+{
+    let mut text = Text::new(alloc);
+    let end = explain_lines(alloc, script, &mut text)?;
+    flush(sink, &mut text)?;
+    Ok(end)
 }

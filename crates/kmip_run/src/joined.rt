@@ -1,6 +1,8 @@
 //! The lines of a script, one call after the other over a server in memory.
 ghost use Rattle.std.specs.Prelude.{◌≡◌, ◌++◌, IfOk};
+ghost use Rattle.kmip_link.specs.Plan.{MemoryState};
 ghost use Rattle.kmip_run.specs.Script.{lines_of};
+ghost use Rattle.kmip_run.specs.Performed.{Performs};
 ghost use Rattle.kmip_run.specs.Setup.{settings_for};
 ghost use Rattle.kmip_run.specs.Transcript.{joined};
 ghost use Rattle.kmip_run.specs.declared.status.ScriptEnd.TheVariants.{Answered};
@@ -10,12 +12,14 @@ ghost use Rattle.kmip_joined.specs.Told.{IsJoined};
 ghost use Rattle.kmip_joined.specs.World.{nothing_yet, world_of};
 
 use crate::command::Options;
+use crate::output::{Cut, flush};
 use crate::replay::end_after;
 use crate::script::{first_line, show_bad_line};
 use crate::setup::client_of;
 use crate::status::ScriptEnd;
 use kmip_client::Client;
 use kmip_joined::{exchange, helper_call, joined_link};
+use kmip_link::Sink;
 use kmip_server::ServerLink;
 use kmip_store::PlainMaker;
 use kmip_wire::{OutOfMemory, Text};
@@ -58,18 +62,20 @@ fn joined_lines(
 
 /// Makes the calls of a script on a client that is joined to a server with no objects, and returns
 /// how they ended.
-pub fn run_joined(
+pub fn run_joined<K: Sink>(
     alloc: Global,
     options: Options,
     script: &[u8],
-    output: &mut Text,
-) -> Result<ScriptEnd, OutOfMemory>
-    ensures status { IfOk result (λ end. Ended end ≡
-        (joined (settings_for options) (lines_of script.now) 1 Answered nothing_yet).status) }
-    ensures text { IfOk result (λ end. output.new ≡ output.old ++
-        (joined (settings_for options) (lines_of script.now) 1 Answered nothing_yet).text) }
+    sink: &mut K,
+) -> Result<ScriptEnd, Cut>
+    ensures { (link : MemoryState) → Performs
+        (joined (settings_for options) (lines_of script.now) 1 Answered nothing_yet)
+        (K.state sink.old) (K.state sink.new) link link result }
 {
     let diag = options.diag;
     let mut client = client_of(joined_link(alloc), options);
-    joined_lines(alloc, &mut client, diag, script, output)
+    let mut text = Text::new(alloc);
+    let end = joined_lines(alloc, &mut client, diag, script, &mut text)?;
+    flush(sink, &mut text)?;
+    Ok(end)
 }

@@ -3,14 +3,15 @@ ghost use Rattle.std.specs.Prelude.{◌≡◌, ◌+◌, ◌<◌, ◌++◌, ◌^�
 ghost use Rattle.kmip_words.specs.Exchange.{settings_of, step};
 ghost use Rattle.kmip_run.specs.Making.{next_of, one_ok, one_error, counts_after, made_text};
 ghost use Rattle.kmip_run.specs.Making.{MakesCall, Makes};
-ghost use Rattle.kmip_run.specs.Transcript.{counted_transcript, Replays};
-ghost use Rattle.kmip_run.specs.declared.status.Status.TheVariants.{Ended};
+ghost use Rattle.kmip_run.specs.Transcript.{counted_transcript};
+ghost use Rattle.kmip_run.specs.Performed.{Performs};
 
 use crate::exchange::{feed, sent_len};
+use crate::output::{Cut, flush};
 use crate::respond::exchange_of;
 use crate::status::ScriptEnd;
 use kmip_client::Client;
-use kmip_link::MemoryLink;
+use kmip_link::{MemoryLink, Sink};
 use kmip_shape::Style;
 use kmip_wire::{OutOfMemory, Text};
 use kmip_words::{Recorded, answer};
@@ -136,22 +137,25 @@ fn show_tally(
     output.push_str(text.as_str())
 }
 
-/// Makes `count` exchanges, and adds their results as five lines. It returns `Answered`.
-pub fn make(
+/// Makes `count` exchanges, and writes their results as five lines. Where it is not cut off, it
+/// returns `Answered`.
+pub fn make<K: Sink>(
     alloc: Global,
     client: &mut Client<MemoryLink>,
     count: u32,
-    output: &mut Text,
-) -> Result<ScriptEnd, OutOfMemory>
-    ensures { IfOk result (λ end. Replays
+    sink: &mut K,
+) -> Result<ScriptEnd, Cut>
+    ensures { Performs
         (counted_transcript count
         (counts_after (settings_of client.old) count 1
         (drop client.old.link.pos client.old.link.ever)))
-        client.old.link client.new.link (Ended end) output.old output.new) }
+        (K.state sink.old) (K.state sink.new) client.old.link client.new.link result }
 {
     let before = sent_len(client);
     let tally = make_calls(alloc, client, count)?;
     let sent = sent_len(client) - before;
-    show_tally(alloc, count, tally, sent, output)?;
+    let mut text = Text::new(alloc);
+    show_tally(alloc, count, tally, sent, &mut text)?;
+    flush(sink, &mut text)?;
     Ok(ScriptEnd::Answered)
 }

@@ -1,12 +1,13 @@
 //! The program.
-ghost use Rattle.std.specs.Prelude.{◌≡◌, ◌++◌, ◌⊎◌, [], drop, false, true, Some, IsTrue, IfOk};
-ghost use Rattle.kmip_link.specs.State.{SourceState, SinkKeeps, FaultCountRose};
-ghost use Rattle.kmip_words.specs.Streams.{WrotePart};
+ghost use Rattle.std.specs.Prelude.{◌≡◌, [], drop, false, true, None, Some};
+ghost use Rattle.kmip_link.specs.Plan.{MemoryState};
+ghost use Rattle.kmip_link.specs.State.{SourceState};
 ghost use Rattle.kmip_run.specs.Script.{lines_of};
 ghost use Rattle.kmip_run.specs.Setup.{settings_for};
 ghost use Rattle.kmip_run.specs.Making.{counts_after, made_settings};
 ghost use Rattle.kmip_run.specs.Transcript.{counted_transcript, lines_transcript, makes_calls};
-ghost use Rattle.kmip_run.specs.Transcript.{reads_script, replay_from, Replays};
+ghost use Rattle.kmip_run.specs.Transcript.{reads_script, replay_from};
+ghost use Rattle.kmip_run.specs.Performed.{Performs, status_of};
 ghost use Rattle.kmip_run.specs.Program.{streams, RunsCommand, Runs, RunsTo};
 
 use crate::auditing::audit_script;
@@ -14,6 +15,7 @@ use crate::command::{Command, Options, command_of};
 use crate::explain::explain;
 use crate::joined::run_joined;
 use crate::make::make;
+use crate::output::Cut;
 use crate::replay::replay;
 use crate::setup::client_of;
 use crate::status::{ScriptEnd, Status};
@@ -27,22 +29,14 @@ use std::mem;
 /// The most bytes that a script may have.
 const MAX_SCRIPT: usize = 16_777_216;
 
-/// Writes the whole text, and returns how the run ends, this being the end of its script.
-fn finish<K: Sink>(sink: &mut K, text: &str, end: ScriptEnd) -> Status
-    ensures keeps { SinkKeeps (K.state sink.old) (K.state sink.new) }
-    ensures fault { result ≡ Status.SinkFailed →
-        FaultCountRose (K.state sink.old).faults (K.state sink.new).faults }
-    ensures status { (result ≡ Status.Ended end)
-        ⊎ ((result ≡ Status.SinkFailed) ⊎ (result ≡ Status.OutOfMemory)) }
-    ensures written { IsTrue (K.state sink.old).tells → result ≡ Status.Ended end →
-        (K.state sink.new).sent ≡ (K.state sink.old).sent ++ text.now }
-    ensures part { IsTrue (K.state sink.old).tells →
-        WrotePart (K.state sink.old) (K.state sink.new) text.now }
+/// How the run ends, whose command came to this end or was cut off.
+fn status_of(end: Result<ScriptEnd, Cut>) -> Status
+    ensures { result ≡ status_of end }
 {
-    match write_out(sink, text.as_bytes()) {
-        Ok(()) => Status::Ended(end),
-        Err(LinkError::Fault) => Status::SinkFailed,
-        Err(LinkError::OutOfMemory) => Status::OutOfMemory,
+    match end {
+        Ok(end) => Status::Ended(end),
+        Err(Cut::SinkFailed) => Status::SinkFailed,
+        Err(Cut::OutOfMemory) => Status::OutOfMemory,
     }
 }
 
@@ -54,37 +48,37 @@ fn link_of(alloc: Global, client: &mut Client<MemoryLink>) -> MemoryLink
 }
 
 /// Replays a script on the link: moves it into a client, and back.
-fn replay_on(
+fn replay_on<K: Sink>(
     alloc: Global,
     options: Options,
     script: &[u8],
+    sink: &mut K,
     link: &mut MemoryLink,
-    output: &mut Text,
-) -> Result<ScriptEnd, OutOfMemory>
-    ensures { IfOk result (λ end. Replays
+) -> Result<ScriptEnd, Cut>
+    ensures { Performs
         (replay_from (settings_for options) (lines_of script.now) 1 ScriptEnd.Answered
         (drop link.old.pos link.old.ever))
-        link.old link.new (Status.Ended end) output.old output.new) }
+        (K.state sink.old) (K.state sink.new) link.old link.new result }
 {
     let moved = mem::replace(link, MemoryLink::new(alloc));
     let diag = options.diag;
     let mut client = client_of(moved, options);
-    let end = replay(alloc, &mut client, diag, script, output);
+    let end = replay(alloc, &mut client, diag, script, sink);
     *link = link_of(alloc, &mut client);
     end
 }
 
 /// Makes `count` exchanges on the link: moves it into a client, and back.
-fn make_on(
+fn make_on<K: Sink>(
     alloc: Global,
     count: u32,
+    sink: &mut K,
     link: &mut MemoryLink,
-    output: &mut Text,
-) -> Result<ScriptEnd, OutOfMemory>
-    ensures { IfOk result (λ end. Replays
+) -> Result<ScriptEnd, Cut>
+    ensures { Performs
         (counted_transcript count
         (counts_after made_settings count 1 (drop link.old.pos link.old.ever)))
-        link.old link.new (Status.Ended end) output.old output.new) }
+        (K.state sink.old) (K.state sink.new) link.old link.new result }
 {
     let moved = mem::replace(link, MemoryLink::new(alloc));
     let options = Options {
@@ -94,31 +88,30 @@ fn make_on(
         diag: false,
     };
     let mut client = client_of(moved, options);
-    let end = make(alloc, &mut client, count, output);
+    let end = make(alloc, &mut client, count, sink);
     *link = link_of(alloc, &mut client);
     end
 }
 
 /// Does what a command asks for with the whole script, and returns how it ended.
-fn perform(
+fn perform<K: Sink>(
     alloc: Global,
     command: Command,
     script: &[u8],
+    sink: &mut K,
     link: &mut MemoryLink,
-    output: &mut Text,
-) -> Result<ScriptEnd, OutOfMemory>
+) -> Result<ScriptEnd, Cut>
     requires { drop link.old.pos link.old.ever ≡ [] }
     ensures kept { makes_calls (Some command) ≡ false → link.new ≡ link.old }
-    ensures replays { IfOk result (λ end. Replays
-        (lines_transcript command (lines_of script.now)) link.old link.new (Status.Ended end)
-        output.old output.new) }
+    ensures performs { Performs (lines_transcript command (lines_of script.now))
+        (K.state sink.old) (K.state sink.new) link.old link.new result }
 {
     match command {
-        Command::Replay(options) => replay_on(alloc, options, script, link, output),
-        Command::Explain => explain(alloc, script, output),
-        Command::Make(count) => make_on(alloc, count, link, output),
-        Command::Audit => audit_script(alloc, script, output),
-        Command::Joined(options) => run_joined(alloc, options, script, output),
+        Command::Replay(options) => replay_on(alloc, options, script, sink, link),
+        Command::Explain => explain(alloc, script, sink),
+        Command::Make(count) => make_on(alloc, count, sink, link),
+        Command::Audit => audit_script(alloc, script, sink),
+        Command::Joined(options) => run_joined(alloc, options, script, sink),
     }
 }
 
@@ -146,11 +139,7 @@ fn run_alone<K: Sink>(
         (streams source (K.state sink.old) link.old) (streams source (K.state sink.new) link.new)
         result }
 {
-    let mut output = Text::new(alloc);
-    match perform(alloc, command, &[], link, &mut output) {
-        Ok(end) => finish(sink, output.as_str(), end),
-        Err(OutOfMemory) => Status::OutOfMemory,
-    }
+    status_of(perform(alloc, command, &[], sink, link))
 }
 
 /// Reads the whole script, does with it what the command asks for, and returns how the run ended.
@@ -176,10 +165,18 @@ fn run_script<S: Source, K: Sink>(
     if script.len() > MAX_SCRIPT {
         return Status::TooLong;
     }
-    let mut output = Text::new(alloc);
-    match perform(alloc, command, &script, link, &mut output) {
-        Ok(end) => finish(sink, output.as_str(), end),
-        Err(OutOfMemory) => Status::OutOfMemory,
+    status_of(perform(alloc, command, &script, sink, link))
+}
+
+/// Writes that the words are not of the grammar, and returns how the run ended.
+fn refuse<K: Sink>(sink: &mut K) -> Status
+    ensures { (source : SourceState) → (link : MemoryState) → RunsCommand None
+        (streams source (K.state sink.old) link) (streams source (K.state sink.new) link) result }
+{
+    match write_out(sink, b"! words\n") {
+        Ok(()) => Status::Ended(ScriptEnd::NotOfGrammar),
+        Err(LinkError::Fault) => Status::SinkFailed,
+        Err(LinkError::OutOfMemory) => Status::OutOfMemory,
     }
 }
 
@@ -202,7 +199,7 @@ fn run_words<S: Source, K: Sink>(
             }
             run_alone(alloc, command, sink, link)
         }
-        Ok(None) => finish(sink, "! words\n", ScriptEnd::NotOfGrammar),
+        Ok(None) => refuse(sink),
         Err(OutOfMemory) => Status::OutOfMemory,
     }
 }

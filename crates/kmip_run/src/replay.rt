@@ -1,17 +1,18 @@
 //! The lines of a script, one call after the other.
-ghost use Rattle.std.specs.Prelude.{◌≡◌, drop, IfOk};
+ghost use Rattle.std.specs.Prelude.{◌≡◌, drop};
 ghost use Rattle.kmip_words.specs.Exchange.{settings_of};
 ghost use Rattle.kmip_run.specs.Script.{lines_of};
-ghost use Rattle.kmip_run.specs.Transcript.{end_after, replay_from, Replays};
+ghost use Rattle.kmip_run.specs.Transcript.{end_after, replay_from};
+ghost use Rattle.kmip_run.specs.Performed.{Performs};
 ghost use Rattle.kmip_run.specs.declared.status.ScriptEnd.TheVariants.{Answered};
-ghost use Rattle.kmip_run.specs.declared.status.Status.TheVariants.{Ended};
 
 use crate::exchange::exchange;
+use crate::output::{Cut, flush, flush_if_long};
 use crate::script::{first_line, show_bad_line};
 use crate::status::ScriptEnd;
 use kmip_client::Client;
-use kmip_link::MemoryLink;
-use kmip_wire::{OutOfMemory, Text};
+use kmip_link::{MemoryLink, Sink};
+use kmip_wire::Text;
 use kmip_words::call_of;
 use std::alloc::Global;
 
@@ -23,20 +24,22 @@ pub fn end_after(end: ScriptEnd, failed: bool) -> ScriptEnd
 }
 
 /// Makes the calls of the lines, up to a line that is not of the grammar, and returns how they
-/// ended. `diag` is whether the client keeps diagnostics.
-pub fn replay(
+/// ended. What is shown of them is written in pieces of about 65,536 bytes, once it is there. `diag`
+/// is whether the client keeps diagnostics.
+pub fn replay<K: Sink>(
     alloc: Global,
     client: &mut Client<MemoryLink>,
     diag: bool,
     script: &[u8],
-    output: &mut Text,
-) -> Result<ScriptEnd, OutOfMemory>
+    sink: &mut K,
+) -> Result<ScriptEnd, Cut>
     requires { diag ≡ client.old.buffered }
-    ensures { IfOk result (λ end. Replays
+    ensures { Performs
         (replay_from (settings_of client.old) (lines_of script.now) 1 Answered
         (drop client.old.link.pos client.old.link.ever))
-        client.old.link client.new.link (Ended end) output.old output.new) }
+        (K.state sink.old) (K.state sink.new) client.old.link client.new.link result }
 {
+    let mut text = Text::new(alloc);
     let mut end = ScriptEnd::Answered;
     let mut number = 0;
     let mut rest = script;
@@ -44,12 +47,15 @@ pub fn replay(
         let (line, later) = first_line(rest);
         number += 1;
         let Some(recorded) = call_of(alloc, line)? else {
-            show_bad_line(alloc, number, output)?;
+            show_bad_line(alloc, number, &mut text)?;
+            flush(sink, &mut text)?;
             return Ok(ScriptEnd::NotOfGrammar);
         };
-        let failed = exchange(alloc, client, diag, recorded, output)?;
+        let failed = exchange(alloc, client, diag, recorded, &mut text)?;
+        flush_if_long(sink, &mut text)?;
         end = end_after(end, failed);
         rest = later;
     }
+    flush(sink, &mut text)?;
     Ok(end)
 }
