@@ -1,5 +1,5 @@
 -- Text that is written while it is made.
-use Rattle.std.proofs.Common.{◌≡◌, ℕ, ◌+◌, ◌≤◌, Bool, List, [], ◌∷◌, ◌++◌, length, take, drop, refl, ◌∙◌, ap, sym, arith, append_assoc, Some, None, Result, Ok, Err, IfOk, IsTrue, length-append}
+use Rattle.std.proofs.Common.{◌≡◌, ℕ, ◌+◌, ◌≤◌, Bool, List, [], ◌∷◌, ◌++◌, length, take, drop, refl, ◌∙◌, ap, sym, arith, append_assoc, Some, None, Result, Ok, Err, OnOk, IsTrue, length-append}
 use Rattle.std.proofs.lemmas.List.{take-append-le}
 use Rattle.kmip_link.specs.Plan.{MemoryState}
 use Rattle.kmip_link.specs.State.{SinkState, SinkKeeps, FaultCountRose}
@@ -216,3 +216,26 @@ text_first t l0 l1 k0 end text it = record {
   keeps = record { tells = refl; faults = omega arith };
   sent = λ tells. append_none k0.sent;
 }
+
+-- what is written of a text, where that went well
+pub moved_if : {T E : Type 0} (result : Result T E) (k k1 : SinkState) (kept left : List ℕ)
+    → OnOk result (left ≡ []) → OnOk result (IsTrue k.tells → k1.sent ≡ k.sent ++ kept)
+    → OnOk result (Moves k k1 kept left)
+moved_if (Ok x) k k1 kept left none sent = all_moved k k1 kept left none sent
+moved_if (Err error) k k1 kept left none sent = tt
+
+pub none_moved : (k : SinkState) (kept : List ℕ) → Moves k k kept kept
+none_moved k kept = record { written = []; parts = refl; sent = λ tells. append_none k.sent }
+
+-- a text alone is shown, and nothing is on the link
+pub shown_alone : (t : Transcript) (link : MemoryState) (k : SinkState) (end : ScriptEnd) (old text : List ℕ)
+    → t ≡ only_text t.text t.status → Ended end ≡ t.status → old ≡ [] → text ≡ old ++ t.text
+    → Sending t link link k k text (only_text [] (Ended end))
+shown_alone t link k end old text alone status_is none text_is =
+    text_first t link link k end text (record {
+      text = rw none at text_is;
+      status_is = status_is;
+      ever = rw alone (append_none link.ever);
+      sent = rw alone (append_none link.sent);
+      pos = rw alone (omega arith);
+    })
