@@ -239,3 +239,10 @@ shown_alone t link k end old text alone status_is none text_is =
       sent = rw alone (append_none link.sent);
       pos = rw alone (omega arith);
     })
+
+-- a text that was made whole is written whole
+pub all_written : {t : Transcript} {l0 l : MemoryState} {k0 k k1 : SinkState} {text left : List ℕ} (end : ScriptEnd)
+    → Sending t l0 l k0 k text (only_text [] (Ended end)) → SinkKeeps k k1 → left ≡ []
+    → (IsTrue k.tells → k1.sent ≡ k.sent ++ text) → Performs t k0 k1 l0 l (Ok end)
+all_written {k = k} {k1 = k1} {text = text} {left = left} end s keeps none sent =
+    performed end none (moved_on s keeps (all_moved k k1 text left none sent))

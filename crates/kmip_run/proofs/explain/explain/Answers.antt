@@ -1,41 +1,28 @@
-use Rattle.std.proofs.Common.{◌≡◌, ◌+◌, ◌∙◌, sym, arith, length}
-use Rattle.std.proofs.lemmas.Bool.Decides.{nat_tests}
-use Rattle.kmip_run.proofs.Explained.{nothing_yet, next_line, next_bad, no_more}
+use Rattle.std.proofs.Common.{sym, ◌∙◌, Err}
+use Rattle.std.proofs.lemmas.Result.{err_from_is_err_and}
+use Rattle.kmip_run.specs.Script.{lines_of}
+use Rattle.kmip_run.specs.Transcript.{explanations_from}
+use Rattle.kmip_run.proofs.Explained.{explained_alone}
+use Rattle.kmip_run.proofs.Sendings.{nothing_sent, shown_alone, all_written, cut_off, ran_out}
 use Rattle.kmip_run.proofs.explain.explain.Goals as goal
 
-pub loop-rest-init : goal.loop-rest-init
-loop-rest-init c = record { counted = omega arith; so_far = nothing_yet _ _ }
+pub returns-in_err-end : goal.returns-in_err-end
+returns-in_err-end g c = λ link.
+    let p = err_from_is_err_and c.from_residual.result c.from_residual.ensures.1 in
+    rw p.1 (ran_out p.0 p.2 (nothing_sent (explanations_from (lines_of c.args.script.now) 1) link (g.K.Sink.state c.args.sink.now)))
 
-pub loop-rest-preserved : goal.loop-rest-preserved
-loop-rest-preserved c =
-    let is = rw c.in-Some.is at c.in_ok-text.ensures in
-    record {
-      counted = omega (arith, c.first_line.ensures.shorter);
-      so_far = rw (c.in_ok-push_str.ensures, c.as_str.ensures.bytes)
-          (next_line c.loop-rest.rest.now c.first_line.result.0.now c.first_line.result.1.now
-          (c.loop-rest.number + 1)
-          c.in-Some.text c.first_line.ensures.lines is c.loop-rest.invariant.so_far);
-    }
+pub returns-in_err-flush : goal.returns-in_err-flush
+returns-in_err-flush g c = λ link.
+    let p = err_from_is_err_and c.from_residual-in_err-flush.result c.from_residual-in_err-flush.ensures.1 in
+    rw p.1
+    (cut_off p.0
+    (shown_alone (explanations_from (lines_of c.args.script.now) 1) link (g.K.Sink.state c.args.sink.now) c.in_ok-end.end
+    c.new-text.result c.explain_lines.new.text (explained_alone (lines_of c.args.script.now) 1) c.in_ok-end.ensures.status c.new-text.ensures c.in_ok-end.ensures.text)
+    c.flush.ensures.keeps c.in_err-flush.ensures.part (λ is. c.in_err-flush.ensures.cause (sym p.2 ∙ is)))
 
-pub returns-in_default-clause-status : goal.returns-in_default-clause-status
-returns-in_default-clause-status c =
-    let is = rw c.in_default.is at c.in_ok-text.ensures in
-    sym (next_bad c.loop-rest.rest.now c.first_line.result.0.now c.first_line.result.1.now
-    (c.loop-rest.number + 1) c.first_line.ensures.lines is c.loop-rest.invariant.so_far).status
-
-pub returns-in_default-clause-text : goal.returns-in_default-clause-text
-returns-in_default-clause-text c =
-    let is = rw c.in_default.is at c.in_ok-text.ensures in
-    c.in_ok-show_bad_line.ensures ∙ sym
-    (next_bad c.loop-rest.rest.now c.first_line.result.0.now c.first_line.result.1.now
-    (c.loop-rest.number + 1) c.first_line.ensures.lines is c.loop-rest.invariant.so_far).text
-
-pub returns-clause-status : goal.returns-clause-status
-returns-clause-status c =
-    let none : length c.loop-rest.rest.now ≡ 0 = grind (arith, nat_tests) in
-    sym (no_more c.loop-rest.rest.now (c.loop-rest.number + 1) none c.loop-rest.invariant.so_far).1
-
-pub returns-clause-text : goal.returns-clause-text
-returns-clause-text c =
-    let none : length c.loop-rest.rest.now ≡ 0 = grind (arith, nat_tests) in
-    sym (no_more c.loop-rest.rest.now (c.loop-rest.number + 1) none c.loop-rest.invariant.so_far).0
+pub returns : goal.returns
+returns g c = λ link.
+    all_written c.in_ok-end.end
+    (shown_alone (explanations_from (lines_of c.args.script.now) 1) link (g.K.Sink.state c.args.sink.now) c.in_ok-end.end
+    c.new-text.result c.explain_lines.new.text (explained_alone (lines_of c.args.script.now) 1) c.in_ok-end.ensures.status c.new-text.ensures c.in_ok-end.ensures.text)
+    c.flush.ensures.keeps c.in_ok-flush.ensures.emptied c.in_ok-flush.ensures.written

@@ -2,7 +2,7 @@ use Rattle.std.proofs.Common.{◌+◌, ◌≤◌, length}
 use Rattle.kmip_run.specs.Script.{lines_of}
 use Rattle.kmip_run.specs.Transcript.{explanations_from}
 use Rattle.kmip_run.proofs.Explained.{SoFar}
-use Rattle.kmip_run.proofs.explain.explain.Given as goal
+use Rattle.kmip_run.proofs.explain.explain_lines.Given as goal
 
 abbrev pub invariant-loop-rest : goal.invariant-loop-rest
 invariant-loop-rest l = record {
