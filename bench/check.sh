@@ -53,6 +53,7 @@ rustc -O -o "$work/plain" "$top/bench/plain_check.rs"
 proved=$(find "$work/crates/bench/out" -maxdepth 1 -type f -perm -u+x -name 'bench*' | head -1)
 # Both in turn, nine times: a machine that does other work slows one run and not the next. The best of each counts.
 for row in 'small 1000000' 'middle 3000' 'large 12'; do
+    # shellcheck disable=SC2086  # a row is words
     set -- $row
     size=$(wc -c <"$work/$1")
     for _ in 1 2 3 4 5 6 7 8 9; do
