@@ -15,6 +15,7 @@ a failure, on standard error, what `rt ci` or `rattle` wrote.
 import argparse
 import os
 import re
+import shlex
 import shutil
 import subprocess
 import sys
@@ -62,8 +63,8 @@ def passes(room, wanted):
     return status == 0
 
 
-def keeping(work):
-    """A toolchain whose clang keeps the module that it compiles as the file KEPT_MODULE."""
+def keeping(work, module):
+    """A toolchain whose clang keeps the module that it compiles as this file; rattle hands it no variables of ours."""
     chain = os.path.join(work, 'chain')
     os.makedirs(chain + '/bin')
     os.symlink(TOOLS + '/lib', chain + '/lib')
@@ -72,14 +73,14 @@ def keeping(work):
             os.symlink('%s/bin/%s' % (TOOLS, name), '%s/bin/%s' % (chain, name))
     with open(chain + '/bin/clang', 'w', encoding='utf-8') as file:
         file.write('#!/bin/bash\n'
-                   'for it in "$@"; do case $it in *.bc) cp -- "$it" "$KEPT_MODULE" || exit 1 ;; esac; done\n'
-                   'exec -a "$0" "$KEPT_CLANG" "$@"\n')
+                   'for it in "$@"; do case $it in *.bc) cp -- "$it" %s || exit 1 ;; esac; done\n'
+                   'exec -a "$0" %s "$@"\n' % (shlex.quote(module), shlex.quote(TOOLS + '/bin/clang')))
     os.chmod(chain + '/bin/clang', 0o755)
     return chain
 
 
-def library(room, crate, rows, target, chain, words, **kept):
-    """Proves a static library over the crates of a run of `rt ci`, and builds it. `kept` is what the toolchain keeps."""
+def library(room, crate, rows, target, chain, words):
+    """Proves a static library over the crates of a run of `rt ci`, and builds it."""
     own, _ = own_crates(rows, crate)
     words = ['--crate-name', crate, 'src/lib.rt', '-L', 'dependency=%s/rlibs' % KIT, *words]
     for name in ['std'] + [it for it in rows[crate] if it not in rows]:
@@ -92,8 +93,7 @@ def library(room, crate, rows, target, chain, words, **kept):
     words += ['--antt-project', KIT + '/rattle/logic/antt-project.json', '--logic-built', KIT + '/logic_built', '--jobs', '2',
               '--links', crate + '=', '--crate-type', 'staticlib', '--toolchain', chain, '--backend', 'llvm', '-o', target]
     ran = subprocess.run([KIT + '/bin/rattle', 'build', *words], cwd='%s/crates/%s' % (room, crate), stdin=subprocess.DEVNULL,
-                         stdout=subprocess.PIPE, stderr=subprocess.STDOUT, text=True, errors='replace', check=False,
-                         env=dict(os.environ, **kept))
+                         stdout=subprocess.PIPE, stderr=subprocess.STDOUT, text=True, errors='replace', check=False)
     last = next((it for it in reversed(ran.stdout.splitlines()) if it.startswith('logic=')), '')
     if ran.returncode or not last.startswith('logic=proved '):
         sys.exit('%s\n%s is not proved, or not built' % (ran.stdout, crate))
@@ -113,7 +113,7 @@ def build(kind, crate, target, top, work):
         library(room, crate, rows, made, TOOLS, [])
     else:
         module = os.path.join(work, 'module.bc')
-        library(room, crate, rows, made + '.a', keeping(work), ['--cpu', 'x86-64'], KEPT_MODULE=module, KEPT_CLANG=TOOLS + '/bin/clang')
+        library(room, crate, rows, made + '.a', keeping(work, module), ['--cpu', 'x86-64'])
         subprocess.run([TOOLS + '/bin/clang', '--target=' + TARGET, '-S', '-emit-llvm', '-O0', '-Xclang', '-disable-llvm-passes',
                         '-x', 'ir', module, '-o', made], check=True)
     shutil.copy(made, target)

@@ -63,7 +63,8 @@ static const char *child(const char *item, const char *tag, size_t length, unsig
 /* The number that a path goes on with, as .1 in Attribute.1.AttributeName; 0 where there is none. */
 static unsigned long index_in(const char **path) {
     size_t digits = **path == '.' ? strspn(*path + 1, "0123456789") : 0;
-    char after = digits > 0 ? (*path)[digits + 1] : 'x';
+    char after = 'x';
+    if (digits > 0) after = (*path)[digits + 1];
     if (after != '.' && after != 0) return 0;
     unsigned long index = strtoul(*path + 1, NULL, 10);
     *path += digits + 1;

@@ -79,84 +79,80 @@ static bool bytes_are(kmip_client *client, const char *path, const uint8_t *want
 static char *registered(kmip_client *client, const char *tag, const char *format,
                         const char *algorithm, int use, const uint8_t *material, size_t length) {
     char *hex = hex_of(material, length);
-    int status = ask(client, "Register",
-                     NAMED(
-                         "ObjectType",
-                         "%s") "," ITEMS("TemplateAttribute",
-                                         ATTRIBUTE(
-                                             "Cryptographic Usage Mask",
-                                             "{'tag':'AttributeValue','type':'Integer','value':%"
-                                             "d}")) "," ITEMS("%s",
-                                                              ITEMS(
-                                                                  "KeyBlock",
-                                                                  NAMED("KeyFormatType", "%s") "," ITEMS(
-                                                                      "KeyValue",
-                                                                      BYTES(
-                                                                          "KeyMaterial",
-                                                                          "%s")) "," NAMED("Cryptog"
-                                                                                           "raphicA"
-                                                                                           "lgorith"
-                                                                                           "m",
-                                                                                           "%s") ","
-                                                                                                 "{"
-                                                                                                 "'"
-                                                                                                 "t"
-                                                                                                 "a"
-                                                                                                 "g"
-                                                                                                 "'"
-                                                                                                 ":"
-                                                                                                 "'"
-                                                                                                 "C"
-                                                                                                 "r"
-                                                                                                 "y"
-                                                                                                 "p"
-                                                                                                 "t"
-                                                                                                 "o"
-                                                                                                 "g"
-                                                                                                 "r"
-                                                                                                 "a"
-                                                                                                 "p"
-                                                                                                 "h"
-                                                                                                 "i"
-                                                                                                 "c"
-                                                                                                 "L"
-                                                                                                 "e"
-                                                                                                 "n"
-                                                                                                 "g"
-                                                                                                 "t"
-                                                                                                 "h"
-                                                                                                 "'"
-                                                                                                 ","
-                                                                                                 "'"
-                                                                                                 "t"
-                                                                                                 "y"
-                                                                                                 "p"
-                                                                                                 "e"
-                                                                                                 "'"
-                                                                                                 ":"
-                                                                                                 "'"
-                                                                                                 "I"
-                                                                                                 "n"
-                                                                                                 "t"
-                                                                                                 "e"
-                                                                                                 "g"
-                                                                                                 "e"
-                                                                                                 "r"
-                                                                                                 "'"
-                                                                                                 ","
-                                                                                                 "'"
-                                                                                                 "v"
-                                                                                                 "a"
-                                                                                                 "l"
-                                                                                                 "u"
-                                                                                                 "e"
-                                                                                                 "'"
-                                                                                                 ":"
-                                                                                                 "2"
-                                                                                                 "5"
-                                                                                                 "6"
-                                                                                                 "}")),
-                     tag, use, tag, format, hex, algorithm);
+    int status =
+        ask(client, "Register",
+            NAMED("ObjectType", "%s") "," ITEMS(
+                "TemplateAttribute",
+                ATTRIBUTE("Cryptographic Usage Mask",
+                          "{'tag':'AttributeValue','type':'Integer','value':%"
+                          "d}")) "," ITEMS("%s",
+                                           ITEMS("KeyBlock",
+                                                 NAMED("KeyFormatType", "%s") "," ITEMS(
+                                                     "KeyValue", BYTES("KeyMaterial",
+                                                                       "%s")) "," NAMED("Cryptog"
+                                                                                        "raphicA"
+                                                                                        "lgorith"
+                                                                                        "m",
+                                                                                        "%s") ","
+                                                                                              "{"
+                                                                                              "'"
+                                                                                              "t"
+                                                                                              "a"
+                                                                                              "g"
+                                                                                              "'"
+                                                                                              ":"
+                                                                                              "'"
+                                                                                              "C"
+                                                                                              "r"
+                                                                                              "y"
+                                                                                              "p"
+                                                                                              "t"
+                                                                                              "o"
+                                                                                              "g"
+                                                                                              "r"
+                                                                                              "a"
+                                                                                              "p"
+                                                                                              "h"
+                                                                                              "i"
+                                                                                              "c"
+                                                                                              "L"
+                                                                                              "e"
+                                                                                              "n"
+                                                                                              "g"
+                                                                                              "t"
+                                                                                              "h"
+                                                                                              "'"
+                                                                                              ","
+                                                                                              "'"
+                                                                                              "t"
+                                                                                              "y"
+                                                                                              "p"
+                                                                                              "e"
+                                                                                              "'"
+                                                                                              ":"
+                                                                                              "'"
+                                                                                              "I"
+                                                                                              "n"
+                                                                                              "t"
+                                                                                              "e"
+                                                                                              "g"
+                                                                                              "e"
+                                                                                              "r"
+                                                                                              "'"
+                                                                                              ","
+                                                                                              "'"
+                                                                                              "v"
+                                                                                              "a"
+                                                                                              "l"
+                                                                                              "u"
+                                                                                              "e"
+                                                                                              "'"
+                                                                                              ":"
+                                                                                              "2"
+                                                                                              "5"
+                                                                                              "6"
+                                                                                              "}")),
+            tag, use, tag, format, hex, algorithm);
     free(hex);
     check(status == KMIP_ANSWERED, "a key of another algorithm is registered");
     return copy_at(client, "UniqueIdentifier");

@@ -18,7 +18,7 @@ from metsuwan.wire import Wire
 from .servers import CERTS, PORTS, client_of
 
 
-# The fakes keep silent for ever: a call that ends by then has ended by itself, on a busy machine too.
+# The fakes keep silent for ever: a call that ends by then has ended by itself, under load too.
 LONG = 100
 
 
