@@ -153,7 +153,7 @@ int64_t kmip_value(const uint8_t *call, size_t call_len, const uint8_t *response
 /* Any operation, past the calls of words: its request, as kmip_request writes one. Returns its
    length in bytes.
 
-   name, name_len           the operation's name in KMIP's table: as Encrypt, MACVerify, Rekey
+   name, name_len           the operation's name, as Encrypt, MACVerify or Rekey
    version, version_len     the version that the request names: 1.0, 1.1 or 1.2
    payload, payload_len     the request's payload, in the JSON of KMIP's Additional Message
                             Encodings: {"tag":"RequestPayload","value":[{"tag":"Data",

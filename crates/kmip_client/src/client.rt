@@ -213,7 +213,7 @@ impl<T: Link> Client<T> {
     /// tag Response Payload where it has none. Its errors are those of `do_request`, but for these:
     ///
     /// - `ServerError`, `ItemNotFound`: the server refused the request. The text always has the
-    ///   server's message, and the number of a reason that KMIP 1.2 does not list.
+    ///   server's message, and the number of a reason that KMIP 1.0 does not list.
     /// - `InternalError`: the message is well formed and is neither a success nor such a refusal.
     ///
     /// Its contract has the fields of `IsCall`, for this request and this reading of a response:

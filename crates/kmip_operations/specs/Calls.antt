@@ -21,7 +21,7 @@ abbrev pub request_of : OperationCall → TreeRequest
 request_of call =
     record { operation = call.operation; version = call.version; payload = call.payload }
 
--- the operation with this name in KMIP's table
+-- the operation with this name
 abbrev pub operation_named : List ℕ → Option Operation
 operation_named name =
     option_and_then (variant_at operation_line operation_variants) (enumeration_number OPERATION name)

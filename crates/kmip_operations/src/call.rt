@@ -23,7 +23,7 @@ pub struct OperationCall {
     pub payload: Tree,
 }
 
-/// The operation with this name in KMIP's table, as `Encrypt` or `MACVerify`. It takes no memory.
+/// The operation with this name, as `Encrypt`, `MACVerify` or `Rekey`. It takes no memory.
 pub fn operation_named(name: &str) -> Option<Operation>
     ensures { result ≡ operation_named name.now }
 {
@@ -70,7 +70,7 @@ pub fn structure_of(alloc: Global, text: &str, tag: u32) -> Result<Option<Tree>,
     }
 }
 
-/// The call of an operation. `name` is the operation's name in KMIP's table, as `Encrypt` or
+/// The call of an operation. `name` is the operation's name, as `Encrypt`, `Rekey` or
 /// `MACVerify`; `version` is `1.0`, `1.1` or `1.2`; `payload` is the JSON of a structure with the
 /// tag `RequestPayload`, as kmip_encodings reads it: any of the names, types and values that it
 /// has, in at most 64 levels. `None` exactly where one of the three is not so.
