@@ -194,32 +194,6 @@ pub none_kept : (order : Order) (text : TreeText) → is_some order.file ≡ tru
 none_kept order text kept is errand (tree none other are asks) = kept_clash order kept none
 none_kept order text kept is errand (typed plain call found_is by) = both_words order text is plain
 
-none_by : (order : Order) (text : TreeText) → tree_words order.words ≡ Some text
-    → ((errand : Errand) → AsksTree order.settings text errand → ⊥) → AsksForNone order
-none_by order text is never errand (tree none other are asks) =
-    let P : TreeText → Type 0 = λ t. AsksTree order.settings t errand in
-    never errand (subst P (same_text order other text are is) asks)
-none_by order text is never errand (typed plain call found_is by) = both_words order text is plain
-
-pub no_operation : (order : Order) (name version payload : List ℕ)
-    → tree_words order.words ≡ Some (an_operation name version payload)
-    → ((request : TreeRequest) → Asks name version payload request → ⊥) → AsksForNone order
-no_operation order name version payload is never =
-    none_by order (an_operation name version payload) is (λ errand asks. never asks.0 asks.1)
-
-pub no_message : (order : Order) (text : List ℕ) → tree_words order.words ≡ Some (a_message text)
-    → ((message : Tree) → IsMessageText text message → ⊥) → AsksForNone order
-no_message order text is never =
-    none_by order (a_message text) is (λ errand asks. never asks.0 asks.1)
-
-call_clash : {G : Type 0} (order : Order) (call : Call) → call_for order ≡ None
-    → call_for order ≡ Some call → G
-call_clash order call none some = absurd (cc)
-
-pub none_typed : (order : Order) → tree_words order.words ≡ None → call_for order ≡ None → AsksForNone order
-none_typed order plain none errand (tree unkept text is asks) = both_words order text is plain
-none_typed order plain none errand (typed also call is by) = call_clash order call none is
-
 -- what an order asks for is not nothing
 pub asked_clash : {G : Type 0} (order : Order) (asked : Asked) (request : Option (List ℕ))
     → Requests order asked request → AsksForNone order → G

@@ -9,7 +9,7 @@ use Rattle.kmip_client.specs.declared.message.MessageStop.{MessageStop}
 use Rattle.kmip_client.specs.Transfer.{Takes, WritesPart}
 use Rattle.kmip_client.specs.Message.{Message, message_at, taken_for, Comes, ReadsMessage, IsRead}
 use Rattle.kmip_client.specs.Client.{loses_connection, lacks_memory}
-use Rattle.kmip_client.specs.Outcome.{seen_by, OutcomeOf, outcome_by, answer_by, left_for, Moves, Exchanged, completed, write_failed, read_failed, sending_cut, reading_cut, Gives, reading_answer, Caused, not_valid, given, no_memory, FailsReading, reading_failed, read_answer}
+use Rattle.kmip_client.specs.Outcome.{seen_by, OutcomeOf, outcome_by, answer_by, left_for, Moves, Exchanged, completed, write_failed, read_failed, sending_cut, reading_cut, Gives, reading_answer, Caused, given, no_memory, FailsReading, reading_failed, read_answer}
 use Rattle.kmip_client.proofs.Messages.{message_short}
 use Rattle.kmip_client.proofs.Said.{OfMessages, message_says}
 
@@ -59,13 +59,6 @@ send_stopped request reading limit rest error part (inl failed) =
 send_stopped request reading limit rest error part (inr short) =
     sending_cut (ap (λ e. Err e) short) part.0 (omega (arith, part.1))
     (moves_part request part.0 part.2)
-
-pub send_caused : {A : Type 0} {before after : ℕ} (request : List ℕ)
-    (reading : List ℕ → Result A Error) (limit : Option ℕ) (error : Error) →
-    ((error ≡ RequestWriteError (codes "link failed")) × FaultCountRose before after) ⊎ (error ≡ OutOfMemory) →
-    Caused (Some request) reading limit before after (Err error)
-send_caused request reading limit error (inl failed) = Caused.write_failed refl (ap (λ e. Err e) failed.0) failed.1
-send_caused request reading limit error (inr short) = no_memory (ap (λ e. Err e) short)
 
 -- a request was written and so many bytes were read
 moves_both : {before between after : LinkState} {request : List ℕ} {n : ℕ}
@@ -248,14 +241,6 @@ pub serialize_stopped : {A : Type 0} (request : Option (List ℕ)) (reading : Li
 serialize_stopped request reading limit rest a error (inl refused) =
     rw (refused.0, refused.1) (not_sent a reading limit rest)
 serialize_stopped request reading limit rest a error (inr short) = rw short (short_at_start a _)
-
-pub serialize_caused : {A : Type 0} (request : Option (List ℕ)) (reading : List ℕ → Result A Error)
-    (limit : Option ℕ) (before after : ℕ) (error : Error) →
-    ((error ≡ SerializeError (codes "request has no wire form")) × (request ≡ None)) ⊎ (error ≡ OutOfMemory) →
-    Caused request reading limit before after (Err error)
-serialize_caused request reading limit before after error (inl refused) =
-    not_valid refused.1 (ap (λ e. Err e) refused.0)
-serialize_caused request reading limit before after error (inr short) = no_memory (ap (λ e. Err e) short)
 
 -- memory that runs out after an exchange leaves what was sent and taken
 pub short_anyway : {A : Type 0} {o : OutcomeOf A} {before after : LinkState}

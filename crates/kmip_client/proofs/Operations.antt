@@ -211,9 +211,6 @@ message_ok val n payload message item size a b form even long short small empty 
     (long ∙ ap (λ k. k + (8 + (16 + length payload))) (sym has.1)) short small
     ∙ ap Some (sym is))
 
-pub no_header : (o : Option (List ℕ)) (n : ℕ) (payload : Option (List ℕ)) → o ≡ None → message_bytes o n payload ≡ None
-no_header o n payload missing = ap (λ o. message_bytes o n payload) missing
-
 pub message_no_form : (val : Val) (n : ℕ) (payload : List ℕ) (header : ℕ)
     → HasForm request_header val → length payload % 8 ≡ 0 → header ≡ size_of request_header val
     → 2 ^ 32 ≤ header + (8 + (16 + length payload)) →

@@ -18,15 +18,6 @@ keeps_on ab bc = record {
   faults = omega arith;
 }
 
-pub writes_none : (a : LinkState) → Writes a a []
-writes_none a = record {
-  sent = grind (arith, common_steps);
-  pos = refl;
-  ever =
-      ([], grind (arith, common_steps));
-  still = λ _. refl;
-}
-
 pub writes_on : {a b c : LinkState} {xs ys : List ℕ} → Keeps a b → Writes a b xs → Writes b c ys → Writes a c (xs ++ ys)
 writes_on {a = a} {b = b} {c = c} {xs = xs} {ys = ys} keeps ab bc = record {
   sent = grind (arith, common_steps);
@@ -52,9 +43,6 @@ writes_next {a = a} {b = b} {c = c} n m xs keeps ab bc =
     let P : List ℕ → Type 0 = λ l. Writes a c l in
     let Q : List ℕ → Type 0 = λ l. Writes b c (take m l) in
     subst P (take_more n m xs) (writes_on keeps ab (subst Q (rest_is n xs) bc))
-
-pub takes_none : (a : LinkState) → Takes a a 0
-takes_none a = record { within = omega arith; pos = omega arith; ever = refl; sent = refl }
 
 pub left_after : {a b : LinkState} {n : ℕ} → Takes a b n → left b ≡ drop n (left a)
 left_after {a = a} {b = b} {n = n} ab = rw (ab.pos, ab.ever) (sym (drop-drop n a.pos a.ever))
@@ -85,13 +73,6 @@ bytes_from {a = a} {n = n} m ab = ap (λ l. take n (left a) ++ take m l) (left_a
 pub left_length : {a b : LinkState} {n : ℕ} → Takes a b n → n + length (left b) ≡ length (left a)
 left_length {a = a} {b = b} {n = n} ab =
     let e : length (left b) ≡ length (left a) - n = ap length (left_after ab) ∙ length-drop n (left a) in
-    omega (arith, ab.within)
-
--- where nothing is left, all was taken
-pub taken_all : {a b : LinkState} {n : ℕ} → Takes a b n → left b ≡ [] → n ≡ length (left a)
-taken_all {a = a} {b = b} {n = n} ab none =
-    let e : length (left b) ≡ length (left a) - n = ap length (left_after ab) ∙ length-drop n (left a) in
-    let z : length (left b) ≡ 0 = ap length none in
     omega (arith, ab.within)
 
 pub takes_part_on : {a b c : LinkState} {n : ℕ} (m most : ℕ) → Takes a b n → TakesPart b c m

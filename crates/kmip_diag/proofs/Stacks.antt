@@ -174,19 +174,6 @@ pub record Reads (p : Option ℕ) (text rest : List ℕ) (d : ℕ) (again out : 
       → (ts : Skeletons) × (outer : List Skeletons) × IsStack ts outer × (length outer ≡ d)
       × (open_text p ts outer ≡ rest) × (again ++ rest ≡ text)
 
-pub reads_start : (p : Option ℕ) (text : List ℕ) → Reads p text text 0 [] []
-reads_start p text = record {
-  sound = begin_sound;
-  complete = λ ws g e.
-      (ws, [], (g, tt), refl, append-nil (printed_all p ws) ∙ e, refl);
-}
-  where
-    begin_sound : (ts : Skeletons) (outer : List Skeletons) → IsStack ts outer → length outer ≡ 0
-        → (ws : Skeletons) × AreGood ws 1 × (printed_all p ws ≡ [] ++ open_text p ts outer)
-        × (all_lines 0 ws ≡ [] ++ open_lines ts outer)
-    begin_sound ts [] s l = (ts, s.0, sym (append-nil (printed_all p ts)), sym (append-nil (all_lines 0 ts)))
-    begin_sound ts (us ∷ outer) s l = absurd (omega (arith, l))
-
 no_pair : {A : Type 0} {x : Token × List ℕ} → None ≡ Some x → A
 no_pair {A} {x} e = absurd (none-some x e)
 

@@ -6,9 +6,8 @@ use Rattle.std.proofs.lemmas.List.{append_assoc, append-nil}
 use Rattle.kmip_wire.specs.Tree.{Tree, Trees, scalar, structure, none, more, trees_of, list_of}
 use Rattle.kmip_wire.specs.Sizes.{tree_size, trees_size}
 use Rattle.kmip_wire.specs.Parts.{tag_of, scalar_in, children_in}
-use Rattle.kmip_diag.specs.declared.token.Mark.{Mark}
 use Rattle.kmip_diag.specs.Skeleton.{skeleton, skeletons, mark_of}
-use Rattle.kmip_diag.specs.Printed.{printed, printed_all, printed_tag, printed_mark}
+use Rattle.kmip_diag.specs.Printed.{printed, printed_all, printed_tag}
 
 trees_of-list_of : (ts : Trees) → trees_of (list_of ts) ≡ ts
 trees_of-list_of none = refl
@@ -29,15 +28,6 @@ pub child_smaller : (now rest : List Tree) (t : Tree) → now ≡ t ∷ rest
     × (trees_size (trees_of rest) ≤ trees_size (trees_of now))
 child_smaller now rest t e =
     let size = ap (λ ts. trees_size (trees_of ts)) e in (omega (arith, size), omega (arith, size))
-
-pub scalar_printed : (p : Option ℕ) (t : Tree) (tag : ℕ) (mark : Mark) (old tagged new : List ℕ)
-    → Some mark ≡ option_map mark_of (scalar_in t) → tag ≡ tag_of t
-    → tagged ≡ old ++ printed_tag p tag → new ≡ tagged ++ printed_mark mark → new ≡ old ++ printed p (skeleton t)
-scalar_printed p (structure a ts) tag mark old tagged new m e f g = absurd (none-some mark (sym m))
-scalar_printed p (scalar a s) tag mark old tagged new m e f g =
-    g ∙ ap (λ x. x ++ printed_mark mark) (f ∙ ap (λ n. old ++ printed_tag p n) e)
-    ∙ ap (λ x. (old ++ printed_tag p a) ++ printed_mark x) (same_Some mark (mark_of s) m)
-    ∙ append_assoc old (printed_tag p a) (printed_mark (mark_of s))
 
 pub structure_printed : (p : Option ℕ) (t : Tree) (tag : ℕ) (ts : List Tree)
     (old tagged begun inside new : List ℕ) → Some ts ≡ children_in t → tag ≡ tag_of t

@@ -59,10 +59,6 @@ eight_are_bytes n (suc (suc (suc (suc (suc (suc zero)))))) = omega arith
 eight_are_bytes n (suc (suc (suc (suc (suc (suc (suc zero))))))) = omega arith
 eight_are_bytes n (suc (suc (suc (suc (suc (suc (suc (suc i)))))))) = omega arith
 
-pub word_back : (n : ℕ) → n < 2 ^ 32 → option_and_then word_of_bytes (hex_bytes (hex_text (to_be_bytes w32 n))) ≡ Some n
-word_back n h = ap (option_and_then word_of_bytes) (hex_back (to_be_bytes w32 n) (four_are_bytes n))
-    ∙ ap Some (from_be_bytes-to_be_bytes_4 n h)
-
 pub long_back : (n : ℕ) → n < 2 ^ 64 → option_and_then long_of_bytes (hex_bytes (hex_text (to_be_bytes w64 n))) ≡ Some n
 long_back n h = ap (option_and_then long_of_bytes)
     (hex_back (to_be_bytes w64 n) (eight_are_bytes n)) ∙ ap Some (from_be_bytes-to_be_bytes_8 n h)

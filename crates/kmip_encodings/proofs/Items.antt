@@ -7,12 +7,11 @@ use Rattle.json.specs.Strict.{HasUniqueKeys}
 use Rattle.json.specs.Value.{value_view, items_view, members_view}
 use Rattle.json.specs.declared.value.Value.{Value}
 use Rattle.kmip_wire.specs.declared.kind.Kind.{Kind}
-use Rattle.kmip_wire.specs.declared.kind.Kind.TheVariants.{Structure, Integer, LongInteger, BigInteger, Enumeration, Boolean, TextString, ByteString, DateTime, Interval}
 use Rattle.kmip_wire.specs.Tree.{Tree, Trees, Scalar, scalar, none, more, trees_of, list_of}
 use Rattle.kmip_encodings.specs.declared.error.Expected.TheVariants as expected
 use Rattle.kmip_encodings.specs.declared.error.EncodingError.{EncodingError}
 use Rattle.kmip_encodings.specs.declared.error.EncodingError.TheVariants as errors
-use Rattle.kmip_encodings.specs.Reading.{tree_of, misfit_of, Reads, ReadsText, Read, Misfit, wants, within, trees_read, items_by, node_read, scalar_read, scalar_in, read_item, object_read, known_read, known_members, parts_in, is_known, are_known}
+use Rattle.kmip_encodings.specs.Reading.{tree_of, misfit_of, Reads, ReadsText, Read, Misfit, wants, within, trees_read, items_by, scalar_read, read_item, object_read, known_read, known_members, parts_in, is_known, are_known}
 
 -- trees before those that are read
 abbrev pub onto : List Tree → Read Trees → Read Trees
@@ -52,13 +51,6 @@ items_more one items index v ts t all h e r p =
     p ∙ ap (onto ts) (next one items index v h e
     ∙ ap (λ x. trees_read (within index x) (left one items (index + 1))) r)
     ∙ onto_push ts t (left one items (index + 1))
-
-pub items_fail : {A : Type 0} (one : Json → Read Tree) (items : List (Value A)) (index : ℕ)
-    (v : Value A) (ts : List Tree) (m : Misfit) (all : Read Trees) → index < length items
-    → v ≡ get_or items index v
-    → within index (one (value_view v)) ≡ Err m → all ≡ onto ts (left one items index) → all ≡ Err m
-items_fail one items index v ts m all h e r p =
-    p ∙ ap (onto ts) (next one items index v h e ∙ ap (λ x. trees_read x (left one items (index + 1))) r)
 
 pub items_done : {A : Type 0} (one : Json → Read Tree) (items : List (Value A)) (index : ℕ)
     (ts : List Tree) (all : Read Trees) → length items ≤ index
@@ -116,20 +108,6 @@ text_read (Err (errors.Misfit fault)) text j d u h =
     subst (λ (o : Option Json). IsSomeAnd o
     (λ k. HasUniqueKeys k × (tree_of k ≡ Err (misfit_of fault)))) (sym d) (u, h)
 text_read (Err errors.OutOfMemory) text j d u h = tt
-
-pub not_structure : (one : Json → Read Tree) (tag : ℕ) (kind : Kind) (j : Json)
-    → (kind ≡ Structure → ⊥) → node_read one tag kind j
-    ≡ scalar_read tag kind (scalar_in tag kind j)
-not_structure one tag Structure j h = absurd (h refl)
-not_structure one tag Integer j h = refl
-not_structure one tag LongInteger j h = refl
-not_structure one tag BigInteger j h = refl
-not_structure one tag Enumeration j h = refl
-not_structure one tag Boolean j h = refl
-not_structure one tag TextString j h = refl
-not_structure one tag ByteString j h = refl
-not_structure one tag DateTime j h = refl
-not_structure one tag Interval j h = refl
 
 pub scalar_is : (tag : ℕ) (kind : Kind) (t : Tree) (o : Option Scalar)
     → Some t ≡ option_map (scalar tag) o → scalar_read tag kind o ≡ Ok t

@@ -196,29 +196,3 @@ all_made {all = all} {before = before} {now = now} settings left x ok errors tak
 pub one_in_all : (failed : Bool) → one_ok failed + one_error failed ≡ 1
 one_in_all true = refl
 one_in_all false = refl
-
--- the lines say what was made
-pub tells_all : {c : Counts} {before after : MemoryState} (count ok errors sent taken : ℕ)
-    (old new : List ℕ) → Makes c before after ok errors taken →
-    sent ≡ length after.sent - length before.sent
-    → new ≡ old ++ made_text count ok errors sent taken
-    → Replays (counted_transcript count c) before after (Ended Answered) old new
-tells_all {c = c} {before = before} {after = after} count ok errors sent taken old new makes sent_is text =
-    let whole : length after.sent ≡ length before.sent + length c.sent =
-    ap length makes.sent ∙ length-append before.sent c.sent in
-    let all_sent : sent ≡ length c.sent = omega (arith, sent_is, whole) in
-    record {
-      text = rw (all_sent, makes.ok_is, makes.errors_is, makes.taken_is) at text;
-      status_is = refl;
-      ever = makes.ever;
-      sent = makes.sent;
-      pos = makes.pos;
-    }
-
--- no byte that was sent is lost
-pub sent_grows : {c : Counts} {before after : MemoryState} {ok errors taken : ℕ}
-    → Makes c before after ok errors taken → length before.sent ≤ length after.sent
-sent_grows {c = c} {before = before} {after = after} makes =
-    let whole : length after.sent ≡ length before.sent + length c.sent =
-    ap length makes.sent ∙ length-append before.sent c.sent in
-    omega (arith, whole)

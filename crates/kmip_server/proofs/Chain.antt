@@ -122,10 +122,6 @@ pub record Chain {M : Type 0} (state : M → MakerState) (calls : List Call)
       → CallsRan state rest now more after → CallsRan state calls start (reports ++ more) after
   pub cut : (after : ClientState (ServerLinkState M)) → CallsCut state rest now after → CallsCut state calls start after
 
-pub chain_none : {M : Type 0} (state : M → MakerState) (calls : List Call)
-    (start : ClientState (ServerLinkState M)) → Chain state calls start start [] calls
-chain_none state calls start = record { ran = λ more after ran. ran; cut = λ after cut. cut }
-
 pub chain_on : {M : Type 0} {state : M → MakerState} {calls : List Call}
     {start now next : ClientState (ServerLinkState M)} {reports : List CallAnswer} {call : Call}
     {rest : List Call} {report : CallAnswer} →

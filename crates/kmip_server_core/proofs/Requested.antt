@@ -119,13 +119,6 @@ is_of (Ok false) b p credential c read written same other = (
 )
 is_of (Err e) b p credential c read written same other = tt
 
--- and bytes that are no request are that of no call
-pub is_of_none : (b : List ℕ) (c : Call) → request_read b ≡ None
-    → IsTrue false ↔ (request_read b ≡ Some (request_for (request_of c)))
-is_of_none b c none = (λ t. absurd (cc), λ h. none_some _ (sym none ∙ h))
-
--- ---- what the code writes
-
 -- a call's request was written as these bytes
 pub made_read : ((p : RequestPayload) (c : Option CredentialType) (b : List ℕ) → FitsRequest p c
     → IsMatched p → request_bytes p c ≡ Some b → request_read b ≡ Some (request_for p)) →
