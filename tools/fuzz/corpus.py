@@ -65,6 +65,7 @@ def answers(certs: str) -> Dict[str, Tuple[bytes, bytes]]:
         made[name] = (name.encode() + b' 1', response(number, [IDENTIFIED]))
     for path in sorted(pathlib.Path(certs, 'objects').glob('*.der')):
         kind, form = path.stem.split('.')
+        kind = {'EC': 'PrivateKey'}.get(kind, kind)     # certs.sh names a key for elliptic curves so
         value = path.read_bytes()
         if kind != 'Certificate':
             value = fakes.structure(0x420045, fakes.octets(0x420043, value))

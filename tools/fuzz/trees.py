@@ -43,6 +43,7 @@ NUMBERS = [0, 1, 2, 3, 4, 5, 6, 8, 10, 18, 0x21, 0x25, 0xFF, 0x100, 1 << 31, (1 
 LARGE = [0, 1, (1 << 53) + 1, (1 << 63) - 1, 1 << 63, (1 << 64) - 1, 1700000000]
 WIDTHS = {2: 4, 5: 4, 10: 4, 3: 8, 6: 8, 9: 8}
 REQUEST, RESPONSE = 0x420079, 0x42007C          # the tags of payloads
+BATCH_ITEM = 0x42000F
 
 
 def found(*what: object) -> None:
@@ -116,9 +117,9 @@ def written(items: List[Item]) -> bytes:
 
 
 def payload_of(message: List[Item], tag: int) -> Item:
-    """The payload of a message; one of no items where there is none."""
-    for _, _, value in message[0][2]:
-        for item in value if isinstance(value, list) else []:
+    """The payload of a message; one of no items where its batch items have none."""
+    for outer, _, value in message[0][2]:
+        for item in value if outer == BATCH_ITEM and isinstance(value, list) else []:
             if item[0] == tag:
                 return list(item)
     return [tag, 1, []]
