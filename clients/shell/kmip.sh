@@ -50,23 +50,31 @@ fi
 
 # Leaves in KMIP_WORD the word that stands for a text in a call: what is special is written as % and two hex digits.
 kmip_escape() { # TEXT
-    local LC_ALL=C text=$1 byte i
+    local LC_ALL=C text=$1 at
     KMIP_WORD=$text
     case $text in
     '') KMIP_WORD=- ;;
     -) KMIP_WORD=%2D ;;
     *[!A-Za-z0-9._~-]*)
         KMIP_WORD=
-        for ((i = 0; i < ${#text}; i++)); do
-            byte=${text:i:1}
-            case $byte in
-            [A-Za-z0-9._~-]) ;;
-            *) printf -v byte %d "'$byte" && printf -v byte %%%02X $((byte & 255)) ;;
-            esac
-            KMIP_WORD+=$byte
-        done
+        # In pieces, since bash takes each byte of a text by going through it from its front.
+        for ((at = 0; at < ${#text}; at += 250)); do kmip_escape_piece "${text:at:250}"; done
         ;;
     esac
+}
+
+# Adds a piece of a text to KMIP_WORD, in C's locale.
+kmip_escape_piece() { # TEXT
+    local byte i word=''
+    for ((i = 0; i < ${#1}; i++)); do
+        byte=${1:i:1}
+        case $byte in
+        [A-Za-z0-9._~-]) ;;
+        *) printf -v byte %d "'$byte" && printf -v byte %%%02X $((byte & 255)) ;;
+        esac
+        word+=$byte
+    done
+    KMIP_WORD+=$word
 }
 
 # Leaves in KMIP_OPTIONS the options that a call may have, with a space round each, and in KMIP_PLAIN how many words stand
