@@ -125,10 +125,9 @@ kmip_word() { # TEXT
 }
 
 # Leaves in KMIP_WORDS the words of a call whose last word is JSON, or @FILE with a file that has it: they are no texts, and
-# stand as they are. Where the file cannot be read, or the JSON is longer than Linux takes a word, it says so, and its status
-# is 2.
+# stand as they are. Where the file cannot be read, it says so, and its status is 2.
 kmip_json_words() { # CALL WORD..
-    local LC_ALL=C json=${!#}
+    local json=${!#}
     if [[ $json == @* ]]; then
         if [[ ! -r ${json#@} || -d ${json#@} ]]; then
             kmip_fails GrammarError 'the file of the JSON cannot be read'
@@ -137,11 +136,17 @@ kmip_json_words() { # CALL WORD..
         # bash would drop a byte of zero, by which the file is no JSON
         json=$(tr '\0' '\1' <"${json#@}")
     fi
-    if ((${#json} > 131071)); then
-        kmip_fails GrammarError 'the JSON has more than 131071 bytes, the most of a word'
-        return 2
-    fi
     KMIP_WORDS=("${@:1:$#-1}" "$json")
+}
+
+# Whether Linux takes each of these words, for a program. Where it does not, it says so, and its status is 2.
+kmip_fit() { # WORD..
+    local LC_ALL=C word
+    for word in "$@"; do
+        ((${#word} <= 131071)) && continue
+        kmip_fails GrammarError 'a word of the call has more than 131071 bytes, the most that Linux takes; nothing was sent'
+        return 2
+    done
 }
 
 # Leaves in KMIP_WORDS the words of a call, as kmip_call is to get them.
@@ -418,6 +423,7 @@ kmip_field() { # FIELD CALL WORD..
     fi
     return $status
 }
+    kmip_fit "${words[@]}" || return
 
 # What an object of this type and format is called in PEM: the labels of RFC 7468, and OpenSSL's own for PKCS#1 and SEC 1.
 kmip_pem_label() { # TYPE FORMAT
