@@ -235,10 +235,21 @@ kmip_carry() { # FROM TO LOG CERTIFICATE
         {KMIP_IN}<&- {KMIP_OUT}>&- {KMIP_STATE}>&- {KMIP_LOG}<&-
 }
 
-# Opens the connection: 0, or 3 where there is none. The reason is on standard error.
+# Whether it is a port, by its number or by its name in /etc/services. A number past the last one would be taken modulo
+# 65536, for another port.
+kmip_is_port() { # PORT
+    if [[ $1 == *[A-Za-z]* ]]; then return 0; fi
+    [[ $1 =~ ^[0-9]{1,5}$ ]] && ((10#$1 >= 1 && 10#$1 <= 65535))
+}
+
+# Opens the connection: 0, 2 where the words are none, or 3 where there is none. The reason is on standard error.
 kmip_open() { # HOST:PORT CERTIFICATE KEY AUTHORITY
     if (($# != 4)) || [[ $1 != ?*:?* ]]; then
         echo 'usage: kmip_open HOST:PORT CERTIFICATE KEY AUTHORITY' >&2
+        return 2
+    fi
+    if ! kmip_is_port "${1##*:}"; then
+        printf 'kmip_open: %s is no port: a number of 1 to 65535, or the name of a service\n' "${1##*:}" >&2
         return 2
     fi
     if [[ -n ${KMIP_PID-} ]] && ! kmip_is_lost; then
