@@ -318,6 +318,13 @@ kmip_lose() { # ERROR TEXT
     return 3
 }
 
+# Ends the connection since an answer cannot be written, which it says on standard error; the status is 4.
+kmip_not_written() { # TEXT
+    kmip_end
+    printf 'kmip: %s\n' "$1" >&2
+    return 4
+}
+
 # Locks the connection for a call, by the descriptor KMIP_MINE, and leaves in KMIP_SECONDS what is left of its deadline.
 kmip_lock() {
     local from=${EPOCHREALTIME/[^0-9]/} left=$KMIP_DEADLINE
@@ -365,7 +372,8 @@ kmip_make() { # WORD..
     status=$?
     case $status in
     0 | 1 | 2) : >|"/proc/self/fd/$KMIP_MINE" ;;
-    3 | 4 | 5) kmip_end && kmip_reasons ;;
+    3 | 5) kmip_end && kmip_reasons ;;
+    4) kmip_not_written "the answer${KMIP_RECORD:+, or its record in $KMIP_RECORD,} cannot be written" || status=$? ;;
     124) kmip_lose ResponseReadError "no whole response within ${KMIP_TIMEOUT:-30} seconds" ;;
     126 | 127) kmip_lose RequestWriteError "kmip_call cannot be run: status $status" ;;
     *) kmip_lose ResponseReadError "kmip_call was ended: status $status" ;;
@@ -387,6 +395,10 @@ kmip() { # CALL WORD..
     if [[ ${1-} == pem ]]; then
         kmip_pem "${@:2}"
         return
+    fi
+    if [[ ! -e /proc/self/fd/1 ]]; then
+        echo 'kmip: standard output is closed; nothing was sent' >&2
+        return 4
     fi
     if [[ -z ${KMIP_PID-} ]]; then
         kmip_fails RequestWriteError 'no connection is open; kmip_open opens one'
@@ -466,8 +478,10 @@ kmip_pem() { # IDENTIFIER
     fi
     printf -- '-----BEGIN %s-----\n' "$label"
     # Each two hex digits become the escape of a byte.
-    printf %b "$(printf %s "$bytes" | sed 's/../\\x&/g')" | base64 -w 64
-    printf -- '-----END %s-----\n' "$label"
+    if ! bytes=$(printf %b "$(printf %s "$bytes" | sed 's/../\\x&/g')" | base64 -w 64) ||
+        ! printf -- '-----BEGIN %s-----\n%s\n-----END %s-----\n' "$label" "$bytes" "$label" 2>/dev/null; then
+        kmip_not_written 'the PEM cannot be written'
+    fi
 }
 
 # Ends the connection.
