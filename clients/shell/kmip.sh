@@ -407,8 +407,9 @@ kmip() { # CALL WORD..
     case ${1-} in
     '' | query | create | create-rsa | create-aes | register | rng | locate | discover | raw | operation | message) ;;
     *)
-        if [[ -z ${2-} ]]; then
-            kmip_fails GrammarError 'the call has no identifier'
+        # With no word at all it is kmip_call that says which are missing, or that there is no such call.
+        if (($# > 1)) && [[ -z $2 ]]; then
+            kmip_fails GrammarError 'the identifier is empty'
             return 2
         fi
         ;;
