@@ -437,17 +437,24 @@ kmip() { # CALL WORD..
 
 # Makes a call, and writes one field of its answer, as unique_identifier or operations[0]. An error goes to standard error.
 kmip_field() { # FIELD CALL WORD..
+# A field that is false is one; one that is null is none. What is said of an answer shows nothing of it, since that may be a
+# key.
     local field=${1-} answer status=0
     answer=$(kmip "${@:2}") || status=$?
     if ((status != 0)); then
         printf '%s\n' "$answer" >&2
-    elif ! jq -er ".answer.$field" <<<"$answer"; then
-        printf 'kmip_field: no %s in %s\n' "$field" "$answer" >&2
-        status=1
+        return $status
     fi
-    return $status
+    jq -r "[.answer.$field] | if all(. == null) then (\"\" | halt_error(9)) else .[] end" \
+        < <(printf '%s\n' "$answer") || status=$?
+    case $status in
+    0) return 0 ;;
+    9) jq -nc --arg field "$field" '{error: "MissingValue", text: ("the answer has no " + $field)}' >&2 || : ;;
+    3 | 5) kmip_fails MissingValue 'jq does not find the field, for the reason before' >&2 ;;
+    *) kmip_not_written 'the field cannot be written' || return ;;
+    esac
+    return 1
 }
-    kmip_fit "${words[@]}" || return
 
 # What an object of this type and format is called in PEM: the labels of RFC 7468, and OpenSSL's own for PKCS#1 and SEC 1.
 kmip_pem_label() { # TYPE FORMAT
