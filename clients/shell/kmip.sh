@@ -423,6 +423,7 @@ kmip() { # CALL WORD..
     if [[ -n ${KMIP_RECORD-} ]]; then words+=("record=$KMIP_RECORD"); fi
     kmip_words "$@" || return
     words+=("${KMIP_WORDS[@]}")
+    kmip_fit "${words[@]}" || return
     kmip_program
     (
         export -n KMIP_PASSPHRASE
@@ -436,9 +437,9 @@ kmip() { # CALL WORD..
 }
 
 # Makes a call, and writes one field of its answer, as unique_identifier or operations[0]. An error goes to standard error.
-kmip_field() { # FIELD CALL WORD..
 # A field that is false is one; one that is null is none. What is said of an answer shows nothing of it, since that may be a
 # key.
+kmip_field() { # FIELD CALL WORD..
     local field=${1-} answer status=0
     answer=$(kmip "${@:2}") || status=$?
     if ((status != 0)); then
@@ -484,7 +485,6 @@ kmip_pem() { # IDENTIFIER
         kmip_fails MissingValue 'the answer has no PEM form' >&2
         return 1
     fi
-    printf -- '-----BEGIN %s-----\n' "$label"
     # Each two hex digits become the escape of a byte.
     if ! bytes=$(printf %b "$(printf %s "$bytes" | sed 's/../\\x&/g')" | base64 -w 64) ||
         ! printf -- '-----BEGIN %s-----\n%s\n-----END %s-----\n' "$label" "$bytes" "$label" 2>/dev/null; then
