@@ -5,6 +5,7 @@
 
 #include <arpa/inet.h>
 #include <errno.h>
+#include <fcntl.h>
 #include <netdb.h>
 #include <netinet/in.h>
 #include <netinet/tcp.h>
@@ -299,11 +300,23 @@ static struct addrinfo *addresses_of(kmip_wire *wire, const char *host, const ch
     return NULL;
 }
 
+/* A socket that is none of the three standard streams. Where the program has closed one of these,
+   the next descriptor gets its number, and what the program writes to the stream would go out on
+   the connection, with no TLS. */
+static int socket_of(int family) {
+    int made = socket(family, SOCK_STREAM | SOCK_NONBLOCK | SOCK_CLOEXEC, 0);
+    if (made < 0 || made > STDERR_FILENO) return made;
+    int moved = fcntl(made, F_DUPFD_CLOEXEC, STDERR_FILENO + 1), error = errno;
+    close(made);
+    errno = error;
+    return moved;
+}
+
 /* Connects to one address until then. */
 static bool reach(kmip_wire *wire, const struct addrinfo *at, double until) {
     int one = 1, error = 0;
     socklen_t size = sizeof error;
-    wire->socket = socket(at->ai_family, SOCK_STREAM | SOCK_NONBLOCK | SOCK_CLOEXEC, 0);
+    wire->socket = socket_of(at->ai_family);
     if (wire->socket < 0) return fails_by_errno(wire, "connect: ", errno);
     if (connect(wire->socket, at->ai_addr, at->ai_addrlen) != 0) {
         if (errno != EINPROGRESS && errno != EINTR) return fails_by_errno(wire, "connect: ", errno);
