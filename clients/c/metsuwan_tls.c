@@ -26,11 +26,23 @@ static const uint8_t *bytes_of(const char *text) {
     return (const uint8_t *)text;
 }
 
+/* Whether it is a port, by its number or by its name in /etc/services. getaddrinfo takes a number
+   past the last one modulo 65536, for another port. */
+static bool is_port(const char *port) {
+    size_t digits = strspn(port, "0123456789");
+    if (!port[digits]) {
+        long number = digits <= 5 ? strtol(port, NULL, 10) : 0;
+        return number >= 1 && number <= 65535;
+    }
+    return strpbrk(port, "abcdefghijklmnopqrstuvwxyzABCDEFGHIJKLMNOPQRSTUVWXYZ") != NULL;
+}
+
 /* What is wrong with settings, or a null pointer. */
 static const char *wrong_with(const kmip_settings *settings) {
     if (settings->size != sizeof *settings) return "settings do not begin with kmip_defaults";
     if (!settings->host || !*settings->host) return "host is not given";
     if (!settings->port || !*settings->port) return "port is not given";
+    if (!is_port(settings->port)) return "port is no number of 1 to 65535, and no name";
     if (!settings->certificate) return "certificate is not given";
     if (!settings->key) return "key is not given";
     if (!settings->authority) return "authority is not given";
