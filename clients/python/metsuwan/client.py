@@ -13,7 +13,7 @@ from .library import (ANSWERED, CALL_GRAMMAR, GRAMMAR, LOST, NO_FORM, NO_MEMORY,
                       Call, Credential, Library, Operation)
 from .objects import KeyPair, ManagedObject, Signed, bytes_at, text_at, value_at
 from .pem import certificate_der
-from .wire import Passphrase, Port, Wire, context_of
+from .wire import Passphrase, Port, Wire, context_of, is_port
 
 HEAD = 8
 Names = Union[str, Sequence[str], None]
@@ -36,6 +36,7 @@ class Client:
     time is made on it.
 
     :param host: the name or address that the server's certificate has to have
+    :param port: a number, or the name of a service
     :param cert: PEM file of the client's certificate, and after it those of authorities between
     :param key: PEM file of its private key
     :param ca: PEM file of the authority of the server's certificate; no other is trusted
@@ -59,6 +60,8 @@ class Client:
             raise ValueError('a limit is 0 to 4294967295')
         if timeout is not None and not 0 <= timeout < 1e9:
             raise ValueError('a timeout is 0 to 1e9 seconds')
+        if not is_port(port):
+            raise ValueError('a port is a number of 1 to 65535, or the name of a service')
         self._credential = _credential(user, password)
         self._library = Library(library)
         self._limit = limit

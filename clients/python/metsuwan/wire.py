@@ -2,6 +2,7 @@
 from __future__ import annotations
 
 import contextlib
+import fcntl
 import socket
 import ssl
 import threading
@@ -14,6 +15,15 @@ Passphrase = Union[str, bytes, None]
 Port = Union[int, str]
 # The state of a TCP connection that was reset, as Linux has it in TCP_INFO.
 TCP_CLOSE = 7
+
+
+def is_port(port: Port) -> bool:
+    """Whether it is a port, by its number or by its name in /etc/services. getaddrinfo takes a
+    number past the last one modulo 65536, for another port."""
+    text = str(port)
+    if text.isascii() and text.isdigit():
+        return len(text) <= 5 and 1 <= int(text) <= 65535
+    return any(it.isalpha() for it in text)
 
 
 def context_of(cert: str, key: str, ca: str, passphrase: Passphrase) -> ssl.SSLContext:
@@ -126,11 +136,21 @@ class Wire:
         addresses: List[Any] = found[0]
         return addresses
 
+    @staticmethod
+    def _socket(*kind: Any) -> socket.socket:
+        """A socket that is none of the three standard streams. Where the program has closed one of
+        these, what it writes to the stream would go out on the connection, with no TLS."""
+        made = socket.socket(*kind)
+        if made.fileno() > 2:
+            return made
+        with made:
+            return socket.socket(*kind, fileno=fcntl.fcntl(made, fcntl.F_DUPFD_CLOEXEC, 3))
+
     def _reach(self, host: str, port: Port) -> socket.socket:
         """A connection to the first address that is reached; each has its share of the time."""
         addresses = self._addresses(host, port)
         for at, (family, kind, protocol, _, address) in enumerate(addresses, 1):
-            plain = socket.socket(family, kind, protocol)
+            plain = self._socket(family, kind, protocol)
             try:
                 plain.settimeout(self._left(len(addresses) - at + 1))
                 plain.connect(address)
