@@ -137,14 +137,15 @@ class Wire:
         return addresses
 
     @staticmethod
-    def _socket(*kind: Any) -> socket.socket:
+    def _socket(family: int, kind: int, protocol: int) -> socket.socket:
         """A socket that is none of the three standard streams. Where the program has closed one of
         these, what it writes to the stream would go out on the connection, with no TLS."""
-        made = socket.socket(*kind)
+        made = socket.socket(family, kind, protocol)
         if made.fileno() > 2:
             return made
         with made:
-            return socket.socket(*kind, fileno=fcntl.fcntl(made, fcntl.F_DUPFD_CLOEXEC, 3))
+            moved = fcntl.fcntl(made, fcntl.F_DUPFD_CLOEXEC, 3)
+            return socket.socket(family, kind, protocol, fileno=moved)
 
     def _reach(self, host: str, port: Port) -> socket.socket:
         """A connection to the first address that is reached; each has its share of the time."""

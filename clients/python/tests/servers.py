@@ -64,5 +64,5 @@ def client_of(fake: str, *, name: str = 'client', host: str = 'localhost',
               timeout: Optional[float] = 60, port: Port = 0, **settings: Any) -> Client:
     """A client of a fake, with the certificate of this name; or of this port."""
     cert, key = ('%s/%s.%s' % (CERTS, name, end) for end in ('pem', 'key'))
-    return Client(host, port or PORTS[fake], cert=cert, key=key, ca=CERTS + '/ca.pem', timeout=timeout,
-                  **settings)
+    return Client(host, port or PORTS[fake], cert=cert, key=key, ca=CERTS + '/ca.pem',
+                  timeout=timeout, **settings)
