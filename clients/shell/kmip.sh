@@ -367,7 +367,8 @@ kmip_make() { # WORD..
         return
     fi
     trap 'kmip_end; trap - INT; kill -INT "$BASHPID"' INT
-    trap '' PIPE
+    # What cannot be written is to be an error of kmip_call, by which a record is taken back, and not its end.
+    trap '' PIPE XFSZ
     timeout --foreground -k 1 "$KMIP_SECONDS" "$@" 2>&1 <&"$KMIP_IN" >&"$KMIP_OUT"
     status=$?
     case $status in

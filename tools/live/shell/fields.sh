@@ -23,6 +23,11 @@ done
 script_is 'the disk of a record is full' 4 'open; KMIP_RECORD=/dev/full kmip get PublicKey.X509; status=$?; kmip_close; exit $status'
 says 'the answer is written' '^\{"answer":'
 says 'and the record is named' '^kmip: .*/dev/full'
+script_is 'a record past the size that a file may have' 4 'open; export KMIP_RECORD=$work/limited
+    kmip get SymmetricKey.Raw >/dev/null; before=$(stat -c %s "$KMIP_RECORD"); ulimit -f $((before / 1024 + 1))
+    for ((i = 0; i < 20; i++)); do kmip get SymmetricKey.Raw >/dev/null || exit; done'
+[[ $(tail -c 1 limited | od -An -tu1) == *10 ]] && (($(grep -vc '^get SymmetricKey.Raw 42007B[0-9A-F]*$' limited) == 0))
+verdict 'is taken back whole'
 script_is 'an output that is closed' 4 'open; kmip get PublicKey.X509 >&-; status=$?; kmip get PublicKey.X509; kmip_close; exit $status'
 says 'nothing was sent' 'nothing was sent$'
 says 'and the connection is good' '^\{"answer":'
