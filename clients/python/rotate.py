@@ -5,12 +5,12 @@ private key, which is then revoked and destroyed. It writes the new private key'
     rotate.py HOST PORT CERTIFICATE KEY AUTHORITY OLD-PRIVATE-KEY NAME
 
 Status: 0 done, 1 refused, 2 not of the grammar, 3 the connection is lost or there is none, 4 the
-identifier could not be written.
+identifier could not be written, 5 out of memory.
 """
 import json
 import sys
 
-from metsuwan import Client, ConnectionLost, GrammarError, KmipError
+from metsuwan import Client, ConnectError, ConnectionLost, GrammarError, KmipError
 
 
 class NotWritten(KmipError):
@@ -61,6 +61,13 @@ def main() -> int:
             new = rotate(kmip, old, name)
     except KmipError as error:
         return fail(error)
+    except ValueError as error:  # a setting is none
+        return fail(GrammarError(str(error)))
+    except OSError as error:  # there is no library
+        return fail(ConnectError(str(error)))
+    except MemoryError:
+        print('{"error":"OutOfMemory","text":"out of memory"}', file=sys.stderr)
+        return 5
     if told(new + '\n'):
         return 0
     return fail(NotWritten('locate finds the new private key by its name'))

@@ -25,4 +25,6 @@ client_run rotate old name 2>"$said" >&-
 written 'a rotation, and an output that is closed' "$closed"
 for given in $((port + 65536)) 0 65536 -1; do
     port=$given call_is "the port $given" 2 query
+    port=$given client_run rotate old name >"$said" 2>&1
+    written "a rotation by the port $given" 2
 done
