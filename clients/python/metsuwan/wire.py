@@ -3,6 +3,7 @@ from __future__ import annotations
 
 import contextlib
 import fcntl
+import re
 import socket
 import ssl
 import threading
@@ -47,6 +48,15 @@ def context_of(cert: str, key: str, ca: str, passphrase: Passphrase) -> ssl.SSLC
     return context
 
 
+def _lacking(cert: str, key: str) -> Optional[str]:
+    """Which of the two files has no certificate, or no private key."""
+    for what, path, wanted in (('certificate', cert, 'certificate'), ('key', key, 'private key')):
+        with contextlib.suppress(OSError), open(path, 'rb') as file:
+            if not re.search(b'^-----BEGIN .*%s-----' % wanted.upper().encode(), file.read(), re.M):
+                return '%s %s: there is no %s in PEM' % (what, path, wanted)
+    return None
+
+
 def _load_key(context: ssl.SSLContext, cert: str, key: str, passphrase: Passphrase) -> None:
     asked = []
 
@@ -58,7 +68,7 @@ def _load_key(context: ssl.SSLContext, cert: str, key: str, passphrase: Passphra
     try:
         context.load_cert_chain(cert, key, password=give)
     except (ssl.SSLError, ValueError) as error:
-        text = 'certificate %s, key %s: %s' % (cert, key, error)
+        text = _lacking(cert, key) or 'certificate %s, key %s: %s' % (cert, key, error)
         if asked:
             why = 'no passphrase is given' if passphrase is None else 'this is not its passphrase'
             text = 'key %s: it is encrypted, and %s' % (key, why)
