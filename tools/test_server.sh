@@ -29,7 +29,7 @@ while (($#)); do
     start | stop) verb=$1 ;;
     --help) sed -n '2,/^set/{/^set/d;s/^# \{0,1\}//p}' "$0" && exit ;;
     --port)
-        [[ ${2-} =~ ^[1-9][0-9]{0,4}$ ]] || usage
+        if [[ ! ${2-} =~ ^[1-9][0-9]{0,4}$ ]] || (($2 > 65535)); then usage; fi
         port=$2 && shift
         ;;
     --folder)

@@ -14,6 +14,7 @@
 #include "metsuwan_tls.h"
 #include <stdio.h>
 #include <stdlib.h>
+#include <string.h>
 
 static int misused(const char *text) {
     fprintf(stderr, "{\"error\":\"GrammarError\",\"text\":\"%s\"}\n", text);
@@ -70,7 +71,7 @@ int main(int argc, char **argv) {
     kmip_client *client = kmip_open(&settings, error, sizeof error);
     if (!client) {
         fprintf(stderr, "%s\n", error);
-        return KMIP_LOST;
+        return strstr(error, "\"ConfigurationError\"") ? KMIP_CALL_GRAMMAR : KMIP_LOST;
     }
     int status = make(client, argv[6], (const char *const *)argv + 7);
     kmip_close(client);

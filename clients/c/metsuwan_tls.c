@@ -26,11 +26,23 @@ static const uint8_t *bytes_of(const char *text) {
     return (const uint8_t *)text;
 }
 
+/* Whether it is a port, by its number or by its name in /etc/services. getaddrinfo takes a number
+   past the last one modulo 65536, for another port. */
+static bool is_port(const char *port) {
+    size_t digits = strspn(port, "0123456789");
+    if (!port[digits]) {
+        long number = digits <= 5 ? strtol(port, NULL, 10) : 0;
+        return number >= 1 && number <= 65535;
+    }
+    return strpbrk(port, "abcdefghijklmnopqrstuvwxyzABCDEFGHIJKLMNOPQRSTUVWXYZ") != NULL;
+}
+
 /* What is wrong with settings, or a null pointer. */
 static const char *wrong_with(const kmip_settings *settings) {
     if (settings->size != sizeof *settings) return "settings do not begin with kmip_defaults";
     if (!settings->host || !*settings->host) return "host is not given";
     if (!settings->port || !*settings->port) return "port is not given";
+    if (!is_port(settings->port)) return "port is no number of 1 to 65535, and no name";
     if (!settings->certificate) return "certificate is not given";
     if (!settings->key) return "key is not given";
     if (!settings->authority) return "authority is not given";
@@ -232,12 +244,28 @@ int kmip_call_words(kmip_client *client, const char *call, const char *const *wo
     return exchange_of(client, call_len, length);
 }
 
+/* Which of the three texts of an operation in the client is wrong. */
+static const char *wrong_operation(const kmip_client *client) {
+    static const char payload[] = "{\"tag\":\"RequestPayload\",\"value\":[]}";
+    static const char *const versions[] = {"1.0", "1.1", "1.2"};
+    uint8_t nothing[1] = {0}, into[1];
+    size_t at = 0, count = sizeof versions / sizeof *versions;
+    while (at < count && strcmp(client->version, versions[at]) != 0)
+        at++;
+    if (at == count) return "the version is none of 1.0, 1.1 and 1.2";
+    int64_t length = kmip_operation_request(bytes_of(client->name), strlen(client->name),
+                                            bytes_of(client->version), strlen(client->version),
+                                            bytes_of(payload), strlen(payload), false, nothing, 0,
+                                            nothing, 0, into, 0);
+    if (length == KMIP_GRAMMAR) return "KMIP 1.2 has no operation of this name";
+    return "the payload is not the JSON of a RequestPayload";
+}
+
 /* The same for any operation, whose three texts stand in the client. */
 static int call_operation(kmip_client *client) {
     int64_t length = make_request(client, 0);
     if (length == KMIP_GRAMMAR)
-        return fails_as(client, KMIP_CALL_GRAMMAR, "GrammarError",
-                        "the name, the version and the payload are no call of an operation");
+        return fails_as(client, KMIP_CALL_GRAMMAR, "GrammarError", wrong_operation(client));
     return exchange_of(client, 0, length);
 }
 

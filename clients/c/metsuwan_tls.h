@@ -37,7 +37,7 @@ typedef struct kmip_client kmip_client;
 
    size           of this structure; kmip_defaults sets it
    host           the name or the address, as "::1", that the server's certificate has to have
-   port           as "5696"
+   port           as "5696", or the name of a service
    certificate    PEM files: the client's certificate, and after it those of authorities between, ..
    key            .. its private key, ..
    authority      .. and the authority of the server's certificate; no other is trusted

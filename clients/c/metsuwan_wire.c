@@ -5,10 +5,12 @@
 
 #include <arpa/inet.h>
 #include <errno.h>
+#include <fcntl.h>
 #include <netdb.h>
 #include <netinet/in.h>
 #include <netinet/tcp.h>
 #include <openssl/bio.h>
+#include <openssl/crypto.h>
 #include <openssl/err.h>
 #include <openssl/ssl.h>
 #include <openssl/x509v3.h>
@@ -159,6 +161,20 @@ static bool fails_by_file(kmip_wire *wire, const char *what, const char *path) {
     return fails_by_openssl(wire, front);
 }
 
+/* Whether a file can be read, and has no block of PEM with a label that ends so. */
+static bool lacks(const char *path, const char *label) {
+    FILE *file = fopen(path, "rb");
+    char line[80];
+    bool found = false;
+    if (!file) return false;
+    setvbuf(file, NULL, _IONBF, 0); /* it may be a key, of which no copy is to be left */
+    while (!found && fgets(line, sizeof line, file))
+        found = strncmp(line, "-----BEGIN ", 11) == 0 && strstr(line, label);
+    fclose(file);
+    OPENSSL_cleanse(line, sizeof line);
+    return !found;
+}
+
 static bool use_key(kmip_wire *wire, const kmip_settings *settings) {
     passphrase it = {.text = settings->passphrase};
     SSL_CTX_set_default_passwd_cb(wire->context, give_passphrase);
@@ -166,6 +182,8 @@ static bool use_key(kmip_wire *wire, const kmip_settings *settings) {
     int used = SSL_CTX_use_PrivateKey_file(wire->context, settings->key, SSL_FILETYPE_PEM);
     SSL_CTX_set_default_passwd_cb_userdata(wire->context, NULL);
     if (used == 1) return true;
+    if (lacks(settings->key, "PRIVATE KEY-----"))
+        return fails(wire, "key %.150s: there is no private key in PEM", settings->key);
     if (!it.asked) return fails_by_file(wire, "key", settings->key);
     return fails(wire, "key %.150s: it is encrypted, and %s", settings->key,
                  it.text ? "this is not its passphrase" : "no passphrase is given");
@@ -179,8 +197,12 @@ static bool set_up(kmip_wire *wire, const kmip_settings *settings) {
 #ifdef SSL_OP_CLEANSE_PLAINTEXT
     SSL_CTX_set_options(wire->context, SSL_OP_CLEANSE_PLAINTEXT);
 #endif
-    if (SSL_CTX_use_certificate_chain_file(wire->context, settings->certificate) != 1)
+    if (SSL_CTX_use_certificate_chain_file(wire->context, settings->certificate) != 1) {
+        if (lacks(settings->certificate, "CERTIFICATE-----"))
+            return fails(wire, "certificate %.150s: there is no certificate in PEM",
+                         settings->certificate);
         return fails_by_file(wire, "certificate", settings->certificate);
+    }
     if (!use_key(wire, settings)) return false;
     if (SSL_CTX_load_verify_locations(wire->context, settings->authority, NULL) != 1)
         return fails_by_file(wire, "authority", settings->authority);
@@ -299,11 +321,23 @@ static struct addrinfo *addresses_of(kmip_wire *wire, const char *host, const ch
     return NULL;
 }
 
+/* A socket that is none of the three standard streams. Where the program has closed one of these,
+   the next descriptor gets its number, and what the program writes to the stream would go out on
+   the connection, with no TLS. */
+static int socket_of(int family) {
+    int made = socket(family, SOCK_STREAM | SOCK_NONBLOCK | SOCK_CLOEXEC, 0);
+    if (made < 0 || made > STDERR_FILENO) return made;
+    int moved = fcntl(made, F_DUPFD_CLOEXEC, STDERR_FILENO + 1), error = errno;
+    close(made);
+    errno = error;
+    return moved;
+}
+
 /* Connects to one address until then. */
 static bool reach(kmip_wire *wire, const struct addrinfo *at, double until) {
     int one = 1, error = 0;
     socklen_t size = sizeof error;
-    wire->socket = socket(at->ai_family, SOCK_STREAM | SOCK_NONBLOCK | SOCK_CLOEXEC, 0);
+    wire->socket = socket_of(at->ai_family);
     if (wire->socket < 0) return fails_by_errno(wire, "connect: ", errno);
     if (connect(wire->socket, at->ai_addr, at->ai_addrlen) != 0) {
         if (errno != EINPROGRESS && errno != EINTR) return fails_by_errno(wire, "connect: ", errno);

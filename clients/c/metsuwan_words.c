@@ -245,6 +245,121 @@ static const char *wrong_with(char kind, const char *text) {
     return kmip_is_utf8(text) ? NULL : "is not UTF-8";
 }
 
+/* Calls that the library takes, one of each name that has options, with those that it needs. */
+static const struct {
+    const char *call, *words[6];
+} samples[] = {
+    {"create", {"AES", "8", "x"}},
+    {"create-rsa", {"8", "x", "y"}},
+    {"register", {"symmetric", "00", "format=Raw", "algorithm=AES", "length=8"}},
+    {"sign", {"x", "00"}},
+    {"get", {"x"}},
+    {"locate", {NULL}},
+    {"attribute-add", {"x"}},
+    {"attribute-modify", {"x"}},
+    {"attribute-delete", {"x", "y"}},
+    {"revoke", {"x"}},
+};
+
+static const char *const *sample_of(const char *call) {
+    static const char *const none[] = {NULL};
+    for (size_t i = 0; i < sizeof samples / sizeof *samples; i++)
+        if (strcmp(samples[i].call, call) == 0) return samples[i].words;
+    return none;
+}
+
+/* Whether two words are options of the same name. */
+static bool are_same(const char *word, const char *other) {
+    size_t length = strcspn(word, "=");
+    if (strncmp(word, other, length) != 0 || word[length] != other[length]) return false;
+    return word[length] == '=' || strcmp(word, "prehashed") == 0;
+}
+
+/* Whether the library takes a call of these words. Where memory runs out, nothing is said of it. */
+static bool is_taken(const char *call, const char *const *words) {
+    kmip_room line = {NULL, 0};
+    uint8_t nothing[1] = {0}, into[1];
+    int64_t length = KMIP_MEMORY;
+    if (kmip_write_words(&line, call, words))
+        length = kmip_request(line.bytes, strlen((char *)line.bytes), false, nothing, 0, nothing, 0,
+                              into, 0);
+    kmip_room_free(&line);
+    return length != KMIP_GRAMMAR;
+}
+
+/* Whether the library takes this option, or this first word, in the sample of a call. */
+static bool takes(const char *call, const char *option, const char *first) {
+    const char *words[8];
+    size_t count = 0;
+    if (option && strncmp(option, "index=", 6) == 0) call = "attribute-delete";
+    const char *const *sample = sample_of(call);
+    for (size_t i = 0; sample[i]; i++)
+        if (!option || !are_same(sample[i], option)) words[count++] = sample[i];
+    if (option) words[count++] = option;
+    if (first) words[0] = first;
+    words[count] = NULL;
+    return is_taken(call, words);
+}
+
+/* Writes what is wrong with an option; false: nothing is. */
+static bool say_wrong_option(char *into, size_t room, const char *call,
+                             const char *const *options) {
+    for (size_t i = 0; options[i]; i++) {
+        int length = (int)strcspn(options[i], "=");
+        for (size_t other = 0; other < i; other++)
+            if (are_same(options[i], options[other])) {
+                snprintf(into, room, "%s: %.*s is given twice", call, length, options[i]);
+                return true;
+            }
+        if (!takes(call, options[i], NULL)) {
+            snprintf(into, room, "%s: the value of %.*s= is none that it takes", call, length,
+                     options[i]);
+            return true;
+        }
+    }
+    return false;
+}
+
+/* Writes which option is missing, of those that a call needs; false: none is. */
+static bool say_missing_option(char *into, size_t room, const char *call,
+                               const char *const *options) {
+    const char *const *sample = sample_of(call);
+    for (size_t i = 0; sample[i]; i++) {
+        if (!strchr(sample[i], '=')) continue;
+        size_t at = 0;
+        while (options[at] && !are_same(sample[i], options[at]))
+            at++;
+        if (options[at]) continue;
+        int length = (int)strcspn(sample[i], "=");
+        snprintf(into, room, "%s: %.*s= is missing", call, length, sample[i]);
+        return true;
+    }
+    return false;
+}
+
+/* What is wrong with words of which each is of its kind, or a null pointer. */
+static const char *wrong_in_all(const char *call, const char *const *words, size_t plain) {
+    bool of_attributes =
+        strcmp(call, "attribute-add") == 0 || strcmp(call, "attribute-modify") == 0;
+    bool of_kinds = strcmp(call, "create") == 0 || strcmp(call, "register") == 0;
+    if (of_kinds && !takes(call, NULL, words[0])) return "word 1 after it is none that it takes";
+    if (of_attributes) {
+        bool one = words[plain] && strncmp(words[plain], "index=", 6) != 0;
+        bool more = one && words[plain + 1] && strncmp(words[plain + 1], "index=", 6) != 0;
+        if (!one || more) return "it takes one attribute, and behind it options";
+    }
+    if (strcmp(call, "raw") == 0)
+        return "word 1 after it is not the one canonical message of a request";
+    return NULL;
+}
+
+/* The kind of a word of a call, at this place; 0: there is none. */
+static char kind_at(size_t place, size_t at) {
+    size_t count = strlen(calls[place].words);
+    if (at < count) return calls[place].words[at];
+    return strcmp(calls[place].name, "attributes") == 0 ? 't' : 0;
+}
+
 void kmip_say_wrong_word(char *into, size_t room, const char *call, const char *const *words) {
     const char *wrong = NULL;
     size_t place = place_of(call), at = 0, plain = plain_count(call, words);
@@ -256,14 +371,22 @@ void kmip_say_wrong_word(char *into, size_t room, const char *call, const char *
         snprintf(into, room, "there is no call %.60s", call);
         return;
     }
-    const char *wanted = calls[place].words;
-    for (; at < plain && wanted[at] && !wrong; at++)
-        wrong = wrong_with(wanted[at], words[at]);
-    bool whole = words[at] && at == plain; /* what follows is options */
-    if (!wrong && !whole && (words[at] || wanted[at]))
-        wrong = words[at++] ? "is one too many" : "is missing";
-    if (wrong)
+    for (; at < plain && kind_at(place, at) && !wrong; at++)
+        wrong = wrong_with(kind_at(place, at), words[at]);
+    bool more = at < plain, less = !words[at] && at < strlen(calls[place].words);
+    if (!wrong && (more || less)) {
+        wrong = more ? "is one too many" : "is missing";
+        at++;
+    }
+    if (wrong) {
         snprintf(into, room, "%s: word %zu after it %s", call, at, wrong);
+        return;
+    }
+    if (say_missing_option(into, room, call, words + plain)) return;
+    if (say_wrong_option(into, room, call, words + plain)) return;
+    wrong = wrong_in_all(call, words, plain);
+    if (wrong)
+        snprintf(into, room, "%s: %s", call, wrong);
     else
         snprintf(into, room, "%s and its words are not of the grammar", call);
 }

@@ -1,10 +1,14 @@
 /* Key rotation: a new RSA pair is made, made active and tried; it takes over the name of the old
    private key, which is then revoked and destroyed. It writes the new private key's identifier.
 
-   rotate HOST PORT CERTIFICATE KEY AUTHORITY OLD-PRIVATE-KEY NAME */
+   rotate HOST PORT CERTIFICATE KEY AUTHORITY OLD-PRIVATE-KEY NAME
+
+   The status is that of the first call that was not answered; or 4, where the identifier could not
+   be written. */
 #include "metsuwan_tls.h"
 #include <stdio.h>
 #include <stdlib.h>
+#include <string.h>
 
 static kmip_client *client;
 
@@ -25,7 +29,15 @@ static void name_of(char into[300], const char *name, const char *more) {
     }
 }
 
-static void rotate(const char *old, const char *name) {
+/* Writes the identifier of the new key, and returns the status. */
+static int tell(const char *new) {
+    if (puts(new) >= 0 && fflush(stdout) == 0) return 0;
+    fputs("{\"error\":\"NotWritten\",\"text\":\"locate finds the new private key by its name\"}\n",
+          stderr);
+    return 4;
+}
+
+static int rotate(const char *old, const char *name) {
     char new_name[300], public_name[300], old_name[300], new[300];
     name_of(new_name, name, ", new");
     name_of(public_name, name, ", public");
@@ -44,7 +56,7 @@ static void rotate(const char *old, const char *name) {
     need(kmip_call(client, "rename", new, name, NULL));
     need(kmip_call(client, "revoke", old, NULL));
     need(kmip_call(client, "destroy", old, NULL));
-    puts(new);
+    return tell(new);
 }
 
 int main(int argc, char **argv) {
@@ -64,9 +76,9 @@ int main(int argc, char **argv) {
     client = kmip_open(&settings, error, sizeof error);
     if (!client) {
         fprintf(stderr, "%s\n", error);
-        return KMIP_LOST;
+        return strstr(error, "\"ConfigurationError\"") ? KMIP_CALL_GRAMMAR : KMIP_LOST;
     }
-    rotate(argv[6], argv[7]);
+    int status = rotate(argv[6], argv[7]);
     kmip_close(client);
-    return 0;
+    return status;
 }

@@ -55,6 +55,18 @@ def answer_of(settings: List[str], name: str, texts: List[str]) -> str:
         return json.dumps({'answer': kmip.call(name, *words, **options)}) + '\n'
 
 
+def told(text: str) -> bool:
+    """Writes a text to standard output: whether it was taken."""
+    if sys.stdout is None:  # it is closed
+        return False
+    try:
+        sys.stdout.write(text)
+        sys.stdout.flush()
+    except OSError:
+        return False
+    return True
+
+
 def main() -> int:
     if len(sys.argv) < 7:
         return fail(GrammarError('usage: call.py HOST PORT CERTIFICATE KEY AUTHORITY CALL TEXT..'))
@@ -67,12 +79,7 @@ def main() -> int:
     except MemoryError:
         print('{"error":"OutOfMemory","text":"out of memory"}', file=sys.stderr)
         return 5
-    try:
-        sys.stdout.write(answer)
-        sys.stdout.flush()
-    except OSError:
-        return 4
-    return 0
+    return 0 if told(answer) else 4
 
 
 if __name__ == '__main__':

@@ -3,11 +3,20 @@
 private key, which is then revoked and destroyed. It writes the new private key's identifier.
 
     rotate.py HOST PORT CERTIFICATE KEY AUTHORITY OLD-PRIVATE-KEY NAME
+
+Status: 0 done, 1 refused, 2 not of the grammar, 3 the connection is lost or there is none, 4 the
+identifier could not be written, 5 out of memory.
 """
 import json
 import sys
 
-from metsuwan import Client, ConnectionLost, GrammarError, KmipError
+from metsuwan import Client, ConnectError, ConnectionLost, GrammarError, KmipError
+
+
+class NotWritten(KmipError):
+    """The key was changed, and its identifier could not be written."""
+
+    kind = 'NotWritten'
 
 
 def rotate(kmip: Client, old: str, name: str) -> str:
@@ -24,9 +33,22 @@ def rotate(kmip: Client, old: str, name: str) -> str:
 
 def fail(error: KmipError) -> int:
     print(json.dumps(error.line()), file=sys.stderr)
-    if isinstance(error, GrammarError):
-        return 2
-    return 3 if isinstance(error, ConnectionLost) else 1
+    for kind, status in ((GrammarError, 2), (ConnectionLost, 3), (NotWritten, 4)):
+        if isinstance(error, kind):
+            return status
+    return 1
+
+
+def told(text: str) -> bool:
+    """Writes a text to standard output: whether it was taken."""
+    if sys.stdout is None:  # it is closed
+        return False
+    try:
+        sys.stdout.write(text)
+        sys.stdout.flush()
+    except OSError:
+        return False
+    return True
 
 
 def main() -> int:
@@ -36,10 +58,19 @@ def main() -> int:
     host, port, cert, key, ca, old, name = sys.argv[1:]
     try:
         with Client(host, port, cert=cert, key=key, ca=ca) as kmip:
-            print(rotate(kmip, old, name))
+            new = rotate(kmip, old, name)
     except KmipError as error:
         return fail(error)
-    return 0
+    except ValueError as error:  # a setting is none
+        return fail(GrammarError(str(error)))
+    except OSError as error:  # there is no library
+        return fail(ConnectError(str(error)))
+    except MemoryError:
+        print('{"error":"OutOfMemory","text":"out of memory"}', file=sys.stderr)
+        return 5
+    if told(new + '\n'):
+        return 0
+    return fail(NotWritten('locate finds the new private key by its name'))
 
 
 if __name__ == '__main__':

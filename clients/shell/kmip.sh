@@ -50,23 +50,31 @@ fi
 
 # Leaves in KMIP_WORD the word that stands for a text in a call: what is special is written as % and two hex digits.
 kmip_escape() { # TEXT
-    local LC_ALL=C text=$1 byte i
+    local LC_ALL=C text=$1 at
     KMIP_WORD=$text
     case $text in
     '') KMIP_WORD=- ;;
     -) KMIP_WORD=%2D ;;
     *[!A-Za-z0-9._~-]*)
         KMIP_WORD=
-        for ((i = 0; i < ${#text}; i++)); do
-            byte=${text:i:1}
-            case $byte in
-            [A-Za-z0-9._~-]) ;;
-            *) printf -v byte %d "'$byte" && printf -v byte %%%02X $((byte & 255)) ;;
-            esac
-            KMIP_WORD+=$byte
-        done
+        # In pieces, since bash takes each byte of a text by going through it from its front.
+        for ((at = 0; at < ${#text}; at += 250)); do kmip_escape_piece "${text:at:250}"; done
         ;;
     esac
+}
+
+# Adds a piece of a text to KMIP_WORD, in C's locale.
+kmip_escape_piece() { # TEXT
+    local byte i word=''
+    for ((i = 0; i < ${#1}; i++)); do
+        byte=${1:i:1}
+        case $byte in
+        [A-Za-z0-9._~-]) ;;
+        *) printf -v byte %d "'$byte" && printf -v byte %%%02X $((byte & 255)) ;;
+        esac
+        word+=$byte
+    done
+    KMIP_WORD+=$word
 }
 
 # Leaves in KMIP_OPTIONS the options that a call may have, with a space round each, and in KMIP_PLAIN how many words stand
@@ -117,10 +125,9 @@ kmip_word() { # TEXT
 }
 
 # Leaves in KMIP_WORDS the words of a call whose last word is JSON, or @FILE with a file that has it: they are no texts, and
-# stand as they are. Where the file cannot be read, or the JSON is longer than Linux takes a word, it says so, and its status
-# is 2.
+# stand as they are. Where the file cannot be read, it says so, and its status is 2.
 kmip_json_words() { # CALL WORD..
-    local LC_ALL=C json=${!#}
+    local json=${!#}
     if [[ $json == @* ]]; then
         if [[ ! -r ${json#@} || -d ${json#@} ]]; then
             kmip_fails GrammarError 'the file of the JSON cannot be read'
@@ -129,11 +136,17 @@ kmip_json_words() { # CALL WORD..
         # bash would drop a byte of zero, by which the file is no JSON
         json=$(tr '\0' '\1' <"${json#@}")
     fi
-    if ((${#json} > 131071)); then
-        kmip_fails GrammarError 'the JSON has more than 131071 bytes, the most of a word'
-        return 2
-    fi
     KMIP_WORDS=("${@:1:$#-1}" "$json")
+}
+
+# Whether Linux takes each of these words, for a program. Where it does not, it says so, and its status is 2.
+kmip_fit() { # WORD..
+    local LC_ALL=C word
+    for word in "$@"; do
+        ((${#word} <= 131071)) && continue
+        kmip_fails GrammarError 'a word of the call has more than 131071 bytes, the most that Linux takes; nothing was sent'
+        return 2
+    done
 }
 
 # Leaves in KMIP_WORDS the words of a call, as kmip_call is to get them.
@@ -222,10 +235,21 @@ kmip_carry() { # FROM TO LOG CERTIFICATE
         {KMIP_IN}<&- {KMIP_OUT}>&- {KMIP_STATE}>&- {KMIP_LOG}<&-
 }
 
-# Opens the connection: 0, or 3 where there is none. The reason is on standard error.
+# Whether it is a port, by its number or by its name in /etc/services. A number past the last one would be taken modulo
+# 65536, for another port.
+kmip_is_port() { # PORT
+    if [[ $1 == *[A-Za-z]* ]]; then return 0; fi
+    [[ $1 =~ ^[0-9]{1,5}$ ]] && ((10#$1 >= 1 && 10#$1 <= 65535))
+}
+
+# Opens the connection: 0, 2 where the words are none, or 3 where there is none. The reason is on standard error.
 kmip_open() { # HOST:PORT CERTIFICATE KEY AUTHORITY
     if (($# != 4)) || [[ $1 != ?*:?* ]]; then
         echo 'usage: kmip_open HOST:PORT CERTIFICATE KEY AUTHORITY' >&2
+        return 2
+    fi
+    if ! kmip_is_port "${1##*:}"; then
+        printf 'kmip_open: %s is no port: a number of 1 to 65535, or the name of a service\n' "${1##*:}" >&2
         return 2
     fi
     if [[ -n ${KMIP_PID-} ]] && ! kmip_is_lost; then
@@ -294,6 +318,13 @@ kmip_lose() { # ERROR TEXT
     return 3
 }
 
+# Ends the connection since an answer cannot be written, which it says on standard error; the status is 4.
+kmip_not_written() { # TEXT
+    kmip_end
+    printf 'kmip: %s\n' "$1" >&2
+    return 4
+}
+
 # Locks the connection for a call, by the descriptor KMIP_MINE, and leaves in KMIP_SECONDS what is left of its deadline.
 kmip_lock() {
     local from=${EPOCHREALTIME/[^0-9]/} left=$KMIP_DEADLINE
@@ -336,12 +367,14 @@ kmip_make() { # WORD..
         return
     fi
     trap 'kmip_end; trap - INT; kill -INT "$BASHPID"' INT
-    trap '' PIPE
+    # What cannot be written is to be an error of kmip_call, by which a record is taken back, and not its end.
+    trap '' PIPE XFSZ
     timeout --foreground -k 1 "$KMIP_SECONDS" "$@" 2>&1 <&"$KMIP_IN" >&"$KMIP_OUT"
     status=$?
     case $status in
     0 | 1 | 2) : >|"/proc/self/fd/$KMIP_MINE" ;;
-    3 | 4 | 5) kmip_end && kmip_reasons ;;
+    3 | 5) kmip_end && kmip_reasons ;;
+    4) kmip_not_written "the answer${KMIP_RECORD:+, or its record in $KMIP_RECORD,} cannot be written" || status=$? ;;
     124) kmip_lose ResponseReadError "no whole response within ${KMIP_TIMEOUT:-30} seconds" ;;
     126 | 127) kmip_lose RequestWriteError "kmip_call cannot be run: status $status" ;;
     *) kmip_lose ResponseReadError "kmip_call was ended: status $status" ;;
@@ -364,6 +397,10 @@ kmip() { # CALL WORD..
         kmip_pem "${@:2}"
         return
     fi
+    if [[ ! -e /proc/self/fd/1 ]]; then
+        echo 'kmip: standard output is closed; nothing was sent' >&2
+        return 4
+    fi
     if [[ -z ${KMIP_PID-} ]]; then
         kmip_fails RequestWriteError 'no connection is open; kmip_open opens one'
         return 3
@@ -371,8 +408,9 @@ kmip() { # CALL WORD..
     case ${1-} in
     '' | query | create | create-rsa | create-aes | register | rng | locate | discover | raw | operation | message) ;;
     *)
-        if [[ -z ${2-} ]]; then
-            kmip_fails GrammarError 'the call has no identifier'
+        # With no word at all it is kmip_call that says which are missing, or that there is no such call.
+        if (($# > 1)) && [[ -z $2 ]]; then
+            kmip_fails GrammarError 'the identifier is empty'
             return 2
         fi
         ;;
@@ -386,6 +424,7 @@ kmip() { # CALL WORD..
     if [[ -n ${KMIP_RECORD-} ]]; then words+=("record=$KMIP_RECORD"); fi
     kmip_words "$@" || return
     words+=("${KMIP_WORDS[@]}")
+    kmip_fit "${words[@]}" || return
     kmip_program
     (
         export -n KMIP_PASSPHRASE
@@ -399,16 +438,24 @@ kmip() { # CALL WORD..
 }
 
 # Makes a call, and writes one field of its answer, as unique_identifier or operations[0]. An error goes to standard error.
+# A field that is false is one; one that is null is none. What is said of an answer shows nothing of it, since that may be a
+# key.
 kmip_field() { # FIELD CALL WORD..
     local field=${1-} answer status=0
     answer=$(kmip "${@:2}") || status=$?
     if ((status != 0)); then
         printf '%s\n' "$answer" >&2
-    elif ! jq -er ".answer.$field" <<<"$answer"; then
-        printf 'kmip_field: no %s in %s\n' "$field" "$answer" >&2
-        status=1
+        return $status
     fi
-    return $status
+    jq -r "[.answer.$field] | if all(. == null) then (\"\" | halt_error(9)) else .[] end" \
+        < <(printf '%s\n' "$answer") || status=$?
+    case $status in
+    0) return 0 ;;
+    9) jq -nc --arg field "$field" '{error: "MissingValue", text: ("the answer has no " + $field)}' >&2 || : ;;
+    3 | 5) kmip_fails MissingValue 'jq does not find the field, for the reason before' >&2 ;;
+    *) kmip_not_written 'the field cannot be written' || return ;;
+    esac
+    return 1
 }
 
 # What an object of this type and format is called in PEM: the labels of RFC 7468, and OpenSSL's own for PKCS#1 and SEC 1.
@@ -439,10 +486,11 @@ kmip_pem() { # IDENTIFIER
         kmip_fails MissingValue 'the answer has no PEM form' >&2
         return 1
     fi
-    printf -- '-----BEGIN %s-----\n' "$label"
     # Each two hex digits become the escape of a byte.
-    printf %b "$(printf %s "$bytes" | sed 's/../\\x&/g')" | base64 -w 64
-    printf -- '-----END %s-----\n' "$label"
+    if ! bytes=$(printf %b "$(printf %s "$bytes" | sed 's/../\\x&/g')" | base64 -w 64) ||
+        ! printf -- '-----BEGIN %s-----\n%s\n-----END %s-----\n' "$label" "$bytes" "$label" 2>/dev/null; then
+        kmip_not_written 'the PEM cannot be written'
+    fi
 }
 
 # Ends the connection.

@@ -5,7 +5,8 @@
 #   rotate.sh HOST PORT CERTIFICATE KEY AUTHORITY OLD-PRIVATE-KEY NAME
 #
 # It writes the new private key's identifier. The status is that of the first call that was not answered, and nothing is
-# done after it: the old key is revoked only when the new one has its name.
+# done after it: the old key is revoked only when the new one has its name. It is 4, where the identifier could not be
+# written.
 set -u
 if (($# != 7)); then
     echo "usage: $0 HOST PORT CERTIFICATE KEY AUTHORITY OLD-PRIVATE-KEY NAME" >&2
@@ -34,4 +35,7 @@ step rename "$new" "$name"
 step revoke "$old"
 step destroy "$old"
 kmip_close
-printf '%s\n' "$new"
+if ! printf '%s\n' "$new" 2>/dev/null; then
+    printf '{"error":"NotWritten","text":"locate finds the new private key by its name"}\n' >&2
+    exit 4
+fi

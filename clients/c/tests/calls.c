@@ -104,7 +104,7 @@ static void values(kmip_client *client) {
 /* What has to be refused before it is sent: the server would do it. */
 static void refused(kmip_client *client) {
     static const struct {
-        const char *call, *words[4], *text;
+        const char *call, *words[6], *text;
     } rows[] = {
         {"destroy", {"", NULL}, "destroy: word 1 after it is empty, and has to be an identifier"},
         {"sign -", {"00", NULL}, "the name of a call is one word, and this is none: sign -"},
@@ -119,6 +119,44 @@ static void refused(kmip_client *client) {
         {"rng", {"007", NULL}, "rng: word 1 after it is no number of 32 bits"},
         {"rng", {"2147483648", NULL}, "rng: word 1 after it is no number of 32 bits"},
         {"get", {"\xED\xA0\x80", NULL}, "get: word 1 after it is not UTF-8"},
+        {"attributes", {"1", "State", "\xFF", NULL}, "attributes: word 3 after it is not UTF-8"},
+        {"attributes", {NULL}, "attributes: word 1 after it is missing"},
+        {"sign",
+         {"1", "00", "padding=PSS", "hash=SHA3", NULL},
+         "sign: the value of hash= is none that it takes"},
+        {"get", {"1", "format=Raw", "format=Raw", NULL}, "get: format is given twice"},
+        {"get", {"1", "format=PKCS_1", NULL}, "get: the value of format= is none that it takes"},
+        {"revoke",
+         {"1", "message=a b", "since=-1", NULL},
+         "revoke: the value of since= is none that it takes"},
+        {"create",
+         {"HMAC_SHA256", "8", "n", NULL},
+         "create: word 1 after it is none that it takes"},
+        {"register",
+         {"secret", "00", "format=Raw", "algorithm=AES", "length=8", NULL},
+         "register: word 1 after it is none that it takes"},
+        {"register",
+         {"public", "00", "format=Raw", "length=8", NULL},
+         "register: algorithm= is missing"},
+        {"register",
+         {"public", "00", "format=Raw", "algorithm=EC", "length=8", NULL},
+         "register: the value of algorithm= is none that it takes"},
+        {"locate",
+         {"name=a", "state=x", NULL},
+         "locate: the value of state= is none that it takes"},
+        {"attribute-add",
+         {"1", NULL},
+         "attribute-add: it takes one attribute, and behind it options"},
+        {"attribute-add",
+         {"1", "name=a", "group=b", NULL},
+         "attribute-add: it takes one attribute, and behind it options"},
+        {"attribute-modify",
+         {"1", "index=0", "name=a", NULL},
+         "attribute-modify: it takes one attribute, and behind it options"},
+        {"attribute-modify",
+         {"1", "type=x", "index=0", NULL},
+         "attribute-modify: the value of type= is none that it takes"},
+        {"raw", {"00", NULL}, "raw: word 1 after it is not the one canonical message of a request"},
     };
     for (size_t i = 0; i < sizeof rows / sizeof *rows; i++) {
         char line[300];
@@ -172,8 +210,18 @@ static void operation(kmip_client *client) {
     check(kmip_operation(client, "Encrypt", "1.2", "{}") == KMIP_CALL_GRAMMAR,
           "nor is another payload");
     check_text(kmip_line(client),
-               "{\"error\":\"GrammarError\",\"text\":\"the name, the version and the payload are "
-               "no call of an operation\"}",
+               "{\"error\":\"GrammarError\",\"text\":\"the payload is not the JSON of a "
+               "RequestPayload\"}",
+               "the reason is said");
+    check(kmip_operation(client, "Encrypt", "1.3", encrypt) == KMIP_CALL_GRAMMAR,
+          "nor is another version");
+    check_text(kmip_line(client),
+               "{\"error\":\"GrammarError\",\"text\":\"the version is none of 1.0, 1.1 and 1.2\"}",
+               "the reason is said");
+    check(kmip_operation(client, "encrypt", "1.2", encrypt) == KMIP_CALL_GRAMMAR,
+          "another name again");
+    check_text(kmip_line(client),
+               "{\"error\":\"GrammarError\",\"text\":\"KMIP 1.2 has no operation of this name\"}",
                "the reason is said");
     check(kmip_text(client, "UniqueIdentifier", NULL) == NULL, "after it there is no value");
     check(kmip_call(client, "query", NULL) == KMIP_ANSWERED, "the next call is one of words");

@@ -4,6 +4,7 @@
 #include "testing.h"
 
 #include <arpa/inet.h>
+#include <fcntl.h>
 #include <netdb.h>
 #include <netinet/in.h>
 #include <semaphore.h>
@@ -82,6 +83,14 @@ static void wrong_settings(const kmip_settings *good) {
                  "\"text\":\"a credential is a user and a password\"}");
     it.password = "\xFF";
     refuses(&it, "{\"error\":\"ConfigurationError\",\"text\":\"password is not UTF-8\"}");
+    /* getaddrinfo would take 65537 for 1. */
+    static const char *const ports[] = {"65537", "+65537", " 65537", "0", "65536", "-1"};
+    for (size_t i = 0; i < sizeof ports / sizeof *ports; i++) {
+        it = *good;
+        it.port = ports[i];
+        refuses(&it, "{\"error\":\"ConfigurationError\","
+                     "\"text\":\"port is no number of 1 to 65535, and no name\"}");
+    }
     it = *good;
     it.seconds = -1;
     refuses(&it, "{\"error\":\"ConfigurationError\",\"text\":\"seconds are 0 to 1e9\"}");
@@ -138,6 +147,21 @@ static void slow_names(kmip_settings it) {
                "and the reason is said");
 }
 
+/* No connection gets the number of a standard stream that the program has closed. */
+static void closed_streams(const kmip_settings *settings) {
+    int kept = dup(STDOUT_FILENO);
+    bool taken = false;
+    if (kept < 0) exit(1);
+    close(STDOUT_FILENO);
+    kmip_client *client = kmip_open(settings, NULL, 0);
+    if (fcntl(STDOUT_FILENO, F_GETFD) >= 0) taken = true;
+    if (dup2(kept, STDOUT_FILENO) < 0) exit(1);
+    close(kept);
+    check(client != NULL && !taken, "a connection is none of the standard streams");
+    check(kmip_call(client, "query", NULL) == KMIP_ANSWERED, "and its call is answered");
+    kmip_close(client);
+}
+
 int main(int argc, char **argv) {
     if (argc < 6) return 2;
     kmip_settings settings = settings_of(argv);
@@ -155,5 +179,6 @@ int main(int argc, char **argv) {
         continue;
     sleep(1); /* the search frees what is its own */
     two_addresses(settings);
+    closed_streams(&settings);
     return 0;
 }

@@ -6,8 +6,8 @@ bytes are not taken for a text, or a number for bytes.
 from __future__ import annotations
 
 import re
-from typing import (Any, Callable, Dict, Iterator, List, Mapping, NamedTuple, Sequence, Tuple,
-                    Union)
+from typing import (Any, Callable, Dict, Iterator, List, Mapping, NamedTuple, Optional, Sequence,
+                    Tuple, Union)
 from urllib.parse import quote
 
 from .errors import GrammarError
@@ -130,6 +130,70 @@ OPTIONS: Dict[str, Dict[str, Kind]] = {
 }
 
 
+# Calls that the library takes, one of each name that has options, with those that it needs.
+SAMPLES = {
+    'create': 'AES 8 x',
+    'create-rsa': '8 x y',
+    'register': 'symmetric 00 format=Raw algorithm=AES length=8',
+    'sign': 'x 00',
+    'get': 'x',
+    'locate': '',
+    'attribute-add': 'x',
+    'attribute-modify': 'x',
+    'attribute-delete': 'x y',
+    'revoke': 'x',
+}
+
+
+def _option_name(word: str) -> str:
+    name, equals, _ = word.partition('=')
+    return name + equals
+
+
+def _sample_with(name: str, option: str) -> bytes:
+    """A call that has this option, and nothing else that may be wrong."""
+    if option.startswith('index='):
+        name = 'attribute-delete'
+    others = [it for it in SAMPLES[name].split() if _option_name(it) != _option_name(option)]
+    return ' '.join([name, *others, option]).encode()
+
+
+def _wrong_options(name: str, options: List[str], takes: Callable[[bytes], bool]) -> Optional[str]:
+    """What is wrong with the options of a call."""
+    names = list(map(_option_name, options))
+    for option in names:
+        if names.count(option) > 1:
+            return '%s is given twice' % option
+    for option in map(_option_name, SAMPLES.get(name, '').split()):
+        if '=' in option and option not in names:
+            return '%s is missing' % option
+    for option in options:
+        if not takes(_sample_with(name, option)):
+            return 'the value of %s is none that it takes' % _option_name(option)
+    if name in ('attribute-add', 'attribute-modify') and len(set(names) - {'index='}) != 1:
+        return 'it takes one attribute'
+    return None
+
+
+def wrong_with(line: bytes, takes: Callable[[bytes], bool]) -> str:
+    """What is wrong with a line that the library does not take as a call. ``takes`` says whether it
+    takes another one."""
+    name, *words = line.decode().split(' ')
+    least = len(CALLS[name]) if name != 'locate' else 0
+    # (no word but that of an option has a `=`)
+    options = [it for it in words[least:] if '=' in it or OPTIONS.get(name, {}).get(it) is FLAG]
+    wrong = _wrong_options(name, options, takes)
+    if wrong is None and name in ('create', 'register'):
+        first = ' '.join([name, words[0], *SAMPLES[name].split()[1:]]).encode()
+        if not takes(first):
+            wrong = 'word 1 after it is none that it takes'
+    if wrong is None and name == 'locate' and options and len(options) < len(words):
+        wrong = 'it takes a name, or attributes'
+    if wrong is None and name == 'raw':
+        wrong = 'word 1 after it is not the one canonical message of a request'
+    return '%s: %s' % (name, wrong) if wrong else '%s and its words are not of the grammar' % name
+
+
 # KMIP's names of what an object is for, each with its bit (1.0, 9.1.3.3.1).
 USES = {name: 1 << at for at, name in enumerate((
     'Sign', 'Verify', 'Encrypt', 'Decrypt', 'WrapKey', 'UnwrapKey', 'Export', 'MacGenerate',
@@ -143,6 +207,8 @@ def uses_of(names: Union[str, Sequence[str]]) -> int:
 
     :raises GrammarError: a name is none of a use
     """
+    if not isinstance(names, (str, list, tuple)):
+        raise TypeError('usage is names of KMIP, and %s was given' % type(names).__name__)
     bits = 0
     for name in names.split(',') if isinstance(names, str) else names:
         if name not in USES:
@@ -182,8 +248,8 @@ def _write(where: str, kind: Kind, value: Option) -> str:
 
 
 def _options_of(name: str, options: Mapping[str, Option]) -> Iterator[str]:
-    """The words of the options that are given."""
-    for given, value in options.items():
+    """The words of the options that are given. An index stands behind the attribute."""
+    for given, value in sorted(options.items(), key=lambda it: it[0] == 'index'):
         option = given.replace('_', '-')
         kind = OPTIONS.get(name, {}).get(option)
         if kind is None:

@@ -5,7 +5,7 @@ import json
 import threading
 from typing import Any, Dict, List, Mapping, Optional, Sequence, Tuple, Union
 
-from .calls import Bytes, Option, Word, line_of, uses_of
+from .calls import Bytes, Option, Word, line_of, uses_of, wrong_with
 from .errors import (ConnectError, ConnectionLost, DeserializeError, GrammarError, MissingValue,
                      RequestWriteError, ResponseReadError, SerializeError, error_of)
 from .items import Item, attribute
@@ -13,7 +13,7 @@ from .library import (ANSWERED, CALL_GRAMMAR, GRAMMAR, LOST, NO_FORM, NO_MEMORY,
                       Call, Credential, Library, Operation)
 from .objects import KeyPair, ManagedObject, Signed, bytes_at, text_at, value_at
 from .pem import certificate_der
-from .wire import Passphrase, Port, Wire, context_of
+from .wire import Passphrase, Port, Wire, context_of, is_port
 
 HEAD = 8
 Names = Union[str, Sequence[str], None]
@@ -36,6 +36,7 @@ class Client:
     time is made on it.
 
     :param host: the name or address that the server's certificate has to have
+    :param port: a number, or the name of a service
     :param cert: PEM file of the client's certificate, and after it those of authorities between
     :param key: PEM file of its private key
     :param ca: PEM file of the authority of the server's certificate; no other is trusted
@@ -59,6 +60,8 @@ class Client:
             raise ValueError('a limit is 0 to 4294967295')
         if timeout is not None and not 0 <= timeout < 1e9:
             raise ValueError('a timeout is 0 to 1e9 seconds')
+        if not is_port(port):
+            raise ValueError('a port is a number of 1 to 65535, or the name of a service')
         self._credential = _credential(user, password)
         self._library = Library(library)
         self._limit = limit
@@ -96,8 +99,7 @@ class Client:
         :raises KmipError: by kind, as ``ItemNotFound``
         :raises TypeError: a word is of another type than the call wants
         """
-        return self._answer_to(line_of(name, words, options),
-                               '%s and its words are not of the grammar' % name)
+        return self._answer_to(line_of(name, words, options))
 
     def operation(self, name: str, payload: Payload, *, version: str = '1.2') -> Item:
         """Makes a call of any operation of KMIP 1.0 to 1.2, by its name, as ``Encrypt``.
@@ -114,21 +116,32 @@ class Client:
         if not isinstance(payload, (str, Mapping)):
             payload = Item('RequestPayload', list(payload))
         text = payload if isinstance(payload, str) else json.dumps(payload)
-        wrong = '%s, %s and the payload are no call of an operation' % (name, version)
         try:
             call = Operation(name.encode(), version.encode(), text.encode())
         except UnicodeEncodeError:
-            raise GrammarError(wrong) from None
-        return Item.of_json(self._answer_to(call, wrong))
+            raise GrammarError('the operation, the version or the payload is not UTF-8') from None
+        return Item.of_json(self._answer_to(call))
 
-    def _answer_to(self, call: Call, wrong: str) -> Dict[str, Any]:
-        """The answer to a call; ``wrong`` is what is said of one that the library does not take."""
+    def _takes(self, call: Call) -> bool:
+        return self._library.request(call) != GRAMMAR
+
+    def _wrong_with(self, call: Call) -> str:
+        """What is wrong with a call that the library does not take."""
+        if not isinstance(call, Operation):
+            return wrong_with(call, self._takes)
+        if call.version not in (b'1.0', b'1.1', b'1.2'):
+            return 'the version is none of 1.0, 1.1 and 1.2'
+        if not self._takes(call._replace(payload=b'{"tag":"RequestPayload","value":[]}')):
+            return 'KMIP 1.2 has no operation of this name'
+        return 'the payload is not the JSON of a RequestPayload'
+
+    def _answer_to(self, call: Call) -> Dict[str, Any]:
         with self._lock:
             status, told = self._exchange(call)
         if status == NO_MEMORY:
             raise MemoryError
         if status == CALL_GRAMMAR:
-            raise GrammarError(wrong)
+            raise GrammarError(self._wrong_with(call))
         answer = json.loads(told)
         if status != ANSWERED:
             raise error_of(status, answer)
@@ -160,7 +173,9 @@ class Client:
     def register(self, kind: str, material: Bytes, *, format: str, algorithm: str, length: int,
                  usage: Names = None, name: Optional[str] = None) -> str:
         """Has the server keep a key that was made elsewhere. ``kind`` is ``public``, ``private``
-        or ``symmetric``, ``format`` as ``PKCS_8`` says what the bytes are."""
+        or ``symmetric``, ``format`` as ``PKCS8`` says what the bytes are, and
+        ``algorithm`` is ``DES``, ``TRIPLE_DES``, ``AES`` or ``RSA``: a key of another, as an HMAC
+        key, is registered by ``operation``."""
         answer = self.call('register', kind, material, format=format, algorithm=algorithm,
                            length=length, usage=usage, name=name)
         return text_at(answer, 'unique_identifier')
@@ -179,6 +194,8 @@ class Client:
         if usage is not None:
             attributes.append(attribute('Cryptographic Usage Mask', uses_of(usage)))
         if name is not None:
+            if not isinstance(name, str):
+                raise TypeError('name is a text, and %s was given' % type(name).__name__)
             attributes.append(attribute('Name', [
                 Item('NameValue', name),
                 Item('NameType', 'UninterpretedTextString', 'Enumeration')]))

@@ -2,7 +2,7 @@
 from __future__ import annotations
 
 import datetime
-from typing import Any, Dict, Mapping, Optional, Sequence, Union
+from typing import Any, Dict, Iterable, Mapping, Optional, Sequence, Union
 
 from .errors import MissingValue
 
@@ -38,7 +38,11 @@ def _json_of(kind: str, value: Value) -> Any:
     # A number past 2^52 has to be in hex, and any may be.
     if kind in ('LongInteger', 'DateTime') and isinstance(value, int):
         return '0x%016X' % (value & (1 << 64) - 1)
-    return value if isinstance(value, (str, int)) else list(value)
+    if isinstance(value, (str, int)):
+        return value
+    if not isinstance(value, Iterable):
+        raise TypeError('an item has no value of the type %s' % type(value).__name__)
+    return list(value)
 
 
 class Item(Dict[str, Any]):

@@ -73,5 +73,8 @@ def certificate_der(certificate: Union[str, bytes, bytearray, memoryview]) -> by
     """
     if isinstance(certificate, str):
         return _der_in(certificate.encode(errors='replace'))
+    if not isinstance(certificate, (bytes, bytearray, memoryview)):
+        raise TypeError('a certificate is bytes or a text, and %s was given'
+                        % type(certificate).__name__)
     given = bytes(certificate)
     return given if _is_whole(given) else _der_in(given)

@@ -2,6 +2,8 @@
 from __future__ import annotations
 
 import contextlib
+import fcntl
+import re
 import socket
 import ssl
 import threading
@@ -14,6 +16,15 @@ Passphrase = Union[str, bytes, None]
 Port = Union[int, str]
 # The state of a TCP connection that was reset, as Linux has it in TCP_INFO.
 TCP_CLOSE = 7
+
+
+def is_port(port: Port) -> bool:
+    """Whether it is a port, by its number or by its name in /etc/services. getaddrinfo takes a
+    number past the last one modulo 65536, for another port."""
+    text = str(port)
+    if text.isascii() and text.isdigit():
+        return len(text) <= 5 and 1 <= int(text) <= 65535
+    return any(it.isalpha() for it in text)
 
 
 def context_of(cert: str, key: str, ca: str, passphrase: Passphrase) -> ssl.SSLContext:
@@ -37,6 +48,15 @@ def context_of(cert: str, key: str, ca: str, passphrase: Passphrase) -> ssl.SSLC
     return context
 
 
+def _lacking(cert: str, key: str) -> Optional[str]:
+    """Which of the two files has no certificate, or no private key."""
+    for what, path, wanted in (('certificate', cert, 'certificate'), ('key', key, 'private key')):
+        with contextlib.suppress(OSError), open(path, 'rb') as file:
+            if not re.search(b'^-----BEGIN .*%s-----' % wanted.upper().encode(), file.read(), re.M):
+                return '%s %s: there is no %s in PEM' % (what, path, wanted)
+    return None
+
+
 def _load_key(context: ssl.SSLContext, cert: str, key: str, passphrase: Passphrase) -> None:
     asked = []
 
@@ -48,7 +68,7 @@ def _load_key(context: ssl.SSLContext, cert: str, key: str, passphrase: Passphra
     try:
         context.load_cert_chain(cert, key, password=give)
     except (ssl.SSLError, ValueError) as error:
-        text = 'certificate %s, key %s: %s' % (cert, key, error)
+        text = _lacking(cert, key) or 'certificate %s, key %s: %s' % (cert, key, error)
         if asked:
             why = 'no passphrase is given' if passphrase is None else 'this is not its passphrase'
             text = 'key %s: it is encrypted, and %s' % (key, why)
@@ -126,11 +146,22 @@ class Wire:
         addresses: List[Any] = found[0]
         return addresses
 
+    @staticmethod
+    def _socket(family: int, kind: int, protocol: int) -> socket.socket:
+        """A socket that is none of the three standard streams. Where the program has closed one of
+        these, what it writes to the stream would go out on the connection, with no TLS."""
+        made = socket.socket(family, kind, protocol)
+        if made.fileno() > 2:
+            return made
+        with made:
+            moved = fcntl.fcntl(made, fcntl.F_DUPFD_CLOEXEC, 3)
+            return socket.socket(family, kind, protocol, fileno=moved)
+
     def _reach(self, host: str, port: Port) -> socket.socket:
         """A connection to the first address that is reached; each has its share of the time."""
         addresses = self._addresses(host, port)
         for at, (family, kind, protocol, _, address) in enumerate(addresses, 1):
-            plain = socket.socket(family, kind, protocol)
+            plain = self._socket(family, kind, protocol)
             try:
                 plain.settimeout(self._left(len(addresses) - at + 1))
                 plain.connect(address)

@@ -10,6 +10,7 @@ from types import ModuleType
 from typing import Any, Dict, Iterator, Optional, Tuple
 
 from metsuwan import Client
+from metsuwan.wire import Port
 
 LIVE = pathlib.Path(__file__).resolve().parents[3] / 'tools' / 'live'
 
@@ -60,8 +61,8 @@ CERTS, PORTS = _started()
 
 
 def client_of(fake: str, *, name: str = 'client', host: str = 'localhost',
-              timeout: Optional[float] = 60, **settings: Any) -> Client:
-    """A client of a fake, with the certificate of this name."""
+              timeout: Optional[float] = 60, port: Port = 0, **settings: Any) -> Client:
+    """A client of a fake, with the certificate of this name; or of this port."""
     cert, key = ('%s/%s.%s' % (CERTS, name, end) for end in ('pem', 'key'))
-    return Client(host, PORTS[fake], cert=cert, key=key, ca=CERTS + '/ca.pem', timeout=timeout,
-                  **settings)
+    return Client(host, port or PORTS[fake], cert=cert, key=key, ca=CERTS + '/ca.pem',
+                  timeout=timeout, **settings)

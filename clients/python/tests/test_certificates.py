@@ -99,6 +99,16 @@ class Registered(unittest.TestCase):
                     kmip.register_certificate(**wrong)
             self.assertEqual(kmip.query()['vendor_identification'], 'fake')
 
+    def test_values_of_another_type(self) -> None:
+        # bytes(2) would be two bytes of zero, and a number as a name an Integer.
+        rows: List[Tuple[Any, Any]] = [
+            (2, {}), ([0x30, 0], {}), (None, {}), (b'\x30\0', {'name': 5}),
+            (b'\x30\0', {'name': b'x'}), (b'\x30\0', {'usage': 5}), (b'\x30\0', {'usage': {}})]
+        with client_of('good') as kmip:
+            for certificate, options in rows:
+                with self.subTest((certificate, options)), self.assertRaises(TypeError):
+                    kmip.register_certificate(certificate, **options)
+
     def test_uses_have_the_bits_of_the_library(self) -> None:
         self.assertEqual(len(USES), 20)
         for name in USES:

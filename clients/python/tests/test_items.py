@@ -54,6 +54,12 @@ class Written(unittest.TestCase):
                 request = Library().request(Operation(b'Encrypt', b'1.2', payload))
                 self.assertIsInstance(request, bytes)
 
+    def test_values_of_no_type(self) -> None:
+        values: List[Any] = [1.5, None, object()]
+        for value in values:
+            with self.subTest(value), self.assertRaisesRegex(TypeError, 'no value of the type'):
+                Item('Data', value)
+
     def test_a_date_without_a_time_zone(self) -> None:
         with self.assertRaises(ValueError):
             Item('ActivationDate', datetime.datetime(2008, 3, 14))

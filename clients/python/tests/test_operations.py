@@ -44,6 +44,12 @@ class Operations(unittest.TestCase):
             for name, version, given in rows:
                 with self.subTest(name=name, version=version), self.assertRaises(GrammarError):
                     kmip.operation(name, given, version=version)
+            for name, version, given, wrong in (
+                    ('encrypt', '1.2', payload(), 'no operation of this name'),
+                    ('Encrypt', '1.3', payload(), 'version is none of'),
+                    ('Encrypt', '1.2', payload({'tag': 'Data'}), 'payload is not the JSON')):
+                with self.assertRaisesRegex(GrammarError, wrong):
+                    kmip.operation(name, given, version=version)
             with self.assertRaises(SerializeError):
                 kmip.operation('Encrypt', payload(
                     {'tag': 'Modulus', 'type': 'BigInteger', 'value': '0x01'}))

@@ -111,6 +111,19 @@ class OutOfStep(unittest.TestCase):
         kmip = client_of('early')
         self.lost(kmip, RequestWriteError, 'no call had asked for; nothing was sent')
 
+    def test_a_connection_is_none_of_the_standard_streams(self) -> None:
+        kept = os.dup(1)
+        os.close(1)
+        try:
+            kmip = client_of('good')
+            with self.assertRaises(OSError):
+                os.fstat(1)
+        finally:
+            os.dup2(kept, 1)
+            os.close(kept)
+        with kmip:
+            kmip.query()
+
     def test_a_connection_that_ends_between_calls(self) -> None:
         kmip = client_of('end_after')
         kmip.query()
@@ -244,6 +257,16 @@ class Opening(unittest.TestCase):
         for setting in settings:
             with self.subTest(setting), self.assertRaises(ValueError):
                 client_of('good', **setting)
+
+    def test_a_port_that_is_none(self) -> None:
+        # getaddrinfo would take the first three for that of the server
+        past = PORTS['good'] + 65536
+        ports: List[Any] = [past, str(past), '+%d' % past, 65536, -1, '0', '', '\u0661']
+        for port in ports:
+            with self.subTest(port), self.assertRaisesRegex(ValueError, 'port'):
+                Client('localhost', port, cert='none', key='none', ca='none')
+        with client_of('good', port='%05d' % PORTS['good']) as kmip:
+            kmip.query()
 
     def test_no_keys_of_the_session_are_written(self) -> None:
         path = os.path.join(CERTS, 'session_keys')

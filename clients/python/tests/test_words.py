@@ -2,9 +2,9 @@
 import unittest
 from typing import Any, Dict, List, Tuple
 
-from metsuwan import GrammarError
+from metsuwan import GrammarError, calls
 from metsuwan.calls import (BYTES, CALLS, IDENTIFIER, NAME, NUMBER, TEXT, Option, Word, line_of,
-                            words_of)
+                            words_of, wrong_with)
 from metsuwan.library import GRAMMAR, Library
 
 SAMPLES: Dict[Any, Word] = {IDENTIFIER: '1', TEXT: 'a name', BYTES: b'\x01', NUMBER: 16,
@@ -74,6 +74,11 @@ class Written(unittest.TestCase):
             with self.subTest(line):
                 self.assertEqual(line_of(name, words, options), line)
 
+    def test_an_index_stands_behind_its_attribute(self) -> None:
+        line = line_of('attribute-modify', ['k'], {'index': 1, 'name': 'n'})
+        self.assertEqual(line, b'attribute-modify k name=n index=1')
+        self.assertIsInstance(Library().request(line), bytes)
+
     def test_options_that_are_none(self) -> None:
         rows: List[Tuple[str, List[Word], Dict[str, Option]]] = [
             ('sign', ['k', b''], {'reason': 'x'}), ('query', [], {'hash': 'SHA256'}),
@@ -118,6 +123,52 @@ class Written(unittest.TestCase):
         request = library.request(b'query')
         assert isinstance(request, bytes)
         self.assertEqual(library.request(line_of('raw', [request])), request)
+
+
+class Said(unittest.TestCase):
+    """What is said of a line that the library does not take."""
+
+    def wrong_with(self, name: str, words: List[Word], options: Dict[str, Option]) -> str:
+        library = Library()
+        line = line_of(name, words, options)
+        self.assertEqual(library.request(line), GRAMMAR)
+        return wrong_with(line, lambda it: library.request(it) != GRAMMAR)
+
+    def test_which_word_is_wrong(self) -> None:
+        key: Dict[str, Option] = {'format': 'Raw', 'algorithm': 'AES', 'length': 8}
+        rows: List[Tuple[str, List[Word], Dict[str, Option], str]] = [
+            ('sign', ['k', b''], {'hash': 'SHA3'}, 'the value of hash='),
+            ('sign', ['k', b''], {'padding': 'PSS', 'hash': 'x'}, 'the value of hash='),
+            ('get', ['k'], {'format': 'PKCS_1'}, 'the value of format='),
+            ('revoke', ['k'], {'message': 'm', 'reason': 'x'}, 'the value of reason='),
+            ('create', ['HMAC_SHA256', 8, 'n'], {}, 'word 1 after it is none'),
+            ('create', ['AES', 8, 'n'], {'usage': 'Sing'}, 'the value of usage='),
+            ('create-rsa', [8, 'n', 'm'], {'public-usage': 'x'}, 'the value of public-usage='),
+            ('register', ['secret', b''], key, 'word 1 after it is none'),
+            ('register', ['public', b''], {'format': 'Raw', 'length': 8}, 'algorithm= is missing'),
+            ('register', ['public', b''], {**key, 'algorithm': 'EC'}, 'the value of algorithm='),
+            ('register', ['public', b''], {**key, 'usage': 'x'}, 'the value of usage='),
+            ('locate', [], {'name': 'a', 'state': 'x'}, 'the value of state='),
+            ('locate', ['a'], {'name': 'a'}, 'a name, or attributes'),
+            ('attribute-add', ['k'], {}, 'one attribute'),
+            ('attribute-add', ['k'], {'name': 'a', 'group': 'b'}, 'one attribute'),
+            ('attribute-modify', ['k'], {'index': 0}, 'one attribute'),
+            ('attribute-modify', ['k'], {'index': -1, 'type': 'x'}, 'the value of type='),
+            ('raw', [b''], {}, 'canonical message'),
+        ]
+        for name, words, options, wanted in rows:
+            with self.subTest((name, words, options)):
+                said = self.wrong_with(name, words, options)
+                self.assertTrue(said.startswith(name + ': ') and wanted in said, said)
+
+    def test_each_sample_is_taken(self) -> None:
+        library = Library()
+        self.assertEqual(set(calls.SAMPLES), set(calls.OPTIONS))
+        for name, sample in calls.SAMPLES.items():
+            if name not in ('locate', 'attribute-add', 'attribute-modify'):
+                with self.subTest(name):
+                    line = ('%s %s' % (name, sample)).encode()
+                    self.assertIsInstance(library.request(line), bytes)
 
 
 class Refused(unittest.TestCase):

@@ -12,35 +12,15 @@
 //! standard error.
 mod settings;
 
-use metsuwan::{ClientBuilder, Error, Json, TlsClient, TlsConnector};
+use metsuwan::{ClientBuilder, Error, TlsClient, TlsConnector};
+use settings::Failure;
 use std::env::{self, VarError};
 use std::io::Write;
 use std::process::ExitCode;
 use std::time::Duration;
 
-/// Why there is no answer: a line of JSON, and the status.
-struct Failure(Json, u8);
-
-impl From<Error> for Failure {
-    fn from(error: Error) -> Failure {
-        let status = match error {
-            Error::GrammarError(_) | Error::ConfigurationError(_) => 2,
-            Error::OutOfMemory(_) => 5,
-            _ if error.is_lost() => 3,
-            _ => 1,
-        };
-        Failure(error.json(), status)
-    }
-}
-
-fn failure(kind: &str, text: &str) -> Failure {
-    let members = [("error", kind), ("text", text)];
-    let members = members.map(|(name, it)| (name.to_string(), Json::Text(it.to_string())));
-    Failure(Json::Object(members.into()), 2)
-}
-
 fn no_setting(text: &str) -> Failure {
-    failure("ConfigurationError", text)
+    Failure(settings::line("ConfigurationError", text), 2)
 }
 
 /// A variable of the environment, where it is set and not empty.
@@ -86,15 +66,14 @@ fn call(client: &TlsClient, name: &str, texts: &[&str]) -> Result<String, Error>
         [identifier] if name == "get" && env::var_os("KMIP_PEM").is_some() => {
             client.get_key(identifier)?.pem()
         }
-        _ => Ok(format!("{}\n", client.call_texts(name, texts)?.json())),
+        _ => Ok(format!("{{\"answer\":{}}}\n", client.call_texts(name, texts)?.json())),
     }
 }
 
 fn answer() -> Result<String, Failure> {
-    let no_words = |text| failure("GrammarError", text);
-    let words = settings::arguments().ok_or_else(|| no_words("a word is not UTF-8"))?;
-    let Some((server, [name, texts @ ..])) = settings::server_of(&words) else {
-        return Err(no_words("usage: call HOST PORT CERTIFICATE KEY AUTHORITY CALL TEXT.."));
+    let words = settings::arguments()?;
+    let Some((server, [name, texts @ ..])) = settings::server_of(&words)? else {
+        return Err(settings::wrong("usage: call HOST PORT CERTIFICATE KEY AUTHORITY CALL TEXT.."));
     };
     let texts: Vec<&str> = texts.iter().map(String::as_str).collect();
     Ok(call(&client_of(server)?, name, &texts)?)

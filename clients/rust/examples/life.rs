@@ -8,6 +8,7 @@
 mod settings;
 
 use metsuwan::{Error, TlsClient};
+use settings::Failure;
 use std::path::Path;
 use std::process::ExitCode;
 use std::time::Instant;
@@ -64,9 +65,10 @@ fn live(client: &TlsClient, folder: &Path, count: u32) -> Outcome<()> {
 }
 
 fn run() -> Outcome<()> {
-    let words = settings::arguments().ok_or("a word is not UTF-8")?;
-    let Some((server, [folder, count @ ..])) = settings::server_of(&words) else {
-        return Err("usage: life HOST PORT CERTIFICATE KEY AUTHORITY FOLDER [COUNT]".into());
+    let words = settings::arguments()?;
+    let Some((server, [folder, count @ ..])) = settings::server_of(&words)? else {
+        let usage = "usage: life HOST PORT CERTIFICATE KEY AUTHORITY FOLDER [COUNT]";
+        return Err(settings::wrong(usage).into());
     };
     let count = count.first().map_or(Ok(0), |it| it.parse())?;
     live(&server.connect()?.build(), Path::new(folder), count)
@@ -77,7 +79,7 @@ fn main() -> ExitCode {
         Ok(()) => ExitCode::SUCCESS,
         Err(error) => {
             eprintln!("{error}");
-            ExitCode::FAILURE
+            ExitCode::from(error.downcast_ref().map_or(1, |it: &Failure| it.1))
         }
     }
 }

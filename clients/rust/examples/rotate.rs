@@ -2,10 +2,14 @@
 //! private key, which is then revoked and destroyed. It writes the new private key's identifier.
 //!
 //! rotate HOST PORT CERTIFICATE KEY AUTHORITY OLD-PRIVATE-KEY NAME
+//!
+//! Status: 0 done, 1 refused, 2 not of the grammar, 3 the connection is lost or there is none, 4 the
+//! identifier could not be written, 5 out of memory.
 mod settings;
 
 use metsuwan::TlsClient;
-use std::error::Error;
+use settings::Failure;
+use std::io::Write;
 use std::process::ExitCode;
 
 /// Each step is done only after the one before it was answered.
@@ -21,23 +25,30 @@ fn rotate(client: &TlsClient, old: &str, name: &str) -> metsuwan::Result<String>
     Ok(new)
 }
 
-fn run() -> Result<String, Box<dyn Error>> {
-    let words = settings::arguments().ok_or("a word is not UTF-8")?;
-    match settings::server_of(&words) {
+fn run() -> Result<String, Failure> {
+    let words = settings::arguments()?;
+    match settings::server_of(&words)? {
         Some((server, [old, name])) => Ok(rotate(&server.connect()?.build(), old, name)?),
-        _ => Err("usage: rotate HOST PORT CERTIFICATE KEY AUTHORITY OLD-PRIVATE-KEY NAME".into()),
+        _ => Err(settings::wrong(
+            "usage: rotate HOST PORT CERTIFICATE KEY AUTHORITY OLD-PRIVATE-KEY NAME",
+        )),
     }
 }
 
 fn main() -> ExitCode {
     match run() {
         Ok(new) => {
-            println!("{new}");
-            ExitCode::SUCCESS
+            let mut out = std::io::stdout();
+            if writeln!(out, "{new}").and_then(|()| out.flush()).is_ok() {
+                return ExitCode::SUCCESS;
+            }
+            let why = "locate finds the new private key by its name";
+            eprintln!("{}", settings::line("NotWritten", why));
+            ExitCode::from(4)
         }
-        Err(error) => {
-            eprintln!("{error}");
-            ExitCode::FAILURE
+        Err(Failure(line, status)) => {
+            eprintln!("{line}");
+            ExitCode::from(status)
         }
     }
 }

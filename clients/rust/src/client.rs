@@ -229,17 +229,28 @@ impl Asked<'_> {
         }
     }
 
+    /// Whether the library takes it as a call.
+    fn is_taken(&self) -> bool {
+        self.request(None) != Err(NoRequest::Grammar)
+    }
+
     /// The error of a call that is none.
     fn grammar(&self) -> Error {
-        match self {
-            Asked::Line(line) => {
-                let name = line.split(' ').next().unwrap_or(line);
-                Error::grammar(format!("{name} and its words are not of the grammar"))
+        Error::grammar(match self {
+            Asked::Line(line) => word::wrong_with(line, |it| Asked::Line(it).is_taken()),
+            Asked::Operation(Operation { name, version, .. }) => {
+                let payload = r#"{"tag":"RequestPayload","value":[]}"#;
+                let other = Asked::Operation(Operation { name, version, payload });
+                let why = match *version {
+                    "1.0" | "1.1" | "1.2" if other.is_taken() => {
+                        "the payload is not the JSON of a RequestPayload"
+                    }
+                    "1.0" | "1.1" | "1.2" => "KMIP 1.2 has no operation of this name",
+                    _ => "the version is none of 1.0, 1.1 and 1.2",
+                };
+                why.to_string()
             }
-            Asked::Operation(Operation { name, version, .. }) => Error::grammar(format!(
-                "{name}, {version} and the payload are no call of an operation"
-            )),
-        }
+        })
     }
 }
 

@@ -121,9 +121,11 @@ impl TlsConnector {
         let missing = |what| Error::configuration(format!("{what} is not given"));
         let (certificate, key) = self.identity.as_ref().ok_or_else(|| missing("certificate"))?;
         let authority = self.authority.as_ref().ok_or_else(|| missing("authority"))?;
-        file("certificate", certificate)?;
+        let chain = file("certificate", certificate)?;
         let pem = file("key", key)?;
         file("authority", authority)?;
+        holds("certificate", certificate, &chain, "certificate")?;
+        holds("key", key, &pem, "private key")?;
         let private_key = private_key(key, &pem, self.passphrase.as_deref())?;
         let mut context = strict_context().map_err(|it| failed("OpenSSL", &it))?;
         context
@@ -163,6 +165,16 @@ fn file(what: &str, path: &Path) -> Result<Vec<u8>> {
     std::fs::read(path).map_err(|error| {
         Error::connect(format!("{what} {}: {error}", path.display()), Some(error.kind()))
     })
+}
+
+/// A file of PEM has a block whose label ends so.
+fn holds(what: &str, path: &Path, pem: &[u8], label: &str) -> Result<()> {
+    let end = format!("{}-----", label.to_ascii_uppercase());
+    let is_begin = |line: &str| line.starts_with("-----BEGIN ") && line.trim_end().ends_with(&end);
+    if String::from_utf8_lossy(pem).lines().any(is_begin) {
+        return Ok(());
+    }
+    Err(Error::connect(format!("{what} {}: there is no {label} in PEM", path.display()), None))
 }
 
 fn failed(what: &str, errors: &ErrorStack) -> Error {

@@ -255,9 +255,150 @@ pub(crate) fn line_of_texts(name: &str, texts: &[&str]) -> Result<String> {
     Ok(line)
 }
 
+/// Calls that the library takes, one of each name that has options, with those that it needs.
+const SAMPLES: [(&str, &str); 10] = [
+    ("create", "AES 8 x"),
+    ("create-rsa", "8 x y"),
+    ("register", "symmetric 00 format=Raw algorithm=AES length=8"),
+    ("sign", "x 00"),
+    ("get", "x"),
+    ("locate", ""),
+    ("attribute-add", "x"),
+    ("attribute-modify", "x"),
+    ("attribute-delete", "x y"),
+    ("revoke", "x"),
+];
+
+/// The words of the sample of a call.
+fn sample_of(name: &str) -> Vec<&'static str> {
+    let found = SAMPLES.iter().find(|(it, _)| *it == name);
+    found.map_or("", |(_, words)| *words).split_whitespace().collect()
+}
+
+/// The name of an option, with its `=`.
+fn option_name(option: &str) -> &str {
+    option.find('=').map_or(option, |at| &option[..=at])
+}
+
+/// A call that has this option, and nothing else that may be wrong.
+fn sample_with(name: &str, option: &str) -> String {
+    let name = if option.starts_with("index=") { "attribute-delete" } else { name };
+    let mut words = sample_of(name);
+    words.retain(|it| option_name(it) != option_name(option));
+    [&[name], &words[..], &[option]].concat().join(" ")
+}
+
+/// What is wrong with the options of a call.
+fn wrong_options(name: &str, options: &[&str], takes: impl Fn(&str) -> bool) -> Option<String> {
+    let names: Vec<&str> = options.iter().map(|it| option_name(it)).collect();
+    let twice = names.iter().enumerate().find(|(at, it)| names[..*at].contains(it));
+    if let Some((_, option)) = twice {
+        return Some(format!("{option} is given twice"));
+    }
+    let needed: Vec<&str> = sample_of(name).into_iter().map(option_name).collect();
+    if let Some(option) = needed.iter().find(|it| it.ends_with('=') && !names.contains(it)) {
+        return Some(format!("{option} is missing"));
+    }
+    if let Some(option) = options.iter().find(|it| !takes(&sample_with(name, it))) {
+        return Some(format!("the value of {} is none that it takes", option_name(option)));
+    }
+    let is_index = |it: &str| it == "index=";
+    let is_one = match &names[..] {
+        [first] => !is_index(first),
+        [first, second] => !is_index(first) && is_index(second),
+        _ => false,
+    };
+    (matches!(name, "attribute-add" | "attribute-modify") && !is_one)
+        .then(|| "it takes one attribute, and behind it options".into())
+}
+
+/// What is wrong with a line that the library does not take as a call. `takes` says whether it takes
+/// another one.
+pub(crate) fn wrong_with(line: &str, takes: impl Fn(&str) -> bool) -> String {
+    let (name, rest) = line.split_once(' ').unwrap_or((line, ""));
+    let words: Vec<&str> = rest.split_whitespace().collect();
+    let kinds = CALLS.iter().find(|(it, _, _)| *it == name).map_or(0, |(_, kinds, _)| kinds.len());
+    let plain = if name == "locate" { 0 } else { kinds.min(words.len()) };
+    // No word but that of an option has a `=`.
+    let is_option = |it: &&str| it.contains('=') || (name == "sign" && *it == "prehashed");
+    let options: Vec<&str> = words[plain..].iter().copied().filter(is_option).collect();
+    let first = || {
+        let sample = sample_of(name);
+        let others = sample.get(1..).unwrap_or(&[]);
+        [&[name], &words[..1.min(words.len())], others].concat().join(" ")
+    };
+    let wrong = wrong_options(name, &options, &takes).or_else(|| match name {
+        "create" | "register" if !takes(&first()) => {
+            Some("word 1 after it is none that it takes".into())
+        }
+        "locate" if !options.is_empty() && options.len() < words.len() => {
+            Some("it takes a name, or attributes".into())
+        }
+        "raw" => Some("word 1 after it is not the one canonical message of a request".into()),
+        _ => None,
+    });
+    wrong.map_or_else(
+        || format!("{name} and its words are not of the grammar"),
+        |wrong| format!("{name}: {wrong}"),
+    )
+}
+
 #[cfg(test)]
 mod tests {
     use super::*;
+    use crate::library::{request, NoRequest};
+
+    fn is_taken(line: &str) -> bool {
+        request(line, None) != Err(NoRequest::Grammar)
+    }
+
+    #[test]
+    fn which_word_is_wrong_is_said() {
+        let rows = [
+            ("sign k - padding=PSS hash=SHA3", "the value of hash= is none that it takes"),
+            ("get k format=Raw format=Raw", "format= is given twice"),
+            ("get k format=PKCS_1", "the value of format= is none that it takes"),
+            ("revoke k message=m reason=x", "the value of reason= is none that it takes"),
+            ("create HMAC_SHA256 8 n", "word 1 after it is none that it takes"),
+            ("create AES 8 n usage=Sing", "the value of usage= is none that it takes"),
+            (
+                "register secret - format=Raw algorithm=AES length=8",
+                "word 1 after it is none that it takes",
+            ),
+            ("register public - format=Raw length=8", "algorithm= is missing"),
+            (
+                "register public - format=Raw algorithm=EC length=8",
+                "the value of algorithm= is none that it takes",
+            ),
+            ("locate name=a state=x", "the value of state= is none that it takes"),
+            ("locate a name=a", "it takes a name, or attributes"),
+            ("attribute-add k", "it takes one attribute, and behind it options"),
+            ("attribute-add k name=a group=b", "it takes one attribute, and behind it options"),
+            ("attribute-modify k index=0 name=a", "it takes one attribute, and behind it options"),
+            ("attribute-modify k type=x index=0", "the value of type= is none that it takes"),
+            ("raw 00", "word 1 after it is not the one canonical message of a request"),
+        ];
+        for (line, wanted) in rows {
+            assert!(!is_taken(line), "{line}");
+            let name = line.split(' ').next().unwrap();
+            assert_eq!(wrong_with(line, is_taken), format!("{name}: {wanted}"), "{line}");
+        }
+    }
+
+    #[test]
+    fn each_sample_is_taken() {
+        for (name, _, options) in CALLS {
+            assert!(options.is_empty() || SAMPLES.iter().any(|(it, _)| *it == name), "{name}");
+        }
+        for (name, words) in SAMPLES {
+            let option = if name.starts_with("attribute-") { "name=x" } else { "" };
+            let line = match name {
+                "attribute-delete" | "locate" => format!("{name} {words}"),
+                _ => format!("{name} {words} {option}"),
+            };
+            assert!(is_taken(line.trim_end()), "{line}");
+        }
+    }
 
     fn refused(made: Result<String>, wanted: &str) {
         match made {

@@ -57,13 +57,13 @@ fn any_operation() {
     let answer = client.operation("Encrypt", "1.2", payload).unwrap();
     assert_eq!(answer.text_at("tag").unwrap(), "ResponsePayload");
     assert_eq!(answer.text_at("value.0.value").unwrap(), "k1");
-    for (name, version, payload) in
-        [("encrypt", "1.2", payload), ("Encrypt", "1.3", payload), ("Encrypt", "1.2", "{}")]
-    {
+    for (name, version, payload, wanted) in [
+        ("encrypt", "1.2", payload, "KMIP 1.2 has no operation of this name"),
+        ("Encrypt", "1.3", payload, "the version is none of 1.0, 1.1 and 1.2"),
+        ("Encrypt", "1.2", "{}", "the payload is not the JSON of a RequestPayload"),
+    ] {
         let error = client.operation(name, version, payload).unwrap_err();
-        let wanted =
-            format!("GrammarError: {name}, {version} and the payload are no call of an operation");
-        assert_eq!(error.to_string(), wanted);
+        assert_eq!(error.to_string(), format!("GrammarError: {wanted}"));
     }
     client.query().unwrap();
 }

@@ -37,6 +37,12 @@ reason 'no TLS' 3 'ConnectError.*wrong version number' query
 fake good
 certificate=$certs/none.pem reason 'no certificate' 3 'none\.pem: No such file' query
 certificate=$certs reason 'a folder as a certificate' 3 'ConnectError' query
+certificate=$certs/client.key reason 'a key in the place of a certificate' 3 \
+    'certificate .*client\.key: there is no certificate in PEM' query
+key=$certs/client.pem reason 'a certificate in the place of a key' 3 \
+    'key .*client\.pem: there is no private key in PEM' query
+authority=$certs/client.key reason 'a key in the place of an authority' 3 \
+    'authority .*client\.key.*no certificate' query
 key=$certs/plain.key reason 'another key' 3 '[Kk]ey values mismatch|KEY_VALUES_MISMATCH' query
 fake nobody
 reason 'nobody' 3 'Connection refused' query

@@ -31,6 +31,9 @@ says 'and names the package' 'apt-get install python3-pykmip'
 verdict 'a folder that is not its own is left alone'
 ! "$it" start --port "$server_port" --folder "$folder" >"$said" 2>&1
 verdict 'a port that is taken is said to be'
+"$it" start --port $((server_port + 65536)) --folder "$folder" >"$said" 2>&1
+(($? == 2))
+verdict 'a port that is none: status 2'
 "$it" >"$said" 2>&1
 (($? == 2))
 verdict 'no word: status 2'
