@@ -230,6 +230,11 @@ pub audits : (link : MemoryState) (sink : SinkState) (lines : List (List ℕ)) (
 audits link sink lines end old new =
     writes (audit_transcript lines) link sink end old new (reported_alone (captured_in lines))
 
+-- exchanges were made, and nothing is written yet
+pub makes : {t : Transcript} {l0 l1 : MemoryState} {old new : List ℕ} (sink : SinkState) (end : ScriptEnd)
+    → Replays t l0 l1 (Ended end) old new → Performs t sink sink l0 l1 old new (Ok end)
+makes {new = new} sink end did = performed end did (sink_same sink) (none_moved sink new)
+
 -- What `finish` did with a text, whose script came to this end.
 pub record Finishes (text : List ℕ) (end : ScriptEnd) (before after : SinkState) (status : Status) : Type 0 where
   pub keeps : SinkKeeps before after
