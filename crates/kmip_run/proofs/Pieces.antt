@@ -51,9 +51,9 @@ more_kept {kept = kept} more m = record {
 }
 
 -- of what was kept a part is written
-pub part_moved : {k0 k k1 : SinkState} {text kept : List ℕ} → Moves k0 k text kept → IsTrue k0.tells
+pub part_moved : {k0 k : SinkState} {text kept : List ℕ} (k1 : SinkState) → Moves k0 k text kept → IsTrue k0.tells
     → WrotePart k k1 kept → WrotePart k0 k1 text
-part_moved {k0 = k0} {kept = kept} m tells part = (
+part_moved {k0 = k0} {kept = kept} k1 m tells part = (
   length m.written + part.0,
   omega (arith, part.1, ap length m.parts, length-append m.written kept),
   part.2 ∙ ap (λ (l : List ℕ). l ++ take part.0 kept) (m.sent tells)
@@ -63,8 +63,8 @@ part_moved {k0 = k0} {kept = kept} m tells part = (
 )
 
 -- a part of a text is one of a longer text
-part_longer : {k0 k1 : SinkState} (text more : List ℕ) → WrotePart k0 k1 text → WrotePart k0 k1 (text ++ more)
-part_longer {k0 = k0} text more part = (
+part_longer : (k0 k1 : SinkState) (text more : List ℕ) → WrotePart k0 k1 text → WrotePart k0 k1 (text ++ more)
+part_longer k0 k1 text more part = (
   part.0,
   omega (arith, part.1, length-append text more),
   part.2 ∙ ap (λ (l : List ℕ). k0.sent ++ l) (sym (take-append-le part.0 text more part.1)),
@@ -189,7 +189,7 @@ cut_off {all = all} {k0 = k0} {k = k} {k1 = k1} {old = old} {rest = rest} cause 
     ∙ ap (λ (l : List ℕ). l ++ rest.text) (sym so.new_is) in
     broken cause (sink_keeps_on s.keeps keeps)
     (λ tells. subst (WrotePart k0 k1) (sym whole)
-    (part_longer s.shown rest.text (part_moved s.moved tells (part (rw s.keeps.tells tells)))))
+    (part_longer k0 k1 s.shown rest.text (part_moved k1 s.moved tells (part (rw s.keeps.tells tells)))))
     (λ is. rose_on k0.faults k.faults k1.faults s.keeps.faults (rose is))
 
 -- memory ran out

@@ -323,7 +323,7 @@ finish_ends {t = t} {k0 = k0} {k = k} {k1 = k1} {kept = kept} {end = end} status
             sent = p.done.sent;
             pos = p.done.pos;
           };
-      part = λ tells is. part_moved p.moved tells (f.part (on tells));
+      part = λ tells is. part_moved k1 p.moved tells (f.part (on tells));
       cause = λ is. rose_on k0.faults k.faults k1.faults p.keeps.faults (f.fault is);
     }
 
@@ -332,8 +332,8 @@ pub cut_ends : {t : Transcript} {k0 k1 : SinkState} {l0 l1 : MemoryState} {kept 
     (status : Status) → is_unbegun status ≡ false → IsTrue (is_cut status)
     → (status ≡ SinkFailed → cause ≡ cuts.SinkFailed) → Performs t k0 k1 l0 l1 [] kept (Err cause)
     → Ends t k0 k1 l0 l1 status
-cut_ends status begun cut failed p = record {
-  began = begun;
+cut_ends status began cut failed p = record {
+  began = began;
   keeps = p.keeps;
   status_is = inr cut;
   whole = λ tells not_cut. absurd (cc);
