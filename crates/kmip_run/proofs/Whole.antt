@@ -1,5 +1,5 @@
 -- What the program does with its words and its script.
-use Rattle.std.proofs.Common.{◌≡◌, ℕ, ◌+◌, ◌<◌, ◌≤◌, ◌⊎◌, inl, inr, List, [], ◌∷◌, ◌++◌, length, take, drop, min, refl, ◌∙◌, ap, sym, arith, append_assoc, codes, Option, Some, None, Ok, Err, Bool, true, false, IsSome, IsTrue}
+use Rattle.std.proofs.Common.{◌≡◌, ℕ, ◌+◌, ◌<◌, ◌≤◌, ◌⊎◌, inl, inr, List, [], ◌∷◌, ◌++◌, length, take, drop, min, refl, ◌∙◌, ap, sym, subst, arith, append_assoc, codes, Option, Some, None, Ok, Err, Bool, true, false, IsSome, IsTrue}
 use Rattle.std.proofs.lemmas.Bool.Decides.{nat_tests}
 use Rattle.std.proofs.lemmas.List.{length-take, take_all}
 use Rattle.std.specs.List.{All}
@@ -458,7 +458,9 @@ script_ended command t s0 s1 k0 k1 l0 l1 status reads keeps fits read does kept 
           absurd (omega (arith, fits source));
       read = λ source is. rw (most, reads) (read source);
       complete = λ source sound steady good.
-          let followed : IsFollowed t.status = rw (does source) at script_followed command (source_left s0) good in
+          let followed : IsFollowed t.status =
+          subst (λ (u : Transcript). IsFollowed u.status) (does source)
+          (script_followed command (source_left s0) good) in
           completes status t.status e.status_is (λ is. steady (e.cause is)) followed;
     }
 
@@ -508,7 +510,8 @@ alone_ended command s k0 k1 l0 l1 status unread kept e =
       read = λ source is. rw unread (omega arith);
       complete = λ source sound steady good.
           let followed : IsFollowed (lines_transcript command []).status =
-          rw same at script_followed command (source_left s) good in
+          subst (λ (u : Transcript). IsFollowed u.status) same
+          (script_followed command (source_left s) good) in
           completes status (lines_transcript command []).status e.status_is (λ is. steady (e.cause is)) followed;
     }
 

@@ -21,7 +21,7 @@ returns-in-Err-SinkFailed-clause-ends g c =
     cut_ends _ refl refl (λ is. c.in-Err-SinkFailed.field-0-is)
     (rw c.new-output.ensures at c.in-Err-SinkFailed.ensures.performs)
 
-pub returns-clause-ends : goal.returns-in-Err-OutOfMemory-clause-ends
+pub returns-clause-ends : goal.returns-clause-ends
 returns-clause-ends g c =
     cut_ends _ refl refl (λ is. absurd (cc))
     (rw c.new-output.ensures at c.in-Err-OutOfMemory.ensures.performs)
