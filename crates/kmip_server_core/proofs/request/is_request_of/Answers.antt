@@ -1,5 +1,5 @@
 use Rattle.std.proofs.Common.{Err, inl, inr, ap}
-use Rattle.kmip_server_core.proofs.Requested.is_of
+use Rattle.kmip_server_core.proofs.Requested.{is_of}
 use Rattle.kmip_server_core.proofs.request.is_request_of.Goals as goal
 
 pub returns-in-Ok : goal.returns-in-Ok
