@@ -53,7 +53,7 @@ returns-in_err-write_if_long g c =
     let shows = call_shown (settings_of c.args.client.now)
     c.in-Some.recorded c.loop-rest.rest.now c.first_line.result.0.now c.first_line.result.1.now
     (c.loop-rest.number + 1)
-    c.loop-rest.end c.end_after-end.result c.first_line.ensures.lines is c.end_after-end.ensures i.shows
+    c.loop-rest.end _ c.first_line.ensures.lines is refl i.shows
     (under (settings_of c.loop-rest.client)
     (settings_of c.args.client.now) c.in-Some.recorded.call c.in-Some.recorded.response
     (drop c.loop-rest.client.link.pos c.loop-rest.client.link.ever
