@@ -57,9 +57,9 @@ part_moved {k0 = k0} {kept = kept} k1 m tells part = (
   length m.written + part.0,
   omega (arith, part.1, ap length m.parts, length-append m.written kept),
   part.2 ∙ ap (λ (l : List ℕ). l ++ take part.0 kept) (m.sent tells)
-  ∙ append_assoc k0.sent m.written (take part.0 kept)
-  ∙ ap (λ (l : List ℕ). k0.sent ++ l)
-  (sym (ap (take (length m.written + part.0)) m.parts ∙ take-append-add m.written kept part.0)),
+      ∙ append_assoc k0.sent m.written (take part.0 kept)
+      ∙ ap (λ (l : List ℕ). k0.sent ++ l)
+      (sym (ap (take (length m.written + part.0)) m.parts ∙ take-append-add m.written kept part.0)),
 )
 
 -- a part of a text is one of a longer text
