@@ -1,4 +1,3 @@
-use Rattle.std.proofs.Common.{Err}
 use Rattle.std.proofs.lemmas.Result.{err_from_is_err_and}
 use Rattle.kmip_run.specs.Script.{lines_of}
 use Rattle.kmip_run.specs.Setup.{settings_for}
