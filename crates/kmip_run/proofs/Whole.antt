@@ -1,5 +1,5 @@
 -- What the program does with its words and its script.
-use Rattle.std.proofs.Common.{◌≡◌, ℕ, ◌+◌, ◌<◌, ◌≤◌, ◌⊎◌, inl, inr, List, [], ◌∷◌, ◌++◌, length, take, drop, min, refl, ◌∙◌, ap, sym, arith, codes, Option, Some, None, Result, Ok, Err, IfOk, Bool, true, false, IsSome, IsTrue}
+use Rattle.std.proofs.Common.{◌≡◌, ℕ, ◌+◌, ◌<◌, ◌≤◌, ◌⊎◌, inl, inr, List, [], ◌∷◌, ◌++◌, length, take, drop, min, refl, ◌∙◌, ap, sym, subst, arith, append_assoc, codes, Option, Some, None, Ok, Err, Bool, true, false, IsSome, IsTrue}
 use Rattle.std.proofs.lemmas.Bool.Decides.{nat_tests}
 use Rattle.std.proofs.lemmas.List.{length-take, take_all}
 use Rattle.std.specs.List.{All}
@@ -12,12 +12,15 @@ use Rattle.kmip_words.specs.Exchange.{Settings, Step, step}
 use Rattle.kmip_run.specs.Setup.{settings_for}
 use Rattle.kmip_words.specs.Streams.{WrotePart}
 use Rattle.kmip_run.specs.Transcript.{Transcript, only_text, end_after, replay_from, line_expansion, explanations_from, joined, report_transcript, audit_transcript, lines_transcript, most_script, reads_script, makes_calls, script_transcript, command_transcript, IsLineOf, AreLinesOf, IsOfGrammar, Replays}
+use Rattle.kmip_run.specs.Performed.{Performs, Ends}
 use Rattle.kmip_run.specs.Program.{is_whole, is_cut, is_unbegun, streams, RunsCommand}
 use Rattle.kmip_run.specs.Auditing.{captured_in, AreStreams}
 use Rattle.kmip_run.specs.declared.auditing.Captured.{Captured}
 use Rattle.kmip_run.specs.declared.auditing.Captured.TheVariants.{Streams, Bad}
 use Rattle.kmip_run.specs.declared.command.Command.{Command}
 use Rattle.kmip_run.specs.declared.command.Command.TheVariants.{Replay, Explain, Make, Audit, Joined}
+use Rattle.kmip_run.specs.declared.output.Cut.{Cut}
+use Rattle.kmip_run.specs.declared.output.Cut.TheVariants as cuts
 use Rattle.kmip_run.specs.declared.status.ScriptEnd.{ScriptEnd}
 use Rattle.kmip_run.specs.declared.status.ScriptEnd.TheVariants.{Answered, Failed, NotOfGrammar}
 use Rattle.kmip_run.specs.declared.status.Status.{Status}
@@ -26,6 +29,8 @@ use Rattle.kmip_joined.specs.Lines.{helper_call}
 use Rattle.kmip_joined.specs.World.{World, joined_step, nothing_yet}
 use Rattle.kmip_run.proofs.Joins.{joined_call, joined_none, joined_alone}
 use Rattle.kmip_run.proofs.Explained.{explained_line, explained_none, explained_alone}
+use Rattle.kmip_words.proofs.Moves.{sink_keeps_on}
+use Rattle.kmip_run.proofs.Pieces.{sink_same, none_moved, performed, part_moved, rose_on}
 use Rattle.kmip_run.proofs.Runs.{append_none, replayed_call, replayed_none}
 
 pub most : most_script ≡ 16777216
@@ -69,17 +74,6 @@ script_whole most script left is fits =
     let e : length script ≡ min (most + 1) (length left) = ap length is ∙ length-take (most + 1) left in
     is ∙ take_all (most + 1) left (omega arith)
 
--- a text that was made first and is written then
-onto : {t : Transcript} {before after : MemoryState} {status : Status} {out : List ℕ} (old : List ℕ)
-    → Replays t before after status [] out → Replays t before after status old (old ++ out)
-onto old it = record {
-  text = ap (λ (l : List ℕ). old ++ l) it.text;
-  status_is = it.status_is;
-  ever = it.ever;
-  sent = it.sent;
-  pos = it.pos;
-}
-
 text_alone : (link : MemoryState) (text : List ℕ) (status : Status) (old : List ℕ)
     → Replays (only_text text status) link link status old (old ++ text)
 text_alone link text status old = record {
@@ -99,12 +93,6 @@ nothing_written link status old = record {
   sent = append_none link.sent;
   pos = omega arith;
 }
-
--- a command that was done with no script
-pub alone_replays : {before after : MemoryState} {status : Status} {out : List ℕ} (command : Command)
-    → Replays (lines_transcript command []) before after status [] out
-    → Replays (script_transcript command []) before after status [] out
-alone_replays command did = rw (transcript_fits command [] (omega arith)) did
 
 -- nothing at all is a part of a text
 no_part : (sink : SinkState) (text : List ℕ) → WrotePart sink sink text
@@ -207,28 +195,26 @@ text_now : (t : Transcript) (link : MemoryState) (status : Status) (old new : Li
     → Replays t link link status old new
 text_now t link status old new alone status_is text = rw (status_is, text, alone) (text_alone link t.text t.status old)
 
--- a text alone was written, and nothing is on the link
-writes : {E : Type 0} (t : Transcript) (link : MemoryState) (result : Result ScriptEnd E) (old new : List ℕ)
-    → t ≡ only_text t.text t.status →
-    IfOk result (λ end. Ended end ≡ t.status) → IfOk result (λ end. new ≡ old ++ t.text)
-    → IfOk result (λ end. Replays t link link (Ended end) old new)
-writes t link (Ok end) old new alone status_is text = text_now t link (Ended end) old new alone status_is text
-writes t link (Err error) old new alone status_is text = tt
+-- a text alone was made, and nothing is on the link
+writes : (t : Transcript) (link : MemoryState) (sink : SinkState) (end : ScriptEnd) (old new : List ℕ)
+    → t ≡ only_text t.text t.status → Ended end ≡ t.status → new ≡ old ++ t.text
+    → Performs t sink sink link link old new (Ok end)
+writes t link sink end old new alone status_is text =
+    performed end (text_now t link (Ended end) old new alone status_is text) (sink_same sink) (none_moved sink new)
 
-pub explains : {E : Type 0} (link : MemoryState) (lines : List (List ℕ)) (result : Result ScriptEnd E) (old new : List ℕ) →
-    IfOk result (λ end. Ended end ≡ (explanations_from lines 1).status)
-    → IfOk result (λ end. new ≡ old ++ (explanations_from lines 1).text)
-    → IfOk result (λ end. Replays (explanations_from lines 1) link link (Ended end) old new)
-explains link lines result old new = writes (explanations_from lines 1) link result old new (explained_alone lines 1)
+pub explains : (link : MemoryState) (sink : SinkState) (lines : List (List ℕ)) (end : ScriptEnd) (old new : List ℕ) →
+    Ended end ≡ (explanations_from lines 1).status → new ≡ old ++ (explanations_from lines 1).text
+    → Performs (explanations_from lines 1) sink sink link link old new (Ok end)
+explains link sink lines end old new =
+    writes (explanations_from lines 1) link sink end old new (explained_alone lines 1)
 
-pub joins : {E : Type 0} (link : MemoryState) (settings : Settings) (lines : List (List ℕ))
-    (result : Result ScriptEnd E) (old new : List ℕ) →
-    IfOk result (λ end. Ended end ≡ (joined settings lines 1 Answered nothing_yet).status)
-    → IfOk result (λ end. new ≡ old ++ (joined settings lines 1 Answered nothing_yet).text)
-    → IfOk result (λ end. Replays (joined settings lines 1 Answered nothing_yet)
-    link link (Ended end) old new)
-joins link settings lines result old new =
-    writes (joined settings lines 1 Answered nothing_yet) link result old new
+pub joins : (link : MemoryState) (sink : SinkState) (settings : Settings) (lines : List (List ℕ))
+    (end : ScriptEnd) (old new : List ℕ) →
+    Ended end ≡ (joined settings lines 1 Answered nothing_yet).status
+    → new ≡ old ++ (joined settings lines 1 Answered nothing_yet).text
+    → Performs (joined settings lines 1 Answered nothing_yet) sink sink link link old new (Ok end)
+joins link sink settings lines end old new =
+    writes (joined settings lines 1 Answered nothing_yet) link sink end old new
     (joined_alone settings lines 1 Answered nothing_yet)
 
 -- nothing is on the link
@@ -238,12 +224,16 @@ reported_alone : (captured : Captured)
 reported_alone (Streams sent received) = refl
 reported_alone (Bad number) = refl
 
-pub audits : {E : Type 0} (link : MemoryState) (lines : List (List ℕ)) (result : Result ScriptEnd E) (old new : List ℕ) →
-    IfOk result (λ end. Ended end ≡ (audit_transcript lines).status)
-    → IfOk result (λ end. new ≡ old ++ (audit_transcript lines).text)
-    → IfOk result (λ end. Replays (audit_transcript lines) link link (Ended end) old new)
-audits link lines result old new = writes (audit_transcript lines) link result old new
-    (reported_alone (captured_in lines))
+pub audits : (link : MemoryState) (sink : SinkState) (lines : List (List ℕ)) (end : ScriptEnd) (old new : List ℕ) →
+    Ended end ≡ (audit_transcript lines).status → new ≡ old ++ (audit_transcript lines).text
+    → Performs (audit_transcript lines) sink sink link link old new (Ok end)
+audits link sink lines end old new =
+    writes (audit_transcript lines) link sink end old new (reported_alone (captured_in lines))
+
+-- exchanges were made, and nothing is written yet
+pub makes : {t : Transcript} {l0 l1 : MemoryState} {old new : List ℕ} (sink : SinkState) (end : ScriptEnd)
+    → Replays t l0 l1 (Ended end) old new → Performs t sink sink l0 l1 old new (Ok end)
+makes {new = new} sink end did = performed end did (sink_same sink) (none_moved sink new)
 
 -- What `finish` did with a text, whose script came to this end.
 pub record Finishes (text : List ℕ) (end : ScriptEnd) (before after : SinkState) (status : Status) : Type 0 where
@@ -298,20 +288,61 @@ kept_begun command status kept began (inl none) = kept none
 kept_begun command status kept began (inr unbegun) = absurd (begun_not status began unbegun)
 
 -- words and a script of the grammar, and no fault
-completes : (status t : Status) (end : ScriptEnd)
-    → (status ≡ Ended end) ⊎ ((status ≡ SinkFailed) ⊎ (status ≡ OutOfMemory))
-    → (status ≡ SinkFailed → ⊥) → Ended end ≡ t → IsFollowed t
+cut_completes : (status : Status) → IsTrue (is_cut status) → (status ≡ SinkFailed → ⊥)
     → (status ≡ Ended Answered) ⊎ ((status ≡ Ended Failed) ⊎ (status ≡ OutOfMemory))
-completes status t end (inl is) steady same (inl followed) = inl (is ∙ same ∙ followed)
-completes status t end (inl is) steady same (inr followed) = inr (inl (is ∙ same ∙ followed))
-completes status t end (inr (inl is)) steady same followed = absurd (steady is)
-completes status t end (inr (inr is)) steady same followed = inr (inr is)
+cut_completes (Ended end) cut steady = absurd (cc)
+cut_completes SourceFailed cut steady = absurd (cc)
+cut_completes SinkFailed cut steady = absurd (steady refl)
+cut_completes OutOfMemory cut steady = inr (inr refl)
+cut_completes TooLong cut steady = absurd (cc)
+
+completes : (status t : Status) → (status ≡ t) ⊎ IsTrue (is_cut status) → (status ≡ SinkFailed → ⊥) → IsFollowed t
+    → (status ≡ Ended Answered) ⊎ ((status ≡ Ended Failed) ⊎ (status ≡ OutOfMemory))
+completes status t (inl is) steady (inl followed) = inl (is ∙ followed)
+completes status t (inl is) steady (inr followed) = inr (inl (is ∙ followed))
+completes status t (inr cut) steady followed = cut_completes status cut steady
+
+-- a command came to its end, and what was kept of its text was written, or a part of it
+pub finish_ends : {t : Transcript} {k0 k k1 : SinkState} {l0 l : MemoryState} {kept : List ℕ} {end : ScriptEnd}
+    (status : Status) → Performs t k0 k l0 l [] kept (Ok end) → Finishes kept end k k1 status
+    → Ends t k0 k1 l0 l status
+finish_ends {t = t} {k0 = k0} {k = k} {k1 = k1} {kept = kept} {end = end} status p f =
+    let on : IsTrue k0.tells → IsTrue k.tells = λ tells. rw p.keeps.tells tells in
+    record {
+      began = begun status end f.status_is;
+      keeps = sink_keeps_on p.keeps f.keeps;
+      status_is = or_cut status t.status (rw p.done.status_is at f.status_is);
+      whole = λ tells not_cut.
+          let ended : status ≡ Ended end = uncut status end f.status_is not_cut in
+          record {
+            text = f.written (on tells) ended ∙ ap (λ (l : List ℕ). l ++ kept) (p.moved.sent tells)
+                ∙ append_assoc k0.sent p.moved.written kept
+                ∙ ap (λ (l : List ℕ). k0.sent ++ l) (sym p.moved.parts);
+            status_is = ended ∙ p.done.status_is;
+            ever = p.done.ever;
+            sent = p.done.sent;
+            pos = p.done.pos;
+          };
+      part = λ tells is. part_moved k1 p.moved tells (f.part (on tells));
+      cause = λ is. rose_on k0.faults k.faults k1.faults p.keeps.faults (f.fault is);
+    }
+
+-- a command was broken off
+pub cut_ends : {t : Transcript} {k0 k1 : SinkState} {l0 l1 : MemoryState} {kept : List ℕ} {cause : Cut}
+    (status : Status) → is_unbegun status ≡ false → IsTrue (is_cut status)
+    → (status ≡ SinkFailed → cause ≡ cuts.SinkFailed) → Performs t k0 k1 l0 l1 [] kept (Err cause)
+    → Ends t k0 k1 l0 l1 status
+cut_ends status began cut failed p = record {
+  began = began;
+  keeps = p.keeps;
+  status_is = inr cut;
+  whole = λ tells not_cut. absurd (cc);
+  part = λ tells is. p.part tells;
+  cause = λ is. p.cause (ap Err (failed is));
+}
 
 pub source_same : (source : SourceState) → SourceKeeps source source
 source_same source = record { tells = refl; faults = omega arith }
-
-sink_same : (sink : SinkState) → SinkKeeps sink sink
-sink_same sink = record { tells = refl; faults = omega arith }
 
 -- memory ran out before anything was written
 pub memory_ended : (command : Option Command) (s0 s1 : SourceState) (k : SinkState) (l0 l1 : MemoryState) →
@@ -397,24 +428,21 @@ long_ended command s0 s1 k l reads keeps long read = record {
 }
 
 -- a script that was read whole and done, and whose text was written, or a part of it
-script_ended : (command : Command) (s0 s1 : SourceState) (k0 k1 : SinkState) (l0 l1 : MemoryState)
-    (end : ScriptEnd) (out : List ℕ) (status : Status) → reads_script (Some command) ≡ true → SourceKeeps s0 s1 →
+script_ended : (command : Command) (t : Transcript) (s0 s1 : SourceState) (k0 k1 : SinkState) (l0 l1 : MemoryState)
+    (status : Status) → reads_script (Some command) ≡ true → SourceKeeps s0 s1 →
     (IsTrue s0.tells → length (source_left s0) ≤ 16777216) →
     (IsTrue s0.tells → s1.pos ≡ s0.pos + min 16777217 (length (source_left s0))) →
-    (IsTrue s0.tells → Replays (script_transcript command (source_left s0)) l0 l1 (Ended end) [] out) →
-    (makes_calls (Some command) ≡ false → l1 ≡ l0) → Finishes out end k0 k1 status
+    (IsTrue s0.tells → script_transcript command (source_left s0) ≡ t) →
+    (makes_calls (Some command) ≡ false → l1 ≡ l0) → Ends t k0 k1 l0 l1 status
     → RunsCommand (Some command) (streams s0 k0 l0) (streams s1 k1 l1) status
-script_ended command s0 s1 k0 k1 l0 l1 end out status reads keeps fits read did kept f =
-    let began : is_unbegun status ≡ false = begun status end f.status_is in
+script_ended command t s0 s1 k0 k1 l0 l1 status reads keeps fits read does kept e =
     record {
       source_keeps = keeps;
-      sink_keeps = f.keeps;
-      whole = λ source sink is.
-          let ended : status ≡ Ended end = uncut status end f.status_is (whole_uncut status is) in
-          rw (ended, f.written sink ended) (onto k0.sent (did source));
-      part = λ source sink is. rw (sym (did source).text) (f.part sink);
-      read_fault = λ is. absurd (not_source_failed status began is);
-      write_fault = f.fault;
+      sink_keeps = e.keeps;
+      whole = λ source sink is. rw (does source) (e.whole sink (whole_uncut status is));
+      part = λ source sink is. rw (does source) (e.part sink is);
+      read_fault = λ is. absurd (not_source_failed status e.began is);
+      write_fault = e.cause;
       refused = λ none. absurd (cc);
       refused_text = λ none sink is. absurd (cc);
       refused_part = λ none sink. absurd (cc);
@@ -422,72 +450,69 @@ script_ended command s0 s1 k0 k1 l0 l1 end out status reads keeps fits read did 
       scriptless = λ none sink is. absurd (cc);
       scriptless_part = λ none sink is. absurd (cc);
       scriptless_status = λ none. absurd (cc);
-      kept = kept_begun (Some command) status kept began;
-      silent = λ is. absurd (begun_not status began is);
-      too_long = λ source is. absurd (not_too_long status began is);
+      kept = kept_begun (Some command) status kept e.began;
+      silent = λ is. absurd (begun_not status e.began is);
+      too_long = λ source is. absurd (not_too_long status e.began is);
       long = λ source is long.
           let more : 16777216 < length (source_left s0) = rw most at long in
           absurd (omega (arith, fits source));
       read = λ source is. rw (most, reads) (read source);
       complete = λ source sound steady good.
-          completes status _ end f.status_is (λ is. steady (f.fault is)) (did source).status_is
-          (script_followed command (source_left s0) good);
+          let followed : IsFollowed t.status =
+          subst (λ (u : Transcript). IsFollowed u.status) (does source)
+          (script_followed command (source_left s0) good) in
+          completes status t.status e.status_is (λ is. steady (e.cause is)) followed;
     }
 
 -- the same of a script that was read up to one byte more than it may have
 pub script_read : (command : Command) (s0 s1 : SourceState) (k0 k1 : SinkState) (l0 l1 : MemoryState)
-    (end : ScriptEnd) (out script : List ℕ) (status : Status) → reads_script (Some command) ≡ true →
+    (script : List ℕ) (status : Status) → reads_script (Some command) ≡ true →
     SourceKeeps s0 s1 → (IsTrue s0.tells → script ≡ take 16777217 (source_left s0)) → length script ≤ 16777216 →
     (IsTrue s0.tells → s1.pos ≡ s0.pos + min 16777217 (length (source_left s0))) →
-    Replays (lines_transcript command (lines_of script)) l0 l1 (Ended end) [] out →
-    (makes_calls (Some command) ≡ false → l1 ≡ l0) → Finishes out end k0 k1 status
+    (makes_calls (Some command) ≡ false → l1 ≡ l0) →
+    Ends (lines_transcript command (lines_of script)) k0 k1 l0 l1 status
     → RunsCommand (Some command) (streams s0 k0 l0) (streams s1 k1 l1) status
-script_read command s0 s1 k0 k1 l0 l1 end out script status reads keeps bytes fits read did kept f =
+script_read command s0 s1 k0 k1 l0 l1 script status reads keeps bytes fits read kept e =
     let whole : IsTrue s0.tells → script ≡ source_left s0 =
     λ source. script_whole 16777216 script (source_left s0) (bytes source) fits in
     let within : IsTrue s0.tells → length (source_left s0) ≤ 16777216 =
     λ source. rw (whole source) at fits in
-    script_ended command s0 s1 k0 k1 l0 l1 end out status reads keeps within read
-    (λ source. rw (transcript_fits command (source_left s0) (within source)) (rw (whole source) at did)) kept f
+    script_ended command (lines_transcript command (lines_of script)) s0 s1 k0 k1 l0 l1 status reads keeps within read
+    (λ source. ap (script_transcript command) (sym (whole source)) ∙ transcript_fits command script fits) kept e
 
 -- a command that reads no script, done and written like that
 pub alone_ended : (command : Command) (s : SourceState) (k0 k1 : SinkState) (l0 l1 : MemoryState)
-    (end : ScriptEnd) (out : List ℕ) (status : Status) → reads_script (Some command) ≡ false →
-    Replays (script_transcript command []) l0 l1 (Ended end) [] out →
-    (makes_calls (Some command) ≡ false → l1 ≡ l0) → Finishes out end k0 k1 status
+    (status : Status) → reads_script (Some command) ≡ false → (makes_calls (Some command) ≡ false → l1 ≡ l0) →
+    Ends (lines_transcript command []) k0 k1 l0 l1 status
     → RunsCommand (Some command) (streams s k0 l0) (streams s k1 l1) status
-alone_ended command s k0 k1 l0 l1 end out status unread did kept f =
-    let began : is_unbegun status ≡ false = begun status end f.status_is in
-    let same : script_transcript command (source_left s) ≡ script_transcript command [] =
-    transcript_same command (source_left s) unread in
-    let uncut_is : is_cut status ≡ false → status ≡ Ended end = uncut status end f.status_is in
-    let all : IsTrue k0.tells → is_cut status ≡ false →
-    Replays (script_transcript command []) l0 l1 status k0.sent k1.sent =
-    λ sink is. rw (uncut_is is, f.written sink (uncut_is is)) (onto k0.sent did) in
-    let part : IsTrue k0.tells → WrotePart k0 k1 (script_transcript command []).text =
-    λ sink. rw (sym did.text) (f.part sink) in
+alone_ended command s k0 k1 l0 l1 status unread kept e =
+    let alone : script_transcript command [] ≡ lines_transcript command [] = transcript_fits command [] (omega arith) in
+    let same : script_transcript command (source_left s) ≡ lines_transcript command [] =
+    transcript_same command (source_left s) unread ∙ alone in
     record {
       source_keeps = source_same s;
-      sink_keeps = f.keeps;
-      whole = λ source sink is. rw same (all sink (whole_uncut status is));
-      part = λ source sink is. rw same (part sink);
-      read_fault = λ is. absurd (not_source_failed status began is);
-      write_fault = f.fault;
+      sink_keeps = e.keeps;
+      whole = λ source sink is. rw same (e.whole sink (whole_uncut status is));
+      part = λ source sink is. rw same (e.part sink is);
+      read_fault = λ is. absurd (not_source_failed status e.began is);
+      write_fault = e.cause;
       refused = λ none. absurd (cc);
       refused_text = λ none sink is. absurd (cc);
       refused_part = λ none sink. absurd (cc);
       unread = λ none. refl;
-      scriptless = λ none sink is. all sink is;
-      scriptless_part = λ none sink is. part sink;
-      scriptless_status = λ none. or_cut status _ (rw did.status_is at f.status_is);
-      kept = kept_begun (Some command) status kept began;
-      silent = λ is. absurd (begun_not status began is);
-      too_long = λ source is. absurd (not_too_long status began is);
+      scriptless = λ none sink is. rw alone (e.whole sink is);
+      scriptless_part = λ none sink is. rw alone (e.part sink is);
+      scriptless_status = λ none. rw alone e.status_is;
+      kept = kept_begun (Some command) status kept e.began;
+      silent = λ is. absurd (begun_not status e.began is);
+      too_long = λ source is. absurd (not_too_long status e.began is);
       long = λ source reads long. absurd (cc);
       read = λ source is. rw unread (omega arith);
       complete = λ source sound steady good.
-          completes status _ end f.status_is (λ is. steady (f.fault is)) (did.status_is ∙ sym (ap (λ (t : Transcript). t.status) same))
-          (script_followed command (source_left s) good);
+          let followed : IsFollowed (lines_transcript command []).status =
+          subst (λ (u : Transcript). IsFollowed u.status) same
+          (script_followed command (source_left s) good) in
+          completes status (lines_transcript command []).status e.status_is (λ is. steady (e.cause is)) followed;
     }
 
 -- words that are not of the grammar

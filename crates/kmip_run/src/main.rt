@@ -16,6 +16,7 @@ mod laws;
 mod make;
 #[cfg(test)]
 mod make_tests;
+mod output;
 mod program;
 mod replay;
 mod respond;

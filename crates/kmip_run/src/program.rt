@@ -7,6 +7,7 @@ ghost use Rattle.kmip_run.specs.Setup.{settings_for};
 ghost use Rattle.kmip_run.specs.Making.{counts_after, made_settings};
 ghost use Rattle.kmip_run.specs.Transcript.{counted_transcript, lines_transcript, makes_calls};
 ghost use Rattle.kmip_run.specs.Transcript.{reads_script, replay_from, Replays};
+ghost use Rattle.kmip_run.specs.Performed.{Performs, Ends};
 ghost use Rattle.kmip_run.specs.Program.{streams, RunsCommand, Runs, RunsTo};
 
 use crate::auditing::audit_script;
@@ -14,6 +15,7 @@ use crate::command::{Command, Options, command_of};
 use crate::explain::explain;
 use crate::joined::run_joined;
 use crate::make::make;
+use crate::output::Cut;
 use crate::replay::replay;
 use crate::setup::client_of;
 use crate::status::{ScriptEnd, Status};
@@ -54,22 +56,23 @@ fn link_of(alloc: Global, client: &mut Client<MemoryLink>) -> MemoryLink
 }
 
 /// Replays a script on the link: moves it into a client, and back.
-fn replay_on(
+fn replay_on<K: Sink>(
     alloc: Global,
     options: Options,
     script: &[u8],
+    sink: &mut K,
     link: &mut MemoryLink,
     output: &mut Text,
-) -> Result<ScriptEnd, OutOfMemory>
-    ensures { IfOk result (λ end. Replays
+) -> Result<ScriptEnd, Cut>
+    ensures { Performs
         (replay_from (settings_for options) (lines_of script.now) 1 ScriptEnd.Answered
         (drop link.old.pos link.old.ever))
-        link.old link.new (Status.Ended end) output.old output.new) }
+        (K.state sink.old) (K.state sink.new) link.old link.new output.old output.new result }
 {
     let moved = mem::replace(link, MemoryLink::new(alloc));
     let diag = options.diag;
     let mut client = client_of(moved, options);
-    let end = replay(alloc, &mut client, diag, script, output);
+    let end = replay(alloc, &mut client, diag, script, sink, output);
     *link = link_of(alloc, &mut client);
     end
 }
@@ -99,26 +102,49 @@ fn make_on(
     end
 }
 
-/// Does what a command asks for with the whole script, and returns how it ended.
-fn perform(
+/// Does what a command asks for with the whole script, and returns how it ended. What is not yet
+/// written of its text is added to `output`.
+fn perform<K: Sink>(
     alloc: Global,
     command: Command,
     script: &[u8],
+    sink: &mut K,
     link: &mut MemoryLink,
     output: &mut Text,
-) -> Result<ScriptEnd, OutOfMemory>
+) -> Result<ScriptEnd, Cut>
     requires { drop link.old.pos link.old.ever ≡ [] }
     ensures kept { makes_calls (Some command) ≡ false → link.new ≡ link.old }
-    ensures replays { IfOk result (λ end. Replays
-        (lines_transcript command (lines_of script.now)) link.old link.new (Status.Ended end)
-        output.old output.new) }
+    ensures performs { Performs (lines_transcript command (lines_of script.now))
+        (K.state sink.old) (K.state sink.new) link.old link.new output.old output.new result }
 {
     match command {
-        Command::Replay(options) => replay_on(alloc, options, script, link, output),
-        Command::Explain => explain(alloc, script, output),
-        Command::Make(count) => make_on(alloc, count, link, output),
-        Command::Audit => audit_script(alloc, script, output),
-        Command::Joined(options) => run_joined(alloc, options, script, output),
+        Command::Replay(options) => replay_on(alloc, options, script, sink, link, output),
+        Command::Explain => Ok(explain(alloc, script, output)?),
+        Command::Make(count) => Ok(make_on(alloc, count, link, output)?),
+        Command::Audit => Ok(audit_script(alloc, script, output)?),
+        Command::Joined(options) => Ok(run_joined(alloc, options, script, output)?),
+    }
+}
+
+/// Does what a command asks for with the whole script, writes its text, and returns how the run
+/// ended.
+fn carry_out<K: Sink>(
+    alloc: Global,
+    command: Command,
+    script: &[u8],
+    sink: &mut K,
+    link: &mut MemoryLink,
+) -> Status
+    requires { drop link.old.pos link.old.ever ≡ [] }
+    ensures kept { makes_calls (Some command) ≡ false → link.new ≡ link.old }
+    ensures ends { Ends (lines_transcript command (lines_of script.now))
+        (K.state sink.old) (K.state sink.new) link.old link.new result }
+{
+    let mut output = Text::new(alloc);
+    match perform(alloc, command, script, sink, link, &mut output) {
+        Ok(end) => finish(sink, output.as_str(), end),
+        Err(Cut::SinkFailed) => Status::SinkFailed,
+        Err(Cut::OutOfMemory) => Status::OutOfMemory,
     }
 }
 
@@ -146,11 +172,7 @@ fn run_alone<K: Sink>(
         (streams source (K.state sink.old) link.old) (streams source (K.state sink.new) link.new)
         result }
 {
-    let mut output = Text::new(alloc);
-    match perform(alloc, command, &[], link, &mut output) {
-        Ok(end) => finish(sink, output.as_str(), end),
-        Err(OutOfMemory) => Status::OutOfMemory,
-    }
+    carry_out(alloc, command, &[], sink, link)
 }
 
 /// Reads the whole script, does with it what the command asks for, and returns how the run ended.
@@ -176,11 +198,7 @@ fn run_script<S: Source, K: Sink>(
     if script.len() > MAX_SCRIPT {
         return Status::TooLong;
     }
-    let mut output = Text::new(alloc);
-    match perform(alloc, command, &script, link, &mut output) {
-        Ok(end) => finish(sink, output.as_str(), end),
-        Err(OutOfMemory) => Status::OutOfMemory,
-    }
+    carry_out(alloc, command, &script, sink, link)
 }
 
 /// Does what the words ask for, and returns how the run ended.

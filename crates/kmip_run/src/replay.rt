@@ -1,17 +1,18 @@
 //! The lines of a script, one call after the other.
-ghost use Rattle.std.specs.Prelude.{◌≡◌, drop, IfOk};
+ghost use Rattle.std.specs.Prelude.{◌≡◌, drop};
 ghost use Rattle.kmip_words.specs.Exchange.{settings_of};
 ghost use Rattle.kmip_run.specs.Script.{lines_of};
-ghost use Rattle.kmip_run.specs.Transcript.{end_after, replay_from, Replays};
+ghost use Rattle.kmip_run.specs.Transcript.{end_after, replay_from};
+ghost use Rattle.kmip_run.specs.Performed.{Performs};
 ghost use Rattle.kmip_run.specs.declared.status.ScriptEnd.TheVariants.{Answered};
-ghost use Rattle.kmip_run.specs.declared.status.Status.TheVariants.{Ended};
 
 use crate::exchange::exchange;
+use crate::output::{Cut, write_if_long};
 use crate::script::{first_line, show_bad_line};
 use crate::status::ScriptEnd;
 use kmip_client::Client;
-use kmip_link::MemoryLink;
-use kmip_wire::{OutOfMemory, Text};
+use kmip_link::{MemoryLink, Sink};
+use kmip_wire::Text;
 use kmip_words::call_of;
 use std::alloc::Global;
 
@@ -23,19 +24,22 @@ pub fn end_after(end: ScriptEnd, failed: bool) -> ScriptEnd
 }
 
 /// Makes the calls of the lines, up to a line that is not of the grammar, and returns how they
-/// ended. `diag` is whether the client keeps diagnostics.
-pub fn replay(
+/// ended. Their text is added to `output`, which is written and emptied each time that it is long.
+/// `diag` is whether the client keeps diagnostics.
+pub fn replay<K: Sink>(
     alloc: Global,
     client: &mut Client<MemoryLink>,
     diag: bool,
     script: &[u8],
+    sink: &mut K,
     output: &mut Text,
-) -> Result<ScriptEnd, OutOfMemory>
+) -> Result<ScriptEnd, Cut>
     requires { diag ≡ client.old.buffered }
-    ensures { IfOk result (λ end. Replays
+    ensures { Performs
         (replay_from (settings_of client.old) (lines_of script.now) 1 Answered
         (drop client.old.link.pos client.old.link.ever))
-        client.old.link client.new.link (Ended end) output.old output.new) }
+        (K.state sink.old) (K.state sink.new) client.old.link client.new.link
+        output.old output.new result }
 {
     let mut end = ScriptEnd::Answered;
     let mut number = 0;
@@ -48,6 +52,7 @@ pub fn replay(
             return Ok(ScriptEnd::NotOfGrammar);
         };
         let failed = exchange(alloc, client, diag, recorded, output)?;
+        write_if_long(sink, output)?;
         end = end_after(end, failed);
         rest = later;
     }

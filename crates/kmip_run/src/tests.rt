@@ -198,6 +198,27 @@ fn a_sink_that_fails_ends_with_status_4(rt: HostRuntime) -> Result<(), Fail> {
     Ok(())
 }
 
+/// What `query -` shows has so many bytes: its request of 152 bytes in hex, and that no response
+/// came.
+const SHOWN: usize = 2 + 2 * 152 + 1 + 36;
+
+#[test]
+fn a_long_text_is_written_in_pieces_and_a_sink_that_fails_has_the_first(
+    rt: HostRuntime,
+) -> Result<(), Fail> {
+    let mut script = Vec::new(rt.alloc());
+    for _ in 0..300 {
+        script.extend_from_slice(b"query -\n")?;
+    }
+    let (status, written) = replayed(rt.alloc(), &script, &[], &[])?;
+    assert_eq!(rt; status, 1);
+    assert_eq!(rt; written, 300 * SHOWN);
+    let (status, written) = replayed(rt.alloc(), &script, &[], &[1])?;
+    assert_eq!(rt; status, 4);
+    assert_eq!(rt; written, 192 * SHOWN);
+    Ok(())
+}
+
 #[test]
 fn a_script_of_16_777_217_bytes_ends_with_status_6_and_no_text(
     rt: HostRuntime,

@@ -1,4 +1,4 @@
-//! Calls that are answered: those of words, any operation, and whole messages.
+//! Calls of words that are answered, and calls of any operation and of whole messages.
 use super::{ANSWERED, Failing, NONE, NOT_READ, NOT_RECORDED, NOT_SENT, RNG_BY_ALICE, Row};
 
 /// Calls that are answered.
@@ -77,7 +77,7 @@ pub const ANSWERS: &[Row] = &[
 ];
 
 /// A payload of Encrypt in JSON, and its request by KMIP 1.2 (4.29).
-pub const PAYLOAD: &str =
+const PAYLOAD: &str =
     "{\"tag\":\"RequestPayload\",\"value\":[{\"tag\":\"Data\",\"type\":\"ByteString\",\"value\":\"00FF\"}]}";
 
 const ENCRYPT: &str = "REQ2(1F, C2 x00FF)";
@@ -87,13 +87,24 @@ const ENCRYPT_BY_ALICE: &str =
     "78{77{69{6A i1,6B i0},0C{23{24 e1,25{99 \"alice\",A1 \"secret\"}}},0D i1},0F{5C e1F,79{C2 x00FF}}}";
 
 /// The call of Encrypt, which is answered.
-pub const ENCRYPTED: Row = Row {
+const ENCRYPTED: Row = Row {
     shows: "an operation by its name",
     words: &["operation", "Encrypt", PAYLOAD],
     response: "OK2(1F, 94 \"k1\",C2 xDEADBEEF)",
     sent: ENCRYPT,
     line: "{\"answer\":{\"tag\":\"ResponsePayload\",\"value\":[{\"tag\":\"UniqueIdentifier\",\"type\":\"TextString\",\"value\":\"k1\"},{\"tag\":\"Data\",\"type\":\"ByteString\",\"value\":\"DEADBEEF\"}]}}\n",
     ..ANSWERED
+};
+
+/// An operation without a payload, for which nothing is sent or read.
+const NO_OPERATION: Row = Row {
+    shows: "an operation without a payload",
+    words: &["operation", "Encrypt"],
+    sent: "",
+    line: "{\"error\":\"GrammarError\",\"text\":\"the words are not those of operation NAME [version=VERSION] PAYLOAD\"}\n",
+    status: 2,
+    left: 168,
+    ..ENCRYPTED
 };
 
 /// Calls of any operation.

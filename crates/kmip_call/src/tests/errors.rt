@@ -1,19 +1,7 @@
 //! Calls that end with an error, records, words out of the grammar, and sinks and sources that fail.
-use super::answers::{ENCRYPTED, PAYLOAD};
 use super::{
     ANSWERED, Failing, LIMIT, NONE, NOT_READ, NOT_RECORDED, NOT_RNG, NOT_SENT, OPTION, RECORD,
     REFUSED, RNG_BY_ALICE, Row,
-};
-
-/// An operation without a payload, for which nothing is sent or read.
-const NO_OPERATION: Row = Row {
-    shows: "an operation without a payload",
-    words: &["operation", "Encrypt"],
-    sent: "",
-    line: "{\"error\":\"GrammarError\",\"text\":\"the words are not those of operation NAME [version=VERSION] PAYLOAD\"}\n",
-    status: 2,
-    left: 168,
-    ..ENCRYPTED
 };
 
 /// Calls that have an error for an answer.

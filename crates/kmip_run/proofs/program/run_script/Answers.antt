@@ -1,6 +1,6 @@
 use Rattle.std.proofs.Common.{◌≡◌, ℕ, ◌+◌, List, take, refl, ap, Some, Err, arith}
 use Rattle.kmip_link.specs.State.{source_left}
-use Rattle.kmip_run.proofs.Whole.{Finishes, script_long, memory_ended, source_ended, long_ended, script_read}
+use Rattle.kmip_run.proofs.Whole.{script_long, memory_ended, source_ended, long_ended, script_read}
 use Rattle.kmip_run.proofs.program.run_script.Goals as goal
 
 pub returns-in-Err-Fault : goal.returns-in-Err-Fault
@@ -28,32 +28,13 @@ returns-then-len-gt-MAX_SCRIPT g c =
     (omega (arith, c.read_up_to.new.script.ok)))
     (λ source. ((c.in-Ok.ensures.ok source).0).pos)
 
-pub returns-in-Ok-perform : goal.returns-in-Ok-perform
-returns-in-Ok-perform g c =
-    let left : List ℕ = source_left (g.S.Source.state c.args.source.now) in
-    let e = c.finish.ensures in
-    let wrote : Finishes c.as_str.result.now c.in-Ok-perform.end (g.K.Sink.state c.args.sink.now)
-    (g.K.Sink.state c.finish.new.sink) c.finish.result =
-    record {
-      keeps = e.keeps;
-      fault = e.fault;
-      status_is = e.status;
-      written = e.written;
-      part = e.part;
-    } in
+pub returns : goal.returns
+returns g c =
     script_read c.args.command (g.S.Source.state c.args.source.now) (g.S.Source.state c.read_up_to.new.source)
-    (g.K.Sink.state c.args.sink.now) (g.K.Sink.state c.finish.new.sink) c.args.link.now c.perform.new.link
-    c.in-Ok-perform.end c.perform.new.output c.read_up_to.new.script.items c.finish.result c.requires.reads
+    (g.K.Sink.state c.args.sink.now) (g.K.Sink.state c.carry_out.new.sink) c.args.link.now c.carry_out.new.link
+    c.read_up_to.new.script.items c.carry_out.result c.requires.reads
     c.read_up_to.ensures.keeps
     (λ source. rw c.new-script.ensures.items at (c.in-Ok.ensures.ok source).1)
     (omega (arith, c.read_up_to.new.script.ok))
     (λ source. ((c.in-Ok.ensures.ok source).0).pos)
-    (rw (c.new-output.ensures, c.deref.ensures.value) at c.in-Ok-perform.ensures.replays)
-    c.perform.ensures.kept (rw c.as_str.ensures.bytes at wrote)
-
-pub returns : goal.returns
-returns g c =
-    let reads = c.requires.reads in
-    memory_ended (Some c.args.command) (g.S.Source.state c.args.source.now)
-    (g.S.Source.state c.read_up_to.new.source) (g.K.Sink.state c.args.sink.now) c.args.link.now c.perform.new.link
-    c.read_up_to.ensures.keeps (λ none. absurd (cc)) c.perform.ensures.kept
+    c.carry_out.ensures.kept (rw c.deref.ensures.value at c.carry_out.ensures.ends)
