@@ -63,6 +63,8 @@ def told(text: str) -> bool:
         sys.stdout.write(text)
         sys.stdout.flush()
     except OSError:
+        # What is left in its buffer would be written at the end, and fail once more.
+        os.dup2(os.open(os.devnull, os.O_WRONLY), sys.stdout.fileno())
         return False
     return True
 

@@ -8,6 +8,7 @@ Status: 0 done, 1 refused, 2 not of the grammar, 3 the connection is lost or the
 identifier could not be written, 5 out of memory.
 """
 import json
+import os
 import sys
 
 from metsuwan import Client, ConnectError, ConnectionLost, GrammarError, KmipError
@@ -47,6 +48,8 @@ def told(text: str) -> bool:
         sys.stdout.write(text)
         sys.stdout.flush()
     except OSError:
+        # What is left in its buffer would be written at the end, and fail once more.
+        os.dup2(os.open(os.devnull, os.O_WRONLY), sys.stdout.fileno())
         return False
     return True
 

@@ -6,6 +6,8 @@ written() { # WHAT STATUS: how the command before ended, which wrote "$said"
     ((status == $2)) && ! grep -qE 'Traceback|Exception|panicked|core dumped|line [0-9]+:' "$said"
     verdict "$1"
 }
+# (Python writes what is in its buffer at its end.)
+unset PYTHONUNBUFFERED
 fake good
 client_run call query 2>"$said" >/dev/full
 written 'an answer, and a disk that is full' 4
