@@ -11,7 +11,9 @@ use metsuwan::{HashingAlgorithm, PaddingMethod, Register, Sign};
 use openssl::hash::MessageDigest;
 use openssl::pkey::PKey;
 use openssl::sign::Signer;
+use settings::Failure;
 use std::path::Path;
+use std::process::ExitCode;
 use std::time::{SystemTime, UNIX_EPOCH};
 
 type Outcome<T> = Result<T, Box<dyn std::error::Error>>;
@@ -243,11 +245,11 @@ fn certificates(client: &TlsClient, objects: &Path, folder: &Path) -> Outcome<()
     Ok(())
 }
 
-fn main() -> Outcome<()> {
-    let words = settings::arguments().ok_or("a word is not UTF-8")?;
-    let Some((server, [objects, folder])) = settings::server_of(&words) else {
+fn run() -> Outcome<()> {
+    let words = settings::arguments()?;
+    let Some((server, [objects, folder])) = settings::server_of(&words)? else {
         let usage = "usage: operations HOST PORT CERTIFICATE KEY AUTHORITY OBJECTS FOLDER";
-        return Err(usage.into());
+        return Err(settings::wrong(usage).into());
     };
     let (objects, folder) = (Path::new(objects), Path::new(folder));
     let client = server.with_timeout(None).connect()?.build();
@@ -258,4 +260,14 @@ fn main() -> Outcome<()> {
     certificates(&client, objects, folder)?;
     println!("the end");
     Ok(())
+}
+
+fn main() -> ExitCode {
+    match run() {
+        Ok(()) => ExitCode::SUCCESS,
+        Err(error) => {
+            eprintln!("{error}");
+            ExitCode::from(error.downcast_ref().map_or(1, |it: &Failure| it.1))
+        }
+    }
 }

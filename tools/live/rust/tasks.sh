@@ -6,8 +6,8 @@
 mod settings;
 
 fn main() -> Result<(), Box<dyn std::error::Error>> {
-    let words = settings::arguments().ok_or("words")?;
-    let Some((server, [])) = settings::server_of(&words) else { return Err("words".into()) };
+    let words = settings::arguments()?;
+    let Some((server, [])) = settings::server_of(&words)? else { return Err("words".into()) };
     let client = server.connect()?.build();
 CODE
     lines_of_tasks rust
