@@ -25,10 +25,12 @@ pub enum Asked {
     Message(Tree),
 }
 
-/// What an order asks for, and the bytes of its request, which is `None` where it has no wire form.
+/// What an order asks for, and its request.
 #[derive(Drop)]
 pub struct Requested {
+    /// What the order asks for.
     pub asked: Asked,
+    /// The bytes of its request; `None` where it has no wire form.
     pub request: Option<Vec<u8>>,
 }
 

@@ -81,6 +81,7 @@ fn push_answer(
 /// What some bytes answer to a call.
 #[derive(Drop)]
 pub struct TreeReply {
+    /// The payload of the response, or the whole response to a message; or why there is none.
     pub answer: Result<Tree, Error>,
     /// How many of the bytes the answer depends on.
     pub taken: usize,

@@ -1,5 +1,5 @@
 -- Exchanges that are made from a number, one after the other.
-use Rattle.std.proofs.Common.{◌≡◌, ℕ, suc, ◌+◌, ◌-◌, ◌*◌, ◌%◌, ◌^◌, ◌≤◌, Bool, true, false, cond, nat_lt, List, [], ◌++◌, length, take, drop, refl, ◌∙◌, ap, sym, subst, arith, append_assoc, Option, Some, None, Result, Ok, Err, length-append, length-drop}
+use Rattle.std.proofs.Common.{◌≡◌, ℕ, suc, ◌+◌, ◌-◌, ◌*◌, ◌%◌, ◌^◌, ◌≤◌, Bool, true, false, cond, nat_lt, List, [], ◌++◌, length, take, drop, refl, ◌∙◌, ap, sym, subst, arith, append_assoc, Option, Some, None, Result, Ok, Err, length-drop}
 use Rattle.std.proofs.Math.Nat.{mod-add-mod, mul_comm}
 use Rattle.std.proofs.lemmas.List.{length-take}
 use Rattle.std.proofs.lemmas.Bool.Decides.{nat_tests}
@@ -12,11 +12,9 @@ use Rattle.kmip_client.specs.Message.{Ended, Whole, message_at, message_by, take
 use Rattle.kmip_client.specs.Outcome.{outcome_of}
 use Rattle.kmip_words.specs.Exchange.{Settings, settings_of, request_asked, fails, Step, step, Answers}
 use Rattle.kmip_words.specs.declared.ending.Ending.{Ending}
-use Rattle.kmip_run.specs.Making.{next_of, made_of, Counts, no_counts, one_ok, one_error, then_made, counts_after, made_text, MakesCall, Makes}
-use Rattle.kmip_run.specs.Transcript.{counted_transcript, Replays}
+use Rattle.kmip_run.specs.Making.{next_of, made_of, Counts, no_counts, one_ok, one_error, then_made, counts_after, MakesCall, Makes}
 use Rattle.kmip_words.specs.declared.call.Call.{Call}
 use Rattle.kmip_words.specs.declared.call.Recorded.{Recorded}
-use Rattle.kmip_run.specs.declared.status.ScriptEnd.TheVariants.{Answered}
 use Rattle.kmip_run.specs.declared.status.Status.TheVariants.{Ended}
 use Rattle.kmip_run.proofs.Runs.{append_none}
 

@@ -1,5 +1,5 @@
 //! Text that is written while it is made.
-ghost use Rattle.std.specs.Prelude.{◌≡◌, IsErrOf, IsTrue, OnErr, OnOk};
+ghost use Rattle.std.specs.Prelude.{◌≡◌, ◌<◌, length, IsErrOf, IsTrue, OnErr, OnOk};
 ghost use Rattle.kmip_link.specs.State.{SinkKeeps, FaultCountRose};
 ghost use Rattle.kmip_words.specs.Streams.{WrotePart};
 ghost use Rattle.kmip_run.specs.Performed.{Moves};
@@ -31,11 +31,12 @@ impl From<OutOfMemory> for Cut {
     }
 }
 
-/// Writes the text and empties it, where it has at least 65,536 bytes. So a long text takes the
-/// memory of a piece of it.
+/// Writes the text and empties it, where it has at least 65,536 bytes: so a long text takes the
+/// memory of a piece of it, and fewer bytes than that are kept.
 pub fn write_if_long<K: Sink>(sink: &mut K, text: &mut Text) -> Result<(), Cut>
     ensures keeps { SinkKeeps (K.state sink.old) (K.state sink.new) }
     ensures moved { OnOk result (Moves (K.state sink.old) (K.state sink.new) text.old text.new) }
+    ensures short { OnOk result (length text.new < 65536) }
     ensures part { OnErr result (IsTrue (K.state sink.old).tells →
         WrotePart (K.state sink.old) (K.state sink.new) text.old) }
     ensures cause { IsErrOf result Cut.SinkFailed →

@@ -1,10 +1,10 @@
 //! The lines of a script, one call after the other.
-ghost use Rattle.std.specs.Prelude.{◌≡◌, drop};
+ghost use Rattle.std.specs.Prelude.{◌≡◌, ◌≢◌, ◌<◌, IfOk, drop, length};
 ghost use Rattle.kmip_words.specs.Exchange.{settings_of};
 ghost use Rattle.kmip_run.specs.Script.{lines_of};
 ghost use Rattle.kmip_run.specs.Transcript.{end_after, replay_from};
 ghost use Rattle.kmip_run.specs.Performed.{Performs};
-ghost use Rattle.kmip_run.specs.declared.status.ScriptEnd.TheVariants.{Answered};
+ghost use Rattle.kmip_run.specs.declared.status.ScriptEnd.TheVariants.{Answered, NotOfGrammar};
 
 use crate::exchange::exchange;
 use crate::output::{Cut, write_if_long};
@@ -24,7 +24,8 @@ pub fn end_after(end: ScriptEnd, failed: bool) -> ScriptEnd
 }
 
 /// Makes the calls of the lines, up to a line that is not of the grammar, and returns how they
-/// ended. Their text is added to `output`, which is written and emptied each time that it is long.
+/// ended. Their text is added to `output`, which is written and emptied each time that it has
+/// 65,536 bytes: so fewer are kept at the end, but where the last line read is not of the grammar.
 /// `diag` is whether the client keeps diagnostics.
 pub fn replay<K: Sink>(
     alloc: Global,
@@ -35,11 +36,13 @@ pub fn replay<K: Sink>(
     output: &mut Text,
 ) -> Result<ScriptEnd, Cut>
     requires { diag ≡ client.old.buffered }
-    ensures { Performs
+    ensures performs { Performs
         (replay_from (settings_of client.old) (lines_of script.now) 1 Answered
         (drop client.old.link.pos client.old.link.ever))
         (K.state sink.old) (K.state sink.new) client.old.link client.new.link
         output.old output.new result }
+    ensures short { IfOk result (λ end. end ≢ NotOfGrammar
+        → length output.old < 65536 → length output.new < 65536) }
 {
     let mut end = ScriptEnd::Answered;
     let mut number = 0;

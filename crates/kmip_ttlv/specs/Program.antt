@@ -63,3 +63,7 @@ Fails input failures.NotText = ¬ IsUtf8 input
 Fails input (failures.Unread error) = ReadsText (Err error) input
 Fails input failures.NoForm = (t : Tree) × ReadsText (Ok t) input × (bytes t ≡ None)
 Fails input failures.OutOfMemory = Unit {0}
+
+-- the program's name, a reason and a line feed
+abbrev pub IsMessage : List ℕ → Type 0
+IsMessage text = (why : List ℕ) × (text ≡ codes "kmip_ttlv: " ++ why ++ codes "\n")

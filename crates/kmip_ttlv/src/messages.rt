@@ -1,4 +1,6 @@
 //! What the program says of a failure.
+ghost use Rattle.std.specs.Prelude.{IfOk};
+ghost use Rattle.kmip_ttlv.specs.Program.{IsMessage};
 
 use crate::program::Failure;
 use itoa::Buffer;
@@ -56,9 +58,9 @@ fn push_error(out: &mut Text, error: &EncodingError) -> Result<(), OutOfMemory> 
     }
 }
 
-/// A line that says why there is no output.
-pub fn message(alloc: Global, failure: &Failure) -> Result<Text, OutOfMemory> {
-    let mut out = Text::of(alloc, "kmip_ttlv: ")?;
+/// Why there is no output.
+fn reason(alloc: Global, failure: &Failure) -> Result<Text, OutOfMemory> {
+    let mut out = Text::new(alloc);
     match failure {
         Failure::NotItem => out.push_str("the input is not one well-formed item")?,
         Failure::NotText => out.push_str("the input is not UTF-8")?,
@@ -68,6 +70,16 @@ pub fn message(alloc: Global, failure: &Failure) -> Result<Text, OutOfMemory> {
         }
         Failure::OutOfMemory => out.push_str("out of memory")?,
     }
+    Ok(out)
+}
+
+/// A line that says why there is no output, behind the program's name.
+pub fn message(alloc: Global, failure: &Failure) -> Result<Text, OutOfMemory>
+    ensures { IfOk result IsMessage }
+{
+    let why = reason(alloc, failure)?;
+    let mut out = Text::of(alloc, "kmip_ttlv: ")?;
+    out.push_str(why.as_str())?;
     out.push_str("\n")?;
     Ok(out)
 }

@@ -1,4 +1,4 @@
-use Rattle.std.proofs.Common.{◌≡◌, ◌+◌, ◌≤◌, drop, length}
+use Rattle.std.proofs.Common.{◌≡◌, ◌+◌, ◌≤◌, ◌<◌, drop, length}
 use Rattle.kmip_run.specs.Script.{lines_of}
 use Rattle.kmip_words.specs.Exchange.{settings_of}
 use Rattle.kmip_run.specs.Transcript.{replay_from}
@@ -10,6 +10,7 @@ abbrev pub invariant-loop-rest : goal.invariant-loop-rest
 invariant-loop-rest g l = record {
   settings : settings_of l.client ≡ settings_of l.initial.client;
   counted : l.number + length l.rest ≤ length l.script;
+  short : length l.initial.output < 65536 → length l.output < 65536;
   shows : Shows (replay_from (settings_of l.initial.client) (lines_of l.script) 1 Answered
       (drop l.initial.client.link.pos l.initial.client.link.ever))
       l.initial.client.link l.client.link (g.K.Sink.state l.initial.sink) (g.K.Sink.state l.sink)
