@@ -1,11 +1,14 @@
 -- One call over a server with a plain maker: what is expected of it is what the program's definitions say.
-use Rattle.std.proofs.Common.{◌≡◌, ℕ, ℤ, pos, ◌<◌, List, [], ◌∷◌, ◌++◌, length, drop, map, length-append, refl, ◌∙◌, ap, sym, subst, arith, Bool, true, false, cond, Option, Some, None, IfOk}
+use Rattle.std.proofs.Common.{◌≡◌, ℕ, ℤ, pos, ◌<◌, List, [], ◌∷◌, ◌++◌, length, drop, map, length-append, refl, ◌∙◌, ap, sym, subst, arith, Bool, true, false, cond, Option, Some, None, Result, IfOk, slice_get}
+use Rattle.kmip_link.specs.State.{LinkState}
 use Rattle.kmip_types.specs.declared.auth.CredentialType.{CredentialType}
 use Rattle.kmip_request.specs.Message.{request_bytes}
 use Rattle.kmip_response_write.specs.Settled.{response_bytes}
 use Rattle.kmip_shape.specs.declared.style.Style.TheVariants.{Bare}
 use Rattle.kmip_client.specs.Client.{ClientState}
+use Rattle.kmip_client.specs.declared.error.Error.{Error}
 use Rattle.kmip_client.specs.Outcome.{outcome_of}
+use Rattle.kmip_store.specs.Makers.{MakerState}
 use Rattle.kmip_store.specs.Plain.{PlainMemory, plain_state, plain_answers}
 use Rattle.kmip_store.specs.declared.call.Call.{Call}
 use Rattle.kmip_store.specs.declared.call.Call.TheVariants.{Query, CreateRsaKeyPair, RngRetrieve, Sign, ActivateKey, RevokeKey, DestroyKey, RenameKey, GetKey}
@@ -15,16 +18,18 @@ use Rattle.kmip_store.proofs.Plains.{as_many}
 use Rattle.std.specs.Option.{option_to_list}
 use Rattle.kmip_server_core.specs.Requests.{request_of, call_operation}
 use Rattle.kmip_server_core.specs.Served.{served, asks}
-use Rattle.kmip_server.specs.Calls.{report_of, call_settings, before_all}
+use Rattle.kmip_server.specs.Calls.{HelperRan, called, not_made, IsOfCall, report_of, call_settings, before_all}
 use Rattle.kmip_server.specs.OneCall.{standing}
 use Rattle.kmip_server.specs.Joined.{CallSettings, Between, Expected, Reported, Unsent, JoinedReport, Next, turn_with, joined_report, answered_with, sent_with, next, expected_calls, finish, has_unsent, ReportsMatch}
 use Rattle.kmip_server.specs.Link.{ServerLinkState, IsOpen}
 use Rattle.kmip_server.specs.Machine.{first_for}
+use Rattle.kmip_server.specs.Session.{CallsRan}
+use Rattle.kmip_server.specs.declared.answers.Answered.{Answered}
 use Rattle.kmip_server.specs.declared.answers.CallAnswer.{CallAnswer}
 use Rattle.kmip_words.specs.Exchange.{Settings as LineSettings, Asked as LineAsked, Step, step_of, request_asked, asked_of, value_in_style, or_empty}
 use Rattle.kmip_joined.specs.Lines.{line_call}
 use Rattle.kmip_joined.specs.World.{World, Joined, next_made, after_request, after_sending, joined_step, world_of}
-use Rattle.kmip_joined.specs.Told.{IsJoined, HasPlainAnswers, IsMade, IsMadeSo, IsSuited, ReportsStep, makes_pair, is_pair}
+use Rattle.kmip_joined.specs.Told.{IsJoined, HasPlainAnswers, IsMade, IsMadeSo, ReportsStep}
 use Rattle.kmip_joined.proofs.Own.{append_none, first_is}
 use Rattle.kmip_joined.proofs.Plain.{world_same, world_at, Stands, stands}
 use Rattle.kmip_joined.proofs.Told.{told_as}
@@ -208,7 +213,7 @@ pub record Known (settings : CallSettings) (call : Call)
   pub stood : (extra : List Asked) → after.server.maker.asked ≡ now.asked ++ extra → Stands before now extra
   pub ends : standing plain_state after ≡ (next settings now call).after
   pub told : (next settings now call).expected ≡ Reported (report_of x)
-  pub pair : makes_pair call ≡ true → IfOk x.answer (λ a. is_pair a ≡ true)
+  pub fits : IfOk x.answer (IsOfCall call)
 
 made_known : (settings : CallSettings) (call : Call) (before after : ServerLinkState PlainMemory)
     (now : Between) (x : CallAnswer) → Known settings call before after now x
@@ -237,8 +242,27 @@ made_known settings call before after now x known =
           ∙ ap (λ (j : Joined). j.after) (sym step);
       told = subst (λ (j : Joined). ReportsStep j.step settings.buffered x) (sym step)
           (told_as settings call request
-          (after_sending (world_at now) request).rest x it.told known.pair);
+          (after_sending (world_at now) request).rest x it.told known.fits);
     }
+
+-- ---- the answer is of the variant of its call
+
+ran_fits : {T : Type 0} {state : T → LinkState} {call : Call} {before after : ClientState T}
+    {result : Result Answered Error} → HelperRan state call before after result
+    → IfOk result (IsOfCall call)
+ran_fits (called answer is_call is fits) = fits
+ran_fits {call = call} (not_made is stays) = subst (λ r. IfOk r (IsOfCall call)) (sym is) tt
+
+abbrev FirstFits : List Call → List CallAnswer → Type 0
+FirstFits (call ∷ calls) (x ∷ xs) = IfOk x.answer (IsOfCall call)
+FirstFits calls xs = Unit {0}
+
+first_fits : {M : Type 0} {state : M → MakerState} {calls : List Call}
+    {before after : ClientState (ServerLinkState M)} {xs : List CallAnswer}
+    → CallsRan state calls before xs after → FirstFits calls xs
+first_fits (CallsRan.at_end client) = tt
+first_fits (CallsRan.at_loss call calls before after report ran lost) = ran_fits ran.ran
+first_fits (CallsRan.later call calls before between after report reports ran on more) = ran_fits ran.ran
 
 -- the first answer of a list of one
 popped : (rest : List CallAnswer) (x y : CallAnswer) → y ∷ [] ≡ x ∷ rest → y ≡ x
@@ -262,10 +286,9 @@ one_of old new call xs opened said =
     let sound : new.link.faults ≡ 0 = said.sound in omega (arith, above, sound))
 
 came_so : (old new : Clients) (call : Call) (xs rest : List CallAnswer) (x : CallAnswer)
-    → IsJoined old.link → IsMade old new call xs → xs ≡ x ∷ rest
-    → (makes_pair call ≡ true → IfOk x.answer (λ a. is_pair a ≡ true)) →
+    → IsJoined old.link → IsMade old new call xs → xs ≡ x ∷ rest →
     MadeSo (line_settings (call_settings old)) call old.link new.link x
-came_so old new call xs rest x joined said last pair =
+came_so old new call xs rest x joined said last =
     let s : CallSettings = call_settings old in
     let now : Between = before_all plain_state old new.link in
     let it = one_of old new call xs joined.is_open said in
@@ -277,7 +300,7 @@ came_so old new call xs rest x joined said last pair =
           stands old.link new.link.server.maker.given new.link.server.maker.asked extra joined.is_open said.known said.plain said.plain_after asked;
       ends = said.session.finished joined.is_open ∙ finish_one s now call;
       told = it.told ∙ ap (λ (a : CallAnswer). Reported (report_of a)) same;
-      pair = pair;
+      fits = subst (λ (l : List CallAnswer). FirstFits (call ∷ []) l) last (first_fits said.session.ran);
     })
 
 -- ---- what stays
@@ -302,11 +325,17 @@ same_settings old new call xs made = ap line_settings made.settings
 
 -- ---- so a call was made
 
+first_of : (xs : List CallAnswer) (x : CallAnswer) → slice_get xs 0 ≡ Some x
+    → (rest : List CallAnswer) × (xs ≡ x ∷ rest)
+first_of [] x is = absurd (cc)
+first_of (y ∷ ys) x is = (ys, cc)
+
 pub made_so : (old new : Clients) (call : Call) (xs : List CallAnswer) (x : CallAnswer)
-    (pair : Bool) → IsJoined old.link → IsMade old new call xs → pair ≡ makes_pair call
-    → IsSuited pair xs x → IsMadeSo old new call x
-made_so old new call xs x pair joined made is suited =
-    let it = came_so old new call xs suited.later x joined made suited.is (λ e. suited.suits (is ∙ e)) in
+    → IsJoined old.link → IsMade old new call xs → slice_get xs 0 ≡ Some x
+    → IsMadeSo old new call x
+made_so old new call xs x joined made is =
+    let first = first_of xs x is in
+    let it = came_so old new call xs first.0 x joined made first.1 in
     record {
       settings = same_settings old new call xs made;
       joined =

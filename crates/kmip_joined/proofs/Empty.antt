@@ -1,10 +1,9 @@
--- The link to a server with no objects, before any call; and the first of the answers.
-use Rattle.std.proofs.Common.{◌≡◌, List, [], ◌∷◌, pos, refl, sym, subst, Bool, true, false, Some, IfOk, slice_get}
+-- The link to a server with no objects, before any call.
+use Rattle.std.proofs.Common.{◌≡◌, [], pos, refl, sym, subst, false}
 use Rattle.kmip_store.specs.Plain.{PlainMemory}
 use Rattle.kmip_server.specs.Link.{ServerLinkState}
 use Rattle.kmip_server.specs.Split.{messages_in}
-use Rattle.kmip_server.specs.declared.answers.CallAnswer.{CallAnswer}
-use Rattle.kmip_joined.specs.Told.{IsJoined, IsSuited, is_pair}
+use Rattle.kmip_joined.specs.Told.{IsJoined}
 
 -- the link round a server with this maker
 abbrev pub link_over : PlainMemory → ServerLinkState PlainMemory
@@ -24,9 +23,3 @@ joined_over maker = record { is_open = record { fed = refl; sound = refl; whole 
 
 pub joined_new : (link : ServerLinkState PlainMemory) (maker : PlainMemory) → link ≡ link_over maker → IsJoined link
 joined_new link maker is = subst (λ (l : ServerLinkState PlainMemory). IsJoined l) (sym is) (joined_over maker)
-
--- the first of the answers is suited where what is known of it holds
-pub first_suits : (pair : Bool) (xs : List CallAnswer) (x : CallAnswer) → slice_get xs 0 ≡ Some x
-    → (pair ≡ true → IfOk x.answer (λ a. is_pair a ≡ true)) → IsSuited pair xs x
-first_suits pair [] x is suits = absurd (cc)
-first_suits pair (y ∷ ys) x is suits = record { later = ys; is = cc; suits = suits }

@@ -1,5 +1,5 @@
 -- A call as it is told, and as the program tells it.
-use Rattle.std.proofs.Common.{◌≡◌, ◌≢◌, ℕ, List, take, refl, ◌∙◌, ap, Bool, true, Option, Some, None, Ok, Err, IfOk, inr}
+use Rattle.std.proofs.Common.{◌≡◌, ◌≢◌, ℕ, List, take, refl, ◌∙◌, ap, Bool, Option, Some, None, Ok, Err, IfOk, inr}
 use Rattle.kmip_enums.specs.declared.operation.Operation.{Operation}
 use Rattle.kmip_shape.specs.Val.{Val}
 use Rattle.kmip_shape.specs.declared.style.Style.TheVariants.{Bare}
@@ -13,13 +13,13 @@ use Rattle.kmip_client.proofs.Headlines.{seen_variant}
 use Rattle.kmip_client.proofs.Said.{OfMessages, message_says}
 use Rattle.kmip_store.specs.declared.call.Call.{Call}
 use Rattle.kmip_server_core.specs.Requests.{call_operation}
-use Rattle.kmip_server.specs.Calls.{report_of}
+use Rattle.kmip_server.specs.Calls.{IsOfCall, report_of}
 use Rattle.kmip_server.specs.Joined.{CallSettings, turn_with, joined_report}
 use Rattle.kmip_server.specs.declared.answers.CallAnswer.{CallAnswer}
 use Rattle.kmip_words.specs.Exchange.{told_lines, value_in_style, step_of}
 use Rattle.kmip_words.proofs.Diagnostics.{told_of}
 use Rattle.kmip_joined.specs.Lines.{line_call}
-use Rattle.kmip_joined.specs.Told.{ReportsStep, makes_pair, is_pair}
+use Rattle.kmip_joined.specs.Told.{ReportsStep}
 use Rattle.kmip_joined.proofs.Shown.{shown_is}
 
 -- no outcome is want of memory
@@ -78,15 +78,15 @@ of_operation (Some bytes) operation limit rest =
 pub told_as : (settings : CallSettings) (call : Call) (request : Option (List ℕ)) (rest : List ℕ)
     (x : CallAnswer) → report_of x ≡ joined_report settings call
     (turn_with settings call request rest) →
-    (makes_pair call ≡ true → IfOk x.answer (λ a. is_pair a ≡ true)) →
+    IfOk x.answer (IsOfCall call) →
     ReportsStep (step_of (λ payload. value_in_style (line_call call) payload Bare)
     Bare settings.buffered rest (outcome_of request (call_operation call) settings.limit rest))
     settings.buffered x
-told_as settings call request rest x is pair =
+told_as settings call request rest x is fits =
     let o = outcome_of request (call_operation call) settings.limit rest in
     let b : Bool = settings.buffered in
     let shown = shown_is call o.answer x.answer (ap (λ t. t.answer) is)
-    (of_operation request (call_operation call) settings.limit rest) pair in
+    (of_operation request (call_operation call) settings.limit rest) fits in
     record {
       sent = ap (λ t. t.sent) is;
       texts = ap (λ t. told_lines b t.request_text t.response_text) is

@@ -1,5 +1,5 @@
 -- What a call of a client over a server in memory did.
-use Rattle.std.specs.Prelude.{◌≡◌, ℕ, pos, List, [], ◌∷◌, ◌++◌, Bool, true, false, Result, Ok, Err, IfOk}
+use Rattle.std.specs.Prelude.{◌≡◌, ℕ, pos, List, [], ◌∷◌, ◌++◌, Bool, Result, Ok, Err}
 use Rattle.kmip_shape.specs.Shown.{shown_in_style}
 use Rattle.kmip_shape.specs.declared.style.Style.TheVariants.{Bare}
 use Rattle.kmip_response.specs.Tables.{query_payload, rng_retrieve_payload, sign_payload, attribute_edit_payload, get_payload}
@@ -8,7 +8,6 @@ use Rattle.kmip_wire.specs.declared.memory.OutOfMemory.{OutOfMemory}
 use Rattle.kmip_words.specs.declared.ending.Ending.{Ending}
 use Rattle.kmip_words.specs.declared.ending.Ending.TheVariants.{Answered as ended}
 use Rattle.kmip_store.specs.declared.call.Call.{Call}
-use Rattle.kmip_store.specs.declared.call.Call.TheVariants.{CreateRsaKeyPair}
 use Rattle.kmip_store.specs.Plain.{PlainMemory, plain_state, plain_answers}
 use Rattle.kmip_client.specs.Client.{ClientState}
 use Rattle.kmip_server.specs.Calls.{call_settings}
@@ -44,15 +43,6 @@ answered_shown (answered.Renamed payload) =
     shown_in_style attribute_edit_payload (attribute_edit_payload_val payload) Bare
 answered_shown (answered.Got payload) = shown_in_style get_payload (get_payload_val payload) Bare
 
--- whether it is the one call that returns two identifiers
-abbrev pub makes_pair : Call → Bool
-makes_pair (CreateRsaKeyPair key_length private_name public_name) = true
-makes_pair call = false
-
-abbrev pub is_pair : Answered → Bool
-is_pair (answered.Pair first second) = true
-is_pair x = false
-
 -- What is known of a call that was made, whose report is the one in the list: the link is not
 -- faulted, its maker's answers are those by their numbers, and the call did what `call_all` says.
 pub record IsMade (before after : ClientState (ServerLinkState PlainMemory)) (call : Call)
@@ -70,12 +60,6 @@ pub record ReportsStep (s : Step) (buffered : Bool) (report : CallAnswer) : Type
   pub texts : told_lines buffered report.req_diag report.res_diag ≡ s.told
   pub shown : answer_line answered_shown Bare report.answer ≡ s.shown
   pub failed : is_error report.answer ≡ s.failed
-
--- the first of the answers; where a pair was asked for, it is a pair or an error
-pub record IsSuited (pair : Bool) (answers : List CallAnswer) (x : CallAnswer) : Type 0 where
-  pub later : List CallAnswer
-  pub is : answers ≡ x ∷ later
-  pub suits : pair ≡ true → IfOk x.answer (λ a. is_pair a ≡ true)
 
 -- how a call ended whose payload was to be added as a line
 abbrev pub ended_so : Result (Unit {0}) OutOfMemory → Result Ending OutOfMemory

@@ -6,7 +6,7 @@ ghost use Rattle.kmip_joined.specs.World.{world_of, joined_step};
 ghost use Rattle.kmip_joined.specs.Told.{IsJoined, IsShown, Runs};
 
 use crate::answers::show_answer;
-use crate::made::{call_one, makes_pair, suited};
+use crate::made::call_one;
 use kmip_client::Client;
 use kmip_server::{Call, CallAnswer, ServerLink};
 use kmip_store::PlainMaker;
@@ -44,10 +44,8 @@ fn show_report(
 /// its answer, and returns whether this is an error. `diag` is whether the client keeps
 /// diagnostics.
 ///
-/// `OutOfMemory` comes also where the server's response has no wire form, and where the call for a
-/// pair returns something else. Neither happens: a response is not much longer than the line of its
-/// call, and each helper returns what is its own. But the contracts of the calls below do not say
-/// so.
+/// `OutOfMemory` comes also where the server's response has no wire form. That does not happen: a
+/// response is not much longer than the line of its call. But no contract says so.
 pub fn exchange(
     alloc: Global,
     client: &mut Client<ServerLink<PlainMaker>>,
@@ -63,10 +61,9 @@ pub fn exchange(
         (joined_step (settings_of client.old) (line_call call) (world_of client.old.link))
         (world_of client.new.link) failed output.old output.new) }
 {
-    let pair = makes_pair(&call);
     let answers = call_one(alloc, client, call)?;
-    match suited(pair, &answers) {
+    match answers.get(0) {
         Some(report) => show_report(alloc, diag, report, output),
-        None => Err(OutOfMemory),
+        None => unreachable!(),
     }
 }

@@ -1,13 +1,12 @@
 //! A call of a client over a server in memory.
-ghost use Rattle.std.specs.Prelude.{◌≡◌, true, false, IfOk, IfSome};
+ghost use Rattle.std.specs.Prelude.{◌≡◌, false, IfOk};
 ghost use Rattle.kmip_server.specs.Link.{LinkFacts};
 ghost use Rattle.kmip_store.specs.Plain.{plain_state};
 ghost use Rattle.kmip_joined.specs.World.{world_of, nothing_yet};
-ghost use Rattle.kmip_joined.specs.Told.{IsJoined, HasPlainAnswers, IsMade, IsSuited, makes_pair};
-ghost use Rattle.kmip_joined.specs.Told.{is_pair};
+ghost use Rattle.kmip_joined.specs.Told.{IsJoined, HasPlainAnswers, IsMade};
 
-use kmip_client::{Client, Error};
-use kmip_server::{Answered, Call, CallAnswer, CallAnswers, ServerLink, call_all};
+use kmip_client::Client;
+use kmip_server::{Call, CallAnswers, ServerLink, call_all};
 use kmip_store::PlainMaker;
 use kmip_wire::{List, OutOfMemory};
 use std::alloc::Global;
@@ -32,34 +31,6 @@ fn has_faulted(client: &mut Client<ServerLink<PlainMaker>>) -> bool
     link.known();
     link.server().maker().known();
     link.faulted()
-}
-
-/// Whether a call returns two identifiers.
-pub fn makes_pair(call: &Call) -> bool
-    ensures { result ≡ makes_pair call.now }
-{
-    matches!(call, Call::CreateRsaKeyPair(..))
-}
-
-/// True only where an answer is an error, or is a pair if a pair was asked for.
-fn answer_of_kind(pair: bool, answer: &Result<Answered, Error>) -> bool
-    ensures { result ≡ true → pair ≡ true → IfOk answer.now (λ x. is_pair x ≡ true) }
-{
-    match answer {
-        Ok(Answered::Pair(_, _)) | Err(_) => true,
-        Ok(_) => !pair,
-    }
-}
-
-/// The first of the answers; `None` where a pair was asked for, and it is neither a pair nor an
-/// error.
-pub fn suited(pair: bool, answers: &CallAnswers) -> Option<&CallAnswer>
-    ensures { IfSome result (λ answer. IsSuited pair answers.now answer.now) }
-{
-    match answers.get(0) {
-        Some(answer) if answer_of_kind(pair, &answer.answer) => Some(answer),
-        _ => None,
-    }
 }
 
 /// Makes a call, whose answer is the one in the list.

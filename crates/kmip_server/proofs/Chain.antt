@@ -37,7 +37,7 @@ sent_more : {M : Type 0} (state : M → MakerState) {call : Call}
     {before after : ClientState (ServerLinkState M)} {result : Result Answered Error}
     → HelperRan (server_link_state state) call before after result →
     (more : List ℕ) × (after.link.sent ≡ before.link.sent ++ more)
-sent_more state (called answer is_call is) = moved (is_call.exchange refl)
+sent_more state (called answer is_call is fits) = moved (is_call.exchange refl)
 sent_more state {before = before} (not_made is stays) = (
   [],
   ap (λ (c : ClientState (ServerLinkState _)). c.link.sent) stays
@@ -197,7 +197,7 @@ kept_by : {M : Type 0} (state : M → MakerState) {call : Call}
     {before after : ClientState (ServerLinkState M)} {result : Result Answered Error}
     → HelperRan (server_link_state state) call before after result
     → lacks_memory (answered_seen result) ≡ false → Kept call before after
-kept_by state {call = call} {before = before} {after = after} (called answer is_call is) room = record {
+kept_by state {call = call} {before = before} {after = after} (called answer is_call is fits) room = record {
   buffered = is_call.buffered;
   credential = is_call.credential;
   text = request_is before.buffered (request_bytes (request_of call) before.credential)

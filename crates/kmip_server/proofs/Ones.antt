@@ -66,7 +66,7 @@ pub called_as : AreMessages → AreRequests
           after.response_text;
     }) (loses_connection (answered_seen result))
 called_as responses requests state before after call result reads
-    (called answer is_call is) room opened known known' settled =
+    (called answer is_call is fits) room opened known known' settled =
     let room' : lacks_memory answer ≡ false = sym (helped_room call answer) ∙ ap lacks_memory (sym is) ∙ room in
     let fails : fails_writing (answered_seen result) ≡ fails_writing answer =
     ap fails_writing is ∙ helped_fails call answer in
@@ -125,7 +125,7 @@ pub counted_so : {T : Type 0} {state : T → LinkState}
     → told_client ≡ closed → lost ≡ loses_connection (answered_seen result) →
     told_client.errors ≡ count_after before.errors lost
 counted_so before looked after closed told_client call result lost lacks same
-    (called answer is_call is) lacks_is room closed_is told_is lost_is =
+    (called answer is_call is fits) lacks_is room closed_is told_is lost_is =
     ap (λ (c : ClientState _). c.errors) (told_is ∙ closed_is) ∙ is_call.count
     ∙ ap (λ (b : Bool). count_after looked.errors b)
     (sym (helped_keeps call answer) ∙ ap loses_connection (sym is) ∙ sym lost_is)
@@ -147,7 +147,7 @@ asked_settings : {M : Type 0} (state : M → MakerState)
     (before after : ClientState (ServerLinkState M)) (call : Call) (result : Result Answered Error)
     → HelperRan (server_link_state state) call before after result →
     call_settings after ≡ call_settings before
-asked_settings state before after call result (called answer is_call is) =
+asked_settings state before after call result (called answer is_call is fits) =
     same_settings after before is_call.credential is_call.limit is_call.buffered
     (time_same state before.link after.link is_call.keeps.mark)
 asked_settings state before after call result (not_made is stays) = ap call_settings stays
@@ -156,7 +156,7 @@ asked_keeps : {M : Type 0} (state : M → MakerState) (before after : ClientStat
     (call : Call) (result : Result Answered Error)
     → HelperRan (server_link_state state) call before after result →
     Keeps (server_link_state state before.link) (server_link_state state after.link)
-asked_keeps state before after call result (called answer is_call is) = is_call.keeps
+asked_keeps state before after call result (called answer is_call is fits) = is_call.keeps
 asked_keeps state before after call result (not_made is stays) = rw stays (keeps_self _)
 
 -- where the code looked at the client before and after

@@ -1,5 +1,5 @@
 -- What a call of a helper returned.
-use Rattle.std.specs.Prelude.{◌≡◌, List, Result, Err}
+use Rattle.std.specs.Prelude.{◌≡◌, List, Result, Err, IfOk}
 use Rattle.kmip_link.specs.State.{LinkState}
 use Rattle.kmip_shape.specs.Val.{Val, Text, Record, One, AndField, NoField}
 use Rattle.kmip_response.specs.Values.{response_payload_val}
@@ -10,6 +10,7 @@ use Rattle.kmip_client.specs.Outcome.{Answer, seen_by}
 use Rattle.kmip_client.specs.declared.error.Error.{Error}
 use Rattle.kmip_client.specs.declared.error.Error.TheVariants.{OutOfMemory}
 use Rattle.kmip_store.specs.declared.call.Call.{Call}
+use Rattle.kmip_store.specs.declared.call.Call.TheVariants as calls
 use Rattle.kmip_server_core.specs.Requests.{request_of}
 use Rattle.kmip_store.specs.Makers.{MakerState}
 use Rattle.kmip_server.specs.Joined.{CallSettings, Between, Expected, no_val, helper_answer, JoinedReport, expected_calls, finish}
@@ -42,12 +43,26 @@ report_of x = record {
   response_text = x.res_diag;
 }
 
--- What a helper's call did: its request went over the link, and it returned its part of the answer;
--- or memory ran out before, and nothing changed.
+-- a value of the variant that the call's helper returns
+abbrev pub IsOfCall : Call → Answered → Type 0
+IsOfCall calls.Query (answered.Query payload) = Unit {0}
+IsOfCall (calls.CreateRsaKeyPair bits private public) (answered.Pair first second) = Unit {0}
+IsOfCall (calls.RngRetrieve count) (answered.Random payload) = Unit {0}
+IsOfCall (calls.Sign id bytes) (answered.Signed payload) = Unit {0}
+IsOfCall (calls.ActivateKey id) answered.Unit = Unit {0}
+IsOfCall (calls.RevokeKey id) answered.Unit = Unit {0}
+IsOfCall (calls.DestroyKey id) answered.Unit = Unit {0}
+IsOfCall (calls.RenameKey id name) (answered.Renamed payload) = Unit {0}
+IsOfCall (calls.GetKey id) (answered.Got payload) = Unit {0}
+IsOfCall call x = ⊥
+
+-- What a helper's call did: its request went over the link, and it returned its part of the answer,
+-- in the variant that is its own; or memory ran out before, and nothing changed.
 pub data HelperRan {T : Type 0} (state : T → LinkState) (call : Call) (before after : ClientState T)
     (result : Result Answered Error) : Type 0 where
   called : (answer : Answer) → IsCall state (request_of call) before after answer →
-      answered_seen result ≡ helper_answer call answer → HelperRan state call before after result
+      answered_seen result ≡ helper_answer call answer → IfOk result (IsOfCall call) →
+      HelperRan state call before after result
   not_made : result ≡ Err OutOfMemory → after ≡ before → HelperRan state call before after result
 
 abbrev pub call_settings : {M : Type 0} → ClientState (ServerLinkState M) → CallSettings

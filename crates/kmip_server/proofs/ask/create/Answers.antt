@@ -17,7 +17,7 @@ returns g c =
     (Call.CreateRsaKeyPair c.args.key_length c.args.private_name.now c.args.public_name.now)
     payloads.CreateKeyPair identifiers_of
     (λ identifiers. answered.Pair identifiers.0 identifiers.1) c.create_rsa_key_pair.result
-    (λ p. refl)
+    (λ p. refl) (λ p. tt)
     (rw (
       to_z-of_z w32 c.args.key_length fits,
       c.in_ok-private_name.ensures,

@@ -11,5 +11,5 @@ returns g c =
     let is : c.map.result ≡ part_of answered.Renamed c.rename_key.result = search rules in
     rw is
     (asked_of (Call.RenameKey c.args.id.now c.args.new_name.now) payloads.ModifyAttribute
-    (λ payload. payload) answered.Renamed c.rename_key.result (λ p. refl)
+    (λ payload. payload) answered.Renamed c.rename_key.result (λ p. refl) (λ p. tt)
     (rw (c.as_str.ensures.bytes, c.in_ok-new_name.ensures) at c.rename_key.ensures))
