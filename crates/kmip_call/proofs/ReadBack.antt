@@ -18,7 +18,6 @@ use Rattle.kmip_words.specs.Values.{int_of, bytes_of, word_text}
 use Rattle.kmip_words.specs.Asked.{asked_in}
 use Rattle.kmip_words.specs.Calls.{with_response, call_of_one, call_of_two, call_of_three, call_of_words, call_from, call_of, call_in, locate_of, locate_parts, attributes_of, create_aes_of, plain_call, or_request, typed_call}
 use Rattle.kmip_words.specs.declared.call.Call.{Call}
-use Rattle.kmip_words.specs.declared.call.Call.TheVariants.{Discover}
 use Rattle.kmip_call.specs.Record.{with_spaces, response_word, record_line, is_call, has_byte, is_script_word, are_script_words, is_recordable, is_unscripted, ReadsBack}
 
 -- ---- tests
@@ -280,7 +279,7 @@ plain_in : (words : List (List ℕ)) (call : Call) → plain_call words ≡ Some
     → is_unscripted call ≡ false → call_in words ≡ Some call
 plain_in [] call is scripted = is
 plain_in (name ∷ []) call is scripted =
-    unless (bytes_eq name (codes "discover")) (Some Discover) (call_of_one name) call
+    unless (bytes_eq name (codes "discover")) _ (call_of_one name) call
     (λ e. unscripted_of e refl) scripted is
 plain_in (name ∷ first ∷ []) call is scripted =
     unless (bytes_eq name (codes "attributes")) (attributes_of (word_text first))

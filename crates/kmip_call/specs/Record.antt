@@ -5,7 +5,7 @@ use Rattle.hex.specs.Hex.{encode_upper}
 use Rattle.kmip_words.specs.Calls.{call_of, call_in, typed_call}
 use Rattle.kmip_words.specs.Exchange.{request_asked, or_empty}
 use Rattle.kmip_words.specs.declared.call.Call.{Call}
-use Rattle.kmip_words.specs.declared.call.Call.TheVariants.{Locate, Attributes, CreateAes, Discover, Request}
+use Rattle.kmip_words.specs.declared.call.Call.TheVariants.{Request}
 use Rattle.kmip_words.specs.declared.call.Recorded.{Recorded}
 
 -- the words, each with a space after it
@@ -59,10 +59,6 @@ raw_words call = codes "raw" ∷ encode_upper (or_empty (request_asked call None
 
 -- whether a script has no words for a call
 abbrev pub is_unscripted : Call → Bool
-is_unscripted (Locate name) = true
-is_unscripted (Attributes id) = true
-is_unscripted (CreateAes key_length name) = true
-is_unscripted Discover = true
 is_unscripted (Request payload) = true
 is_unscripted call = false
 

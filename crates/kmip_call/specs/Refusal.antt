@@ -19,11 +19,13 @@ grammar_line text =
 abbrev pub object_form : List ℕ → Option (List ℕ)
 object_form name =
     if bytes_eq name (codes "activate") then Some (codes "activate TEXT")
-    else if bytes_eq name (codes "get") then Some (codes "get TEXT [OPTION..]")
-    else if bytes_eq name (codes "revoke") then Some (codes "revoke TEXT [OPTION..]")
+    else if bytes_eq name (codes "get") then Some (codes "get TEXT [format=] [wrap=]")
+    else if bytes_eq name (codes "revoke")
+    then Some (codes "revoke TEXT [reason=] [message=] [since=]")
     else if bytes_eq name (codes "destroy") then Some (codes "destroy TEXT")
     else if bytes_eq name (codes "rename") then Some (codes "rename TEXT TEXT")
-    else if bytes_eq name (codes "sign") then Some (codes "sign TEXT HEX [OPTION..]")
+    else if bytes_eq name (codes "sign")
+    then Some (codes "sign TEXT HEX [hash=] [padding=] [algorithm=] [prehashed]")
     else None
 
 -- and of a call about attributes
@@ -33,19 +35,20 @@ attribute_form name =
     else if bytes_eq name (codes "attributes") then Some (codes "attributes TEXT [NAME..]")
     else if bytes_eq name (codes "attribute-add") then Some (codes "attribute-add TEXT ATTRIBUTE")
     else if bytes_eq name (codes "attribute-modify")
-    then Some (codes "attribute-modify TEXT ATTRIBUTE [OPTION]")
+    then Some (codes "attribute-modify TEXT ATTRIBUTE [index=]")
     else if bytes_eq name (codes "attribute-delete")
-    then Some (codes "attribute-delete TEXT NAME [OPTION]")
+    then Some (codes "attribute-delete TEXT NAME [index=]")
     else object_form name
 
 -- and of a call that makes or registers a key
 abbrev pub key_form : List ℕ → Option (List ℕ)
 key_form name =
-    if bytes_eq name (codes "create") then Some (codes "create ALGORITHM INT TEXT [OPTION]")
+    if bytes_eq name (codes "create") then Some (codes "create ALGORITHM INT TEXT [usage=]")
     else if bytes_eq name (codes "create-aes") then Some (codes "create-aes INT TEXT")
     else if bytes_eq name (codes "create-rsa")
-    then Some (codes "create-rsa INT TEXT TEXT [OPTION..]")
-    else if bytes_eq name (codes "register") then Some (codes "register KIND HEX [OPTION..]")
+    then Some (codes "create-rsa INT TEXT TEXT [private-usage=] [public-usage=]")
+    else if bytes_eq name (codes "register")
+    then Some (codes "register KIND HEX format= algorithm= length= [usage=] [name=]")
     else attribute_form name
 
 -- the words of the call with this name

@@ -126,23 +126,7 @@ fn raw_words(alloc: Global, call: Call) -> Result<List<Text>, OutOfMemory>
 fn is_unscripted(call: &Call) -> bool
     ensures { result ≡ is_unscripted call.now }
 {
-    match call {
-        Call::Locate { .. }
-        | Call::Attributes { .. }
-        | Call::CreateAes { .. }
-        | Call::Discover
-        | Call::Request { .. } => true,
-        Call::Query
-        | Call::CreateRsa { .. }
-        | Call::Rng { .. }
-        | Call::Sign { .. }
-        | Call::Activate { .. }
-        | Call::Revoke { .. }
-        | Call::Destroy { .. }
-        | Call::Rename { .. }
-        | Call::Get { .. }
-        | Call::Raw { .. } => false,
-    }
+    matches!(call, Call::Request { .. })
 }
 
 /// The words that are recorded for a typed call: those that were typed, and for `locate`,

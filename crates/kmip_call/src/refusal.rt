@@ -30,11 +30,11 @@ fn object_form(name: &str) -> Option<&'static str>
 {
     match name {
         "activate" => Some("activate TEXT"),
-        "get" => Some("get TEXT [OPTION..]"),
-        "revoke" => Some("revoke TEXT [OPTION..]"),
+        "get" => Some("get TEXT [format=] [wrap=]"),
+        "revoke" => Some("revoke TEXT [reason=] [message=] [since=]"),
         "destroy" => Some("destroy TEXT"),
         "rename" => Some("rename TEXT TEXT"),
-        "sign" => Some("sign TEXT HEX [OPTION..]"),
+        "sign" => Some("sign TEXT HEX [hash=] [padding=] [algorithm=] [prehashed]"),
         _ => None,
     }
 }
@@ -47,8 +47,8 @@ fn attribute_form(name: &str) -> Option<&'static str>
         "locate" => Some("locate TEXT, or locate [ATTRIBUTE..]"),
         "attributes" => Some("attributes TEXT [NAME..]"),
         "attribute-add" => Some("attribute-add TEXT ATTRIBUTE"),
-        "attribute-modify" => Some("attribute-modify TEXT ATTRIBUTE [OPTION]"),
-        "attribute-delete" => Some("attribute-delete TEXT NAME [OPTION]"),
+        "attribute-modify" => Some("attribute-modify TEXT ATTRIBUTE [index=]"),
+        "attribute-delete" => Some("attribute-delete TEXT NAME [index=]"),
         _ => object_form(name),
     }
 }
@@ -58,10 +58,10 @@ fn key_form(name: &str) -> Option<&'static str>
     ensures { option_map (λ form. form.now) result ≡ key_form name.now }
 {
     match name {
-        "create" => Some("create ALGORITHM INT TEXT [OPTION]"),
+        "create" => Some("create ALGORITHM INT TEXT [usage=]"),
         "create-aes" => Some("create-aes INT TEXT"),
-        "create-rsa" => Some("create-rsa INT TEXT TEXT [OPTION..]"),
-        "register" => Some("register KIND HEX [OPTION..]"),
+        "create-rsa" => Some("create-rsa INT TEXT TEXT [private-usage=] [public-usage=]"),
+        "register" => Some("register KIND HEX format= algorithm= length= [usage=] [name=]"),
         _ => attribute_form(name),
     }
 }

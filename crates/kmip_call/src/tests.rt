@@ -89,10 +89,13 @@ const ANSWERED: Row = Row {
     record: "",
 };
 
-/// The lines of words that are not those of `rng`, that begin with an option, and that a record
-/// cannot hold, and of a limit that is none.
+/// The lines of words that are not those of `rng` and of `sign`, that begin with an option, and that
+/// a record cannot hold, and of a limit that is none.
 const NOT_RNG: &str =
     "{\"error\":\"GrammarError\",\"text\":\"the words are not those of rng INT\"}\n";
+
+const NOT_SIGN: &str =
+    "{\"error\":\"GrammarError\",\"text\":\"the words are not those of sign TEXT HEX [hash=] [padding=] [algorithm=] [prehashed]\"}\n";
 
 const OPTION: &str =
     "{\"error\":\"GrammarError\",\"text\":\"an option is out of its place, or there is none of its name\"}\n";

@@ -5,15 +5,11 @@ use Rattle.kmip_store.specs.declared.call.Call.{Call as HelperCall}
 use Rattle.kmip_store.specs.declared.call.Call.TheVariants as helpers
 use Rattle.kmip_words.specs.Calls.{call_alone}
 use Rattle.kmip_words.specs.declared.call.Call.{Call}
-use Rattle.kmip_words.specs.declared.call.Call.TheVariants.{Query, CreateRsa, Rng, Sign, Activate, Revoke, Destroy, Rename, Get, Raw, Locate, Attributes, CreateAes, Discover, Request}
+use Rattle.kmip_words.specs.declared.call.Call.TheVariants.{Query, CreateRsa, Rng, Sign, Activate, Revoke, Destroy, Rename, Get, Raw, Request}
 
 -- a call, where one of the nine helpers of a client makes it
 abbrev pub if_helper : Call → Option Call
 if_helper (Raw request) = None
-if_helper (Locate name) = None
-if_helper (Attributes id) = None
-if_helper (CreateAes key_length name) = None
-if_helper Discover = None
 if_helper (Request payload) = None
 if_helper call = Some call
 

@@ -25,12 +25,7 @@ fn helper_of(call: LineCall) -> Option<Call>
         LineCall::Destroy { id } => Some(Call::DestroyKey(id)),
         LineCall::Rename { id, new_name } => Some(Call::RenameKey(id, new_name)),
         LineCall::Get { id } => Some(Call::GetKey(id)),
-        LineCall::Raw { .. }
-        | LineCall::Locate { .. }
-        | LineCall::Attributes { .. }
-        | LineCall::CreateAes { .. }
-        | LineCall::Discover
-        | LineCall::Request { .. } => None,
+        LineCall::Raw { .. } | LineCall::Request { .. } => None,
     }
 }
 

@@ -25,7 +25,7 @@ use Rattle.kmip_words.specs.Exchange.{operation_asked, payload_in_style, record_
 use Rattle.kmip_words.specs.JsonLines.{IsJsonLine}
 use Rattle.kmip_words.specs.Refusal.{reason_of, message_of, reason_member, message_member, internal_error_line}
 use Rattle.kmip_words.specs.declared.call.Call.{Call}
-use Rattle.kmip_words.specs.declared.call.Call.TheVariants.{Query, CreateRsa, Rng, Sign, Activate, Revoke, Destroy, Rename, Get, Raw, Locate, Attributes, CreateAes, Discover, Request}
+use Rattle.kmip_words.specs.declared.call.Call.TheVariants.{Query, CreateRsa, Rng, Sign, Activate, Revoke, Destroy, Rename, Get, Raw, Request}
 use Rattle.kmip_words.proofs.Exchanges.{of_case}
 
 -- characters that stand in a string as they are
@@ -155,7 +155,7 @@ by_number operation text each payload fits own =
     (λ n v is. (let P : ℕ → Type 0 = λ m. Fits response_payload (Case m v)
     → IsJson (text (Case m v)) in subst P (sym is) (each v))) own fits
 
--- the answer to a request with options
+-- the answer to a request
 request_is_json : (request : RequestPayload) (payload : Val) → Fits response_payload payload
     → IsOfOperation (operation_of request) payload → IsJson (request_in_style request payload Json)
 request_is_json (payloads.CreateKeyPair common private public) payload fits own =
@@ -228,19 +228,7 @@ value_is_json (Get id) payload fits own =
     by_number operations.Get (λ v. record_in_style get_payload v Json)
     (λ v h. record_is v response_payloads (rows_in get_payload) h) payload fits own
 value_is_json (Raw request) payload fits own = value_is payload NoCase response_payload fits
-value_is_json (Locate name) payload fits own =
-    by_number operations.Locate (λ v. record_in_style locate_payload v Json)
-    (λ v h. record_is v response_payloads (rows_in locate_payload) h) payload fits own
-value_is_json (Attributes id) payload fits own =
-    by_number operations.GetAttributes (λ v. record_in_style get_attributes_payload v Json)
-    (λ v h. record_is v response_payloads (rows_in get_attributes_payload) h) payload fits own
-value_is_json (CreateAes length name) payload fits own =
-    by_number operations.Create (λ v. record_in_style create_payload v Json)
-    (λ v h. record_is v response_payloads (rows_in create_payload) h) payload fits own
 value_is_json (Request request) payload fits own = request_is_json request payload fits own
-value_is_json Discover payload fits own =
-    by_number operations.DiscoverVersions (λ v. record_in_style discover_versions_payload v Json)
-    (λ v h. record_is v response_payloads (rows_in discover_versions_payload) h) payload fits own
 
 pub payload_line_is : (call : Call) (payload : Val) → Fits response_payload payload
     → IsOfOperation (operation_asked call) payload → IsJsonLine (json_line call (Ok payload))

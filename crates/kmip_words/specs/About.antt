@@ -10,7 +10,7 @@ use Rattle.kmip_words.specs.Exchange.{Settings, ending_of, json_line, call_outco
 use Rattle.kmip_words.specs.JsonLines.{IsJsonLine}
 use Rattle.kmip_words.specs.Refusal.{internal_error_line}
 use Rattle.kmip_words.specs.declared.call.Call.{Call}
-use Rattle.kmip_words.specs.declared.call.Call.TheVariants.{Sign, Activate, Revoke, Destroy, Rename, Get, Attributes, Request}
+use Rattle.kmip_words.specs.declared.call.Call.TheVariants.{Sign, Activate, Revoke, Destroy, Rename, Get, Request}
 use Rattle.kmip_words.specs.declared.ending.Ending.{Ending}
 use Rattle.kmip_words.specs.declared.ending.Ending.TheVariants.{Lost}
 
@@ -41,7 +41,6 @@ asked_about (Revoke id) = id
 asked_about (Destroy id) = id
 asked_about (Rename id new_name) = id
 asked_about (Get id) = id
-asked_about (Attributes id) = id
 asked_about (Request request) = named_in request
 asked_about call = []
 

@@ -5,10 +5,11 @@ use Rattle.std.specs.Str.{is_utf8}
 use Rattle.kmip_request.specs.declared.payload.RequestPayload.{RequestPayload}
 use Rattle.kmip_request_read.specs.Reading.{request_read}
 use Rattle.kmip_request_words.specs.Asked.{asked_in}
+use Rattle.kmip_request_words.specs.Requests.{locate_request, attributes_request, create_aes_request, discover_request}
 use Rattle.kmip_request_words.specs.Words.{parts_between, words_of}
 use Rattle.kmip_request_words.specs.Values.{int_of, bytes_of, word_text}
 use Rattle.kmip_words.specs.declared.call.Call.{Call}
-use Rattle.kmip_words.specs.declared.call.Call.TheVariants.{Query, CreateRsa, Rng, Sign, Activate, Revoke, Destroy, Rename, Get, Raw, Locate, Attributes, CreateAes, Discover, Request}
+use Rattle.kmip_words.specs.declared.call.Call.TheVariants.{Query, CreateRsa, Rng, Sign, Activate, Revoke, Destroy, Rename, Get, Raw, Request}
 use Rattle.kmip_words.specs.declared.call.Recorded.{Recorded}
 
 -- the call of one word: `query`
@@ -110,14 +111,15 @@ call_alone line = if is_utf8 line then option_and_then call_in (words_of line) e
 -- ---- the calls that are typed, with no response: those above, four more, and those with options
 
 abbrev pub typed_of_one : List ℕ → Option Call
-typed_of_one name = if bytes_eq name (codes "discover") then Some Discover else call_of_one name
+typed_of_one name =
+    if bytes_eq name (codes "discover") then Some (Request discover_request) else call_of_one name
 
 abbrev pub locate_of : Option (List ℕ) → Option Call
-locate_of (Some name) = Some (Locate name)
+locate_of (Some name) = Some (Request (locate_request name))
 locate_of None = None
 
 abbrev pub attributes_of : Option (List ℕ) → Option Call
-attributes_of (Some id) = Some (Attributes id)
+attributes_of (Some id) = Some (Request (attributes_request id))
 attributes_of None = None
 
 -- `locate TEXT`; a word with `=` is no TEXT of this call, but an option
@@ -133,7 +135,7 @@ typed_of_two name word =
     else call_of_two name word
 
 abbrev pub create_aes_of : Option ℤ → Option (List ℕ) → Option Call
-create_aes_of (Some key_length) (Some name) = Some (CreateAes key_length name)
+create_aes_of (Some key_length) (Some name) = Some (Request (create_aes_request key_length name))
 create_aes_of key_length name = None
 
 -- `create-aes INT TEXT`

@@ -13,16 +13,15 @@ use Rattle.kmip_types.specs.declared.auth.CredentialType.{CredentialType}
 use Rattle.kmip_request.specs.Message.{request_bytes, operation_of}
 use Rattle.kmip_request.specs.declared.payload.RequestPayload.{RequestPayload}
 use Rattle.kmip_request_read.specs.Reading.{Request as RequestRead, message_bytes}
-use Rattle.kmip_response.specs.Tables.{response_payload, response_payloads, query_payload, rng_retrieve_payload, sign_payload, attribute_edit_payload, get_payload, locate_payload, get_attributes_payload, create_payload, discover_versions_payload}
+use Rattle.kmip_response.specs.Tables.{response_payload, response_payloads, query_payload, rng_retrieve_payload, sign_payload, attribute_edit_payload, get_payload}
 use Rattle.kmip_client.specs.Client.{ClientState}
 use Rattle.kmip_client.specs.Errors.{error_shown, error_text}
 use Rattle.kmip_client.specs.Outcome.{Answer, Outcome, outcome_of}
 use Rattle.kmip_client.specs.Requests.{query_request, key_pair_request, rng_request, sign_request, activate_request, revoke_request, destroy_request, rename_request, get_request}
 use Rattle.kmip_client.specs.declared.error.Error.{Error}
 use Rattle.kmip_client.specs.declared.error.Error.TheVariants.{ConfigurationError, SerializeError, RequestWriteError, ResponseReadError, DeserializeError, ServerError, InternalError, ItemNotFound, Unknown, OutOfMemory}
-use Rattle.kmip_request_words.specs.Requests.{locate_request, attributes_request, create_aes_request, discover_request}
 use Rattle.kmip_words.specs.declared.call.Call.{Call}
-use Rattle.kmip_words.specs.declared.call.Call.TheVariants.{Query, CreateRsa, Rng, Sign, Activate, Revoke, Destroy, Rename, Get, Raw, Locate, Attributes, CreateAes, Discover, Request}
+use Rattle.kmip_words.specs.declared.call.Call.TheVariants.{Query, CreateRsa, Rng, Sign, Activate, Revoke, Destroy, Rename, Get, Raw, Request}
 use Rattle.kmip_words.specs.declared.ending.Ending.{Ending}
 use Rattle.kmip_words.specs.declared.ending.Ending.TheVariants.{Answered, Refused, Lost}
 
@@ -64,10 +63,6 @@ request_asked (Destroy id) = asked_of (destroy_request id)
 request_asked (Rename id new_name) = asked_of (rename_request id new_name)
 request_asked (Get id) = asked_of (get_request id)
 request_asked (Raw request) = raw_asked request
-request_asked (Locate name) = asked_of (locate_request name)
-request_asked (Attributes id) = asked_of (attributes_request id)
-request_asked (CreateAes key_length name) = asked_of (create_aes_request key_length name)
-request_asked Discover = asked_of discover_request
 request_asked (Request payload) = asked_of payload
 
 -- the request is that of the call, with whatever credential
@@ -111,7 +106,7 @@ payload_in_style (Case n payload) style =
     elim (case_at response_payloads n) [ None ↦ [] | Some c ↦ shown_in_style c.shape payload style ]
 payload_in_style payload style = []
 
--- the answer to a request with options, as that of the same call without them
+-- the answer to a request, as that of a helper's call of the same operation
 abbrev pub request_in_style : RequestPayload → Val → Style → List ℕ
 request_in_style (RequestPayload.CreateKeyPair common private public) payload = texts_in_style payload
 request_in_style (RequestPayload.Activate id) payload = done_in_style
@@ -131,10 +126,6 @@ value_in_style (Destroy id) payload = done_in_style
 value_in_style (Rename id new_name) payload = record_in_style attribute_edit_payload payload
 value_in_style (Get id) payload = record_in_style get_payload payload
 value_in_style (Raw request) payload = shown_in_style response_payload payload
-value_in_style (Locate name) payload = record_in_style locate_payload payload
-value_in_style (Attributes id) payload = record_in_style get_attributes_payload payload
-value_in_style (CreateAes key_length name) payload = record_in_style create_payload payload
-value_in_style Discover payload = record_in_style discover_versions_payload payload
 value_in_style (Request request) payload = request_in_style request payload
 
 -- the name of an error's variant

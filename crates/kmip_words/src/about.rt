@@ -57,15 +57,8 @@ fn asked_about(call: &Call) -> &str
         Call::Destroy { id } => id.as_str(),
         Call::Rename { id, .. } => id.as_str(),
         Call::Get { id } => id.as_str(),
-        Call::Attributes { id } => id.as_str(),
         Call::Request { payload } => named_in(payload.get()),
-        Call::Query
-        | Call::CreateRsa { .. }
-        | Call::Rng { .. }
-        | Call::Raw { .. }
-        | Call::Locate { .. }
-        | Call::CreateAes { .. }
-        | Call::Discover => "",
+        Call::Query | Call::CreateRsa { .. } | Call::Rng { .. } | Call::Raw { .. } => "",
     }
 }
 

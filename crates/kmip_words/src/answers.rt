@@ -76,7 +76,7 @@ fn push_identifiers(
     }
 }
 
-/// Adds the payload that a request with options is answered with as a line.
+/// Adds the payload that a request is answered with as a line.
 fn push_answer_to(
     alloc: Global,
     style: Style,
@@ -135,10 +135,6 @@ fn push_answer(
         Call::Sign { .. } => push_record(alloc, style, payload, line),
         Call::Rename { .. } => push_record(alloc, style, payload, line),
         Call::Get { .. } => push_record(alloc, style, payload, line),
-        Call::Locate { .. } => push_record(alloc, style, payload, line),
-        Call::Attributes { .. } => push_record(alloc, style, payload, line),
-        Call::CreateAes { .. } => push_record(alloc, style, payload, line),
-        Call::Discover => push_record(alloc, style, payload, line),
     }
 }
 

@@ -1,5 +1,5 @@
 //! Which call words ask for: words of a line of a script, and words that are typed.
-ghost use Rattle.std.specs.Prelude.{◌≡◌, map, option_map, IfOk};
+ghost use Rattle.std.specs.Prelude.{◌≡◌, Some, map, option_map, IfOk};
 ghost use Rattle.kmip_request_words.specs.Values.{int_of, bytes_of, word_text};
 ghost use Rattle.kmip_words.specs.Calls.{typed_of_one, locate_of, attributes_of, typed_of_two};
 ghost use Rattle.kmip_words.specs.Calls.{create_aes_of, typed_of_three, plain_call, typed_call};
@@ -8,10 +8,14 @@ ghost use Rattle.kmip_request_words.specs.Asked.{asked_in};
 ghost use Rattle.kmip_words.specs.Calls.{key_call, call_of_one, call_of_two, sign_of, rename_of};
 ghost use Rattle.kmip_words.specs.Calls.{call_of_three, create_rsa_of, call_of_four, with_response};
 ghost use Rattle.kmip_words.specs.Calls.{call_of_words, call_of, call_in, call_alone};
+ghost use Rattle.kmip_words.specs.declared.call.Call.TheVariants.{Request};
 
 use crate::raw::RawRequest;
 use kmip_request::RequestPayload;
-use kmip_request_words::{asked_in, bytes_of, int_of, parts_between, word_text, words_of};
+use kmip_request_words::{
+    asked_in, attributes_request, bytes_of, create_aes_request, discover_request, int_of,
+    locate_request, parts_between, word_text, words_of,
+};
 use kmip_wire::{Blob, Boxed, OutOfMemory, Text};
 use std::alloc::Global;
 use std::str;
@@ -63,24 +67,8 @@ pub enum Call {
     Raw {
         request: RawRequest,
     },
-    /// `locate TEXT`: which objects have this name (KMIP 1.0, 4.8). This call and those below are
-    /// typed, and stand in no script.
-    Locate {
-        name: Text,
-    },
-    /// `attributes TEXT`: all attributes of the object with this identifier (KMIP 1.0, 4.11).
-    Attributes {
-        id: Text,
-    },
-    /// `create-aes INT TEXT`: an AES key of this length in bits to encrypt and decrypt with, with
-    /// this name (KMIP 1.0, 4.1).
-    CreateAes {
-        key_length: i32,
-        name: Text,
-    },
-    /// `discover`: which versions of KMIP the server supports (KMIP 1.1, 4.26).
-    Discover,
-    /// A call with options, as `sign TEXT HEX hash=SHA384`: the request that they ask for.
+    /// A call that is typed and stands in no script, as `locate TEXT`, or one with options, as
+    /// `sign TEXT HEX hash=SHA384`: the request that it asks for.
     Request {
         payload: Boxed<RequestPayload>,
     },
@@ -322,22 +310,30 @@ pub fn call_alone(alloc: Global, line: &[u8]) -> Result<Option<Call>, OutOfMemor
     }
 }
 
-/// `query` and `discover`.
-fn typed_of_one(name: &str) -> Option<Call>
-    ensures { result ≡ typed_of_one name.now }
+/// The call that makes this request.
+fn call_making(alloc: Global, payload: RequestPayload) -> Result<Option<Call>, OutOfMemory>
+    ensures { IfOk result (λ call. call ≡ Some (Request payload)) }
+{
+    let payload = Boxed::new(alloc, payload)?;
+    Ok(Some(Call::Request { payload }))
+}
+
+/// `query`, and `discover`: which versions of KMIP the server supports (KMIP 1.1, 4.26).
+fn typed_of_one(alloc: Global, name: &str) -> Result<Option<Call>, OutOfMemory>
+    ensures { IfOk result (λ call. call ≡ typed_of_one name.now) }
 {
     match name {
-        "discover" => Some(Call::Discover),
-        _ => call_of_one(name),
+        "discover" => call_making(alloc, discover_request(alloc)),
+        _ => Ok(call_of_one(name)),
     }
 }
 
-/// `locate TEXT`.
+/// `locate TEXT`: which objects have this name (KMIP 1.0, 4.8).
 fn locate_of(alloc: Global, name: &str) -> Result<Option<Call>, OutOfMemory>
     ensures { IfOk result (λ call. call ≡ locate_of (word_text name.now)) }
 {
     match word_text(alloc, name)? {
-        Some(name) => Ok(Some(Call::Locate { name })),
+        Some(name) => call_making(alloc, locate_request(alloc, name)?),
         None => Ok(None),
     }
 }
@@ -352,12 +348,12 @@ fn locate_parts(alloc: Global, parts: &[&str]) -> Result<Option<Call>, OutOfMemo
     }
 }
 
-/// `attributes TEXT`.
+/// `attributes TEXT`: all attributes of the object with this identifier (KMIP 1.0, 4.11).
 fn attributes_of(alloc: Global, id: &str) -> Result<Option<Call>, OutOfMemory>
     ensures { IfOk result (λ call. call ≡ attributes_of (word_text id.now)) }
 {
     match word_text(alloc, id)? {
-        Some(id) => Ok(Some(Call::Attributes { id })),
+        Some(id) => call_making(alloc, attributes_request(id)),
         None => Ok(None),
     }
 }
@@ -376,7 +372,8 @@ fn typed_of_two(alloc: Global, name: &str, word: &str) -> Result<Option<Call>, O
     }
 }
 
-/// `create-aes INT TEXT`.
+/// `create-aes INT TEXT`: an AES key of this length in bits to encrypt and decrypt with, under this
+/// name (KMIP 1.0, 4.1).
 fn create_aes_of(alloc: Global, key_length: &str, name: &str) -> Result<Option<Call>, OutOfMemory>
     ensures { IfOk result
         (λ call. call ≡ create_aes_of (int_of key_length.now) (word_text name.now)) }
@@ -385,7 +382,7 @@ fn create_aes_of(alloc: Global, key_length: &str, name: &str) -> Result<Option<C
         return Ok(None);
     };
     match word_text(alloc, name)? {
-        Some(name) => Ok(Some(Call::CreateAes { key_length, name })),
+        Some(name) => call_making(alloc, create_aes_request(alloc, key_length, name)?),
         None => Ok(None),
     }
 }
@@ -410,7 +407,7 @@ fn plain_call(alloc: Global, words: &[Text]) -> Result<Option<Call>, OutOfMemory
     ensures { IfOk result (λ call. call ≡ plain_call words.now) }
 {
     match words {
-        [name] => Ok(typed_of_one(name.as_str())),
+        [name] => typed_of_one(alloc, name.as_str()),
         [name, first] => typed_of_two(alloc, name.as_str(), first.as_str()),
         [name, first, second] => {
             typed_of_three(alloc, name.as_str(), first.as_str(), second.as_str())
@@ -436,9 +433,8 @@ pub fn typed_call(alloc: Global, words: &[Text]) -> Result<Option<Call>, OutOfMe
     if let Some(call) = plain_call(alloc, words)? {
         return Ok(Some(call));
     }
-    let Some(payload) = asked_in(alloc, words)? else {
-        return Ok(None);
-    };
-    let payload = Boxed::new(alloc, payload)?;
-    Ok(Some(Call::Request { payload }))
+    match asked_in(alloc, words)? {
+        Some(payload) => call_making(alloc, payload),
+        None => Ok(None),
+    }
 }

@@ -10,9 +10,6 @@ use kmip_request::{
     query_request, rename_request, revoke_request, sign_request,
 };
 use kmip_request_read::same_message;
-use kmip_request_words::{
-    attributes_request, create_aes_request, discover_request, locate_request,
-};
 use kmip_types::DataLength;
 use kmip_wire::{OutOfMemory, TryClone};
 use std::alloc::Global;
@@ -50,12 +47,6 @@ pub fn request_for(alloc: Global, call: &Call) -> Result<RequestPayload, OutOfMe
         }
         Call::Get { id } => get_request(alloc, id.as_str()),
         Call::Raw { request } => raw_request(alloc, request),
-        Call::Locate { name } => locate_request(alloc, name.try_clone(alloc)?),
-        Call::Attributes { id } => Ok(attributes_request(id.try_clone(alloc)?)),
-        Call::CreateAes { key_length, name } => {
-            create_aes_request(alloc, *key_length, name.try_clone(alloc)?)
-        }
-        Call::Discover => Ok(discover_request(alloc)),
         Call::Request { payload } => payload.get().try_clone(alloc),
     }
 }

@@ -1,7 +1,7 @@
 //! Calls that end with an error, records, words out of the grammar, and sinks and sources that fail.
 use super::{
-    ANSWERED, Failing, LIMIT, NONE, NOT_READ, NOT_RECORDED, NOT_RNG, NOT_SENT, OPTION, RECORD,
-    REFUSED, RNG_BY_ALICE, Row,
+    ANSWERED, Failing, LIMIT, NONE, NOT_READ, NOT_RECORDED, NOT_RNG, NOT_SENT, NOT_SIGN, OPTION,
+    RECORD, REFUSED, RNG_BY_ALICE, Row,
 };
 
 /// Calls that have an error for an answer.
@@ -183,6 +183,12 @@ pub const GRAMMAR: &[Row] = &[
         shows: "one word too many",
         words: &["query", "x"],
         line: "{\"error\":\"GrammarError\",\"text\":\"the words are not those of query\"}\n",
+        ..REFUSED
+    },
+    Row {
+        shows: "an option whose value is none",
+        words: &["sign", "1", "00", "hash=SHA3"],
+        line: NOT_SIGN,
         ..REFUSED
     },
     Row {

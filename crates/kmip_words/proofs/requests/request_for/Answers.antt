@@ -1,7 +1,6 @@
 use Rattle.std.proofs.Common.{refl, rules, w32, SFits}
 use Rattle.std.proofs.lemmas.Int.{to_z-of_z}
 use Rattle.kmip_client.specs.Requests.{key_pair_request, rename_request}
-use Rattle.kmip_request_words.specs.Requests.{locate_request, create_aes_request}
 use Rattle.kmip_words.proofs.Exchanges.{request_made}
 use Rattle.kmip_words.proofs.requests.request_for.Goals as goal
 
@@ -24,18 +23,3 @@ returns-in_ok-try_clone-in-Rename c =
     (rename_request c.in-Rename.id c.in-Rename.new_name) c.args.call.now
     (λ credential. rw c.in-Rename.is refl)
     (rw (c.as_str-in-Rename.ensures.bytes, c.in_ok-try_clone-in-Rename.ensures) at c.rename_request.ensures)
-
-pub returns-in_ok-try_clone-in-Locate : goal.returns-in_ok-try_clone-in-Locate
-returns-in_ok-try_clone-in-Locate c =
-    request_made c.locate_request.result (locate_request c.in-Locate.name) c.args.call.now
-    (λ credential. rw c.in-Locate.is refl)
-    (rw c.in_ok-try_clone-in-Locate.ensures at c.locate_request.ensures)
-
-pub returns-in_ok-try_clone-in-CreateAes : goal.returns-in_ok-try_clone-in-CreateAes
-returns-in_ok-try_clone-in-CreateAes c =
-    let fits : SFits w32 c.in-CreateAes.key_length = search rules in
-    request_made c.create_aes_request.result
-    (create_aes_request c.in-CreateAes.key_length c.in-CreateAes.name) c.args.call.now
-    (λ credential. rw c.in-CreateAes.is refl)
-    (rw (to_z-of_z w32 c.in-CreateAes.key_length fits, c.in_ok-try_clone-in-CreateAes.ensures)
-    at c.create_aes_request.ensures)
