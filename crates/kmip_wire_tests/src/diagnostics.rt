@@ -1,7 +1,9 @@
 //! Diagnostics and their expansions, in rows worked out by hand: bytes or a text, and what is to be
 //! printed for them.
+use crate::support::{bytes_of, is_text};
 use kmip_diag::{DiagError, PrettyPrinter};
-use std::test::Fail;
+use std::alloc::Global;
+use std::process::Abort;
 
 /// A response of random bytes, as two servers send it: with 4 and with 43 of them.
 const RESPONSE: &str = concat!(
@@ -38,124 +40,171 @@ const KINDS: &str = concat!(
 
 const CUT_OFF: &str = "42007C01000000084200940700000001";
 
-#[test]
-fn bytes_have_their_diagnostics(rt: HostRuntime) -> Result<(), Fail> {
-    let response = "7B[7A[69[6Ai6Bi]92d0Di]0F[5Ce25:7Fe0:7C[C2x]]]";
-    for (hex, size, want) in [
-        (RESPONSE, 0, ""),
-        (RESPONSE, 7, "!"),
-        (RESPONSE, 8, "7B[!"),
-        (RESPONSE, 24, "7B[7A[69[!"),
-        (RESPONSE, 152, response),
-        (LONGER_RESPONSE, 192, response),
-        (
-            REQUEST,
-            224,
-            "78[77[69[6Ai6Bi]0C[23[24e1:25[99tA1t]]]0Di]0F[5Ce8:79[08[0At0Be4:]]]]",
-        ),
-        (
-            KINDS,
-            160,
-            "7C[540002i540003l540004b540005e1F:540006o540007t540008x540009d54000An7C[]]",
-        ),
-        (CUT_OFF, 16, "7C[!"),
-    ] {
-        let bytes = hex::decode(rt.alloc(), hex)?;
-        let mut printer = PrettyPrinter::new();
-        printer.with_tag_prefix(0x4200);
-        let bytes = bytes.get(..size).ok_or("too short")?;
-        let text = printer.to_diag_string(rt.alloc(), bytes)?;
-        assert_eq!(rt; text.as_str(), want);
-    }
-    Ok(())
+/// A printer whose tags begin with 42.
+fn printer() -> PrettyPrinter {
+    let mut printer = PrettyPrinter::new();
+    printer.with_tag_prefix(0x4200);
+    printer
 }
 
-#[test]
-fn a_printer_has_its_prefix(rt: HostRuntime) -> Result<(), Fail> {
-    let cut_off = hex::decode(rt.alloc(), CUT_OFF)?;
-    for (prefix, want) in [
-        (None, "42007C[!"),
-        (Some(0x4200), "7C[!"),
-        (Some(0x5400), "42007C[!"),
-    ] {
-        let mut printer = PrettyPrinter::new();
-        if let Some(prefix) = prefix {
-            printer.with_tag_prefix(prefix);
-        }
-        let text = printer.to_diag_string(rt.alloc(), &cut_off)?;
-        assert_eq!(rt; text.as_str(), want);
-        let is_read = printer.expand(rt.alloc(), "420094t").is_ok();
-        assert_eq!(rt; is_read, prefix != Some(0x4200));
-    }
-    Ok(())
+/// The bytes have this diagnostic.
+fn is_printed(
+    rt: &impl Abort,
+    alloc: Global,
+    printer: &PrettyPrinter,
+    bytes: &[u8],
+    expected: &str,
+) {
+    let text = printer.to_diag_string(alloc, bytes).expect(rt, "memory");
+    is_text(rt, text.as_str(), expected);
 }
+
+/// The first bytes of so many have this diagnostic.
+fn is_front_printed(rt: &impl Abort, alloc: Global, hex: &str, size: usize, expected: &str) {
+    let bytes = bytes_of(rt, alloc, hex);
+    let front = bytes.get(..size).expect(rt, "bytes");
+    is_printed(rt, alloc, &printer(), front, expected);
+}
+
+/// What both responses are printed as.
+const PRINTED_RESPONSE: &str = "7B[7A[69[6Ai6Bi]92d0Di]0F[5Ce25:7Fe0:7C[C2x]]]";
+
+/// Bytes, how many of them are printed, and as what.
+const PRINTED: [(&str, usize, &str); 9] = [
+    (RESPONSE, 0, ""),
+    (RESPONSE, 7, "!"),
+    (RESPONSE, 8, "7B[!"),
+    (RESPONSE, 24, "7B[7A[69[!"),
+    (RESPONSE, 152, PRINTED_RESPONSE),
+    (LONGER_RESPONSE, 192, PRINTED_RESPONSE),
+    (
+        REQUEST,
+        224,
+        "78[77[69[6Ai6Bi]0C[23[24e1:25[99tA1t]]]0Di]0F[5Ce8:79[08[0At0Be4:]]]]",
+    ),
+    (
+        KINDS,
+        160,
+        "7C[540002i540003l540004b540005e1F:540006o540007t540008x540009d54000An7C[]]",
+    ),
+    (CUT_OFF, 16, "7C[!"),
+];
+
+#[test]
+fn bytes_have_their_diagnostics(rt: HostRuntime) {
+    for (hex, size, want) in &PRINTED {
+        is_front_printed(&rt, rt.alloc(), hex, *size, want);
+    }
+}
+
+/// With this prefix what is cut off has this diagnostic, and a tag of six digits is read or not.
+fn has_prefix(rt: &impl Abort, alloc: Global, prefix: Option<u16>, expected: &str) {
+    let mut printer = PrettyPrinter::new();
+    if let Some(prefix) = prefix {
+        printer.with_tag_prefix(prefix);
+    }
+    let cut_off = bytes_of(rt, alloc, CUT_OFF);
+    is_printed(rt, alloc, &printer, &cut_off, expected);
+    let is_read = printer.expand(alloc, "420094t").is_ok();
+    assert_eq!(rt; is_read, prefix != Some(0x4200));
+}
+
+/// Prefixes, and what is printed under them.
+const PREFIXES: [(Option<u16>, &str); 3] = [
+    (None, "42007C[!"),
+    (Some(0x4200), "7C[!"),
+    (Some(0x5400), "42007C[!"),
+];
+
+#[test]
+fn a_printer_has_its_prefix(rt: HostRuntime) {
+    for (prefix, want) in &PREFIXES {
+        has_prefix(&rt, rt.alloc(), *prefix, want);
+    }
+}
+
+/// The text expands to these lines.
+fn is_expanded(
+    rt: &impl Abort,
+    alloc: Global,
+    printer: &PrettyPrinter,
+    text: &str,
+    expected: &str,
+) {
+    let lines = printer.expand(alloc, text).expect(rt, "lines");
+    is_text(rt, lines.as_str(), expected);
+}
+
+/// The text is no diagnostic.
+fn is_refused(rt: &impl Abort, alloc: Global, printer: &PrettyPrinter, text: &str) {
+    let is_refused = matches!(printer.expand(alloc, text), Err(DiagError::NotADiagnostic));
+    assert!(rt; is_refused, "{text}");
+}
+
+/// Texts and the lines that they expand to.
+const EXPANDED: [(&str, &str); 8] = [
+    ("", ""),
+    (
+        "08[0At0Be4:]",
+        "Tag: Attribute (0x420008), Type: Structure (0x01), Data: \n  Tag: Attribute Name (0x42000A), Type: TextString (0x07), Data: <redacted>\n  Tag: Attribute Value (0x42000B), Type: Enumeration (0x05), Data: 4\n",
+    ),
+    (
+        "78[77[69[6Ai6Bi]0C[23[24e1:25[99tA1t]]]0Di]0F[5Ce8:79[08[0At0Be4:]]]]",
+        concat!(
+            "Tag: Request Message (0x420078), Type: Structure (0x01), Data: \n",
+            "  Tag: Request Header (0x420077), Type: Structure (0x01), Data: \n",
+            "    Tag: Protocol Version (0x420069), Type: Structure (0x01), Data: \n",
+            "      Tag: Protocol Version Major (0x42006A), Type: Integer (0x02), Data: <redacted>\n",
+            "      Tag: Protocol Version Minor (0x42006B), Type: Integer (0x02), Data: <redacted>\n",
+            "    Tag: Authentication (0x42000C), Type: Structure (0x01), Data: \n",
+            "      Tag: Credential (0x420023), Type: Structure (0x01), Data: \n",
+            "        Tag: Credential Type (0x420024), Type: Enumeration (0x05), Data: 1\n",
+            "        Tag: Credential Value (0x420025), Type: Structure (0x01), Data: \n",
+            "          Tag: Username (0x420099), Type: TextString (0x07), Data: <redacted>\n",
+            "          Tag: Password (0x4200A1), Type: TextString (0x07), Data: <redacted>\n",
+            "    Tag: Batch Count (0x42000D), Type: Integer (0x02), Data: <redacted>\n",
+            "  Tag: Batch Item (0x42000F), Type: Structure (0x01), Data: \n",
+            "    Tag: Operation (0x42005C), Type: Enumeration (0x05), Data: 8\n",
+            "    Tag: Request Payload (0x420079), Type: Structure (0x01), Data: \n",
+            "      Tag: Attribute (0x420008), Type: Structure (0x01), Data: \n",
+            "        Tag: Attribute Name (0x42000A), Type: TextString (0x07), Data: <redacted>\n",
+            "        Tag: Attribute Value (0x42000B), Type: Enumeration (0x05), Data: 4\n"
+        ),
+    ),
+    (
+        "420124t",
+        "Tag: Replace Existing (0x420124), Type: TextString (0x07), Data: <redacted>\n",
+    ),
+    (
+        "1Bt",
+        "Tag: Certificate Subject  Alternative Name (0x42001B), Type: TextString (0x07), Data: <redacted>\n",
+    ),
+    (
+        "420125t",
+        "Tag: Unknown (0x420125), Type: TextString (0x07), Data: <redacted>\n",
+    ),
+    (
+        "420108t",
+        "Tag: Certificate Subject CN (0x420108), Type: TextString (0x07), Data: <redacted>\n",
+    ),
+    (
+        "540001t",
+        "Tag: Unknown (0x540001), Type: TextString (0x07), Data: <redacted>\n",
+    ),
+];
+
+/// Texts that are no diagnostics.
+const REFUSED: [&str; 12] = [
+    "78[", "420094t", "24e01:", "!", "7B[!", "7B]", "]", "24e1", "24e1:!", "7b[]", "94", "4200",
+];
 
 #[test]
 fn printed_texts_expand(rt: HostRuntime) {
-    let mut printer = PrettyPrinter::new();
-    printer.with_tag_prefix(0x4200);
-    for (text, want) in [
-        ("", ""),
-        (
-            "08[0At0Be4:]",
-            "Tag: Attribute (0x420008), Type: Structure (0x01), Data: \n  Tag: Attribute Name (0x42000A), Type: TextString (0x07), Data: <redacted>\n  Tag: Attribute Value (0x42000B), Type: Enumeration (0x05), Data: 4\n",
-        ),
-        (
-            "78[77[69[6Ai6Bi]0C[23[24e1:25[99tA1t]]]0Di]0F[5Ce8:79[08[0At0Be4:]]]]",
-            concat!(
-                "Tag: Request Message (0x420078), Type: Structure (0x01), Data: \n",
-                "  Tag: Request Header (0x420077), Type: Structure (0x01), Data: \n",
-                "    Tag: Protocol Version (0x420069), Type: Structure (0x01), Data: \n",
-                "      Tag: Protocol Version Major (0x42006A), Type: Integer (0x02), Data: <redacted>\n",
-                "      Tag: Protocol Version Minor (0x42006B), Type: Integer (0x02), Data: <redacted>\n",
-                "    Tag: Authentication (0x42000C), Type: Structure (0x01), Data: \n",
-                "      Tag: Credential (0x420023), Type: Structure (0x01), Data: \n",
-                "        Tag: Credential Type (0x420024), Type: Enumeration (0x05), Data: 1\n",
-                "        Tag: Credential Value (0x420025), Type: Structure (0x01), Data: \n",
-                "          Tag: Username (0x420099), Type: TextString (0x07), Data: <redacted>\n",
-                "          Tag: Password (0x4200A1), Type: TextString (0x07), Data: <redacted>\n",
-                "    Tag: Batch Count (0x42000D), Type: Integer (0x02), Data: <redacted>\n",
-                "  Tag: Batch Item (0x42000F), Type: Structure (0x01), Data: \n",
-                "    Tag: Operation (0x42005C), Type: Enumeration (0x05), Data: 8\n",
-                "    Tag: Request Payload (0x420079), Type: Structure (0x01), Data: \n",
-                "      Tag: Attribute (0x420008), Type: Structure (0x01), Data: \n",
-                "        Tag: Attribute Name (0x42000A), Type: TextString (0x07), Data: <redacted>\n",
-                "        Tag: Attribute Value (0x42000B), Type: Enumeration (0x05), Data: 4\n"
-            ),
-        ),
-        (
-            "420124t",
-            "Tag: Replace Existing (0x420124), Type: TextString (0x07), Data: <redacted>\n",
-        ),
-        (
-            "1Bt",
-            "Tag: Certificate Subject  Alternative Name (0x42001B), Type: TextString (0x07), Data: <redacted>\n",
-        ),
-        (
-            "420125t",
-            "Tag: Unknown (0x420125), Type: TextString (0x07), Data: <redacted>\n",
-        ),
-        (
-            "420108t",
-            "Tag: Certificate Subject CN (0x420108), Type: TextString (0x07), Data: <redacted>\n",
-        ),
-        (
-            "540001t",
-            "Tag: Unknown (0x540001), Type: TextString (0x07), Data: <redacted>\n",
-        ),
-    ] {
-        let Ok(lines) = printer.expand(rt.alloc(), text) else {
-            panic!(rt; "no lines")
-        };
-        assert_eq!(rt; lines.as_str(), want);
+    let printer = printer();
+    for (text, want) in &EXPANDED {
+        is_expanded(&rt, rt.alloc(), &printer, text, want);
     }
-    for text in [
-        "78[", "420094t", "24e01:", "!", "7B[!", "7B]", "]", "24e1", "24e1:!", "7b[]", "94", "4200",
-    ] {
-        let is_refused = matches!(
-            printer.expand(rt.alloc(), text),
-            Err(DiagError::NotADiagnostic)
-        );
-        assert!(rt; is_refused, "{text}");
+    for text in &REFUSED {
+        is_refused(&rt, rt.alloc(), &printer, text);
     }
 }

@@ -9,4 +9,6 @@ mod items;
 #[cfg(test)]
 mod links;
 #[cfg(test)]
+mod support;
+#[cfg(test)]
 mod tags;

@@ -1,6 +1,8 @@
 //! Tags and their names, in rows of KMIP's table.
-use kmip_tags::{make_kmip_tag_map, name_of, tags};
+use kmip_tags::{TagMap, make_kmip_tag_map, name_of, tags};
 use kmip_wire::Tag;
+use std::alloc::Global;
+use std::process::Abort;
 
 /// Some lines of the table, at its ends, at the two names with two spaces, and on both sides of it.
 const LINES: [(u32, Option<&str>); 9] = [
@@ -15,25 +17,45 @@ const LINES: [(u32, Option<&str>); 9] = [
     (0x54_0001, None),
 ];
 
-#[test]
-fn tags_have_the_names_of_the_table(rt: HostRuntime) {
-    let Ok(map) = make_kmip_tag_map(rt.alloc()) else {
-        panic!(rt; "no memory")
-    };
+fn tag_of(rt: &impl Abort, number: u32) -> Tag {
+    Tag::new(number).expect(rt, "a tag")
+}
+
+/// The tag has this name, or none.
+fn is_named(rt: &impl Abort, tag: Tag, expected: Option<&str>) {
+    assert_eq!(rt; name_of(tag), expected);
+}
+
+/// The map of all names.
+fn map_of_names(rt: &impl Abort, alloc: Global) -> TagMap {
+    make_kmip_tag_map(alloc).expect(rt, "memory")
+}
+
+/// The map has this name for the tag, or none.
+fn is_named_by(rt: &impl Abort, map: &TagMap, tag: Tag, expected: Option<&str>) {
+    assert_eq!(rt; map.get(tag), expected);
+}
+
+/// The map has 292 entries, of which this is the last.
+fn ends_with(rt: &impl Abort, map: &TagMap, number: u32, expected: &str) {
     assert_eq!(rt; map.len(), 292);
-    for (number, name) in LINES {
-        let Some(tag) = Tag::new(number) else {
-            panic!(rt; "no tag")
-        };
-        assert_eq!(rt; name_of(tag), name);
-        assert_eq!(rt; map.get(tag), name);
-    }
     let Some((tag, name)) = map.at(291) else {
         panic!(rt; "no last entry")
     };
-    assert_eq!(rt; tag.number(), 0x42_0124);
-    assert_eq!(rt; name, "Replace Existing");
+    assert_eq!(rt; tag.number(), number);
+    assert_eq!(rt; name, expected);
     assert!(rt; map.at(292).is_none());
+}
+
+#[test]
+fn tags_have_the_names_of_the_table(rt: HostRuntime) {
+    let map = map_of_names(&rt, rt.alloc());
+    for (number, name) in &LINES {
+        let tag = tag_of(&rt, *number);
+        is_named(&rt, tag, *name);
+        is_named_by(&rt, &map, tag, *name);
+    }
+    ends_with(&rt, &map, 0x42_0124, "Replace Existing");
 }
 
 /// Constants and the names that KMIP's table gives their numbers, from each version of the table.
@@ -66,10 +88,7 @@ const NAMED: [(u32, &str); 24] = [
 
 #[test]
 fn constants_have_the_names_of_the_table(rt: HostRuntime) {
-    for (number, name) in NAMED {
-        let Some(tag) = Tag::new(number) else {
-            panic!(rt; "no tag")
-        };
-        assert_eq!(rt; name_of(tag), Some(name));
+    for (number, name) in &NAMED {
+        is_named(&rt, tag_of(&rt, *number), Some(name));
     }
 }
