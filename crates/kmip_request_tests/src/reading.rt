@@ -9,7 +9,6 @@ use kmip_types::{AttributeName, AttributeValue};
 use kmip_wire::{Blob, List, Text};
 use std::alloc::Global;
 use std::process::Abort;
-use std::test::Fail;
 
 const LOCATE: &str = r#"REQ0(8, 08{0A "Object Type",0B e4})"#;
 
@@ -53,11 +52,20 @@ const WITH_A_CREDENTIAL: &str =
 
 const RESPONSE: &str = r#"OK0(12, 94 "k1")"#;
 
+fn text(rt: &impl Abort, alloc: Global, text: &str) -> Text {
+    Text::of(alloc, text).expect(rt, "memory")
+}
+
+/// The bytes of a message in the notation of kmip_test_messages.
+fn bytes_of(rt: &impl Abort, alloc: Global, notation: &str) -> Vec<u8> {
+    message(alloc, notation).expect(rt, "the notation")
+}
+
 /// A request for the objects with this attribute.
-fn locate(alloc: Global, attribute: Attribute) -> Result<RequestPayload, Fail> {
+fn locate(rt: &impl Abort, alloc: Global, attribute: Attribute) -> RequestPayload {
     let mut attributes = List::new(alloc);
-    attributes.push(attribute)?;
-    Ok(RequestPayload::Locate(attributes))
+    attributes.push(attribute).expect(rt, "memory");
+    RequestPayload::Locate(attributes)
 }
 
 /// What was read is this payload, with no credential.
@@ -65,19 +73,19 @@ fn is_read<P: PartialEq + Drop>(
     rt: &impl Abort,
     read: Result<(P, Option<CredentialType>), RequestReadError>,
     expected: P,
-) -> Result<(), Fail> {
-    let (payload, credential) = read?;
+) {
+    let (payload, credential) = read.expect(rt, "a request");
     assert!(rt; payload == expected);
     assert!(rt; credential.is_none());
-    Ok(())
 }
 
 /// The credential that was read.
 fn credential_of<P: Drop>(
+    rt: &impl Abort,
     read: Result<(P, Option<CredentialType>), RequestReadError>,
-) -> Result<Option<CredentialType>, Fail> {
-    let (_, credential) = read?;
-    Ok(credential)
+) -> Option<CredentialType> {
+    let (_, credential) = read.expect(rt, "a request");
+    credential
 }
 
 /// The bytes are refused for this reason.
@@ -87,88 +95,84 @@ fn is_refused(rt: &impl Abort, alloc: Global, bytes: &[u8], reason: RequestReadE
 }
 
 /// The bytes of this text are one item, and no request as it is written.
-fn is_not_canonical(rt: &impl Abort, alloc: Global, notation: &str) -> Result<(), Fail> {
-    let bytes = message(alloc, notation)?;
+fn is_not_canonical(rt: &impl Abort, alloc: Global, notation: &str) {
+    let bytes = bytes_of(rt, alloc, notation);
     is_refused(rt, alloc, &bytes, RequestReadError::NotCanonical);
-    Ok(())
 }
 
 #[test]
-fn locate_by_object_type(rt: HostRuntime) -> Result<(), Fail> {
+fn locate_by_object_type(rt: HostRuntime) {
     let alloc = rt.alloc();
-    let bytes = message(alloc, LOCATE)?;
-    let attribute = Attribute::ObjectType(alloc, ObjectType::PrivateKey)?;
-    let expected = locate(alloc, attribute)?;
-    is_read(&rt, from_slice(alloc, &bytes), expected)
+    let bytes = bytes_of(&rt, alloc, LOCATE);
+    let attribute = Attribute::ObjectType(alloc, ObjectType::PrivateKey).expect(&rt, "memory");
+    let expected = locate(&rt, alloc, attribute);
+    is_read(&rt, from_slice(alloc, &bytes), expected);
 }
 
 #[test]
-fn attribute_of_a_name_in_the_table(rt: HostRuntime) -> Result<(), Fail> {
+fn attribute_of_a_name_in_the_table(rt: HostRuntime) {
     let alloc = rt.alloc();
-    let bytes = message(alloc, GROUP)?;
-    let name = AttributeName(Text::of(alloc, "Object Group")?);
-    let value = AttributeValue::ObjectGroup(Text::of(alloc, "g")?);
+    let bytes = bytes_of(&rt, alloc, GROUP);
+    let name = AttributeName(text(&rt, alloc, "Object Group"));
+    let value = AttributeValue::ObjectGroup(text(&rt, alloc, "g"));
     let attribute = Attribute(name, None, value);
-    let expected = locate(alloc, attribute)?;
-    is_read(&rt, from_slice(alloc, &bytes), expected)
+    let expected = locate(&rt, alloc, attribute);
+    is_read(&rt, from_slice(alloc, &bytes), expected);
 }
 
 #[test]
-fn big_integer_of_eight_bytes(rt: HostRuntime) -> Result<(), Fail> {
+fn big_integer_of_eight_bytes(rt: HostRuntime) {
     let alloc = rt.alloc();
-    let bytes = message(alloc, BIG_INTEGER)?;
-    let name = AttributeName(Text::of(alloc, "x-a")?);
-    let value = AttributeValue::BigInteger(Blob::of(alloc, b"\0\x01\x02\x03\x04\x05\x06\x07")?);
+    let bytes = bytes_of(&rt, alloc, BIG_INTEGER);
+    let name = AttributeName(text(&rt, alloc, "x-a"));
+    let number = Blob::of(alloc, b"\0\x01\x02\x03\x04\x05\x06\x07").expect(&rt, "memory");
+    let value = AttributeValue::BigInteger(number);
     let attribute = Attribute(name, None, value);
-    let expected = locate(alloc, attribute)?;
-    is_read(&rt, from_slice(alloc, &bytes), expected)
+    let expected = locate(&rt, alloc, attribute);
+    is_read(&rt, from_slice(alloc, &bytes), expected);
 }
 
 #[test]
-fn credential_comes_back(rt: HostRuntime) -> Result<(), Fail> {
+fn credential_comes_back(rt: HostRuntime) {
     let alloc = rt.alloc();
-    let bytes = message(alloc, WITH_A_CREDENTIAL)?;
-    match credential_of(from_slice(alloc, &bytes))? {
+    let bytes = bytes_of(&rt, alloc, WITH_A_CREDENTIAL);
+    match credential_of(&rt, from_slice(alloc, &bytes)) {
         Some(CredentialType::UsernameAndPassword(user)) => {
-            assert!(&rt; user.username == Text::of(alloc, "alice")?);
-            assert!(&rt; user.password == Some(Text::of(alloc, "secret")?));
+            assert!(&rt; user.username == text(&rt, alloc, "alice"));
+            assert!(&rt; user.password == Some(text(&rt, alloc, "secret")));
         }
         None => assert!(&rt; false),
     }
-    Ok(())
 }
 
 #[test]
-fn bytes_after_the_item(rt: HostRuntime) -> Result<(), Fail> {
+fn bytes_after_the_item(rt: HostRuntime) {
     let alloc = rt.alloc();
-    let mut bytes = message(alloc, LOCATE)?;
-    let cut = bytes.get(..144).ok_or("short")?;
+    let mut bytes = bytes_of(&rt, alloc, LOCATE);
+    let cut = bytes.get(..144).expect(&rt, "bytes");
     is_refused(&rt, alloc, cut, RequestReadError::Malformed);
-    bytes.push(0)?;
+    bytes.push(0).expect(&rt, "memory");
     is_refused(&rt, alloc, &bytes, RequestReadError::Malformed);
     is_refused(&rt, alloc, &[], RequestReadError::Malformed);
-    Ok(())
 }
 
 #[test]
-fn not_as_it_is_written(rt: HostRuntime) -> Result<(), Fail> {
+fn not_as_it_is_written(rt: HostRuntime) {
     let alloc = rt.alloc();
-    is_not_canonical(&rt, alloc, LOCATE_IN_1_1)?;
-    is_not_canonical(&rt, alloc, UNKNOWN_ITEM)?;
-    is_not_canonical(&rt, alloc, UNKNOWN_FIELD)?;
-    is_not_canonical(&rt, alloc, ANOTHER_ORDER)?;
-    is_not_canonical(&rt, alloc, ITEM_TWICE)?;
-    is_not_canonical(&rt, alloc, PAD_OF_1)?;
-    Ok(())
+    is_not_canonical(&rt, alloc, LOCATE_IN_1_1);
+    is_not_canonical(&rt, alloc, UNKNOWN_ITEM);
+    is_not_canonical(&rt, alloc, UNKNOWN_FIELD);
+    is_not_canonical(&rt, alloc, ANOTHER_ORDER);
+    is_not_canonical(&rt, alloc, ITEM_TWICE);
+    is_not_canonical(&rt, alloc, PAD_OF_1);
 }
 
 #[test]
-fn not_one_plain_batch_item(rt: HostRuntime) -> Result<(), Fail> {
+fn not_one_plain_batch_item(rt: HostRuntime) {
     let alloc = rt.alloc();
-    is_not_canonical(&rt, alloc, TWO_BATCH_ITEMS)?;
-    is_not_canonical(&rt, alloc, BATCH_COUNT_2)?;
-    is_not_canonical(&rt, alloc, WITH_A_SIZE)?;
-    is_not_canonical(&rt, alloc, WITH_AN_IDENTIFIER)?;
-    is_not_canonical(&rt, alloc, RESPONSE)?;
-    Ok(())
+    is_not_canonical(&rt, alloc, TWO_BATCH_ITEMS);
+    is_not_canonical(&rt, alloc, BATCH_COUNT_2);
+    is_not_canonical(&rt, alloc, WITH_A_SIZE);
+    is_not_canonical(&rt, alloc, WITH_AN_IDENTIFIER);
+    is_not_canonical(&rt, alloc, RESPONSE);
 }

@@ -1,13 +1,12 @@
 use crate::support::Under::{self, Name, Nothing, Number};
+use crate::support::{blob, bytes_of, text};
 use kmip_codes::PaddingMethod;
 use kmip_keys::KeyMaterial;
 use kmip_shape::{ReadItem, ShowItem, Timestamp, json_is_json, shown_as_json};
-use kmip_test_messages::message;
 use kmip_types::{AttributeValue, CryptographicParameters};
-use kmip_wire::{Blob, ItemRef, Text};
+use kmip_wire::{ItemRef, Text};
 use std::alloc::Global;
 use std::process::Abort;
-use std::test::Fail;
 
 /// An item in the notation, and the JSON of its value.
 #[derive(Clone, Copy)]
@@ -17,19 +16,19 @@ struct Case {
     json: &'static str,
 }
 
+/// The item is shown as its JSON.
+fn is_read_as_json<T: ReadItem + ShowItem>(rt: &impl Abort, alloc: Global, case: &Case) {
+    let bytes = bytes_of(rt, alloc, case.notation);
+    let item = ItemRef::root(&bytes).expect(rt, "an item");
+    let value = T::read(alloc, case.under.outer(), item).expect(rt, "a value");
+    is_json(rt, alloc, &value, case.json);
+}
+
 /// Each item is shown as its JSON.
-fn are_json<T: ReadItem + ShowItem>(
-    rt: &impl Abort,
-    alloc: Global,
-    cases: &[Case],
-) -> Result<(), Fail> {
+fn are_json<T: ReadItem + ShowItem>(rt: &impl Abort, alloc: Global, cases: &[Case]) {
     for case in cases {
-        let bytes = message(alloc, case.notation)?;
-        let item = ItemRef::root(bytes.as_slice()).ok_or("no item")?;
-        let value = T::read(alloc, case.under.outer(), item)?;
-        is_json(rt, alloc, &value, case.json)?;
+        is_read_as_json::<T>(rt, alloc, case);
     }
-    Ok(())
 }
 
 const ATTRIBUTES: [Case; 11] = [
@@ -93,8 +92,8 @@ const ATTRIBUTES: [Case; 11] = [
 ];
 
 #[test]
-fn attribute_values_have_their_json(rt: HostRuntime) -> Result<(), Fail> {
-    are_json::<AttributeValue>(&rt, rt.alloc(), &ATTRIBUTES)
+fn attribute_values_have_their_json(rt: HostRuntime) {
+    are_json::<AttributeValue>(&rt, rt.alloc(), &ATTRIBUTES);
 }
 
 const MATERIALS: [Case; 2] = [
@@ -111,57 +110,55 @@ const MATERIALS: [Case; 2] = [
 ];
 
 #[test]
-fn key_materials_have_their_json(rt: HostRuntime) -> Result<(), Fail> {
-    are_json::<KeyMaterial>(&rt, rt.alloc(), &MATERIALS)
+fn key_materials_have_their_json(rt: HostRuntime) {
+    are_json::<KeyMaterial>(&rt, rt.alloc(), &MATERIALS);
 }
 
 /// The JSON of the value is this.
-fn is_json<T: ShowItem>(rt: &impl Abort, alloc: Global, value: &T, json: &str) -> Result<(), Fail> {
+fn is_json<T: ShowItem>(rt: &impl Abort, alloc: Global, value: &T, json: &str) {
     let mut text = Text::new(alloc);
-    value.show_json(alloc, &mut text)?;
+    value.show_json(alloc, &mut text).expect(rt, "memory");
     assert_eq!(rt; text.as_str(), json);
-    Ok(())
 }
 
 #[test]
-fn plain_values_have_their_json(rt: HostRuntime) -> Result<(), Fail> {
+fn plain_values_have_their_json(rt: HostRuntime) {
     let alloc = rt.alloc();
     let none = CryptographicParameters::default();
-    is_json(&rt, alloc, &none, "{}")?;
+    is_json(&rt, alloc, &none, "{}");
     let padded = none.with_padding_method(PaddingMethod::OAEP);
-    is_json(&rt, alloc, &padded, "{\"padding_method\":\"OAEP\"}")?;
-    is_json(&rt, alloc, &Timestamp(-1), "-1")?;
-    is_json(&rt, alloc, &Timestamp(-5), "-5")?;
-    is_json(&rt, alloc, &Timestamp(0), "0")?;
-    is_json(&rt, alloc, &0xFFFF_FFFF_FFFF_FFFBu64, "-5")?;
-    is_json(&rt, alloc, &0u64, "0")?;
-    is_json(&rt, alloc, &0x7FFF_FFFF_FFFF_FFFFu64, "9223372036854775807")?;
+    is_json(&rt, alloc, &padded, "{\"padding_method\":\"OAEP\"}");
+    is_json(&rt, alloc, &Timestamp(-1), "-1");
+    is_json(&rt, alloc, &Timestamp(-5), "-5");
+    is_json(&rt, alloc, &Timestamp(0), "0");
+    is_json(&rt, alloc, &0xFFFF_FFFF_FFFF_FFFBu64, "-5");
+    is_json(&rt, alloc, &0u64, "0");
+    is_json(&rt, alloc, &0x7FFF_FFFF_FFFF_FFFFu64, "9223372036854775807");
     is_json(
         &rt,
         alloc,
         &0x8000_0000_0000_0000u64,
         "-9223372036854775808",
-    )?;
-    is_json(&rt, alloc, &Blob::of(alloc, &[0x0A, 0xFF])?, "\"0AFF\"")?;
-    let text = Text::of(alloc, "\0\"b\\c\n\u{1f}\u{7f}\u{e9}")?;
+    );
+    is_json(&rt, alloc, &blob(&rt, alloc, &[0x0A, 0xFF]), "\"0AFF\"");
+    let text = text(&rt, alloc, "\0\"b\\c\n\u{1f}\u{7f}\u{e9}");
     let expected = "\"\\u0000\\\"b\\\\c\\u000A\\u001F\\u007F\u{e9}\"";
-    is_json(&rt, alloc, &text, expected)
+    is_json(&rt, alloc, &text, expected);
 }
 
 #[test]
-fn json_is_added_after_other_text(rt: HostRuntime) -> Result<(), Fail> {
+fn json_is_added_after_other_text(rt: HostRuntime) {
     let alloc = rt.alloc();
-    let mut out = Text::of(alloc, "{\"answer\":")?;
-    Blob::of(alloc, b"")?.show_json(alloc, &mut out)?;
+    let mut out = text(&rt, alloc, "{\"answer\":");
+    let empty = blob(&rt, alloc, b"");
+    empty.show_json(alloc, &mut out).expect(&rt, "memory");
     assert_eq!(&rt; out.as_str(), "{\"answer\":\"\"");
-    Ok(())
 }
 
 /// The laws of JSON hold of any value that is at hand.
 #[test]
-fn what_is_shown_is_json(rt: HostRuntime) -> Result<(), Fail> {
-    let text = Text::of(rt.alloc(), "a\"b")?;
+fn what_is_shown_is_json(rt: HostRuntime) {
+    let text = text(&rt, rt.alloc(), "a\"b");
     shown_as_json(&text);
     json_is_json();
-    Ok(())
 }

@@ -1,10 +1,9 @@
 use crate::support::Under::{Nothing, Number};
-use crate::support::{Case, are_read, is_copied, len_of};
+use crate::support::{Case, are_read, blob, is_copied, len_of};
 use kmip_keys::{KeyMaterial, TransparentRSAPublicKey};
 use kmip_shape::item_len;
 use kmip_tags::tags::KEY_MATERIAL;
-use kmip_wire::{Blob, Tag};
-use std::test::Fail;
+use kmip_wire::Tag;
 
 /// By the number of the format.
 const MATERIALS: [Case; 16] = [
@@ -103,29 +102,28 @@ const MATERIALS: [Case; 16] = [
 ];
 
 #[test]
-fn materials_by_their_format(rt: HostRuntime) -> Result<(), Fail> {
-    are_read::<KeyMaterial>(&rt, rt.alloc(), &MATERIALS)
+fn materials_by_their_format(rt: HostRuntime) {
+    are_read::<KeyMaterial>(&rt, rt.alloc(), &MATERIALS);
 }
 
 #[test]
-fn without_a_form(rt: HostRuntime) -> Result<(), Fail> {
+fn without_a_form(rt: HostRuntime) {
     let alloc = rt.alloc();
     let tag = Tag::of(KEY_MATERIAL);
     // a Big Integer of seven bytes
-    let modulus = Blob::of(alloc, b"\x00\x00\x00\x00\xC5\xA1\xB3")?;
-    let public_exponent = Blob::of(alloc, b"\x00\x00\x00\x00\x00\x01\x00\x01")?;
+    let modulus = blob(&rt, alloc, b"\x00\x00\x00\x00\xC5\xA1\xB3");
+    let public_exponent = blob(&rt, alloc, b"\x00\x00\x00\x00\x00\x01\x00\x01");
     let key = TransparentRSAPublicKey {
         modulus,
         public_exponent,
     };
     assert!(&rt; len_of(key, tag).is_none());
-    let (first, second) = (Blob::of(alloc, b"\xAA")?, Blob::of(alloc, b"\xAA")?);
+    let (first, second) = (blob(&rt, alloc, b"\xAA"), blob(&rt, alloc, b"\xAA"));
     let structure = KeyMaterial::Structure(first);
     let wrapped = KeyMaterial::Wrapped(second);
     assert!(&rt; structure != wrapped);
     assert!(&rt; len_of(structure, tag).is_none());
     assert!(&rt; item_len(&wrapped, tag).is_none());
-    let copied = is_copied(&rt, alloc, &wrapped);
+    is_copied(&rt, alloc, &wrapped);
     drop(wrapped);
-    copied
 }

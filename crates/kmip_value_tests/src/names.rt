@@ -1,38 +1,36 @@
-use crate::support::{comes_back, comes_back_copied, is_printed, is_unread};
+use crate::support::{blob, comes_back, comes_back_copied, is_printed, is_unread, text};
 use kmip_names::{
     ApplicationData, ApplicationNamespace, AttributeIndex, AttributeName, CompromiseOccurrenceDate,
     CounterLength, CryptographicLength, Data, DataLength, FixedFieldLength, IVLength,
     InitialCounterValue, InvocationFieldLength, LinkedObjectIdentifier, NameValue, RandomIV,
     RevocationMessage, TagLength, UniqueBatchItemID, UniqueIdentifier,
 };
-use kmip_wire::{Blob, Text};
 use std::process::Abort;
-use std::test::Fail;
 
 #[test]
-fn types_of_one_field_are_read_shown_and_written(rt: HostRuntime) -> Result<(), Fail> {
+fn types_of_one_field_are_read_shown_and_written(rt: HostRuntime) {
     let alloc = rt.alloc();
-    comes_back_copied::<ApplicationData>(&rt, alloc, r#"02 "k1""#, "\"k1\"")?;
-    comes_back_copied::<ApplicationNamespace>(&rt, alloc, r#"03 "k1""#, "\"k1\"")?;
-    comes_back_copied::<AttributeName>(&rt, alloc, r#"0A "k1""#, "\"k1\"")?;
-    comes_back_copied::<LinkedObjectIdentifier>(&rt, alloc, r#"4C "k1""#, "\"k1\"")?;
-    comes_back_copied::<NameValue>(&rt, alloc, r#"55 "k1""#, "\"k1\"")?;
-    comes_back_copied::<RevocationMessage>(&rt, alloc, r#"80 "k1""#, "\"k1\"")?;
-    comes_back_copied::<UniqueIdentifier>(&rt, alloc, r#"94 "k1""#, "\"k1\"")?;
-    comes_back::<AttributeIndex>(&rt, alloc, "420009 i-5", "-5")?;
-    comes_back::<CounterLength>(&rt, alloc, "4200D0 i-5", "-5")?;
-    comes_back::<CryptographicLength>(&rt, alloc, "42002A i-5", "-5")?;
-    comes_back::<DataLength>(&rt, alloc, "4200C4 i-5", "-5")?;
-    comes_back::<FixedFieldLength>(&rt, alloc, "4200CF i-5", "-5")?;
-    comes_back::<IVLength>(&rt, alloc, "4200CD i-5", "-5")?;
-    comes_back::<InitialCounterValue>(&rt, alloc, "4200D1 i-5", "-5")?;
-    comes_back::<InvocationFieldLength>(&rt, alloc, "4200D2 i-5", "-5")?;
-    comes_back::<TagLength>(&rt, alloc, "4200CE i-5", "-5")?;
-    comes_back::<RandomIV>(&rt, alloc, "C5 o1", "true")?;
-    comes_back_copied::<Data>(&rt, alloc, "C2 xDEADBEEF", "x\"DEADBEEF\"")?;
-    comes_back_copied::<UniqueBatchItemID>(&rt, alloc, "93 xDEADBEEF", "x\"DEADBEEF\"")?;
-    comes_back::<CompromiseOccurrenceDate>(&rt, alloc, "21 d1700000000", "1700000000")?;
-    is_unread::<UniqueIdentifier>(&rt, alloc, "94 xDEADBEEF")
+    comes_back_copied::<ApplicationData>(&rt, alloc, r#"02 "k1""#, "\"k1\"");
+    comes_back_copied::<ApplicationNamespace>(&rt, alloc, r#"03 "k1""#, "\"k1\"");
+    comes_back_copied::<AttributeName>(&rt, alloc, r#"0A "k1""#, "\"k1\"");
+    comes_back_copied::<LinkedObjectIdentifier>(&rt, alloc, r#"4C "k1""#, "\"k1\"");
+    comes_back_copied::<NameValue>(&rt, alloc, r#"55 "k1""#, "\"k1\"");
+    comes_back_copied::<RevocationMessage>(&rt, alloc, r#"80 "k1""#, "\"k1\"");
+    comes_back_copied::<UniqueIdentifier>(&rt, alloc, r#"94 "k1""#, "\"k1\"");
+    comes_back::<AttributeIndex>(&rt, alloc, "420009 i-5", "-5");
+    comes_back::<CounterLength>(&rt, alloc, "4200D0 i-5", "-5");
+    comes_back::<CryptographicLength>(&rt, alloc, "42002A i-5", "-5");
+    comes_back::<DataLength>(&rt, alloc, "4200C4 i-5", "-5");
+    comes_back::<FixedFieldLength>(&rt, alloc, "4200CF i-5", "-5");
+    comes_back::<IVLength>(&rt, alloc, "4200CD i-5", "-5");
+    comes_back::<InitialCounterValue>(&rt, alloc, "4200D1 i-5", "-5");
+    comes_back::<InvocationFieldLength>(&rt, alloc, "4200D2 i-5", "-5");
+    comes_back::<TagLength>(&rt, alloc, "4200CE i-5", "-5");
+    comes_back::<RandomIV>(&rt, alloc, "C5 o1", "true");
+    comes_back_copied::<Data>(&rt, alloc, "C2 xDEADBEEF", "x\"DEADBEEF\"");
+    comes_back_copied::<UniqueBatchItemID>(&rt, alloc, "93 xDEADBEEF", "x\"DEADBEEF\"");
+    comes_back::<CompromiseOccurrenceDate>(&rt, alloc, "21 d1700000000", "1700000000");
+    is_unread::<UniqueIdentifier>(&rt, alloc, "94 xDEADBEEF");
 }
 
 fn is_identifier(rt: &impl Abort, identifier: &UniqueIdentifier) {
@@ -53,13 +51,13 @@ fn is_batch_item(rt: &impl Abort, batch_item: &UniqueBatchItemID) {
 }
 
 #[test]
-fn types_of_one_field_have_their_parts(rt: HostRuntime) -> Result<(), Fail> {
+fn types_of_one_field_have_their_parts(rt: HostRuntime) {
     let alloc = rt.alloc();
-    is_identifier(&rt, &UniqueIdentifier(Text::of(alloc, "k1")?));
-    is_name(&rt, &AttributeName(Text::of(alloc, "State")?));
-    is_batch_item(&rt, &UniqueBatchItemID(Blob::of(alloc, &[1, 2])?));
+    is_identifier(&rt, &UniqueIdentifier(text(&rt, alloc, "k1")));
+    is_name(&rt, &AttributeName(text(&rt, alloc, "State")));
+    is_batch_item(&rt, &UniqueBatchItemID(blob(&rt, alloc, &[1, 2])));
     assert!(rt; AttributeIndex(-1).is(-1));
     assert!(rt; !AttributeIndex(-1).is(1));
-    let name_value = NameValue(Text::of(alloc, "disk \"1\"")?);
-    is_printed(&rt, alloc, &name_value, "disk \"1\"")
+    let name_value = NameValue(text(&rt, alloc, "disk \"1\""));
+    is_printed(&rt, alloc, &name_value, "disk \"1\"");
 }

@@ -1,17 +1,18 @@
-//! What several tests share. A value of many variants is taken by a generic function, which lets it go: where its type stands, each
-//! exit would be proved for each variant.
+//! What several tests share. A value of many variants is taken by a generic function, which lets it
+//! go: where its type stands, each exit would be proved for each variant. No function here has a
+//! clause, so that a test's proof has none to meet; and each ends the run where something is amiss,
+//! so that no test has a way out at which it lets go of the values that it holds.
 
 use kmip_shape::{
     Enumeration, Outer, ReadError, ReadItem, ShowItem, WriteItem, item_len, read_list, read_one,
     read_opt, to_blob,
 };
 use kmip_test_messages::message;
-use kmip_wire::{ItemRef, Tag, Text, TryClone};
+use kmip_wire::{Blob, ItemRef, Tag, Text, TryClone};
 use std::alloc::Global;
 use std::fmt::Display;
 use std::ops::Range;
 use std::process::Abort;
-use std::test::Fail;
 
 /// The value of the chooser that an item is read under.
 #[derive(Clone, Copy)]
@@ -51,53 +52,51 @@ pub struct Case {
     pub shown: Option<&'static str>,
 }
 
+/// A text.
+pub fn text(rt: &impl Abort, alloc: Global, text: &str) -> Text {
+    Text::of(alloc, text).expect(rt, "memory")
+}
+
+/// Bytes.
+pub fn blob(rt: &impl Abort, alloc: Global, bytes: &[u8]) -> Blob {
+    Blob::of(alloc, bytes).expect(rt, "memory")
+}
+
+/// The bytes of items in the notation of kmip_test_messages.
+pub fn bytes_of(rt: &impl Abort, alloc: Global, notation: &str) -> Vec<u8> {
+    message(alloc, notation).expect(rt, "the notation of messages")
+}
+
 /// The value of an item, and none where it is not read.
-fn read<T: ReadItem>(alloc: Global, under: Under, notation: &str) -> Result<Option<T>, Fail> {
-    let bytes = message(alloc, notation)?;
-    let item = ItemRef::root(bytes.as_slice()).ok_or("no item")?;
+fn read<T: ReadItem>(rt: &impl Abort, alloc: Global, under: Under, notation: &str) -> Option<T> {
+    let bytes = bytes_of(rt, alloc, notation);
+    let item = ItemRef::root(&bytes).expect(rt, "an item");
     match T::read(alloc, under.outer(), item) {
-        Ok(value) => Ok(Some(value)),
-        Err(ReadError::Unread) => Ok(None),
-        Err(ReadError::OutOfMemory) => Err(Fail::from("out of memory")),
+        Ok(value) => Some(value),
+        Err(ReadError::Unread) => None,
+        Err(ReadError::OutOfMemory) => panic!(rt; "out of memory"),
     }
 }
 
 /// The value is shown as this text.
-pub fn is_shown<T: ShowItem>(
-    rt: &impl Abort,
-    alloc: Global,
-    value: &T,
-    shown: &str,
-) -> Result<(), Fail> {
+pub fn is_shown<T: ShowItem>(rt: &impl Abort, alloc: Global, value: &T, shown: &str) {
     let mut text = Text::new(alloc);
-    value.show(alloc, &mut text)?;
+    value.show(alloc, &mut text).expect(rt, "memory");
     assert_eq!(rt; text.as_str(), shown);
-    Ok(())
 }
 
 /// The value is written as this item.
-pub fn is_written<T: WriteItem>(
-    rt: &impl Abort,
-    alloc: Global,
-    value: &T,
-    notation: &str,
-) -> Result<(), Fail> {
-    let bytes = message(alloc, notation)?;
-    let item = ItemRef::root(bytes.as_slice()).ok_or("no item")?;
-    let written = to_blob(alloc, value, item.tag())?;
+pub fn is_written<T: WriteItem>(rt: &impl Abort, alloc: Global, value: &T, notation: &str) {
+    let bytes = bytes_of(rt, alloc, notation);
+    let item = ItemRef::root(&bytes).expect(rt, "an item");
+    let written = to_blob(alloc, value, item.tag()).expect(rt, "a form");
     assert!(rt; written.as_slice() == bytes.as_slice());
-    Ok(())
 }
 
 /// The value has a copy that equals it.
-pub fn is_copied<T: TryClone + PartialEq + Drop>(
-    rt: &impl Abort,
-    alloc: Global,
-    value: &T,
-) -> Result<(), Fail> {
-    let copy = value.try_clone(alloc)?;
+pub fn is_copied<T: TryClone + PartialEq + Drop>(rt: &impl Abort, alloc: Global, value: &T) {
+    let copy = value.try_clone(alloc).expect(rt, "memory");
     assert!(rt; copy == *value);
-    Ok(())
 }
 
 /// The item is read as a value that is shown as the text and written as the same bytes.
@@ -106,17 +105,16 @@ pub fn comes_back<T: ReadItem + WriteItem + ShowItem>(
     alloc: Global,
     notation: &str,
     shown: &str,
-) -> Result<(), Fail> {
-    let value: T = read(alloc, Under::Nothing, notation)?.ok_or("not read")?;
-    is_shown(rt, alloc, &value, shown)?;
-    is_written(rt, alloc, &value, notation)
+) {
+    let value = read::<T>(rt, alloc, Under::Nothing, notation).expect(rt, "a value");
+    is_shown(rt, alloc, &value, shown);
+    is_written(rt, alloc, &value, notation);
 }
 
 /// The item is not read, where no chooser stands above it.
-pub fn is_unread<T: ReadItem>(rt: &impl Abort, alloc: Global, notation: &str) -> Result<(), Fail> {
-    let value: Option<T> = read(alloc, Under::Nothing, notation)?;
+pub fn is_unread<T: ReadItem>(rt: &impl Abort, alloc: Global, notation: &str) {
+    let value = read::<T>(rt, alloc, Under::Nothing, notation);
     assert!(rt; value.is_none());
-    Ok(())
 }
 
 /// The item comes back, and its value has a copy.
@@ -125,25 +123,31 @@ pub fn comes_back_copied<T: ReadItem + WriteItem + ShowItem + TryClone + Partial
     alloc: Global,
     notation: &str,
     shown: &str,
-) -> Result<(), Fail> {
-    is_case::<T>(rt, alloc, Under::Nothing, notation, Some(shown))
+) {
+    is_case::<T>(rt, alloc, Under::Nothing, notation, Some(shown));
 }
 
-/// The item is read exactly where it shows something, is written as the same bytes, and has a copy that equals it.
+/// The item is read exactly where it shows something, is written as the same bytes, and has a copy
+/// that equals it.
 fn is_case<T: ReadItem + WriteItem + ShowItem + TryClone + PartialEq>(
     rt: &impl Abort,
     alloc: Global,
     under: Under,
     notation: &str,
     shown: Option<&str>,
-) -> Result<(), Fail> {
-    let Some(value) = read::<T>(alloc, under, notation)? else {
+) {
+    let Some(value) = read::<T>(rt, alloc, under, notation) else {
         assert!(rt; shown.is_none());
-        return Ok(());
+        return;
     };
-    is_shown(rt, alloc, &value, shown.ok_or("read")?)?;
-    is_written(rt, alloc, &value, notation)?;
-    is_copied(rt, alloc, &value)
+    is_shown(
+        rt,
+        alloc,
+        &value,
+        shown.expect(rt, "a value that is not read"),
+    );
+    is_written(rt, alloc, &value, notation);
+    is_copied(rt, alloc, &value);
 }
 
 /// Each item is as its case says.
@@ -151,11 +155,10 @@ pub fn are_read<T: ReadItem + WriteItem + ShowItem + TryClone + PartialEq>(
     rt: &impl Abort,
     alloc: Global,
     cases: &[Case],
-) -> Result<(), Fail> {
+) {
     for case in cases {
-        is_case::<T>(rt, alloc, case.under, case.notation, case.shown)?;
+        is_case::<T>(rt, alloc, case.under, case.notation, case.shown);
     }
-    Ok(())
 }
 
 /// The item is read as this value.
@@ -165,10 +168,9 @@ pub fn reads_as<T: ReadItem + PartialEq>(
     under: Under,
     notation: &str,
     expected: T,
-) -> Result<(), Fail> {
-    let value: T = read(alloc, under, notation)?.ok_or("not read")?;
+) {
+    let value = read::<T>(rt, alloc, under, notation).expect(rt, "a value");
     assert!(rt; value == expected);
-    Ok(())
 }
 
 /// What children of the tag are read as: as one, as one that may be absent, and as a list.
@@ -180,17 +182,16 @@ pub fn children_are<T: ReadItem + PartialEq>(
     one: Option<T>,
     optional: Option<Option<T>>,
     list: Option<&[T]>,
-) -> Result<(), Fail> {
-    let (tag, outer) = (Tag::new(tag).ok_or("no tag")?, Outer::none());
-    let bytes = message(alloc, notation)?;
-    let parent = ItemRef::root(bytes.as_slice()).ok_or("no item")?;
+) {
+    let (tag, outer) = (Tag::new(tag).expect(rt, "a tag"), Outer::none());
+    let bytes = bytes_of(rt, alloc, notation);
+    let parent = ItemRef::root(&bytes).expect(rt, "an item");
     assert!(rt; read_one::<T>(alloc, outer, parent, tag) == one.ok_or(ReadError::Unread));
     assert!(rt; read_opt::<T>(alloc, outer, parent, tag) == optional.ok_or(ReadError::Unread));
     match read_list::<T>(alloc, outer, parent, tag) {
         Ok(read) => assert!(rt; list == Some(read.as_slice())),
         Err(error) => assert!(rt; list.is_none() && error == ReadError::Unread),
     }
-    Ok(())
 }
 
 pub fn are_equal<T: PartialEq + Drop>(value: T, expected: T) -> bool {
@@ -203,27 +204,16 @@ pub fn len_of<T: WriteItem + Drop>(value: T, tag: Tag) -> Option<u64> {
 }
 
 /// The value prints this text.
-pub fn is_printed<T: Display>(
-    rt: &impl Abort,
-    alloc: Global,
-    value: &T,
-    text: &str,
-) -> Result<(), Fail> {
-    let printed = format!(in alloc; "{value}")?;
+pub fn is_printed<T: Display>(rt: &impl Abort, alloc: Global, value: &T, text: &str) {
+    let printed = format!(in alloc; "{value}").expect(rt, "memory");
     assert_eq!(rt; printed.as_str(), text);
-    Ok(())
 }
 
 /// The variant of the number prints the name.
-fn is_named<T: Enumeration + Display>(
-    rt: &impl Abort,
-    alloc: Global,
-    number: u32,
-    name: &str,
-) -> Result<(), Fail> {
-    let variant = T::from_number(number).ok_or("no variant")?;
+fn is_named<T: Enumeration + Display>(rt: &impl Abort, alloc: Global, number: u32, name: &str) {
+    let variant = T::from_number(number).expect(rt, "a variant");
     assert_eq!(rt; variant.number(), number);
-    is_printed(rt, alloc, &variant, name)
+    is_printed(rt, alloc, &variant, name);
 }
 
 /// The variants of the numbers print the words, and the number after them has no variant.
@@ -232,13 +222,12 @@ pub fn has_names<T: Enumeration + Display>(
     alloc: Global,
     numbers: Range<u32>,
     names: &str,
-) -> Result<(), Fail> {
+) {
     let mut left = numbers;
     for name in names.split(' ') {
-        let number = left.next().ok_or("more names")?;
-        is_named::<T>(rt, alloc, number, name)?;
+        let number = left.next().expect(rt, "no more names than numbers");
+        is_named::<T>(rt, alloc, number, name);
     }
     assert!(rt; left.is_empty());
     assert!(rt; T::from_number(left.end).is_none());
-    Ok(())
 }

@@ -1,11 +1,11 @@
 use crate::support::Under::{Name, Nothing};
-use crate::support::{Case, are_equal, are_read, is_written, len_of, reads_as};
+use crate::support::{Case, are_equal, are_read, blob, is_written, len_of, reads_as};
 use kmip_codes::{HashingAlgorithm, PaddingMethod};
 use kmip_tags::tags::ATTRIBUTE_VALUE;
 use kmip_types::{AttributeValue, CryptographicParameters, Values};
-use kmip_wire::{Blob, Tag, TryClone};
+use kmip_wire::{Tag, TryClone};
 use std::alloc::Global;
-use std::test::Fail;
+use std::process::Abort;
 
 /// By the name, where it is one of the table's, and else by the type of the item.
 const VALUES: [Case; 26] = [
@@ -145,62 +145,67 @@ const VALUES: [Case; 26] = [
 ];
 
 #[test]
-fn by_name_or_type(rt: HostRuntime) -> Result<(), Fail> {
-    are_read::<AttributeValue>(&rt, rt.alloc(), &VALUES)
+fn by_name_or_type(rt: HostRuntime) {
+    are_read::<AttributeValue>(&rt, rt.alloc(), &VALUES);
 }
 
 const DIGEST: &str = "0B{38 e6,35 xAABB}";
 
+/// Adds a member to the end.
+fn add(rt: &impl Abort, members: &mut Values, member: AttributeValue) {
+    members.push(member).expect(rt, "memory");
+}
+
 /// The custom structure of a digest: an enumeration and bytes.
-fn digest(alloc: Global) -> Result<Values, Fail> {
-    let bytes = Blob::of(alloc, b"\xAA\xBB")?;
+fn digest(rt: &impl Abort, alloc: Global) -> Values {
+    let bytes = blob(rt, alloc, b"\xAA\xBB");
     let mut members = Values::new(alloc);
-    members.push(AttributeValue::Enumeration(6))?;
-    members.push(AttributeValue::ByteString(bytes))?;
-    Ok(members)
+    add(rt, &mut members, AttributeValue::Enumeration(6));
+    add(rt, &mut members, AttributeValue::ByteString(bytes));
+    members
 }
 
 #[test]
-fn children_of_any_tag(rt: HostRuntime) -> Result<(), Fail> {
-    let members = digest(rt.alloc())?;
+fn children_of_any_tag(rt: HostRuntime) {
+    let members = digest(&rt, rt.alloc());
     assert!(&rt; members.len() == 2);
     assert!(&rt; matches!(members.get(0), Some(AttributeValue::Enumeration(6))));
     assert!(&rt; members.get(2).is_none());
     let expected = AttributeValue::Structure(members);
-    reads_as(&rt, rt.alloc(), Name("Digest"), DIGEST, expected)
+    reads_as(&rt, rt.alloc(), Name("Digest"), DIGEST, expected);
 }
 
 #[test]
-fn members_are_copied_and_compared(rt: HostRuntime) -> Result<(), Fail> {
-    let members = digest(rt.alloc())?;
-    let mut more = members.try_clone(rt.alloc())?;
+fn members_are_copied_and_compared(rt: HostRuntime) {
+    let members = digest(&rt, rt.alloc());
+    let mut more = members.try_clone(rt.alloc()).expect(&rt, "memory");
     assert!(&rt; more == members);
-    more.push(AttributeValue::Integer(0))?;
+    add(&rt, &mut more, AttributeValue::Integer(0));
     assert!(&rt; more != members);
-    Ok(())
+    drop(more);
+    drop(members);
 }
 
 /// The structure of this one member.
-fn structure_of(alloc: Global, member: AttributeValue) -> Result<AttributeValue, Fail> {
+fn structure_of(rt: &impl Abort, alloc: Global, member: AttributeValue) -> AttributeValue {
     let mut members = Values::new(alloc);
-    members.push(member)?;
-    Ok(AttributeValue::Structure(members))
+    add(rt, &mut members, member);
+    AttributeValue::Structure(members)
 }
 
 #[test]
-fn without_a_form(rt: HostRuntime) -> Result<(), Fail> {
+fn without_a_form(rt: HostRuntime) {
     let alloc = rt.alloc();
     let tag = Tag::of(ATTRIBUTE_VALUE);
-    let seven = Blob::of(alloc, &[0; 7])?;
+    let seven = blob(&rt, alloc, &[0; 7]);
     assert!(&rt; len_of(AttributeValue::BigInteger(seven), tag).is_none());
-    let eight = Blob::of(alloc, &[0; 8])?;
+    let eight = blob(&rt, alloc, &[0; 8]);
     assert!(&rt; len_of(AttributeValue::BigInteger(eight), tag) == Some(16));
-    let empty = structure_of(alloc, AttributeValue::Structure(Values::new(alloc)))?;
+    let empty = structure_of(&rt, alloc, AttributeValue::Structure(Values::new(alloc)));
     assert!(&rt; len_of(empty, tag).is_none());
     let parameters = AttributeValue::from(CryptographicParameters::default());
-    let structure = structure_of(alloc, parameters)?;
+    let structure = structure_of(&rt, alloc, parameters);
     assert!(&rt; len_of(structure, tag).is_none());
-    Ok(())
 }
 
 const PADDED: &str = "2B{5F e8}";
@@ -208,15 +213,14 @@ const PADDED: &str = "2B{5F e8}";
 const HASHED: &str = "2B{5F e8,38 e6}";
 
 #[test]
-fn cryptographic_parameters(rt: HostRuntime) -> Result<(), Fail> {
+fn cryptographic_parameters(rt: HostRuntime) {
     let alloc = rt.alloc();
     let padded = CryptographicParameters::default().with_padding_method(PaddingMethod::PKCS1_v1_5);
-    is_written(&rt, alloc, &padded, PADDED)?;
+    is_written(&rt, alloc, &padded, PADDED);
     let hashed = padded.with_hashing_algorithm(HashingAlgorithm::SHA256);
-    is_written(&rt, alloc, &hashed, HASHED)?;
-    reads_as(&rt, alloc, Nothing, HASHED, hashed)?;
+    is_written(&rt, alloc, &hashed, HASHED);
+    reads_as(&rt, alloc, Nothing, HASHED, hashed);
     assert!(&rt; hashed != padded);
     let expected = AttributeValue::CryptographicParameters(hashed);
     assert!(&rt; are_equal(AttributeValue::from(hashed), expected));
-    Ok(())
 }
