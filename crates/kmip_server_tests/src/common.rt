@@ -1,8 +1,11 @@
-//! What the tests share. No function here has a clause, so that a test's proof has none to meet.
+//! What the tests share. No function here has a clause, so that a test's proof has none to meet; and
+//! each ends the run where something is amiss, so that no test has a way out at which it lets go of the
+//! values that it holds.
 use kmip_server::Call;
-use kmip_wire::{Blob, Text};
+use kmip_store::{Made, MemoryMaker};
+use kmip_wire::{Blob, List, Text};
 use std::alloc::Global;
-use std::test::Fail;
+use std::process::Abort;
 
 /// A helper's call.
 #[derive(Clone, Copy)]
@@ -21,26 +24,36 @@ pub enum TestCall<'a> {
     Get(&'a str),
 }
 
-pub fn text(alloc: Global, text: &str) -> Result<Text, Fail> {
-    Ok(Text::of(alloc, text)?)
+pub fn text(rt: &impl Abort, alloc: Global, text: &str) -> Text {
+    Text::of(alloc, text).expect(rt, "memory")
 }
 
-pub fn blob(alloc: Global, bytes: &[u8]) -> Result<Blob, Fail> {
-    Ok(Blob::of(alloc, bytes)?)
+pub fn blob(rt: &impl Abort, alloc: Global, bytes: &[u8]) -> Blob {
+    Blob::of(alloc, bytes).expect(rt, "memory")
 }
 
-pub fn call_of(alloc: Global, call: TestCall<'_>) -> Result<Call, Fail> {
-    Ok(match call {
+pub fn call_of(rt: &impl Abort, alloc: Global, call: TestCall<'_>) -> Call {
+    match call {
         TestCall::Query => Call::Query,
         TestCall::CreatePair(bits) => {
-            Call::CreateRsaKeyPair(bits, text(alloc, "priv")?, text(alloc, "pub")?)
+            Call::CreateRsaKeyPair(bits, text(rt, alloc, "priv"), text(rt, alloc, "pub"))
         }
         TestCall::Random(count) => Call::RngRetrieve(count),
-        TestCall::Sign(id) => Call::Sign(text(alloc, id)?, blob(alloc, b"\x01")?),
-        TestCall::Activate(id) => Call::ActivateKey(text(alloc, id)?),
-        TestCall::Revoke(id) => Call::RevokeKey(text(alloc, id)?),
-        TestCall::Destroy(id) => Call::DestroyKey(text(alloc, id)?),
-        TestCall::Rename(id, name) => Call::RenameKey(text(alloc, id)?, text(alloc, name)?),
-        TestCall::Get(id) => Call::GetKey(text(alloc, id)?),
-    })
+        TestCall::Sign(id) => Call::Sign(text(rt, alloc, id), blob(rt, alloc, b"\x01")),
+        TestCall::Activate(id) => Call::ActivateKey(text(rt, alloc, id)),
+        TestCall::Revoke(id) => Call::RevokeKey(text(rt, alloc, id)),
+        TestCall::Destroy(id) => Call::DestroyKey(text(rt, alloc, id)),
+        TestCall::Rename(id, name) => Call::RenameKey(text(rt, alloc, id), text(rt, alloc, name)),
+        TestCall::Get(id) => Call::GetKey(text(rt, alloc, id)),
+    }
+}
+
+/// One more answer of a maker.
+pub fn add_answer(rt: &impl Abort, answers: &mut List<Made>, answer: Made) {
+    answers.push(answer).expect(rt, "memory");
+}
+
+/// A maker with these answers, which refuses its second call.
+pub fn maker_of(rt: &impl Abort, alloc: Global, answers: List<Made>) -> MemoryMaker {
+    MemoryMaker::new(alloc, answers, &[1]).expect(rt, "memory")
 }

@@ -2,14 +2,14 @@
 use crate::common::TestCall::{
     Activate, CreatePair, Destroy, Get, Query, Random, Rename, Revoke, Sign,
 };
-use crate::common::blob;
+use crate::common::{add_answer, blob};
 use crate::reports::Returned::{DeserializeError, ItemNotFound, ServerError, Value};
 use crate::reports::{Row, check_calls, client_over, client_with_diagnostics, plain_link};
 use kmip_server::ServerLink;
 use kmip_store::{Made, MemoryMaker};
 use kmip_wire::{Config, List};
 use std::alloc::Global;
-use std::test::Fail;
+use std::process::Abort;
 
 /// A key made, what is allowed in each state, its end, and a key that there is not.
 const LIFE: &[Row<'static>] = &[
@@ -46,10 +46,10 @@ const LIFE: &[Row<'static>] = &[
 ];
 
 #[test]
-fn answers_follow_the_state_of_a_key(rt: HostRuntime) -> Result<(), Fail> {
+fn answers_follow_the_state_of_a_key(rt: HostRuntime) {
     let alloc = rt.alloc();
     let mut client = client_with_diagnostics(plain_link(alloc));
-    check_calls(&rt, alloc, &mut client, LIFE, None)
+    check_calls(&rt, alloc, &mut client, LIFE, None);
 }
 
 /// Random bytes, what a server can do, and a name.
@@ -71,7 +71,7 @@ const OTHERS: &[Row<'static>] = &[
 ];
 
 #[test]
-fn a_call_reports_what_it_sent_and_both_diagnostics(rt: HostRuntime) -> Result<(), Fail> {
+fn a_call_reports_what_it_sent_and_both_diagnostics(rt: HostRuntime) {
     let alloc = rt.alloc();
     let mut client = client_with_diagnostics(plain_link(alloc));
     let first = (
@@ -79,23 +79,23 @@ fn a_call_reports_what_it_sent_and_both_diagnostics(rt: HostRuntime) -> Result<(
         "78[77[69[6Ai6Bi]0Di]0F[5Ce25:79[C4i]]]",
         "7B[7A[69[6Ai6Bi]92d0Di]0F[5Ce25:7Fe0:7C[C2x]]]",
     );
-    check_calls(&rt, alloc, &mut client, OTHERS, Some(first))
+    check_calls(&rt, alloc, &mut client, OTHERS, Some(first));
 }
 
 /// A pair, and a byte.
-fn pair_and_byte(alloc: Global) -> Result<List<Made>, Fail> {
-    let (private_key, public_key) = (blob(alloc, b"\x01")?, blob(alloc, b"\x02")?);
-    let byte = blob(alloc, b"\x03")?;
+fn pair_and_byte(rt: &impl Abort, alloc: Global) -> List<Made> {
     let mut answers = List::new(alloc);
-    answers.push(Made::Pair(private_key, public_key))?;
-    answers.push(Made::Bytes(byte))?;
-    Ok(answers)
+    let pair = Made::Pair(blob(rt, alloc, b"\x01"), blob(rt, alloc, b"\x02"));
+    add_answer(rt, &mut answers, pair);
+    add_answer(rt, &mut answers, Made::Bytes(blob(rt, alloc, b"\x03")));
+    answers
 }
 
 /// A link over a server whose maker makes a pair, refuses, and makes a byte.
-fn refusing_link(alloc: Global) -> Result<ServerLink<MemoryMaker>, Fail> {
-    let maker = MemoryMaker::new(alloc, pair_and_byte(alloc)?, &[1])?;
-    Ok(ServerLink::new(alloc, maker, 0))
+fn refusing_link(rt: &impl Abort, alloc: Global) -> ServerLink<MemoryMaker> {
+    let answers = pair_and_byte(rt, alloc);
+    let maker = MemoryMaker::new(alloc, answers, &[1]).expect(rt, "memory");
+    ServerLink::new(alloc, maker, 0)
 }
 
 const REFUSED: &[Row<'static>] = &[
@@ -112,24 +112,21 @@ const REFUSED: &[Row<'static>] = &[
 ];
 
 #[test]
-fn a_signature_that_the_maker_refused_is_made_at_the_next_call(
-    rt: HostRuntime,
-) -> Result<(), Fail> {
+fn a_signature_that_the_maker_refused_is_made_at_the_next_call(rt: HostRuntime) {
     let alloc = rt.alloc();
-    let mut client = client_with_diagnostics(refusing_link(alloc)?);
-    check_calls(&rt, alloc, &mut client, REFUSED, None)
+    let mut client = client_with_diagnostics(refusing_link(&rt, alloc));
+    check_calls(&rt, alloc, &mut client, REFUSED, None);
 }
 
 #[test]
-fn a_response_over_the_limit_loses_no_connection(rt: HostRuntime) -> Result<(), Fail> {
+fn a_response_over_the_limit_loses_no_connection(rt: HostRuntime) {
     let alloc = rt.alloc();
     let mut client = client_over(plain_link(alloc), Config::new().with_max_bytes(16));
     let rows = [(
         Random(2),
         DeserializeError("response size 152 exceeds limit 16"),
     )];
-    check_calls(&rt, alloc, &mut client, &rows, None)?;
+    check_calls(&rt, alloc, &mut client, &rows, None);
     assert!(rt; !client.inner().faulted(), "the link is not faulted");
     assert!(rt; !client.inner().starved(), "the link is not starved");
-    Ok(())
 }

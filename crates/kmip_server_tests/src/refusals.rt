@@ -1,6 +1,6 @@
 //! What a server refuses, and a maker that refuses.
 use crate::common::TestCall::{CreatePair, Get, Random};
-use crate::common::{blob, text};
+use crate::common::{add_answer, blob, maker_of, text};
 use crate::responses::Item::{Failure, Payload};
 use crate::responses::{Row, check_response, check_responses, server, written};
 use kmip_enums::{Operation, ResultReason, RevocationReasonCode};
@@ -11,7 +11,6 @@ use kmip_types::UniqueIdentifier;
 use kmip_wire::{Blob, List};
 use std::alloc::Global;
 use std::process::Abort;
-use std::test::Fail;
 
 /// A server that was just made refuses these bytes so.
 fn check_refusal(
@@ -19,7 +18,7 @@ fn check_refusal(
     alloc: Global,
     request: &[u8],
     expected: (Option<Operation>, ResultReason, &'static str),
-) -> Result<(), Fail> {
+) {
     let (operation, reason, words) = expected;
     let mut server = server(alloc, PlainMaker::new(alloc));
     check_response(
@@ -29,61 +28,58 @@ fn check_refusal(
         request,
         0,
         Failure(operation, reason, words),
-    )
+    );
 }
 
 /// The bytes of a request to locate objects of type PrivateKey, which no helper makes.
-fn locate(alloc: Global) -> Result<Vec<u8>, Fail> {
-    Ok(message(alloc, "REQ0(8, 08{0A \"Object Type\",0B e4})")?)
+fn locate(rt: &impl Abort, alloc: Global) -> Vec<u8> {
+    message(alloc, "REQ0(8, 08{0A \"Object Type\",0B e4})").expect(rt, "the notation of messages")
 }
 
 #[test]
-fn an_operation_that_no_helper_has_is_refused(rt: HostRuntime) -> Result<(), Fail> {
+fn an_operation_that_no_helper_has_is_refused(rt: HostRuntime) {
     let alloc = rt.alloc();
-    let locate = locate(alloc)?;
+    let locate = locate(&rt, alloc);
     let refusal = (
         Some(Operation::Locate),
         ResultReason::OperationNotSupported,
         "operation not supported",
     );
-    check_refusal(&rt, alloc, locate.as_slice(), refusal)
+    check_refusal(&rt, alloc, locate.as_slice(), refusal);
 }
 
 #[test]
-fn bytes_that_are_no_request_are_refused(rt: HostRuntime) -> Result<(), Fail> {
+fn bytes_that_are_no_request_are_refused(rt: HostRuntime) {
     let refusal = (None, ResultReason::InvalidMessage, "invalid message");
-    check_refusal(&rt, rt.alloc(), &[0; 8], refusal)
+    check_refusal(&rt, rt.alloc(), &[0; 8], refusal);
 }
 
 /// The bytes of the revocation of key 1 for this reason.
-fn revocation(alloc: Global, code: RevocationReasonCode) -> Result<Blob, Fail> {
-    let id = Some(UniqueIdentifier(text(alloc, "1")?));
+fn revocation(rt: &impl Abort, alloc: Global, code: RevocationReasonCode) -> Blob {
+    let id = Some(UniqueIdentifier(text(rt, alloc, "1")));
     let payload = RequestPayload::Revoke(id, RevocationReason(code, None), None);
-    written(alloc, payload, None)
+    written(rt, alloc, payload, None)
 }
 
 #[test]
-fn a_revocation_for_another_reason_than_the_helpers_is_refused(
-    rt: HostRuntime,
-) -> Result<(), Fail> {
+fn a_revocation_for_another_reason_than_the_helpers_is_refused(rt: HostRuntime) {
     let alloc = rt.alloc();
-    let bytes = revocation(alloc, RevocationReasonCode::KeyCompromise)?;
+    let bytes = revocation(&rt, alloc, RevocationReasonCode::KeyCompromise);
     let refusal = (
         Some(Operation::Revoke),
         ResultReason::InvalidField,
         "not a helper request",
     );
-    check_refusal(&rt, alloc, bytes.as_slice(), refusal)
+    check_refusal(&rt, alloc, bytes.as_slice(), refusal);
 }
 
 /// A maker of two bytes, then of a pair, which refuses its second call.
-fn refusing_maker(alloc: Global) -> Result<MemoryMaker, Fail> {
-    let bytes = blob(alloc, b"ab")?;
-    let (private_key, public_key) = (blob(alloc, b"x")?, blob(alloc, b"y")?);
+fn refusing_maker(rt: &impl Abort, alloc: Global) -> MemoryMaker {
     let mut answers = List::new(alloc);
-    answers.push(Made::Bytes(bytes))?;
-    answers.push(Made::Pair(private_key, public_key))?;
-    Ok(MemoryMaker::new(alloc, answers, &[1])?)
+    add_answer(rt, &mut answers, Made::Bytes(blob(rt, alloc, b"ab")));
+    let pair = Made::Pair(blob(rt, alloc, b"x"), blob(rt, alloc, b"y"));
+    add_answer(rt, &mut answers, pair);
+    maker_of(rt, alloc, answers)
 }
 
 /// Two bytes, and a pair that is refused.
@@ -119,10 +115,10 @@ const MADE: &[Row] = &[
 ];
 
 #[test]
-fn a_pair_that_the_maker_refused_is_made_at_the_next_call(rt: HostRuntime) -> Result<(), Fail> {
+fn a_pair_that_the_maker_refused_is_made_at_the_next_call(rt: HostRuntime) {
     let alloc = rt.alloc();
-    let mut server = server(alloc, refusing_maker(alloc)?);
-    check_responses(&rt, alloc, &mut server, REFUSED)?;
+    let mut server = server(alloc, refusing_maker(&rt, alloc));
+    check_responses(&rt, alloc, &mut server, REFUSED);
     assert_eq!(rt; server.store().len(), 0, "objects after the refusal");
-    check_responses(&rt, alloc, &mut server, MADE)
+    check_responses(&rt, alloc, &mut server, MADE);
 }

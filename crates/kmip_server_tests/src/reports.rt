@@ -8,7 +8,6 @@ use kmip_store::{Maker, PlainMaker};
 use kmip_wire::{Config, List, Text};
 use std::alloc::Global;
 use std::process::Abort;
-use std::test::Fail;
 
 /// What a call returns.
 #[derive(Clone, Copy)]
@@ -47,80 +46,70 @@ pub fn client_with_diagnostics<L: Link>(link: L) -> Client<L> {
 }
 
 /// One more call.
-pub fn add_call(alloc: Global, calls: &mut List<Call>, call: TestCall<'_>) -> Result<(), Fail> {
-    Ok(calls.push(call_of(alloc, call)?)?)
+pub fn add_call(rt: &impl Abort, alloc: Global, calls: &mut List<Call>, call: TestCall<'_>) {
+    calls.push(call_of(rt, alloc, call)).expect(rt, "memory");
 }
 
 /// Makes the calls.
 pub fn make_calls<M: Maker>(
+    rt: &impl Abort,
     alloc: Global,
     client: &mut Client<ServerLink<M>>,
     calls: List<Call>,
-) -> Result<CallAnswers, Fail> {
-    Ok(call_all(alloc, client, calls)?)
+) -> CallAnswers {
+    call_all(alloc, client, calls).expect(rt, "memory")
 }
 
-fn show<T: ShowItem>(alloc: Global, payload: &T, shown: &mut Text) -> Result<(), Fail> {
-    Ok(payload.show(alloc, shown)?)
+fn show<T: ShowItem>(rt: &impl Abort, alloc: Global, payload: &T, shown: &mut Text) {
+    payload.show(alloc, shown).expect(rt, "memory");
 }
 
-fn push_all(texts: &[&str], shown: &mut Text) -> Result<(), Fail> {
+fn push_all(rt: &impl Abort, texts: &[&str], shown: &mut Text) {
     for text in texts {
-        shown.push_str(text)?;
+        shown.push_str(text).expect(rt, "memory");
     }
-    Ok(())
 }
 
 /// Adds what a helper returned, as text.
-fn show_value(alloc: Global, value: &Answered, shown: &mut Text) -> Result<(), Fail> {
+fn show_value(rt: &impl Abort, alloc: Global, value: &Answered, shown: &mut Text) {
     match value {
-        Answered::Unit => push_all(&["()"], shown),
-        Answered::Pair(first, second) => push_all(&[first.as_str(), " ", second.as_str()], shown),
-        Answered::Query(payload) => show(alloc, payload, shown),
-        Answered::Random(payload) => show(alloc, payload, shown),
-        Answered::Signed(payload) => show(alloc, payload, shown),
-        Answered::Renamed(payload) => show(alloc, payload, shown),
-        Answered::Got(payload) => show(alloc, payload, shown),
+        Answered::Unit => push_all(rt, &["()"], shown),
+        Answered::Pair(first, second) => {
+            push_all(rt, &[first.as_str(), " ", second.as_str()], shown);
+        }
+        Answered::Query(payload) => show(rt, alloc, payload, shown),
+        Answered::Random(payload) => show(rt, alloc, payload, shown),
+        Answered::Signed(payload) => show(rt, alloc, payload, shown),
+        Answered::Renamed(payload) => show(rt, alloc, payload, shown),
+        Answered::Got(payload) => show(rt, alloc, payload, shown),
     }
 }
 
 /// The value is shown so.
-fn check_value(
-    rt: &impl Abort,
-    alloc: Global,
-    value: &Answered,
-    expected: &str,
-) -> Result<(), Fail> {
+fn check_value(rt: &impl Abort, alloc: Global, value: &Answered, expected: &str) {
     let mut shown = Text::new(alloc);
-    show_value(alloc, value, &mut shown)?;
+    show_value(rt, alloc, value, &mut shown);
     assert_eq!(rt; shown.as_str(), expected, "the value");
-    Ok(())
 }
 
 /// The error is of the expected variant, and has the expected text.
-fn check_error(rt: &impl Abort, error: &Error, expected: Returned) -> Result<(), Fail> {
+fn check_error(rt: &impl Abort, error: &Error, expected: Returned) {
     match (expected, error) {
         (Returned::ServerError(text), Error::ServerError(found))
         | (Returned::ItemNotFound(text), Error::ItemNotFound(found))
         | (Returned::ResponseReadError(text), Error::ResponseReadError(found))
         | (Returned::DeserializeError(text), Error::DeserializeError(found)) => {
             assert_eq!(rt; found.as_str(), text, "the text");
-            Ok(())
         }
-        _ => Err(Fail::from("another variant of error")),
+        _ => panic!(rt; "another variant of error"),
     }
 }
 
 /// The call returned what was expected.
-fn check_report(
-    rt: &impl Abort,
-    alloc: Global,
-    report: &CallAnswer,
-    expected: Returned,
-) -> Result<(), Fail> {
+fn check_report(rt: &impl Abort, alloc: Global, report: &CallAnswer, expected: Returned) {
     match (expected, &report.answer) {
         (Returned::Value(shown), Ok(value)) => check_value(rt, alloc, value, shown),
-        (_, Ok(_)) => Err(Fail::from("a value in place of an error")),
+        (_, Ok(_)) => panic!(rt; "a value in place of an error"),
         (expected, Err(error)) => check_error(rt, error, expected),
     }
 }
@@ -154,15 +143,14 @@ pub fn check_reports(
     reports: &[CallAnswer],
     rows: &[Row<'_>],
     first: Option<First>,
-) -> Result<(), Fail> {
+) {
     assert_eq!(rt; reports.len(), rows.len(), "calls made");
     if let ([report, ..], Some(first)) = (reports, first) {
         check_first(rt, report, first);
     }
     for (report, row) in reports.iter().zip(rows) {
-        check_report(rt, alloc, report, row.1)?;
+        check_report(rt, alloc, report, row.1);
     }
-    Ok(())
 }
 
 /// Makes the calls of the rows, which return what the rows say.
@@ -172,16 +160,12 @@ pub fn check_calls<M: Maker>(
     client: &mut Client<ServerLink<M>>,
     rows: &[Row<'_>],
     first: Option<First>,
-) -> Result<(), Fail> {
+) {
     let mut calls = List::new(alloc);
     for row in rows {
-        add_call(alloc, &mut calls, row.0)?;
+        add_call(rt, alloc, &mut calls, row.0);
     }
-    check_reports(
-        rt,
-        alloc,
-        make_calls(alloc, client, calls)?.as_slice(),
-        rows,
-        first,
-    )
+    let reports = make_calls(rt, alloc, client, calls);
+    check_reports(rt, alloc, reports.as_slice(), rows, first);
+    drop(reports);
 }

@@ -10,7 +10,6 @@ use kmip_types::auth::{CredentialType, UsernameAndPasswordCredential};
 use kmip_wire::{Blob, Text};
 use std::alloc::Global;
 use std::process::Abort;
-use std::test::Fail;
 
 /// The one item of a response.
 #[derive(Clone, Copy)]
@@ -33,54 +32,45 @@ pub fn server<M: Maker>(alloc: Global, maker: M) -> Server<M> {
 }
 
 /// The credential of alice.
-pub fn alice(alloc: Global, password: Option<&str>) -> Result<CredentialType, Fail> {
-    let username = text(alloc, "alice")?;
+pub fn alice(rt: &impl Abort, alloc: Global, password: Option<&str>) -> CredentialType {
+    let username = text(rt, alloc, "alice");
     let password = match password {
-        Some(password) => Some(text(alloc, password)?),
+        Some(password) => Some(text(rt, alloc, password)),
         None => None,
     };
-    Ok(CredentialType::UsernameAndPassword(UsernameAndPasswordCredential { username, password }))
+    CredentialType::UsernameAndPassword(UsernameAndPasswordCredential { username, password })
 }
 
 /// The payload as the bytes of a request.
 pub fn written(
+    rt: &impl Abort,
     alloc: Global,
     payload: RequestPayload,
     credential: Option<CredentialType>,
-) -> Result<Blob, Fail> {
-    Ok(to_vec(alloc, payload, credential)?)
+) -> Blob {
+    to_vec(alloc, payload, credential).expect(rt, "a form")
 }
 
 /// The bytes of the request of a helper's call.
 pub fn request(
+    rt: &impl Abort,
     alloc: Global,
     call: TestCall<'_>,
     credential: Option<CredentialType>,
-) -> Result<Blob, Fail> {
-    let call = call_of(alloc, call)?;
-    let payload = request_of(alloc, &call);
+) -> Blob {
+    let call = call_of(rt, alloc, call);
+    let payload = request_of(alloc, &call).expect(rt, "memory");
     drop(call);
-    written(alloc, payload?, credential)
+    written(rt, alloc, payload, credential)
 }
 
-fn check_shown(
-    rt: &impl Abort,
-    alloc: Global,
-    payload: &ResponsePayload,
-    expected: &str,
-) -> Result<(), Fail> {
+fn check_shown(rt: &impl Abort, alloc: Global, payload: &ResponsePayload, expected: &str) {
     let mut shown = Text::new(alloc);
-    payload.show(alloc, &mut shown)?;
+    payload.show(alloc, &mut shown).expect(rt, "memory");
     assert_eq!(rt; shown.as_str(), expected, "the payload");
-    Ok(())
 }
 
-fn check_item(
-    rt: &impl Abort,
-    alloc: Global,
-    item: &BatchItem,
-    expected: Item,
-) -> Result<(), Fail> {
+fn check_item(rt: &impl Abort, alloc: Global, item: &BatchItem, expected: Item) {
     match (expected, &item.payload, &item.result_message) {
         (Item::Payload(shown), Some(payload), None) => {
             assert!(rt;
@@ -88,7 +78,7 @@ fn check_item(
                 "success of {shown}"
             );
             assert!(rt; item.result_reason.is_none(), "no reason with {shown}");
-            check_shown(rt, alloc, payload, shown)
+            check_shown(rt, alloc, payload, shown);
         }
         (Item::Failure(operation, reason, words), None, Some(message)) => {
             assert!(rt; item.operation == operation, "the operation of: {words}");
@@ -101,10 +91,9 @@ fn check_item(
                 "the reason of: {words}"
             );
             assert_eq!(rt; message.as_str(), words, "the message");
-            Ok(())
         }
-        (Item::Payload(_), ..) => Err(Fail::from("a failure in place of a payload")),
-        (Item::Failure(..), ..) => Err(Fail::from("a payload in place of a failure")),
+        (Item::Payload(_), ..) => panic!(rt; "a failure in place of a payload"),
+        (Item::Failure(..), ..) => panic!(rt; "a payload in place of a failure"),
     }
 }
 
@@ -115,7 +104,7 @@ fn check_message(
     response: &ResponseMessage,
     minor: i32,
     expected: Item,
-) -> Result<(), Fail> {
+) {
     let header = &response.header;
     assert_eq!(rt; header.protocol_version.major, 1, "the major version");
     assert_eq!(rt; header.protocol_version.minor, minor, "the minor version");
@@ -123,12 +112,12 @@ fn check_message(
     assert_eq!(rt; header.batch_count, 1, "the batch count");
     match response.batch_items.as_slice() {
         [item] => check_item(rt, alloc, item, expected),
-        _ => Err(Fail::from("not one item")),
+        _ => panic!(rt; "not one item"),
     }
 }
 
-fn read(alloc: Global, bytes: &[u8]) -> Result<ResponseMessage, Fail> {
-    Ok(from_slice(alloc, bytes)?)
+fn read(rt: &impl Abort, alloc: Global, bytes: &[u8]) -> ResponseMessage {
+    from_slice(alloc, bytes).expect(rt, "a response")
 }
 
 /// The server's response to these bytes is as expected.
@@ -139,15 +128,11 @@ pub fn check_response<M: Maker>(
     request: &[u8],
     minor: i32,
     expected: Item,
-) -> Result<(), Fail> {
-    let response = server.answer(request)?;
-    check_message(
-        rt,
-        alloc,
-        &read(alloc, response.as_slice())?,
-        minor,
-        expected,
-    )
+) {
+    let response = server.answer(request).expect(rt, "a form");
+    let response = read(rt, alloc, response.as_slice());
+    check_message(rt, alloc, &response, minor, expected);
+    drop(response);
 }
 
 /// The server's responses to the requests of these calls are those of the rows.
@@ -156,10 +141,9 @@ pub fn check_responses<M: Maker>(
     alloc: Global,
     server: &mut Server<M>,
     rows: &[Row],
-) -> Result<(), Fail> {
+) {
     for (call, minor, expected) in rows {
-        let bytes = request(alloc, *call, None)?;
-        check_response(rt, alloc, server, bytes.as_slice(), *minor, *expected)?;
+        let bytes = request(rt, alloc, *call, None);
+        check_response(rt, alloc, server, bytes.as_slice(), *minor, *expected);
     }
-    Ok(())
 }

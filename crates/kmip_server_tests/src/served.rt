@@ -12,24 +12,23 @@ use kmip_store::PlainMaker;
 use kmip_wire::Blob;
 use std::alloc::Global;
 use std::process::Abort;
-use std::test::Fail;
 
 /// The responses of a server that was just made, with the plain maker, are those of the rows.
-fn check_plain(rt: &impl Abort, alloc: Global, rows: &[Row]) -> Result<(), Fail> {
-    check_responses(rt, alloc, &mut server(alloc, PlainMaker::new(alloc)), rows)
+fn check_plain(rt: &impl Abort, alloc: Global, rows: &[Row]) {
+    check_responses(rt, alloc, &mut server(alloc, PlainMaker::new(alloc)), rows);
 }
 
 #[test]
-fn query_lists_operations_and_object_types(rt: HostRuntime) -> Result<(), Fail> {
+fn query_lists_operations_and_object_types(rt: HostRuntime) {
     let shown =
         "Query{operations=[CreateKeyPair,Get,ModifyAttribute,Activate,Revoke,Destroy,Query,Sign,RNGRetrieve],object_types=[PublicKey,PrivateKey]}";
-    check_plain(&rt, rt.alloc(), &[(Query, 2, Payload(shown))])
+    check_plain(&rt, rt.alloc(), &[(Query, 2, Payload(shown))]);
 }
 
 #[test]
-fn as_many_random_bytes_as_asked_for(rt: HostRuntime) -> Result<(), Fail> {
+fn as_many_random_bytes_as_asked_for(rt: HostRuntime) {
     let shown = "RNGRetrieve{random_bytes=x\"0101\"}";
-    check_plain(&rt, rt.alloc(), &[(Random(2), 2, Payload(shown))])
+    check_plain(&rt, rt.alloc(), &[(Random(2), 2, Payload(shown))]);
 }
 
 const DENIED: &str = "not allowed in this state";
@@ -92,24 +91,25 @@ const LIFE: &[Row] = &[
 ];
 
 #[test]
-fn responses_follow_the_state_of_a_key(rt: HostRuntime) -> Result<(), Fail> {
-    check_plain(&rt, rt.alloc(), LIFE)
+fn responses_follow_the_state_of_a_key(rt: HostRuntime) {
+    check_plain(&rt, rt.alloc(), LIFE);
 }
 
 /// The bytes of the request of a call, with the credential of alice.
 fn request_of_alice(
+    rt: &impl Abort,
     alloc: Global,
     call: TestCall<'_>,
     password: Option<&str>,
-) -> Result<Blob, Fail> {
-    let credential = alice(alloc, password)?;
-    request(alloc, call, Some(credential))
+) -> Blob {
+    let credential = alice(rt, alloc, password);
+    request(rt, alloc, call, Some(credential))
 }
 
 #[test]
-fn a_credential_changes_no_response(rt: HostRuntime) -> Result<(), Fail> {
+fn a_credential_changes_no_response(rt: HostRuntime) {
     let alloc = rt.alloc();
-    let bytes = request_of_alice(alloc, Random(1), None)?;
+    let bytes = request_of_alice(&rt, alloc, Random(1), None);
     let expected = Payload("RNGRetrieve{random_bytes=x\"01\"}");
     let maker = PlainMaker::new(alloc);
     check_response(
@@ -119,23 +119,22 @@ fn a_credential_changes_no_response(rt: HostRuntime) -> Result<(), Fail> {
         bytes.as_slice(),
         2,
         expected,
-    )
+    );
 }
 
 /// Whether these bytes are the request of the call, which is known to fit its table.
-fn is_request(alloc: Global, call: TestCall<'_>, bytes: &[u8]) -> Result<bool, Fail> {
-    let call = call_of(alloc, call)?;
-    let fits = call_known(alloc, &call);
-    let is_request = is_request_of(alloc, &call, bytes);
+fn is_request(rt: &impl Abort, alloc: Global, call: TestCall<'_>, bytes: &[u8]) -> bool {
+    let call = call_of(rt, alloc, call);
+    call_known(alloc, &call).expect(rt, "memory");
+    let is_request = is_request_of(alloc, &call, bytes).expect(rt, "memory");
     drop(call);
-    fits?;
-    Ok(is_request?)
+    is_request
 }
 
 #[test]
-fn a_request_is_that_of_one_call_whatever_its_credential(rt: HostRuntime) -> Result<(), Fail> {
+fn a_request_is_that_of_one_call_whatever_its_credential(rt: HostRuntime) {
     let alloc = rt.alloc();
-    let bytes = request_of_alice(alloc, Sign("1"), Some("secret"))?;
+    let bytes = request_of_alice(&rt, alloc, Sign("1"), Some("secret"));
     let rows: [(&str, TestCall<'_>, &[u8], bool); 4] = [
         ("its own call", Sign("1"), bytes.as_slice(), true),
         ("another key", Sign("2"), bytes.as_slice(), false),
@@ -143,7 +142,6 @@ fn a_request_is_that_of_one_call_whatever_its_credential(rt: HostRuntime) -> Res
         ("bytes that end early", Sign("1"), b"\x42\x00\x78", false),
     ];
     for (name, call, bytes, expected) in rows {
-        assert_eq!(rt; is_request(alloc, call, bytes)?, expected, "{name}");
+        assert_eq!(rt; is_request(&rt, alloc, call, bytes), expected, "{name}");
     }
-    Ok(())
 }

@@ -1,11 +1,11 @@
 //! Keys in a store over both makers: what each state allows, and the bytes of worked examples.
+use crate::common::{add_answer, blob, maker_of};
 use kmip_enums::{ObjectType, State};
 use kmip_store::StoreError::{CryptographicFailure, ItemNotFound, PermissionDenied};
 use kmip_store::{Made, Maker, MakerError, MemoryMaker, Object, PlainMaker, Store, StoreError};
 use kmip_wire::{Blob, List};
 use std::alloc::Global;
 use std::process::Abort;
-use std::test::Fail;
 
 /// The call succeeded.
 fn check_done(rt: &impl Abort, returned: Result<(), StoreError>, call: &str) {
@@ -112,16 +112,15 @@ fn check_public(rt: &impl Abort, object: &Object, name: &str) {
 }
 
 #[test]
-fn a_key_is_returned_as_it_was_made_and_renamed(rt: HostRuntime) -> Result<(), Fail> {
+fn a_key_is_returned_as_it_was_made_and_renamed(rt: HostRuntime) {
     let mut store = Store::new(rt.alloc());
     let mut maker = PlainMaker::new(rt.alloc());
     add_pair(&rt, &mut store, &mut maker, "1", "2");
     check_done(&rt, store.rename_key("2", "other"), "a name");
     match store.get_key("2") {
         Ok(public) => check_public(&rt, public, "other"),
-        Err(_) => return Err(Fail::from("no key")),
+        Err(_) => panic!(rt; "no key"),
     }
-    Ok(())
 }
 
 #[test]
@@ -135,7 +134,7 @@ fn random_bytes_are_those_of_their_number(rt: HostRuntime) {
 }
 
 #[test]
-fn the_next_identifiers_follow_those_given(rt: HostRuntime) -> Result<(), Fail> {
+fn the_next_identifiers_follow_those_given(rt: HostRuntime) {
     let mut store = Store::new(rt.alloc());
     let mut maker = PlainMaker::new(rt.alloc());
     add_pair(&rt, &mut store, &mut maker, "1", "2");
@@ -143,9 +142,8 @@ fn the_next_identifiers_follow_those_given(rt: HostRuntime) -> Result<(), Fail> 
         Ok((first, second)) => {
             assert_eq!(rt; first.as_str(), "3", "the first");
             assert_eq!(rt; second.as_str(), "4", "the second");
-            Ok(())
         }
-        Err(_) => Err(Fail::from("no identifiers")),
+        Err(_) => panic!(rt; "no identifiers"),
     }
 }
 
@@ -175,28 +173,29 @@ fn a_text_that_is_no_identifier_names_no_object(rt: HostRuntime) {
 }
 
 #[test]
-fn a_pair_that_the_maker_refuses_adds_no_object(rt: HostRuntime) -> Result<(), Fail> {
+fn a_pair_that_the_maker_refuses_adds_no_object(rt: HostRuntime) {
     let mut store = Store::new(rt.alloc());
-    let mut maker = MemoryMaker::new(rt.alloc(), List::new(rt.alloc()), &[])?;
+    let answers = List::new(rt.alloc());
+    let mut maker = MemoryMaker::new(rt.alloc(), answers, &[]).expect(&rt, "memory");
     let pair = store.create_rsa_key_pair(&mut maker, 2048, "priv", "pub");
     check_refused(&rt, pair, CryptographicFailure, "a pair");
     assert_eq!(rt; store.len(), 0, "objects");
-    Ok(())
 }
 
 /// A maker of two bytes, a pair and a byte, which refuses its second call.
-fn planned_maker(alloc: Global) -> Result<MemoryMaker, Fail> {
+fn planned_maker(rt: &impl Abort, alloc: Global) -> MemoryMaker {
     let mut answers = List::new(alloc);
-    answers.push(Made::Bytes(Blob::of(alloc, b"ab")?))?;
-    answers.push(Made::Pair(Blob::of(alloc, b"x")?, Blob::of(alloc, b"y")?))?;
-    answers.push(Made::Bytes(Blob::of(alloc, b"s")?))?;
-    Ok(MemoryMaker::new(alloc, answers, &[1])?)
+    add_answer(rt, &mut answers, Made::Bytes(blob(rt, alloc, b"ab")));
+    let pair = Made::Pair(blob(rt, alloc, b"x"), blob(rt, alloc, b"y"));
+    add_answer(rt, &mut answers, pair);
+    add_answer(rt, &mut answers, Made::Bytes(blob(rt, alloc, b"s")));
+    maker_of(rt, alloc, answers)
 }
 
 #[test]
-fn a_refusal_uses_up_no_planned_answer(rt: HostRuntime) -> Result<(), Fail> {
+fn a_refusal_uses_up_no_planned_answer(rt: HostRuntime) {
     let alloc = rt.alloc();
-    let mut maker = planned_maker(alloc)?;
+    let mut maker = planned_maker(&rt, alloc);
     let pair = maker.key_pair(alloc, 2048);
     assert!(rt;
         pair.err() == Some(MakerError::Fault),
@@ -215,5 +214,4 @@ fn a_refusal_uses_up_no_planned_answer(rt: HostRuntime) -> Result<(), Fail> {
         b"s",
         "the signature",
     );
-    Ok(())
 }
