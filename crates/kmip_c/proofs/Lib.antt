@@ -2,3 +2,4 @@ pub mod Calls
 pub mod Answered
 pub mod Valued
 pub mod Operations
+pub mod Refused

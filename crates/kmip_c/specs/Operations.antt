@@ -7,7 +7,7 @@ use Rattle.kmip_operations.specs.Calls.{Asks}
 use Rattle.kmip_operations.specs.Answers.{operation_json_line, operation_ending}
 use Rattle.kmip_c.specs.Calls.{plain, status_of}
 use Rattle.kmip_exports.specs.Exports.{IsReported}
-use Rattle.kmip_c.specs.Codes.{grammar, no_form}
+use Rattle.kmip_c.specs.Codes.{grammar, no_value, no_form}
 
 -- the three are texts, and ask for this call
 pub record AsksInBytes (name version payload : List ℕ) (request : TreeRequest) : Type 0 where
@@ -45,3 +45,13 @@ pub data IsOperationAnswered (name version payload response : List ℕ) (status 
   no_call : AsksForNone name version payload → status ≡ pos 2 →
       IsReported None (pos 0) before length after →
       IsOperationAnswered name version payload response status before length after
+
+-- what C gets for the reason why there is no call, memory aside: a text; or that there is a call
+pub data IsOperationRefused (name version payload before : List ℕ) (result : ℤ) (after : List ℕ) :
+    Type 0 where
+  asked : (request : TreeRequest) → AsksInBytes name version payload request →
+      (result ≡ no_value) × (after ≡ before) →
+      IsOperationRefused name version payload before result after
+  refused : AsksForNone name version payload → (why : List ℕ) →
+      IsReported (Some why) no_value before result after →
+      IsOperationRefused name version payload before result after

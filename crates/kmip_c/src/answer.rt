@@ -46,6 +46,6 @@ pub fn answer_line(
     };
     let settings = Settings::new(None, None, None);
     let mut line = Text::new(alloc);
-    let ending = answer_of(alloc, &settings, call, response, &mut line)?;
+    let ending = answer_of(alloc, &settings, &call, response, &mut line)?;
     Ok(Some(AnswerLine { ending, line }))
 }

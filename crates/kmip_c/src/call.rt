@@ -8,7 +8,7 @@ use std::alloc::Global;
 use std::str;
 
 /// Copies of the words.
-fn texts_of(alloc: Global, words: &[&str]) -> Result<List<Text>, OutOfMemory>
+pub fn texts_of(alloc: Global, words: &[&str]) -> Result<List<Text>, OutOfMemory>
     ensures { IfOk result (λ texts. texts ≡ map (λ word. word.now) words.now) }
 {
     let mut texts = List::new(alloc);

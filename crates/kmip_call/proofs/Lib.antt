@@ -5,3 +5,4 @@ pub mod Exchanges
 pub mod Orders
 pub mod ReadBack
 pub mod Runs
+pub mod Refusing

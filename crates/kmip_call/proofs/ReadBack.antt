@@ -16,7 +16,8 @@ use Rattle.kmip_request.specs.declared.payload.RequestPayload.{RequestPayload}
 use Rattle.kmip_words.specs.Words.{parts_between, has_empty_part, words_of}
 use Rattle.kmip_words.specs.Values.{int_of, bytes_of, word_text}
 use Rattle.kmip_words.specs.Asked.{asked_in}
-use Rattle.kmip_words.specs.Calls.{with_response, call_of_one, call_of_two, call_of_three, call_of_words, call_from, call_of, call_in, locate_of, locate_parts, attributes_of, create_aes_of, plain_call, or_request, typed_call}
+use Rattle.kmip_words.specs.Refusals.{why_refused}
+use Rattle.kmip_words.specs.Calls.{with_response, call_of_one, call_of_two, call_of_three, call_of_words, call_from, call_of, call_in, locate_of, attributes_of, create_aes_of, plain_call, or_request, unless_refused, typed_call}
 use Rattle.kmip_words.specs.declared.call.Call.{Call}
 use Rattle.kmip_call.specs.Record.{with_spaces, response_word, record_line, is_call, has_byte, is_script_word, are_script_words, is_recordable, is_unscripted, ReadsBack}
 
@@ -253,11 +254,6 @@ located : (name : Option (List ℕ)) (call : Call) → locate_of name ≡ Some c
 located (Some name) call is = unscripted_of is refl
 located None call is = absurd (cc)
 
-located_by : (names : List (List ℕ)) (call : Call) → locate_parts names ≡ Some call → is_unscripted call ≡ true
-located_by [] call is = absurd (cc)
-located_by (name ∷ []) call is = located (word_text name) call is
-located_by (name ∷ other ∷ names) call is = absurd (cc)
-
 shown : (id : Option (List ℕ)) (call : Call) → attributes_of id ≡ Some call → is_unscripted call ≡ true
 shown (Some id) call is = unscripted_of is refl
 shown None call is = absurd (cc)
@@ -284,8 +280,8 @@ plain_in (name ∷ []) call is scripted =
 plain_in (name ∷ first ∷ []) call is scripted =
     unless (bytes_eq name (codes "attributes")) (attributes_of (word_text first))
     (call_of_two name first) call (shown (word_text first) call) scripted
-    (unless (bytes_eq name (codes "locate")) (locate_parts (parts_between 61 first)) _ call
-    (located_by (parts_between 61 first) call) scripted is)
+    (unless (bytes_eq name (codes "locate")) (locate_of (word_text first)) _ call
+    (located (word_text first) call) scripted is)
 plain_in (name ∷ first ∷ second ∷ []) call is scripted =
     unless (bytes_eq name (codes "create-aes")) (create_aes_of (int_of first) (word_text second))
     (call_of_three name first second) call
@@ -299,8 +295,16 @@ plain_by (Some other) request call is scripted = is
 plain_by None (Some payload) call is scripted = let w : is_unscripted call ≡ true = unscripted_of is refl in absurd (cc)
 plain_by None None call is scripted = is
 
+-- the call of words that are not refused
+taken_by : (refusal : Option (List ℕ)) (made : Option Call) (call : Call)
+    → unless_refused refusal made ≡ Some call → made ≡ Some call
+taken_by (Some text) made call is = absurd (cc)
+taken_by None made call is = is
+
 pub typed : (words : List (List ℕ)) (call : Call) → typed_call words ≡ Some call
     → is_unscripted call ≡ false → call_in words ≡ Some call
 unfolding typed_call
 typed words call is scripted = plain_in words call
-    (plain_by (plain_call words) (asked_in words) call is scripted) scripted
+    (plain_by (plain_call words) (asked_in words) call
+    (taken_by (why_refused words) (or_request (plain_call words) (asked_in words)) call is)
+    scripted) scripted

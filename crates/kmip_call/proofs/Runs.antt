@@ -1,7 +1,6 @@
 -- What the parts of the program did, put together.
-use Rattle.std.proofs.Common.{◌≡◌, inl, inr, ℕ, List, refl, subst, arith, Option}
+use Rattle.std.proofs.Common.{◌≡◌, inl, inr, ℕ, List, refl, subst, Option}
 use Rattle.kmip_link.specs.State.{SourceState, SinkState}
-use Rattle.kmip_words.specs.Streams.{WrotePart}
 use Rattle.kmip_words.specs.declared.ending.Ending.{Ending}
 use Rattle.kmip_call.specs.Exchange.{Errand, Carried, CarriedPart}
 use Rattle.kmip_call.specs.Asked.{AsksFor, AsksForNone}
@@ -10,11 +9,7 @@ use Rattle.kmip_call.specs.declared.command.Order.{Order}
 use Rattle.kmip_call.specs.declared.status.Status.{Status}
 use Rattle.kmip_call.specs.declared.status.Status.TheVariants.{OutOfMemory}
 use Rattle.kmip_call.proofs.Errands.{asked_once}
-use Rattle.kmip_call.proofs.Exchanges.{append_none}
-
--- nothing at all is a first part of a text
-pub none_written : (sink : SinkState) (text : List ℕ) → WrotePart sink sink text
-none_written sink text = (0, omega arith, append_none sink.sent)
+use Rattle.kmip_call.proofs.Refusing.{untold}
 
 -- a call was made and reported
 pub made : (order : Order) (w0 w1 : SinkState) (s0 s1 : SourceState) (f0 f1 k0 k1 : SinkState)
@@ -45,7 +40,8 @@ refused order before after status none it = record {
 -- memory ran out before there was an answer
 pub broken_off : (order : Order) (w0 w1 : SinkState) (s0 s1 : SourceState) (f k : SinkState)
     → (AsksForNone order → w1 ≡ w0) → (AsksForNone order → s1 ≡ s0) →
-    ((errand : Errand) → AsksFor order errand → CarriedPart errand w0 w1 s0 s1) →
+    ((errand : Errand) → AsksFor order errand
+    → CarriedPart order.settings.limit errand w0 w1 s0 s1) →
     Runs order (streams w0 s0 f k) (streams w1 s1 f k) OutOfMemory
 broken_off order w0 w1 s0 s1 f k unsent unread part = record {
   refuses = λ none. record {
@@ -53,8 +49,7 @@ broken_off order w0 w1 s0 s1 f k unsent unread part = record {
     wire = unsent none;
     source = unread none;
     kept = refl;
-    told = λ is tells sound. absurd (cc);
-    told_part = λ tells. none_written k _;
+    told = untold order k;
   };
   makes = λ errand asks. inr (record { status_is = refl; carried = part errand asks; kept = refl; told = refl });
 }

@@ -1,6 +1,5 @@
 -- What the words of an order ask for.
 use Rattle.std.specs.Prelude.{◌≡◌, ℕ, List, Bool, true, Option, Some, None, if◌then◌else◌}
-use Rattle.std.specs.Option.{option_map}
 use Rattle.kmip_wire.specs.Tree.{Tree}
 use Rattle.kmip_client.specs.Operation.{TreeRequest}
 use Rattle.kmip_words.specs.Exchange.{Settings}
@@ -45,16 +44,13 @@ abbrev pub AsksForNone : Order → Type 0
 AsksForNone order = (errand : Errand) → AsksFor order errand → ⊥
 
 -- the errand of what the code found in the words
-abbrev pub errand_of : Order → Asked → Option Errand
-errand_of order asked.Typed = option_map (typed_errand order.settings) (typed_call order.words)
-errand_of order (asked.Operation call) =
-    Some (operation_errand order.settings (request_of call))
-errand_of order (asked.Message message) = Some (message_errand order.settings message)
+abbrev pub errand_of : Settings → Asked → Errand
+errand_of settings (asked.Typed call) = typed_errand settings call
+errand_of settings (asked.Operation call) = operation_errand settings (request_of call)
+errand_of settings (asked.Message message) = message_errand settings message
 
 -- The code found what the order asks for, and the request is that of its errand: its one canonical
 -- message, none where it has no wire form.
 pub record Requests (order : Order) (asked : Asked) (request : Option (List ℕ)) : Type 0 where
-  pub errand : Errand
-  pub found : errand_of order asked ≡ Some errand
-  pub asks : AsksFor order errand
-  pub message : request ≡ errand.message
+  pub asks : AsksFor order (errand_of order.settings asked)
+  pub message : request ≡ (errand_of order.settings asked).message

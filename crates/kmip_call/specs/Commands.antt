@@ -7,7 +7,7 @@ use Rattle.kmip_words.specs.Values.{number_of}
 use Rattle.kmip_words.specs.Options.{Given, option_given, given_after}
 use Rattle.kmip_call.specs.declared.command.Order.{Order}
 use Rattle.kmip_call.specs.declared.command.Command.{Command}
-use Rattle.kmip_call.specs.declared.command.Command.TheVariants.{Help, Version, Make}
+use Rattle.kmip_call.specs.declared.command.Command.TheVariants.{Help, Version, Grammar, Make}
 
 abbrev pub first_of : Option (List ℕ) → Option (List ℕ) → Option (List ℕ)
 first_of (Some text) second = Some text
@@ -56,6 +56,7 @@ abbrev pub one_word : List ℕ → Option Command → Option Command
 one_word word other =
     if bytes_eq word (codes "--help") then Some Help
     else if bytes_eq word (codes "--version") then Some Version
+    else if bytes_eq word (codes "--grammar") then Some Grammar
     else other
 
 -- the command of the words after the program's name

@@ -5,7 +5,7 @@ use Rattle.kmip_words.specs.Streams.{WrotePart}
 use Rattle.kmip_words.specs.declared.ending.Ending.{Ending}
 use Rattle.kmip_words.specs.declared.ending.Ending.TheVariants.{Answered, Refused, Lost}
 use Rattle.kmip_call.specs.Record.{record_of}
-use Rattle.kmip_call.specs.Refusal.{refusal}
+use Rattle.kmip_call.specs.Refusal.{IsTold}
 use Rattle.kmip_call.specs.Exchange.{Errand, Carried, CarriedPart}
 use Rattle.kmip_call.specs.Asked.{AsksFor, AsksForNone}
 use Rattle.kmip_call.specs.declared.command.Order.{Order}
@@ -52,12 +52,8 @@ pub record Refuses (order : Order) (before after : Streams) (status : Status) : 
   pub wire : after.wire ≡ before.wire
   pub source : after.source ≡ before.source
   pub kept : after.kept ≡ before.kept
-  -- the refusal is written, unless its sink failed or memory ran out
-  pub told : status ≡ NoCall → IsTrue before.told.tells →
-      (FaultCountRose before.told.faults after.told.faults → ⊥) →
-      after.told.sent ≡ before.told.sent ++ refusal order
-  -- and at most that
-  pub told_part : IsTrue before.told.tells → WrotePart before.told after.told (refusal order)
+  -- a refusal is written, unless its sink failed or memory ran out, and at most that
+  pub told : IsTold order (status ≡ NoCall) before.told after.told
 
 -- The record of a call with this response, and this line of its answer, were written.
 pub record Reports (order : Order) (response : Option (List ℕ)) (line : List ℕ) (ending : Ending)
@@ -87,9 +83,10 @@ pub record Made (order : Order) (errand : Errand) (before after : Streams) (stat
       status
 
 -- Memory ran out before the call had an answer: it was carried in part, and nothing was written.
-pub record BrokenOff (errand : Errand) (before after : Streams) (status : Status) : Type 0 where
+pub record BrokenOff (limit : Option ℕ) (errand : Errand) (before after : Streams)
+    (status : Status) : Type 0 where
   pub status_is : status ≡ OutOfMemory
-  pub carried : CarriedPart errand before.wire after.wire before.source after.source
+  pub carried : CarriedPart limit errand before.wire after.wire before.source after.source
   pub kept : after.kept ≡ before.kept
   pub told : after.told ≡ before.told
 
@@ -98,4 +95,5 @@ pub record BrokenOff (errand : Errand) (before after : Streams) (status : Status
 pub record Runs (order : Order) (before after : Streams) (status : Status) : Type 0 where
   pub refuses : AsksForNone order → Refuses order before after status
   pub makes : (errand : Errand) → AsksFor order errand →
-      Made order errand before after status ⊎ BrokenOff errand before after status
+      Made order errand before after status
+      ⊎ BrokenOff order.settings.limit errand before after status

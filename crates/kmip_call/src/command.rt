@@ -31,6 +31,8 @@ pub enum Command {
     Help,
     /// `--version`: prints its version.
     Version,
+    /// `--grammar`: prints the calls as JSON.
+    Grammar,
     /// Makes a call.
     Make(Order),
 }
@@ -113,7 +115,7 @@ fn make_command(order: Option<Order>) -> Option<Command>
     }
 }
 
-/// The command of one word: `--help`, `--version`, or else a call.
+/// The command of one word: `--help`, `--version`, `--grammar`, or else a call.
 fn one_word(
     alloc: Global,
     environment: Option<&str>,
@@ -127,6 +129,7 @@ fn one_word(
     match word {
         "--help" => Ok(Some(Command::Help)),
         "--version" => Ok(Some(Command::Version)),
+        "--grammar" => Ok(Some(Command::Grammar)),
         _ => Ok(make_command(order_of(alloc, environment, words)?)),
     }
 }

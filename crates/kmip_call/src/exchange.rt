@@ -1,6 +1,7 @@
 //! One call over a sink and a source, and the line of its answer.
-ghost use Rattle.std.specs.Prelude.{◌≡◌, cond, Some, None, IsSome, option_map, IfOk, OnErr};
+ghost use Rattle.std.specs.Prelude.{◌≡◌, cond, Some, option_map, IfOk, OnErr};
 ghost use Rattle.kmip_words.specs.Exchange.{loses_link};
+ghost use Rattle.kmip_words.specs.About.{response_line, response_ending};
 ghost use Rattle.kmip_words.specs.declared.ending.Ending.TheVariants as endings;
 ghost use Rattle.kmip_call.specs.Exchange.{Errand as TheErrand, failure_line, CarriedPart};
 ghost use Rattle.kmip_call.specs.Asked.{errand_of, AsksFor, Requests};
@@ -14,7 +15,7 @@ use kmip_link::{Sink, Source};
 use kmip_operations::{TreeAnswer, message_answer, operation_answer};
 use kmip_shape::Style;
 use kmip_wire::{OutOfMemory, Text};
-use kmip_words::{Ending, answer_of, show_error, typed_call};
+use kmip_words::{Call, Ending, Settings, answer_of, show_error};
 use std::alloc::Global;
 
 /// The bytes of a text.
@@ -26,44 +27,40 @@ fn bytes_of(alloc: Global, text: &Text) -> Result<Vec<u8>, OutOfMemory>
     Ok(bytes)
 }
 
-/// What these bytes answer to the typed call of an order's words.
-fn typed_answer(alloc: Global, order: &Order, response: &[u8]) -> Result<TreeAnswer, OutOfMemory>
-    requires { IsSome (errand_of order.now Asked.Typed) }
-    ensures line { IfOk result (λ answer. (errand : TheErrand) →
-        errand_of order.now Asked.Typed ≡ Some errand →
-        answer.line.items ≡ errand.line response.now) }
-    ensures ending { IfOk result (λ answer. (errand : TheErrand) →
-        errand_of order.now Asked.Typed ≡ Some errand →
-        answer.ending ≡ errand.ending response.now) }
+/// What these bytes answer to a typed call.
+fn typed_answer(
+    alloc: Global,
+    settings: &Settings,
+    call: &Call,
+    response: &[u8],
+) -> Result<TreeAnswer, OutOfMemory>
+    ensures line { IfOk result (λ answer.
+        answer.line.items ≡ response_line settings.now call.now response.now) }
+    ensures ending { IfOk result (λ answer.
+        answer.ending ≡ response_ending settings.now call.now response.now) }
 {
-    let Some(call) = typed_call(alloc, order.words.as_slice())? else {
-        unreachable!()
-    };
     let mut line = Text::new(alloc);
-    let ending = answer_of(alloc, &order.settings, call, response, &mut line)?;
+    let ending = answer_of(alloc, settings, call, response, &mut line)?;
     let line = bytes_of(alloc, &line)?;
     Ok(TreeAnswer { ending, line })
 }
 
-/// What these bytes answer to what an order asks for.
+/// What these bytes answer to a call whose request was sent.
 fn answer_to(
     alloc: Global,
-    order: &Order,
+    settings: &Settings,
     asked: &Asked,
     response: &[u8],
 ) -> Result<TreeAnswer, OutOfMemory>
-    requires { IsSome (errand_of order.now asked.now) }
-    ensures line { IfOk result (λ answer. (errand : TheErrand) →
-        errand_of order.now asked.now ≡ Some errand →
-        answer.line.items ≡ errand.line response.now) }
-    ensures ending { IfOk result (λ answer. (errand : TheErrand) →
-        errand_of order.now asked.now ≡ Some errand →
-        answer.ending ≡ errand.ending response.now) }
+    ensures line { IfOk result (λ answer.
+        answer.line.items ≡ (errand_of settings.now asked.now).line response.now) }
+    ensures ending { IfOk result (λ answer.
+        answer.ending ≡ (errand_of settings.now asked.now).ending response.now) }
 {
     match asked {
-        Asked::Typed => typed_answer(alloc, order, response),
-        Asked::Operation(call) => operation_answer(alloc, &order.settings, call, response),
-        Asked::Message(message) => message_answer(alloc, &order.settings, message, response),
+        Asked::Typed(call) => typed_answer(alloc, settings, call, response),
+        Asked::Operation(call) => operation_answer(alloc, settings, call, response),
+        Asked::Message(_) => message_answer(alloc, settings, response),
     }
 }
 
@@ -79,24 +76,21 @@ pub struct CallEnd {
     pub response: Option<Vec<u8>>,
 }
 
-/// The end of a call that these bytes answer.
+/// The end of a call whose request was sent, and which these bytes answer.
 fn answered(
     alloc: Global,
-    order: &Order,
+    settings: &Settings,
     asked: &Asked,
     response: Vec<u8>,
 ) -> Result<CallEnd, OutOfMemory>
-    requires { IsSome (errand_of order.now asked.now) }
-    ensures line { IfOk result (λ end. (errand : TheErrand) →
-        errand_of order.now asked.now ≡ Some errand →
-        end.line.items ≡ errand.line response.items) }
-    ensures ending { IfOk result (λ end. (errand : TheErrand) →
-        errand_of order.now asked.now ≡ Some errand →
-        end.ending ≡ errand.ending response.items) }
+    ensures line { IfOk result (λ end.
+        end.line.items ≡ (errand_of settings.now asked.now).line response.items) }
+    ensures ending { IfOk result (λ end.
+        end.ending ≡ (errand_of settings.now asked.now).ending response.items) }
     ensures response { IfOk result
         (λ end. option_map (λ r. r.items) end.response ≡ Some response.items) }
 {
-    let TreeAnswer { ending, line } = answer_to(alloc, order, asked, &response)?;
+    let TreeAnswer { ending, line } = answer_to(alloc, settings, asked, &response)?;
     Ok(CallEnd {
         ending,
         line,
@@ -104,12 +98,13 @@ fn answered(
     })
 }
 
-/// The end of a call whose sink or source failed.
-fn failed(alloc: Global, error: Error) -> Result<CallEnd, OutOfMemory>
+/// The end of a call with this error, which no bytes say.
+fn failed(alloc: Global, error: Error, response: Option<Vec<u8>>) -> Result<CallEnd, OutOfMemory>
     ensures line { IfOk result (λ end. end.line.items ≡ failure_line error) }
     ensures ending { IfOk result
         (λ end. end.ending ≡ cond (loses_link error) endings.Lost endings.Refused) }
-    ensures response { IfOk result (λ end. option_map (λ r. r.items) end.response ≡ None) }
+    ensures response { IfOk result (λ end. option_map (λ r. r.items) end.response ≡
+        option_map (λ r. r.items) response) }
 {
     let mut line = Text::new(alloc);
     let ending = show_error(alloc, Style::Json, &error, &mut line)?;
@@ -117,7 +112,7 @@ fn failed(alloc: Global, error: Error) -> Result<CallEnd, OutOfMemory>
     Ok(CallEnd {
         ending,
         line,
-        response: None,
+        response,
     })
 }
 
@@ -126,33 +121,40 @@ fn failed(alloc: Global, error: Error) -> Result<CallEnd, OutOfMemory>
 pub fn exchange<W: Sink, S: Source>(
     alloc: Global,
     order: &Order,
-    requested: Requested,
+    requested: &Requested,
     wire: &mut W,
     source: &mut S,
 ) -> Result<CallEnd, OutOfMemory>
-    requires { Requests order.now requested.asked (option_map (λ r. r.items) requested.request) }
+    requires { Requests order.now requested.now.asked requested.now.request }
     ensures made { IfOk result
         (λ end. Makes order.now (W.state wire.old) (W.state wire.new) (S.state source.old)
         (S.state source.new) (option_map (λ r. r.items) end.response) end.line.items end.ending) }
     ensures broken_off { OnErr result ((errand : TheErrand) → AsksFor order.now errand →
-        CarriedPart errand (W.state wire.old) (W.state wire.new) (S.state source.old)
-        (S.state source.new)) }
+        CarriedPart order.now.settings.limit errand (W.state wire.old) (W.state wire.new)
+        (S.state source.old) (S.state source.new)) }
 {
-    let Requested { asked, request } = requested;
     let mut response = Vec::new(alloc);
-    let Some(request) = request else {
-        return answered(alloc, order, &asked, response);
+    let Some(request) = &requested.request else {
+        let text = Text::of(alloc, "request has no wire form")?;
+        return failed(alloc, Error::SerializeError(text), Some(response));
     };
     let limit = order.settings.limit();
-    match transfer(alloc, limit, &request, wire, source, &mut response) {
-        Ok(()) => answered(alloc, order, &asked, response),
+    match transfer(
+        alloc,
+        limit,
+        request.as_slice(),
+        wire,
+        source,
+        &mut response,
+    ) {
+        Ok(()) => answered(alloc, &order.settings, &requested.asked, response),
         Err(TransferStop::WriteFault) => {
             let text = Text::of(alloc, "link failed")?;
-            failed(alloc, Error::RequestWriteError(text))
+            failed(alloc, Error::RequestWriteError(text), None)
         }
         Err(TransferStop::ReadFault) => {
             let text = Text::of(alloc, "link failed")?;
-            failed(alloc, Error::ResponseReadError(text))
+            failed(alloc, Error::ResponseReadError(text), None)
         }
         Err(TransferStop::OutOfMemory) => Err(OutOfMemory),
     }

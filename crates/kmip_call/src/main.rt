@@ -10,6 +10,7 @@
 
 mod command;
 mod exchange;
+mod help;
 mod program;
 mod record;
 mod refusal;
@@ -21,87 +22,18 @@ mod tree_words;
 mod wire;
 
 use command::{Command, Order, command_of};
+use help::{grammar_json, help_text};
 use kmip_link::{MemorySink, Sink, StdSink, StdSource};
 use kmip_wire::{List, OutOfMemory, Text};
 use kmip_words::Ending;
-use refusal::{NO_FILE, WRONG_LIMIT, refuse};
+use refusal::{CLOSED_STREAM, NO_FILE, WRONG_LIMIT, refuse};
 use status::Status;
 use std::env::{self, VarError};
 use std::fs::{File, OpenOptions};
 use std::io::{self, Write};
+use std::os::fd::AsRawFd;
 use std::os::unix::fs::{FileExt, OpenOptionsExt};
 use std::process::ExitCode;
-
-const HELP: &str = "\
-Makes one call of a KMIP client over standard input and output.
-
-    kmip_call [user=U] [password=P] [limit=N] [record=FILE] CALL
-    kmip_call --help
-    kmip_call --version
-
-Standard output is the request's message, standard input one response, which is
-read to its end and no further, and standard error one line of JSON:
-{\"answer\":..} or {\"error\":\"ItemNotFound\",\"text\":\"..\"}, whose error is
-GrammarError where the words are no call.
-
-CALL is one of
-    query
-    discover
-    create-rsa BITS PRIVATE-NAME PUBLIC-NAME [OPTION..]
-    create-aes BITS NAME
-    create ALGORITHM BITS NAME [OPTION]
-    register KIND HEX OPTION..
-    locate NAME, or locate [ATTRIBUTE..]
-    attributes ID [NAME..]
-    attribute-add ID ATTRIBUTE
-    attribute-modify ID ATTRIBUTE [OPTION]
-    attribute-delete ID NAME [OPTION]
-    activate ID
-    sign ID HEX [OPTION..]
-    rename ID NAME
-    get ID [OPTION..]
-    revoke ID [OPTION..]
-    destroy ID
-    rng N
-    raw HEX
-    operation NAME [version=VERSION] PAYLOAD
-    message MESSAGE
-
-In a name or an identifier `-` is the empty text, and `%` with two upper-case hex
-digits stands for a byte.
-
-An OPTION stands after the other words of its call, in any order:
-create-rsa           private-usage=USES public-usage=USES
-create               usage=USES
-register             format=FORMAT algorithm=ALGORITHM length=BITS, and then
-                     usage=USES name=NAME where they are wanted
-sign                 hash=HASH padding=PADDING algorithm=ALGORITHM prehashed
-get                  format=FORMAT wrap=ID
-revoke               reason=REASON message=TEXT since=SECONDS
-attribute-modify, attribute-delete   index=N
-An ATTRIBUTE is name= group= contact= type= state= algorithm= length= or
-activation= with its value. KIND is public, private or symmetric. USES are names
-as Sign, with `,` between two, and names of values those of KMIP.
-
-`operation` calls any operation of KMIP by its NAME, as Encrypt. VERSION is 1.0,
-1.1 or 1.2, and 1.2 where none is given. PAYLOAD is the JSON of the request's
-payload, as {\"tag\":\"RequestPayload\",\"value\":[..]}; the answer is that of the
-response's payload. `message` sends a whole message, whose JSON MESSAGE is, as it
-stands; the answer is the whole response. Neither can be recorded.
-
-user=U, password=P   the credential of the request; without password=P the
-                     password is that of the environment, KMIP_PASSWORD
-limit=N              the most bytes that a response may have, its head counted;
-                     without it 1048576, and with limit=0 there is no limit
-record=FILE          adds CALL and the response to FILE, as a line that
-                     `kmip_run replay` reads; a FILE that is not there is made
-                     for its owner alone
-
-Status   0 answered   1 refused   2 the words are no call: nothing was sent
-         3 the connection is lost   4 the answer or record is not written
-         5 out of memory, or a word or the password is not UTF-8
-After 3, 4 and 5 the connection is to be closed.
-";
 
 const VERSION: &str = "kmip_call 1.0\n";
 
@@ -136,6 +68,14 @@ fn say(rt: &HostRuntime, text: &str) -> Status {
     }
 }
 
+/// Writes a text that was made on standard output, and returns the status.
+fn say_made(rt: &HostRuntime, text: Result<Text, OutOfMemory>) -> Status {
+    match text {
+        Ok(text) => say(rt, text.as_str()),
+        Err(OutOfMemory) => Status::OutOfMemory,
+    }
+}
+
 /// Writes on standard error why no call is made, and returns the status.
 fn refuse_with(rt: &HostRuntime, text: &str) -> Status {
     refuse(rt.alloc(), text, &mut StdSink::new(rt.stderr()))
@@ -147,12 +87,23 @@ fn ends_a_line(file: &File, len: u64) -> bool {
     len == 0 || (matches!(file.read_at(&mut last, len - 1), Ok(1)) && last == [b'\n'])
 }
 
-/// Opens the file of records to add to it, and returns it with its length. One that is not there is
-/// made for its owner alone. Where its last line lacks its line feed, that is added.
+/// Whether standard input, output or error is closed: then what is opened next has its number, and
+/// would take the request or the answer in its place.
+fn has_closed_stream(rt: &HostRuntime) -> bool {
+    match OpenOptions::new().read(true).open(rt, "/dev/null") {
+        Ok(file) => file.as_raw_fd() < 3,
+        Err(_) => false,
+    }
+}
+
+/// Opens the file of records to add to it, and returns it with its length. It is locked until it is
+/// closed, so that no other program adds to it meanwhile. One that is not there is made for its
+/// owner alone. Where its last line lacks its line feed, that is added.
 fn open_record(rt: &HostRuntime, path: &str) -> io::Result<(File, u64)> {
     let mut options = OpenOptions::new();
     options.read(true).append(true).create(true).mode(0o600);
     let mut file = options.open(rt, path)?;
+    file.lock()?;
     let len = file.metadata()?.len();
     if ends_a_line(&file, len) {
         return Ok((file, len));
@@ -180,8 +131,8 @@ fn perform_over<F: Sink>(rt: &HostRuntime, order: &Order, kept: &mut F) -> Statu
     program::run(rt.alloc(), order, &mut wire, &mut source, kept, &mut told)
 }
 
-/// Makes a call, and returns the status. Where the file for the record cannot be opened, that is
-/// `NoCall`, as for words that are no call, and nothing is sent.
+/// Makes a call, and returns the status. Where the file for the record cannot be opened or locked,
+/// that is `NoCall`, as for words that are no call, and nothing is sent.
 fn perform(rt: &HostRuntime, order: &Order) -> Status {
     let Some(path) = &order.file else {
         return match MemorySink::new(rt.alloc(), &[]) {
@@ -200,6 +151,9 @@ fn perform(rt: &HostRuntime, order: &Order) -> Status {
 }
 
 fn main(rt: HostRuntime) -> ExitCode {
+    if has_closed_stream(&rt) {
+        return ExitCode::from(refuse_with(&rt, CLOSED_STREAM).code());
+    }
     let (Ok(words), Ok(password)) = (given_words(&rt), given_password(&rt)) else {
         return ExitCode::from(Status::OutOfMemory.code());
     };
@@ -208,7 +162,8 @@ fn main(rt: HostRuntime) -> ExitCode {
         None => None,
     };
     let status = match command_of(rt.alloc(), password, words.as_slice()) {
-        Ok(Some(Command::Help)) => say(&rt, HELP),
+        Ok(Some(Command::Help)) => say_made(&rt, help_text(rt.alloc())),
+        Ok(Some(Command::Grammar)) => say_made(&rt, grammar_json(rt.alloc())),
         Ok(Some(Command::Version)) => say(&rt, VERSION),
         Ok(Some(Command::Make(order))) => perform(&rt, &order),
         Ok(None) => refuse_with(&rt, WRONG_LIMIT),

@@ -31,15 +31,15 @@ fn make_call<W: Sink, S: Source>(
     ensures wire { AsksForNone order.now → W.state wire.new ≡ W.state wire.old }
     ensures source { AsksForNone order.now → S.state source.new ≡ S.state source.old }
     ensures broken_off { OnErr result ((errand : TheErrand) → AsksFor order.now errand →
-        CarriedPart errand (W.state wire.old) (W.state wire.new) (S.state source.old)
-        (S.state source.new)) }
+        CarriedPart order.now.settings.limit errand (W.state wire.old) (W.state wire.new)
+        (S.state source.old) (S.state source.new)) }
     ensures made { IfOk result
         (λ end. MatchOption end (Unit {0})
         (λ it. Makes order.now (W.state wire.old) (W.state wire.new) (S.state source.old)
         (S.state source.new) (option_map (λ r. r.items) it.response) it.line.items it.ending)) }
 {
     match request_for(alloc, order)? {
-        Some(requested) => Ok(Some(exchange(alloc, order, requested, wire, source)?)),
+        Some(requested) => Ok(Some(exchange(alloc, order, &requested, wire, source)?)),
         None => Ok(None),
     }
 }

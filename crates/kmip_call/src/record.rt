@@ -1,5 +1,5 @@
 //! The line that records a call and its response, as `kmip_run replay` reads it.
-ghost use Rattle.std.specs.Prelude.{◌≡◌, ◌++◌, ℕ, [], List as TheList, false, codes, Some, option_map};
+ghost use Rattle.std.specs.Prelude.{◌≡◌, ◌++◌, ℕ, [], List as TheList, false, codes, Some};
 ghost use Rattle.std.specs.Prelude.{IfOk, OnOk, IsErrOf, IsTrue};
 ghost use Rattle.hex.specs.Hex.{IsBytes};
 ghost use Rattle.kmip_link.specs.State.{FaultCountRose};
@@ -10,10 +10,10 @@ ghost use Rattle.kmip_words.specs.declared.call.Call.{Call as TheCall};
 ghost use Rattle.kmip_call.specs.Record.{with_spaces, response_word, record_line, has_byte};
 ghost use Rattle.kmip_call.specs.Record.{is_script_word, are_script_words, is_recordable};
 ghost use Rattle.kmip_call.specs.Record.{raw_words, is_unscripted};
-ghost use Rattle.kmip_call.specs.Record.{recorded_words, record_text, ReadsBack};
+ghost use Rattle.kmip_call.specs.Record.{words_for, recorded_words, record_text, ReadsBack};
 
 use kmip_link::{LinkError, Sink};
-use kmip_wire::{List, OutOfMemory, Text, clone_items};
+use kmip_wire::{Blob, List, OutOfMemory, Text, clone_items};
 use kmip_words::{Call, Settings, call_of, request_of, typed_call, write_out};
 use std::alloc::Global;
 
@@ -100,8 +100,8 @@ pub fn is_recordable(alloc: Global, words: &[Text]) -> Result<bool, OutOfMemory>
 }
 
 /// The bytes of a request; none where there is none.
-fn or_empty(request: &Option<Vec<u8>>) -> &[u8]
-    ensures { result.now ≡ or_empty (option_map (λ r. r.items) request.now) }
+fn or_empty(request: &Option<Blob>) -> &[u8]
+    ensures { result.now ≡ or_empty request.now }
 {
     match request {
         Some(bytes) => bytes.as_slice(),
@@ -110,8 +110,8 @@ fn or_empty(request: &Option<Vec<u8>>) -> &[u8]
 }
 
 /// `raw` and the bytes of a call's request, without a credential.
-fn raw_words(alloc: Global, call: Call) -> Result<List<Text>, OutOfMemory>
-    ensures { IfOk result (λ words. words ≡ raw_words call) }
+fn raw_words(alloc: Global, call: &Call) -> Result<List<Text>, OutOfMemory>
+    ensures { IfOk result (λ words. words ≡ raw_words call.now) }
 {
     let settings = Settings::new(None, None, None);
     let request = request_of(alloc, &settings, call)?;
@@ -129,19 +129,26 @@ fn is_unscripted(call: &Call) -> bool
     matches!(call, Call::Request { .. })
 }
 
-/// The words that are recorded for a typed call: those that were typed, and for `locate`,
-/// `attributes`, `create-aes`, `discover` and calls with options, which a script does not have,
-/// `raw` and the bytes of the request.
-pub fn recorded_words(alloc: Global, words: &[Text]) -> Result<List<Text>, OutOfMemory>
-    ensures { IfOk result (λ recorded. recorded ≡ recorded_words words.now) }
+/// The words that are recorded for a typed call of these words: those that were typed, and for
+/// `locate`, `attributes`, `create-aes`, `discover` and calls with options, which a script does not
+/// have, `raw` and the bytes of the request.
+pub fn words_for(alloc: Global, call: &Call, words: &[Text]) -> Result<List<Text>, OutOfMemory>
+    ensures { IfOk result (λ recorded. recorded ≡ words_for (Some call.now) words.now) }
 {
-    let Some(call) = typed_call(alloc, words)? else {
-        return clone_items(words, alloc);
-    };
-    if is_unscripted(&call) {
+    if is_unscripted(call) {
         raw_words(alloc, call)
     } else {
         clone_items(words, alloc)
+    }
+}
+
+/// The words that are recorded for these.
+fn recorded_words(alloc: Global, words: &[Text]) -> Result<List<Text>, OutOfMemory>
+    ensures { IfOk result (λ recorded. recorded ≡ recorded_words words.now) }
+{
+    match typed_call(alloc, words)? {
+        Some(call) => words_for(alloc, &call, words),
+        None => clone_items(words, alloc),
     }
 }
 

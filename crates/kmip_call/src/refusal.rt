@@ -1,123 +1,33 @@
 //! Why no call is made, as a line of JSON.
-ghost use Rattle.std.specs.Prelude.{◌≡◌, ◌++◌, ◌⊎◌, option_map, IfOk, IsTrue};
+ghost use Rattle.std.specs.Prelude.{◌≡◌, ◌++◌, ◌⊎◌, ℕ, List, codes, IfOk, IsTrue};
 ghost use Rattle.kmip_words.specs.Streams.{WrotePart};
 ghost use Rattle.kmip_link.specs.State.{FaultCountRose};
 ghost use Rattle.kmip_words.specs.Calls.{typed_call};
-ghost use Rattle.kmip_call.specs.Refusal.{grammar_line, object_form, attribute_form, key_form};
-ghost use Rattle.kmip_call.specs.Refusal.{form_of, has_equals, wrong_name, no_call, not_typed};
-ghost use Rattle.kmip_call.specs.Refusal.{wrong_operation, wrong_tree, no_tree, why_not, refusal};
+ghost use Rattle.kmip_call.specs.Refusal.{grammar_line, not_typed};
+ghost use Rattle.kmip_call.specs.Refusal.{IsNotRead, IsWrongOperation, IsWrongTree, IsNoTree};
+ghost use Rattle.kmip_call.specs.Refusal.{IsWhyNot, IsTold, IsRefusal};
 ghost use Rattle.kmip_call.specs.TreeWords.{tree_text};
+ghost use Rattle.kmip_call.specs.declared.command.Order.{Order as TheOrder};
+ghost use Rattle.kmip_words.specs.JsonLines.{IsGrammarLine};
 
 use crate::command::Order;
 use crate::status::Status;
 use crate::tree_words::{TreeWords, tree_words};
 use kmip_link::{LinkError, Sink};
-use kmip_operations::{operation_named, version_written};
+use kmip_operations::{message_refusal, operation_named, payload_refusal, version_written};
 use kmip_shape::ShowItem;
 use kmip_wire::{OutOfMemory, Text};
-use kmip_words::{typed_call, write_out};
+use kmip_words::{refusal_of, typed_call, write_out};
 use std::alloc::Global;
 
 /// What is said where `limit=N` has no number.
 pub const WRONG_LIMIT: &str = "limit= takes a number from 0 to 4294967295";
 
-/// What is said where the file of `record=FILE` cannot be opened.
-pub const NO_FILE: &str = "the file of record= cannot be opened";
+/// What is said where the file of `record=FILE` cannot be opened or locked.
+pub const NO_FILE: &str = "the file of record= cannot be opened or locked";
 
-/// The words of a call about one object, by its name.
-fn object_form(name: &str) -> Option<&'static str>
-    ensures { option_map (λ form. form.now) result ≡ object_form name.now }
-{
-    match name {
-        "activate" => Some("activate TEXT"),
-        "get" => Some("get TEXT [format=] [wrap=]"),
-        "revoke" => Some("revoke TEXT [reason=] [message=] [since=]"),
-        "destroy" => Some("destroy TEXT"),
-        "rename" => Some("rename TEXT TEXT"),
-        "sign" => Some("sign TEXT HEX [hash=] [padding=] [algorithm=] [prehashed]"),
-        _ => None,
-    }
-}
-
-/// The words of a call about attributes, by its name.
-fn attribute_form(name: &str) -> Option<&'static str>
-    ensures { option_map (λ form. form.now) result ≡ attribute_form name.now }
-{
-    match name {
-        "locate" => Some("locate TEXT, or locate [ATTRIBUTE..]"),
-        "attributes" => Some("attributes TEXT [NAME..]"),
-        "attribute-add" => Some("attribute-add TEXT ATTRIBUTE"),
-        "attribute-modify" => Some("attribute-modify TEXT ATTRIBUTE [index=]"),
-        "attribute-delete" => Some("attribute-delete TEXT NAME [index=]"),
-        _ => object_form(name),
-    }
-}
-
-/// The words of a call that makes or registers a key, by its name.
-fn key_form(name: &str) -> Option<&'static str>
-    ensures { option_map (λ form. form.now) result ≡ key_form name.now }
-{
-    match name {
-        "create" => Some("create ALGORITHM INT TEXT [usage=]"),
-        "create-aes" => Some("create-aes INT TEXT"),
-        "create-rsa" => Some("create-rsa INT TEXT TEXT [private-usage=] [public-usage=]"),
-        "register" => Some("register KIND HEX format= algorithm= length= [usage=] [name=]"),
-        _ => attribute_form(name),
-    }
-}
-
-/// The words of a call, by its name; `None` where there is no call of this name.
-fn form_of(name: &str) -> Option<&'static str>
-    ensures { option_map (λ form. form.now) result ≡ form_of name.now }
-{
-    match name {
-        "query" => Some("query"),
-        "discover" => Some("discover"),
-        "rng" => Some("rng INT"),
-        "raw" => Some("raw HEX"),
-        "operation" => Some("operation NAME [version=VERSION] PAYLOAD"),
-        "message" => Some("message MESSAGE"),
-        _ => key_form(name),
-    }
-}
-
-/// Whether an equals sign is in a word, as in an option.
-fn has_equals(word: &str) -> bool
-    ensures { result ≡ has_equals word.now }
-{
-    word.as_bytes().contains(&b'=')
-}
-
-/// What is said of a word that names no call. An option is not shown, since it may be a password.
-fn wrong_name(alloc: Global, name: &str) -> Result<Text, OutOfMemory>
-    ensures { IfOk result (λ text. text ≡ wrong_name name.now) }
-{
-    if has_equals(name) {
-        return Text::of(
-            alloc,
-            "an option is out of its place, or there is none of its name",
-        );
-    }
-    let mut text = Text::of(alloc, "there is no call ")?;
-    text.push_str(name)?;
-    Ok(text)
-}
-
-/// What is said of words that are no call: the words of the call that the first one names, or that
-/// it names none, or that there is none.
-fn no_call(alloc: Global, words: &[Text]) -> Result<Text, OutOfMemory>
-    ensures { IfOk result (λ text. text ≡ no_call words.now) }
-{
-    let [name, ..] = words else {
-        return Text::of(alloc, "no call is given");
-    };
-    let Some(form) = form_of(name.as_str()) else {
-        return wrong_name(alloc, name.as_str());
-    };
-    let mut text = Text::of(alloc, "the words are not those of ")?;
-    text.push_str(form)?;
-    Ok(text)
-}
+/// What is said where a standard stream is closed.
+pub const CLOSED_STREAM: &str = "standard input, output or error is closed";
 
 /// What is said of words that a record cannot hold.
 const NOT_RECORDED: &str = "a record cannot hold these words";
@@ -128,52 +38,89 @@ fn not_typed(alloc: Global, words: &[Text]) -> Result<Text, OutOfMemory>
 {
     match typed_call(alloc, words)? {
         Some(_) => Text::of(alloc, NOT_RECORDED),
-        None => no_call(alloc, words),
+        None => refusal_of(alloc, words),
+    }
+}
+
+/// A text and another after it.
+fn joined(alloc: Global, front: &str, rest: &str) -> Result<Text, OutOfMemory>
+    ensures { IfOk result (λ text. text ≡ front.now ++ rest.now) }
+{
+    let mut text = Text::of(alloc, front)?;
+    text.push_str(rest)?;
+    Ok(text)
+}
+
+/// What is said of a payload or a message that is none: what it is, and why it is none.
+fn not_read(alloc: Global, what: &str, why: Option<Text>) -> Result<Text, OutOfMemory>
+    ensures { IfOk result (λ text. IsNotRead what.now text) }
+{
+    match why {
+        Some(why) => Ok(joined(alloc, what, why.as_str())?),
+        None => Ok(joined(alloc, what, "it is none")?),
     }
 }
 
 /// Which of the words of a call of an operation is not what it should be.
-fn wrong_operation(name: &str, version: &str) -> &'static str
-    ensures { result.now ≡ wrong_operation name.now version.now }
+fn wrong_operation(
+    alloc: Global,
+    name: &str,
+    version: &str,
+    payload: &str,
+) -> Result<Text, OutOfMemory>
+    ensures { IfOk result (λ text. IsWrongOperation name.now version.now text) }
 {
     if operation_named(name).is_none() {
-        return "KMIP 1.2 has no operation of this name";
+        return Ok(Text::of(alloc, "KMIP 1.2 has no operation of this name")?);
     }
     if version_written(version).is_none() {
-        return "version= takes 1.0, 1.1 or 1.2";
+        return Ok(Text::of(alloc, "version= takes 1.0, 1.1 or 1.2")?);
     }
-    "the payload is not the JSON of a RequestPayload"
+    let why = payload_refusal(alloc, payload)?;
+    Ok(not_read(alloc, "the payload: ", why)?)
+}
+
+/// Why a text is no message.
+fn wrong_message(alloc: Global, message: &str) -> Result<Text, OutOfMemory>
+    ensures { IfOk result (λ text. IsNotRead (codes "the message: ") text) }
+{
+    let why = message_refusal(alloc, message)?;
+    Ok(not_read(alloc, "the message: ", why)?)
 }
 
 /// Which of the words of a call whose payload or message is in JSON is not what it should be.
-fn wrong_tree(words: TreeWords<'_>) -> &'static str
-    ensures { result.now ≡ wrong_tree (tree_text words.entry) }
+fn wrong_tree(alloc: Global, words: TreeWords<'_>) -> Result<Text, OutOfMemory>
+    ensures { IfOk result (λ text. IsWrongTree (tree_text words.entry) text) }
 {
     match words {
-        TreeWords::Operation { name, version, .. } => wrong_operation(name, version),
-        TreeWords::Message { .. } => "the message is not the JSON of a RequestMessage",
+        TreeWords::Operation {
+            name,
+            version,
+            payload,
+        } => Ok(wrong_operation(alloc, name, version, payload)?),
+        TreeWords::Message { message } => Ok(wrong_message(alloc, message)?),
     }
 }
 
 /// Why no call whose payload or message is in JSON is made: it is to be recorded, or one of the
 /// words is wrong.
-fn no_tree(file: &Option<Text>, words: TreeWords<'_>) -> &'static str
-    ensures { result.now ≡ no_tree file.now (tree_text words.entry) }
+fn no_tree(alloc: Global, file: &Option<Text>, words: TreeWords<'_>) -> Result<Text, OutOfMemory>
+    ensures { IfOk result (λ text. IsNoTree file.now (tree_text words.entry) text) }
 {
     match file {
-        Some(_) => NOT_RECORDED,
-        None => wrong_tree(words),
+        Some(_) => Ok(Text::of(alloc, NOT_RECORDED)?),
+        None => Ok(wrong_tree(alloc, words)?),
     }
 }
 
 /// Why nothing that an order asks for is made.
 fn why_not(alloc: Global, order: &Order) -> Result<Text, OutOfMemory>
-    ensures { IfOk result (λ text. text ≡ why_not order.now) }
+    ensures { IfOk result (λ text. IsWhyNot order.now text) }
 {
     let words = order.words.as_slice();
     match tree_words(words) {
-        Some(words) => Text::of(alloc, no_tree(&order.file, words)),
-        None => not_typed(alloc, words),
+        Some(words) => Ok(no_tree(alloc, &order.file, words)?),
+        None => Ok(not_typed(alloc, words)?),
     }
 }
 
@@ -211,14 +158,16 @@ pub fn refuse<K: Sink>(alloc: Global, text: &str, told: &mut K) -> Status
 /// Writes why nothing that an order asks for is made, in the same way.
 pub fn refuse_words<K: Sink>(alloc: Global, order: &Order, told: &mut K) -> Status
     ensures status { (result ≡ Status.NoCall) ⊎ (result ≡ Status.OutOfMemory) }
-    ensures line { result ≡ Status.NoCall → IsTrue (K.state told.old).tells →
-        (FaultCountRose (K.state told.old).faults (K.state told.new).faults → ⊥) →
-        (K.state told.new).sent ≡ (K.state told.old).sent ++ refusal order.now }
-    ensures part { IsTrue (K.state told.old).tells →
-        WrotePart (K.state told.old) (K.state told.new) (refusal order.now) }
+    ensures told { IsTold order.now (result ≡ Status.NoCall) (K.state told.old) (K.state told.new) }
 {
-    let Ok(text) = why_not(alloc, order) else {
-        return Status::OutOfMemory;
-    };
-    refuse(alloc, text.as_str(), told)
+    match why_not(alloc, order) {
+        Ok(text) => refuse(alloc, text.as_str(), told),
+        Err(OutOfMemory) => Status::OutOfMemory,
+    }
 }
+
+/// The line that says why no call is made is a text of the grammar of RFC 8259 and a line feed; it
+/// is written as a text, so in UTF-8.
+pub fn refusals_are_json()
+    ensures { (order : TheOrder) → (line : List ℕ) → IsRefusal order line → IsGrammarLine line }
+{}

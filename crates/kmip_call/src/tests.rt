@@ -5,19 +5,14 @@
 use self::answers::{ANSWERS, MESSAGES, OPERATIONS};
 use self::errors::{AROUND, ERRORS, GRAMMAR, RECORDS};
 use crate::command::{Command, command_of};
+use crate::help::{grammar_json, help_text};
 use crate::program::run;
 use crate::refusal::{WRONG_LIMIT, refuse};
 use crate::status::Status;
-use kmip_client::Error;
-use kmip_link::{MemoryLink, MemorySink, MemorySource};
-use kmip_request::to_vec;
-use kmip_shape::Style;
+use kmip_link::{MemorySink, MemorySource};
 use kmip_test_messages::{expand, message};
-use kmip_wire::{Blob, List, Text};
-use kmip_words::{
-    Call, Ending, RawRequest, Settings, answer, answer_of, bytes_of, call_of, client_of, copy_text,
-    read_up_to, request_of, show_error, typed_call, words_of, write_out,
-};
+use kmip_wire::{List, Text};
+use kmip_words::{calls, push_form, read_up_to};
 use std::alloc::Global;
 use std::process::Abort;
 use std::test::Fail;
@@ -89,13 +84,17 @@ const ANSWERED: Row = Row {
     record: "",
 };
 
-/// The lines of words that are not those of `rng` and of `sign`, that begin with an option, and that
-/// a record cannot hold, and of a limit that is none.
+/// The lines of words that are not those of `rng`, of an option of `sign` whose value is none, of
+/// words that begin with an option, of a limit that is none, and of words that a record cannot hold.
 const NOT_RNG: &str =
-    "{\"error\":\"GrammarError\",\"text\":\"the words are not those of rng INT\"}\n";
+    "{\"error\":\"GrammarError\",\"text\":\"the words are not those of rng N\"}\n";
+
+/// The line of a number that is written otherwise.
+const NO_NUMBER: &str =
+    "{\"error\":\"GrammarError\",\"text\":\"rng: N is no number from -2147483648 to 2147483647 in decimal digits\"}\n";
 
 const NOT_SIGN: &str =
-    "{\"error\":\"GrammarError\",\"text\":\"the words are not those of sign TEXT HEX [hash=] [padding=] [algorithm=] [prehashed]\"}\n";
+    "{\"error\":\"GrammarError\",\"text\":\"sign: hash=SHA3 is none of MD2, MD4, MD5, SHA1, SHA224, SHA256, SHA384, SHA512, RIPEMD160, Tiger, Whirlpool\"}\n";
 
 const OPTION: &str =
     "{\"error\":\"GrammarError\",\"text\":\"an option is out of its place, or there is none of its name\"}\n";
@@ -244,6 +243,7 @@ fn asked(alloc: Global, words: &[&str]) -> Result<&'static str, Fail> {
     let name = match &command {
         Some(Command::Help) => "help",
         Some(Command::Version) => "version",
+        Some(Command::Grammar) => "grammar",
         Some(Command::Make(_)) => "a call",
         None => "nothing",
     };
@@ -255,122 +255,30 @@ fn asked(alloc: Global, words: &[&str]) -> Result<&'static str, Fail> {
 fn help_and_version_are_commands_only_where_they_stand_alone(rt: HostRuntime) -> Result<(), Fail> {
     let help = asked(rt.alloc(), &["--help"])?;
     let version = asked(rt.alloc(), &["--version"])?;
+    let grammar = asked(rt.alloc(), &["--grammar"])?;
     let more = asked(rt.alloc(), &["--version", "query"])?;
-    assert_eq!(rt; [help, version, more], ["help", "version", "a call"]);
-    Ok(())
-}
-
-/// The call of `rng 16`, as it is typed.
-fn typed(alloc: Global) -> Result<Call, Fail> {
-    let words = list_of(alloc, &["rng", "16"])?;
-    match typed_call(alloc, words.as_slice())? {
-        Some(call) => Ok(call),
-        None => Err(Fail::from("no call")),
-    }
-}
-
-/// Whether a script holds this line.
-fn is_call(alloc: Global, line: &[u8]) -> Result<bool, Fail> {
-    let call = call_of(alloc, line)?;
-    let is_call = call.is_some();
-    drop(call);
-    Ok(is_call)
-}
-
-#[test]
-fn a_line_of_a_script_has_a_response_after_its_call(rt: HostRuntime) -> Result<(), Fail> {
-    let alloc = rt.alloc();
-    let scripted = is_call(alloc, b"rng 16 -".as_slice())?;
-    let typed = is_call(alloc, b"rng 16".as_slice())?;
-    assert!(rt; scripted);
-    assert!(rt; !typed);
-    let words = words_of(alloc, "rng 16")?.ok_or("no words")?;
-    assert_eq!(rt; words.len(), 2);
-    let copy = copy_text(alloc, Some("a"))?.ok_or("no copy")?;
-    assert_eq!(rt; copy.as_str(), "a");
-    Ok(())
-}
-
-#[test]
-fn an_even_number_of_hex_digits_is_bytes(rt: HostRuntime) -> Result<(), Fail> {
-    let none = bytes_of(rt.alloc(), "00f")?;
-    assert!(rt; none.is_none());
-    let bytes = bytes_of(rt.alloc(), "00fF")?.ok_or("no bytes")?;
-    assert_eq!(rt; bytes.as_slice(), [0u8, 255].as_slice());
-    Ok(())
-}
-
-/// The request of that call, without a credential.
-fn requested(alloc: Global) -> Result<Vec<u8>, Fail> {
-    let settings = Settings::new(None, None, None);
-    Ok(request_of(alloc, &settings, typed(alloc)?)?.ok_or("no request")?)
-}
-
-/// A request that is read and written again.
-fn again(alloc: Global, bytes: Vec<u8>) -> Result<Blob, Fail> {
-    let request = RawRequest::read(alloc, Blob::of_vec(bytes))?.ok_or("no request")?;
-    Ok(to_vec(alloc, request.payload(alloc)?, None)?)
-}
-
-#[test]
-fn a_request_that_is_read_is_written_as_it_was(rt: HostRuntime) -> Result<(), Fail> {
-    let bytes = requested(rt.alloc())?;
-    is_message(&rt, rt.alloc(), bytes.as_slice(), RNG, "made")?;
-    let bytes = again(rt.alloc(), bytes)?;
-    is_message(&rt, rt.alloc(), bytes.as_slice(), RNG, "read")
-}
-
-/// How that call over these bytes ends, and the line of its answer.
-fn answered(alloc: Global, response: &[u8], line: &mut Text) -> Result<Ending, Fail> {
-    let settings = Settings::new(None, None, None);
-    Ok(answer_of(alloc, &settings, typed(alloc)?, response, line)?)
-}
-
-/// The same on a client over a link, with the line as it is shown bare.
-fn answered_bare(alloc: Global, response: &[u8], line: &mut Text) -> Result<Ending, Fail> {
-    let mut link = MemoryLink::new(alloc);
-    link.feed(response)?;
-    let mut client = client_of(link, None, None, None, false);
-    Ok(answer(alloc, &mut client, Style::Bare, typed(alloc)?, line)?)
-}
-
-#[test]
-fn an_answer_is_a_line_of_json_or_of_a_transcript(rt: HostRuntime) -> Result<(), Fail> {
-    let alloc = rt.alloc();
-    let response = message(alloc, RANDOM)?;
-    let mut lines = Text::new(alloc);
-    let ending = answered(alloc, response.as_slice(), &mut lines)?;
-    assert!(rt; matches!(ending, Ending::Answered));
-    let ending = answered_bare(alloc, response.as_slice(), &mut lines)?;
-    assert!(rt; matches!(ending, Ending::Answered));
     assert_eq!(rt;
-        lines.as_str(),
-        "{\"answer\":{\"random_bytes\":\"DEADBEEF\"}}\n= {random_bytes=x\"DEADBEEF\"}\n"
+        [help, version, grammar, more],
+        ["help", "version", "grammar", "a call"]
     );
     Ok(())
 }
 
-/// The ending of a call with this error.
-fn shown(alloc: Global, error: Error, line: &mut Text) -> Result<Ending, Fail> {
-    let ending = show_error(alloc, Style::Bare, &error, line);
-    drop(error);
-    Ok(ending?)
-}
-
 #[test]
-fn a_server_error_is_a_line_and_refuses_the_call(rt: HostRuntime) -> Result<(), Fail> {
-    let mut line = Text::new(rt.alloc());
-    let text = Text::of(rt.alloc(), "no")?;
-    let ending = shown(rt.alloc(), Error::ServerError(text), &mut line)?;
-    assert!(rt; matches!(ending, Ending::Refused));
-    assert_eq!(rt; line.as_str(), "- Server error: no\n");
-    Ok(())
-}
-
-#[test]
-fn a_text_is_written_to_the_sink(rt: HostRuntime) -> Result<(), Fail> {
-    let mut sink = MemorySink::new(rt.alloc(), &[])?;
-    write_out(&mut sink, b"a".as_slice())?;
-    assert_eq!(rt; sink.written(), b"a".as_slice());
+fn the_help_and_the_grammar_have_all_calls(rt: HostRuntime) -> Result<(), Fail> {
+    let help = help_text(rt.alloc())?;
+    let grammar = grammar_json(rt.alloc())?;
+    for line in help.as_str().lines() {
+        assert!(rt; line.len() <= 80, "{line}");
+    }
+    for row in calls() {
+        let mut form = Text::new(rt.alloc());
+        push_form(row, &mut form)?;
+        assert!(rt; help.as_str().contains(form.as_str()), "{}", row.name);
+        assert!(rt; grammar.as_str().contains(form.as_str()), "{}", row.name);
+    }
+    assert!(rt;
+        grammar.as_str().contains("{\"name\":\"hash=\",\"kind\":\"Hash\",\"is_needed\":false}")
+    );
     Ok(())
 }

@@ -1,5 +1,6 @@
 //! A request to a sink, and one message from a source.
 ghost use Rattle.std.specs.Prelude.{◌≡◌, ◌++◌, ◌≤◌, [], length, take, IfOk, OnOk, IsErrOf, IsTrue};
+ghost use Rattle.std.specs.Prelude.{max, vec_len, vec_capacity};
 ghost use Rattle.kmip_link.specs.State.{SourceKeeps, SinkKeeps, FaultCountRose, source_left};
 ghost use Rattle.kmip_words.specs.Streams.{Gives, GivesPart, WrotePart, WroteProperPart};
 ghost use Rattle.kmip_call.specs.Wire.{taken_at, contents_of, IsOneAtMost};
@@ -34,7 +35,7 @@ fn contents_of(bytes: &[u8], limit: Option<u32>) -> Option<u32>
 
 /// Reads one message to `response`, which is empty: the 8 bytes of its head, and then, unless the
 /// head is refused, as many bytes of contents as it says. Where the source ends early, `response`
-/// is all that there was.
+/// is all that there was. Room is taken for no more bytes than were read.
 fn read_message<S: Source>(
     alloc: Global,
     source: &mut S,
@@ -43,6 +44,8 @@ fn read_message<S: Source>(
 ) -> Result<(), LinkError>
     requires { response.old.items ≡ [] }
     ensures keeps { SourceKeeps (S.state source.old) (S.state source.new) }
+    ensures ahead { vec_capacity response.new ≤
+        max (vec_capacity response.old) (vec_len response.new) }
     ensures one { OnOk result (IsOneAtMost limit response.new.items) }
     ensures taken { OnOk result (IsTrue (S.state source.old).tells →
         Gives (S.state source.old) (S.state source.new)
@@ -63,7 +66,8 @@ fn read_message<S: Source>(
     }
 }
 
-/// Sends a request, and reads at most one message to `response`, which is empty.
+/// Sends a request, and reads at most one message to `response`, which is empty. Room is taken for
+/// no more bytes of a response than were read.
 pub fn transfer<W: Sink, S: Source>(
     alloc: Global,
     limit: Option<u32>,
@@ -75,6 +79,8 @@ pub fn transfer<W: Sink, S: Source>(
     requires { response.old.items ≡ [] }
     ensures sent { OnOk result (IsTrue (W.state wire.old).tells →
         (W.state wire.new).sent ≡ (W.state wire.old).sent ++ request.now) }
+    ensures ahead { vec_capacity response.new ≤
+        max (vec_capacity response.old) (vec_len response.new) }
     ensures one { OnOk result (IsOneAtMost limit response.new.items) }
     ensures taken { OnOk result (IsTrue (S.state source.old).tells →
         Gives (S.state source.old) (S.state source.new)

@@ -9,7 +9,7 @@ use Rattle.kmip_client.specs.declared.message.MessageStop.{MessageStop}
 use Rattle.kmip_client.specs.Transfer.{Takes, WritesPart}
 use Rattle.kmip_client.specs.Message.{Message, message_at, taken_for, Comes, ReadsMessage, IsRead}
 use Rattle.kmip_client.specs.Client.{loses_connection, lacks_memory}
-use Rattle.kmip_client.specs.Outcome.{seen_by, OutcomeOf, outcome_by, answer_by, left_for, Moves, Exchanged, completed, write_failed, read_failed, sending_cut, reading_cut, Gives, reading_answer, Caused, given, no_memory, FailsReading, reading_failed, read_answer}
+use Rattle.kmip_client.specs.Outcome.{seen_by, OutcomeOf, outcome_by, answer_by, left_for, Moves, Exchanged, completed, write_failed, read_failed, sending_cut, reading_cut, Gives, reading_answer, Caused, given, no_memory, FailsReading, reading_failed, FailsWriting, writing_failed, read_answer}
 use Rattle.kmip_client.proofs.Messages.{message_short}
 use Rattle.kmip_client.proofs.Said.{OfMessages, message_says}
 
@@ -418,6 +418,82 @@ pub reading_of : {A T : Type 0} (state : T → LinkState) (before after : T)
     (outcome_by (Some sent) reads limit rest).taken before after) →
     answer ≡ reading_failed → FailsReading state request (outcome_by request reads limit rest).taken before after
 reading_of state before after reads answer request bytes sent limit rest has same fails = rw (has, ← same) fails
+
+-- ---- a failed writing
+
+abbrev NotWriting : {A : Type 0} → Result A Error → Type 0
+NotWriting answer = answer ≡ writing_failed → ⊥
+
+memory_not_writing : {A : Type 0} → NotWriting {A = A} (Err OutOfMemory)
+memory_not_writing is = cc
+
+serializing_not_writing : {A : Type 0} (text : List ℕ) → NotWriting {A = A} (Err (SerializeError text))
+serializing_not_writing text is = cc
+
+reading_not_writing : {A : Type 0} (text : List ℕ) → NotWriting {A = A} (Err (ResponseReadError text))
+reading_not_writing text is = cc
+
+refused_not_writing : {A : Type 0} (text : List ℕ) → NotWriting {A = A} (Err (DeserializeError text))
+refused_not_writing text is = cc
+
+messages_not_writing : OfMessages NotWriting
+messages_not_writing = record {
+  ok = λ p is. cc;
+  malformed = refused_not_writing;
+  internal = λ t is. cc;
+  server = λ t is. cc;
+  not_found = λ t is. cc;
+}
+
+-- a message of KMIP's tables never answers so
+pub typed_not_writing : (operation : Operation) (m : List ℕ) → NotWriting (read_answer operation m)
+typed_not_writing operation m = message_says messages_not_writing operation m
+
+-- nor is a request that was not written out
+pub serialize_not_writing : {A R : Type 0} (error : Error)
+    → ((error ≡ SerializeError (codes "request has no wire form")) × R) ⊎ (error ≡ OutOfMemory)
+    → NotWriting {A = A} (Err error)
+serialize_not_writing {A = A} error (inl refused) =
+    subst (λ e. NotWriting {A = A} (Err e)) (sym refused.0) (serializing_not_writing _)
+serialize_not_writing {A = A} error (inr short) = subst (λ e. NotWriting {A = A} (Err e)) (sym short) memory_not_writing
+
+gives_not_writing : {A : Type 0} (expected answer : Result A Error) → NotWriting expected
+    → Gives expected answer → NotWriting answer
+gives_not_writing expected answer not gives =
+    elim (gives_cases expected answer gives) [
+      | inl is ↦ subst NotWriting (sym is) not
+      | inr is ↦ subst NotWriting (sym is) memory_not_writing
+    ]
+
+-- nor is a reading, where no message answers so
+pub read_not_writing : {A : Type 0} (reading : List ℕ → Result A Error) (taken : List ℕ)
+    (read : Result (Unit {0}) MessageStop) (answer : Result A Error)
+    → ((m : List ℕ) → NotWriting (reading m)) → Gives (reading_answer reading taken read) answer
+    → NotWriting answer
+read_not_writing reading taken (Ok u) answer never gives = gives_not_writing (reading taken) answer (never taken) gives
+read_not_writing reading taken (Err MessageStop.Ended) answer never gives =
+    gives_not_writing (Err (ResponseReadError (codes "end of input"))) answer (reading_not_writing _) gives
+read_not_writing reading taken (Err (MessageStop.Refused error)) answer never gives =
+    gives_not_writing _ answer (refused_not_writing _) gives
+read_not_writing reading taken (Err MessageStop.Fault) answer never gives =
+    gives_not_writing (Err (ResponseReadError (codes "link failed"))) answer (reading_not_writing _) gives
+read_not_writing reading taken (Err MessageStop.OutOfMemory) answer never gives =
+    gives_not_writing (Err OutOfMemory) answer memory_not_writing gives
+
+pub error_is : {A : Type 0} {e f : Error} → ◌≡◌ {A = Result A Error} (Err e) (Err f) → e ≡ f
+error_is is = cc
+
+-- a failed writing of the bytes of a request is one of the request
+pub writing_of : {A T : Type 0} (state : T → LinkState) (before after : T) (answer : Result A Error)
+    (request : Option (List ℕ)) (bytes sent : List ℕ) → request ≡ Some bytes → sent ≡ bytes
+    → (answer ≡ writing_failed → FailsWriting state (Some sent) before after) →
+    answer ≡ writing_failed → FailsWriting state request before after
+writing_of state before after answer request bytes sent has same fails = rw (has, ← same) fails
+
+pub kept_writing : {A R : Type 0} (answer kept : Result A Error) → IsKept answer kept
+    → (answer ≡ writing_failed → R) → kept ≡ writing_failed → R
+kept_writing answer kept (inl same) fails is = fails (sym same ∙ is)
+kept_writing answer kept (inr short) fails is = absurd (subst NotWriting (sym short) memory_not_writing is)
 
 pub kept_reading : {A R : Type 0} (answer kept : Result A Error) → IsKept answer kept
     → (answer ≡ reading_failed → R) → kept ≡ reading_failed → R

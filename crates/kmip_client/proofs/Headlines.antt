@@ -135,6 +135,12 @@ given_variant operation Message.Ended payload answers = error_payload answers
 given_variant operation (Message.Refused error) payload answers = error_payload answers
 given_variant operation (Message.Whole m) payload answers = read_variant operation (item_of 64 m) payload answers
 
+pub front_variant : {P : Type 0} (val : P → Val) (operation : Operation) (here : Message) (result : Result P Error) →
+    Gives (answer_of operation here) (seen_by val result)
+    → IfOk result (λ payload. IsOfOperation operation (val payload))
+front_variant val operation here (Ok payload) gives = given_variant operation here (val payload) (sym gives)
+front_variant val operation here (Err error) gives = tt
+
 pub read_has_variant : {P : Type 0} (val : P → Val) (operation : Operation) (m : List ℕ) (result : Result P Error) →
     Gives (read_answer operation m) (seen_by val result)
     → IfOk result (λ payload. IsOfOperation operation (val payload))

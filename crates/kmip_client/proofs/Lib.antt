@@ -13,4 +13,5 @@ pub mod Orders
 pub mod Tagged
 pub mod Operations
 pub mod Successes
+pub mod Typed
 pub mod WholeMessages

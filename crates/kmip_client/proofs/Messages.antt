@@ -1,6 +1,7 @@
 -- What stands at the front, by what its head says, and what each end of a reading says of that.
-use Rattle.std.proofs.Common.{◌≡◌, ℕ, ◌+◌, ◌<◌, ◌≤◌, List, ◌++◌, length, take, refl, ◌∙◌, ap, sym, arith, subst, Option, Result, Ok, Err, IsErrOf}
-use Rattle.std.proofs.lemmas.List.{length-take, length-take-le}
+use Rattle.std.proofs.Common.{◌≡◌, ℕ, ◌+◌, ◌<◌, ◌≤◌, List, ◌++◌, length, take, refl, ◌∙◌, ap, sym, arith, subst, Option, Result, Ok, Err, IsErrOf, length-append, inl, inr}
+use Rattle.std.proofs.lemmas.Bool.{cases_lt}
+use Rattle.std.proofs.lemmas.List.{length-take, length-take-le, take-append-le, take-take}
 use Rattle.std.proofs.Math.Seq.{take-length}
 use Rattle.kmip_wire.specs.Heads.{head_says}
 use Rattle.kmip_wire.specs.declared.error.HeadError.{HeadError}
@@ -210,3 +211,49 @@ stopped_read limit taken stop eight is =
     let it = stop_is (head_says taken limit) stop is in
     let P : MessageStop → Type 0 = λ s. IsRead limit taken (Err s) in
     subst P (sym it.2) (refused_read limit taken it.0 eight it.1)
+
+-- ---- bytes after those that are taken
+
+-- the first bytes of some, whatever follows
+take_front : (n k : ℕ) (rest more : List ℕ) → k ≤ n → n ≤ length rest → take k (take n rest ++ more) ≡ take k rest
+take_front n k rest more small all =
+    take-append-le k (take n rest) more (omega (arith, length-take-le n rest all, small))
+    ∙ take-take k n rest small
+
+front_length : (n : ℕ) (rest more : List ℕ) → n ≤ length rest → n ≤ length (take n rest ++ more)
+front_length n rest more all = omega (arith, length-append (take n rest) more, length-take-le n rest all)
+
+later_by : (rest more : List ℕ) (limit : Option ℕ) (head : Result ℕ HeadError) → 8 ≤ length rest
+    → head_says (take 8 rest) limit ≡ head → (message_by head rest ≡ Ended → ⊥) →
+    message_at (take (taken_for rest (message_by head rest)) rest ++ more) limit ≡ message_by head rest
+later_by rest more limit (Err error) whole says on =
+    message_refused (take 8 rest ++ more) limit error (front_length 8 rest more whole)
+    (ap (λ b. head_says b limit) (take_front 8 8 rest more (omega arith) whole) ∙ says)
+later_by rest more limit (Ok n) whole says on =
+    elim (cases_lt (length rest) (n + 8)) [
+      | inl cut ↦ absurd (on (cut_by n rest cut))
+      | inr all ↦
+          let front : List ℕ = take (n + 8) rest ++ more in
+          let P : Message → Type 0 = λ here. message_at (take (taken_for rest here) rest ++ more) limit ≡ here in
+          let Q : ℕ → Type 0 = λ k. message_at (take k rest ++ more) limit ≡ Whole (take (n + 8) rest) in
+          let long : n + 8 ≤ length front = front_length (n + 8) rest more all in
+          subst P (sym (whole_by n rest all))
+          (subst Q (sym (length-take-le (n + 8) rest all))
+          (message_whole front limit n (omega (arith, long))
+          (ap (λ b. head_says b limit) (take_front (n + 8) 8 rest more (omega arith) all) ∙ says) long
+          ∙ ap (λ m. Whole m) (take_front (n + 8) (n + 8) rest more (omega arith) all)))
+    ]
+
+-- a message depends on no bytes after those that are taken for it
+pub later_message : (rest more : List ℕ) (limit : Option ℕ) → (message_at rest limit ≡ Ended → ⊥) →
+    message_at (take (taken_for rest (message_at rest limit)) rest ++ more) limit ≡ message_at rest limit
+later_message rest more limit on =
+    elim (cases_lt (length rest) 8) [
+      | inl short ↦ absurd (on (message_short rest limit short))
+      | inr whole ↦
+          let P : Message → Type 0 = λ here. message_at (take (taken_for rest here) rest ++ more) limit ≡ here in
+          let is : message_at rest limit ≡ message_by (head_says (take 8 rest) limit) rest =
+          with_head rest limit whole in
+          subst P (sym is)
+          (later_by rest more limit (head_says (take 8 rest) limit) whole refl (λ ended. on (is ∙ ended)))
+    ]

@@ -1,12 +1,16 @@
 -- The message round a payload tree.
-use Rattle.std.proofs.Common.{◌≡◌, ℕ, ◌+◌, ◌<◌, ◌≤◌, ◌%◌, ◌^◌, List, [], ◌++◌, length, refl, ◌∙◌, ap, sym, subst, arith, pos, Option, Some, None, length-append, append-nil, lit<, inl, inr}
-use Rattle.std.specs.Prelude.{option_map, IfSome}
+use Rattle.std.proofs.Common.{◌≡◌, ℕ, ◌+◌, ◌<◌, ◌≤◌, ◌%◌, ◌^◌, List, [], ◌∷◌, ◌++◌, length, refl, ◌∙◌, ap, sym, subst, arith, rules, pos, Bool, true, false, cond, ltb-true, Option, Some, None, length-append, append-nil, lit<, inl, inr}
+use Rattle.std.specs.Int.{w32}
+use Rattle.std.specs.Prelude.{option_map, nat_le, nat_lt, IfSome, IsUtf8, FitsSigned}
+use Rattle.std.proofs.lemmas.Int.{ints}
 use Rattle.std.specs.Option.{option_and_then}
-use Rattle.std.proofs.lemmas.Bool.{cases_lt}
+use Rattle.std.proofs.lemmas.Bool.{cases_lt, le-leb, lt-leb, leb-true}
 use Rattle.std.proofs.lemmas.Bool.Decides.{nat_tests}
-use Rattle.kmip_tags.specs.Tags.{BATCH_ITEM, OPERATION, REQUEST_HEADER, REQUEST_MESSAGE}
-use Rattle.kmip_wire.specs.Tree.{Tree, scalar, more, none, enumeration}
-use Rattle.kmip_wire.specs.Bytes.{bytes, all_bytes, structure_bytes, in_order, item_bytes}
+use Rattle.kmip_tags.specs.Tags.{BATCH_COUNT, BATCH_ITEM, CREDENTIAL_VALUE, OPERATION, PROTOCOL_VERSION, PROTOCOL_VERSION_MAJOR, PROTOCOL_VERSION_MINOR, USERNAME, REQUEST_HEADER, REQUEST_MESSAGE}
+use Rattle.kmip_wire.specs.Tree.{Tree, scalar, structure, more, none, trees_of, enumeration, integer, text_string}
+use Rattle.kmip_wire.specs.Bytes.{bytes, all_bytes, structure_bytes, in_order, item_bytes, levels, levels_of_all, HasRanges, HaveRanges}
+use Rattle.kmip_wire.specs.Parses.{Parses}
+use Rattle.kmip_wire.proofs.Written.{written_parses}
 use Rattle.kmip_wire.specs.Room.{Room, Appends}
 use Rattle.kmip_shape.specs.Val.{Val, Number}
 use Rattle.kmip_shape.specs.Shape.{Shape, OneOf, NoCase}
@@ -26,9 +30,15 @@ use Rattle.kmip_request.specs.declared.authentication.CredentialValue.TheVariant
 use Rattle.kmip_request.specs.declared.header.ProtocolVersion.{ProtocolVersion}
 use Rattle.kmip_request.specs.Tables.{request_header}
 use Rattle.kmip_request.specs.Values.{lent_header_val}
-use Rattle.kmip_request.specs.Message.{header_tree, authentication_trees, credential_of}
+use Rattle.kmip_request.specs.Message.{header_tree, message_tree, authentication_trees, password_trees, credential_of}
+use Rattle.kmip_request.specs.Fits.{FitsCredential}
+use Rattle.kmip_types.specs.declared.auth.CredentialType.{CredentialType as TheCredential}
+use Rattle.kmip_types.specs.declared.auth.CredentialType.TheVariants.{UsernameAndPassword}
 use Rattle.kmip_client.specs.declared.operation.Version.{Version}
-use Rattle.kmip_client.specs.Operation.{minor_number, operation_bytes, message_bytes}
+use Rattle.kmip_client.specs.declared.operation.Version.TheVariants.{V1_0, V1_1, V1_2}
+use Rattle.kmip_client.specs.Operation.{TreeRequest, minor_number, operation_tree, operation_bytes, message_bytes}
+use Rattle.kmip_client.specs.WholeMessage.{is_message}
+use Rattle.kmip_client.proofs.WholeMessages.{append_within}
 
 -- ---- the bytes of a message
 
@@ -221,6 +231,36 @@ message_no_form val n payload header form even size long =
     ∙ message_too_long (text_of request_header REQUEST_HEADER val) payload n even
     (omega (arith, has.1, size))
 
+-- ---- levels
+
+password_levels : (password : Option (List ℕ)) → levels_of_all (trees_of (password_trees password)) ≤ 1
+password_levels None = omega arith
+password_levels (Some password) = omega arith
+
+credential_levels : (c : Option TheCredential) → levels_of_all (trees_of (authentication_trees c)) ≤ 4
+credential_levels None = omega arith
+credential_levels (Some (UsernameAndPassword c)) = omega (arith, password_levels c.password)
+
+header_levels : (minor : ℕ) (c : Option TheCredential)
+    → levels (header_tree minor (authentication_trees c)) ≤ 5
+header_levels minor c =
+    let rest : levels_of_all (trees_of (authentication_trees c ++ scalar BATCH_COUNT (integer (pos 1)) ∷ [])) ≤ 4 =
+    append_within (authentication_trees c) (scalar BATCH_COUNT (integer (pos 1))) 4 (credential_levels c) (omega arith) in
+    omega (arith, rest)
+
+-- the message is of at most 64 levels where the payload is of at most 62
+message_levels : (header payload : Tree) (n : ℕ) → levels header ≤ 5
+    → nat_le (levels payload) 62 ≡ is_message (message_tree header n payload)
+message_levels header payload n small =
+    elim (cases_lt (levels payload) 63) [
+      | inl within ↦
+          le-leb (levels payload) 62 (omega (arith, within))
+          ∙ sym (le-leb (levels (message_tree header n payload)) 64 (omega (arith, within, small)))
+      | inr past ↦
+          lt-leb (levels payload) 62 (omega (arith, past))
+          ∙ sym (lt-leb (levels (message_tree header n payload)) 64 (omega (arith, past)))
+    ]
+
 -- ---- the request
 
 -- the request is the message round its payload's bytes
@@ -228,24 +268,128 @@ request_is : (operation : Operation) (version : Version) (credential : Option Au
     message_bytes (bytes_of request_header REQUEST_HEADER
     (lent_header_val (version_number (minor_number version)) credential))
     (operation_line operation).number (bytes payload)
-    ≡ operation_bytes (record { operation = operation; version = version; payload = payload })
-    (option_map credential_of credential)
+    ≡ bytes (operation_tree operation version (option_map credential_of credential) payload)
 request_is operation version credential payload =
     ap (λ o. message_bytes o (operation_line operation).number (bytes payload))
     (header_bytes (minor_number version) credential)
 
+-- which is sent where the payload has at most 62 levels, and has no bytes where it has more
+within_is : (request : TreeRequest) (c : Option TheCredential) (within : Bool)
+    → within ≡ nat_le (levels request.payload) 62 →
+    operation_bytes request c
+    ≡ cond within (bytes (operation_tree request.operation request.version c request.payload)) None
+within_is request c within is =
+    ap (λ (b : Bool). cond b (bytes (operation_tree request.operation request.version c request.payload)) None)
+    (sym (is ∙ message_levels (header_tree (minor_number request.version) (authentication_trees c))
+    request.payload (operation_line request.operation).number
+    (header_levels (minor_number request.version) c)))
+
+pub too_deep : (request : TreeRequest) (c : Option TheCredential)
+    → false ≡ nat_le (levels request.payload) 62 → operation_bytes request c ≡ None
+too_deep request c is = within_is request c false is
+
+-- a payload without bytes is of no message
+no_bytes_in : (header : Option (List ℕ)) (n : ℕ) → message_bytes header n None ≡ None
+no_bytes_in None n = refl
+no_bytes_in (Some header) n = no_item header _ (ap (λ o. structure_bytes BATCH_ITEM (in_order o None)) (operation_item n).0)
+
+pub no_payload : (request : TreeRequest) (credential : Option Authentication)
+    → true ≡ nat_le (levels request.payload) 62 → bytes request.payload ≡ None
+    → operation_bytes request (option_map credential_of credential) ≡ None
+no_payload request credential within is =
+    within_is request (option_map credential_of credential) true within
+    ∙ sym (request_is request.operation request.version credential request.payload)
+    ∙ ap (λ o. message_bytes (bytes_of request_header REQUEST_HEADER
+    (lent_header_val (version_number (minor_number request.version)) credential))
+    (operation_line request.operation).number o) is
+    ∙ no_bytes_in _ (operation_line request.operation).number
+
 pub sent_is : (operation : Operation) (version : Version) (credential : Option Authentication)
     (payload : Tree) (made : ProtocolVersion) (blob sent : List ℕ)
+    → true ≡ nat_le (levels payload) 62
     → made ≡ version_number (minor_number version) → bytes payload ≡ Some blob → sent ≡ blob →
     message_bytes (bytes_of request_header REQUEST_HEADER (lent_header_val made credential))
     (operation_line operation).number (Some sent)
     ≡ operation_bytes (record { operation = operation; version = version; payload = payload })
     (option_map credential_of credential)
-sent_is operation version credential payload made blob sent in_version written same =
+sent_is operation version credential payload made blob sent within in_version written same =
     ap (λ (v : ProtocolVersion). message_bytes
     (bytes_of request_header REQUEST_HEADER (lent_header_val v credential))
     (operation_line operation).number (Some sent)) in_version
     ∙ (ap (λ o. message_bytes (bytes_of request_header REQUEST_HEADER
     (lent_header_val (version_number (minor_number version)) credential))
     (operation_line operation).number o) (ap Some same ∙ sym written)
-    ∙ request_is operation version credential payload)
+    ∙ (request_is operation version credential payload
+    ∙ sym (within_is (record { operation = operation; version = version; payload = payload })
+    (option_map credential_of credential) true within)))
+
+-- ---- each request parses
+
+operation_test : (x : Operation) → nat_lt (operation_line x).number (2 ^ 32) ≡ true
+operation_test x = search rules
+
+minor_small : (version : Version) → minor_number version ≤ 2
+minor_small V1_0 = omega arith
+minor_small V1_1 = omega arith
+minor_small V1_2 = omega arith
+
+password_ranges : (password : Option (List ℕ)) → IfSome password (λ p. IsUtf8 p)
+    → HaveRanges (trees_of (password_trees password))
+password_ranges None h = tt
+password_ranges (Some p) h = ((omega arith, h), tt)
+
+credential_ranges : (c : Option TheCredential) → FitsCredential c → HaveRanges (trees_of (authentication_trees c))
+credential_ranges None h = tt
+credential_ranges (Some (UsernameAndPassword c)) h =
+    let value : HasRanges (structure CREDENTIAL_VALUE
+    (trees_of (scalar USERNAME (text_string c.username) ∷ password_trees c.password))) =
+    (omega arith, ((omega arith, h.0), password_ranges c.password h.1)) in
+    ((omega arith, ((omega arith, ((omega arith, omega arith), (value, tt))), tt)), tt)
+
+append_ranges : (trees : List Tree) (tree : Tree) → HaveRanges (trees_of trees) → HasRanges tree
+    → HaveRanges (trees_of (trees ++ tree ∷ []))
+append_ranges [] tree all one = (one, tt)
+append_ranges (t ∷ trees) tree all one = (all.0, append_ranges trees tree all.1 one)
+
+-- a small number fits the four bytes of an Integer
+small_fits : (n : ℕ) → n ≤ 2 → FitsSigned w32 (pos n)
+small_fits n h = omega (arith, ints, h)
+
+header_ranges : (minor : ℕ) (c : Option TheCredential) → minor ≤ 2 → FitsCredential c
+    → HasRanges (header_tree minor (authentication_trees c))
+header_ranges minor c small fits =
+    let version : HasRanges (structure PROTOCOL_VERSION
+    (trees_of (scalar PROTOCOL_VERSION_MAJOR (integer (pos 1)) ∷
+    scalar PROTOCOL_VERSION_MINOR (integer (pos minor)) ∷ []))) =
+    (omega arith, ((omega arith, small_fits 1 (omega arith)), ((omega arith, small_fits minor small), tt))) in
+    let rest : HaveRanges (trees_of (authentication_trees c ++ scalar BATCH_COUNT (integer (pos 1)) ∷ [])) =
+    append_ranges (authentication_trees c) (scalar BATCH_COUNT (integer (pos 1))) (credential_ranges c fits)
+    (omega arith, small_fits 1 (omega arith)) in
+    (omega arith, (version, rest))
+
+message_ranges : (header payload : Tree) (n : ℕ) → HasRanges header → HasRanges payload → n < 2 ^ 32
+    → HasRanges (message_tree header n payload)
+message_ranges header payload n h p small =
+    (omega arith, (h, ((omega arith, ((omega arith, small), (p, tt))), tt)))
+
+tree_ranges : (request : TreeRequest) (c : Option TheCredential) → FitsCredential c → HasRanges request.payload
+    → HasRanges (operation_tree request.operation request.version c request.payload)
+tree_ranges request c fits ranges =
+    message_ranges (header_tree (minor_number request.version) (authentication_trees c)) request.payload
+    (operation_line request.operation).number
+    (header_ranges (minor_number request.version) c (minor_small request.version) fits) ranges
+    (ltb-true (operation_line request.operation).number (2 ^ 32) (operation_test request.operation))
+
+bytes_parse : (tree : Tree) (b : List ℕ) (within : Bool) → HasRanges tree → nat_le (levels tree) 64 ≡ within
+    → cond within (bytes tree) None ≡ Some b → Parses tree 1 b
+bytes_parse tree b false ranges same is = absurd (cc)
+bytes_parse tree b true ranges same is =
+    written_parses tree 1 b ranges (omega arith) (omega (arith, leb-true (levels tree) 64 same)) is
+
+pub each_parses : (request : TreeRequest) (c : Option TheCredential) (b : List ℕ) → FitsCredential c
+    → HasRanges request.payload → operation_bytes request c ≡ Some b
+    → Parses (operation_tree request.operation request.version c request.payload) 1 b
+each_parses request c b fits ranges is =
+    bytes_parse (operation_tree request.operation request.version c request.payload) b
+    (is_message (operation_tree request.operation request.version c request.payload))
+    (tree_ranges request c fits ranges) refl is

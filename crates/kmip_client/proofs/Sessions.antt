@@ -11,7 +11,7 @@ use Rattle.kmip_client.specs.declared.error.Error.{Error}
 use Rattle.kmip_client.specs.declared.error.Error.TheVariants.{ConfigurationError, SerializeError, RequestWriteError, ResponseReadError, DeserializeError, ServerError, InternalError, ItemNotFound, Unknown, OutOfMemory}
 use Rattle.kmip_client.specs.declared.session.Exchange.{Exchange}
 use Rattle.kmip_client.specs.Transfer.{Grows}
-use Rattle.kmip_client.specs.Outcome.{Answer, seen_by, OutcomeOf, outcome, left_for, Moves, Exchanged, completed, write_failed, read_failed, sending_cut, reading_cut, FailsReading, reading_failed}
+use Rattle.kmip_client.specs.Outcome.{Answer, seen_by, OutcomeOf, outcome, left_for, Moves, Exchanged, completed, write_failed, read_failed, sending_cut, reading_cut, FailsReading, reading_failed, FailsWriting, writing_failed}
 use Rattle.kmip_client.specs.Client.{ClientState, loses_connection, lacks_memory}
 use Rattle.kmip_client.specs.Calls.{IsCall}
 use Rattle.kmip_client.specs.Diagnostics.{diagnostic_of, IsRequestText, IsResponseText}
@@ -86,6 +86,7 @@ pub record Step {T : Type 0} (state : T → LinkState) (buffered : Bool)
     (credential : Option CredentialType) (limit : Option ℕ) (payload : RequestPayload)
     (now after : T) (answer : Answer) (asked said : Option (List ℕ)) : Type 0 where
   pub exchanged : Exchanged (outcome payload credential limit (left (state now))) (state now) (state after) answer
+  pub writing : answer ≡ writing_failed → FailsWriting state (request_bytes payload credential) now after
   pub reading : answer ≡ reading_failed
       → FailsReading state (request_bytes payload credential)
       (outcome payload credential limit (left (state now))).taken now after
@@ -114,6 +115,7 @@ step_of {state = state} {payload = payload} {before = before} {after = after} {a
     (take ((state after.link).pos - (state before.link).pos) rest) answer after.response_text in
     record {
       exchanged = subst P (left_is (state before.link) (state after.link) same) (call.exchange tells);
+      writing = call.writing tells;
       reading = λ is. subst R (left_is (state before.link) (state after.link) same) (call.reading tells is);
       keeps = call.keeps;
       request_text = call.request_text;
@@ -293,6 +295,9 @@ end state before now credential limit rest so_far = all_done {state = state} {be
 not_reading : {R : Type 0} (text : List ℕ) → ◌≡◌ {A = Answer} (Err (RequestWriteError text)) reading_failed → R
 not_reading text is = absurd (cc)
 
+not_writing : {R : Type 0} (text : List ℕ) → ◌≡◌ {A = Answer} (Err (ResponseReadError text)) writing_failed → R
+not_writing text is = absurd (cc)
+
 -- an answer that ends the session
 pub stop : {T : Type 0} {state : T → LinkState} {buffered : Bool} {all : List Turn}
     {before now after : T} {asked said : Option (List ℕ)} (exchanges : List CallReport)
@@ -336,6 +341,7 @@ stop {state = state} {buffered = buffered} {all = all} {before = before} {now = 
       last_moves =
           moves;
       rose = rose;
+      writing = λ _. step.writing is;
       reading = not_reading _;
     })
 stop {state = state} {buffered = buffered} {all = all} {before = before} {now = now} {after = after}
@@ -361,6 +367,7 @@ stop {state = state} {buffered = buffered} {all = all} {before = before} {now = 
       last_moves =
           moves;
       rose = rose;
+      writing = not_writing _;
       reading = λ _. step.reading is;
     })
 stop exchanges credential limit payload payloads answer keeps so_far step

@@ -6,6 +6,7 @@ use Rattle.kmip_tags.specs.Tags.{BATCH_ITEM, OPERATION, RESPONSE_MESSAGE, RESPON
 use Rattle.kmip_wire.specs.Tree.{Tree}
 use Rattle.kmip_wire.specs.Reading.{item_of}
 use Rattle.kmip_shape.specs.Enumerations.{variant_at}
+use Rattle.kmip_shape.specs.Shape.{has_tag}
 use Rattle.kmip_enums.specs.Operations.{operation_line}
 use Rattle.kmip_enums.specs.ResultReasons.{result_reason_line, result_reason_variants}
 use Rattle.kmip_enums.specs.ResultStatuses.{result_status_line}
@@ -18,8 +19,8 @@ use Rattle.kmip_client.specs.declared.error.Error.TheVariants.{DeserializeError,
 use Rattle.kmip_client.specs.Message.{message_at, Whole}
 use Rattle.kmip_client.specs.Headline.{IsReadBy}
 use Rattle.kmip_client.specs.Operation.{IsValidTree}
-use Rattle.kmip_client.specs.Outcome.{reading_failed}
-use Rattle.kmip_client.specs.Untyped.{IsSuccess, not_response, listed_failure, numbered_failure, failure_of, payload_of, names, success_of, status_answer, items_answer, counts_one, message_answer, parsed_answer, untyped_answer, has_tag, all_under, number_under, text_under, other_text, status_text}
+use Rattle.kmip_client.specs.Outcome.{reading_failed, writing_failed}
+use Rattle.kmip_client.specs.Untyped.{IsSuccess, not_response, listed_failure, numbered_failure, failure_of, payload_of, names, success_of, status_answer, items_answer, counts_one, message_answer, parsed_answer, untyped_answer, all_under, number_under, text_under, other_text, status_text}
 use Rattle.kmip_client.proofs.Headlines.{parses_of, computed_of}
 use Rattle.kmip_client.proofs.Tagged.{item_answers}
 
@@ -103,6 +104,18 @@ none_fails = record {
 pub never_fails : (operation : Operation) (m : List ℕ) → untyped_answer operation m ≡ reading_failed → ⊥
 never_fails operation m = tree_says none_fails operation (item_of 64 m)
 
+none_writes : OfTrees (λ answer. answer ≡ writing_failed → ⊥)
+none_writes = record {
+  ok = λ p is. cc;
+  malformed = λ t is. cc;
+  internal = λ t is. cc;
+  server = λ t is. cc;
+  not_found = λ t is. cc;
+}
+
+pub never_writes : (operation : Operation) (m : List ℕ) → untyped_answer operation m ≡ writing_failed → ⊥
+never_writes operation m = tree_says none_writes operation (item_of 64 m)
+
 -- ---- which messages answer a payload
 
 error_payload : {error : Error} {payload : Tree} {G : Type 0} → ◌≡◌ {A = Result Tree Error} (Err error) (Ok payload) → G
@@ -179,7 +192,7 @@ from_items operation message payload true (item ∷ []) has counts is answers =
       payload_is = good.payload_is;
     }
 
-from_message : (operation : Operation) (message payload : Tree)
+pub from_message : (operation : Operation) (message payload : Tree)
     → message_answer operation message ≡ Ok payload → IsSuccess operation message payload
 from_message operation message payload answers = by_tag (has_tag RESPONSE_MESSAGE message) refl answers
   where

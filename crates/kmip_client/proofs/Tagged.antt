@@ -16,7 +16,8 @@ use Rattle.kmip_wire.specs.declared.error.WireError.TheVariants.{Malformed}
 use Rattle.kmip_wire.specs.Reading.{item_of}
 use Rattle.kmip_wire.proofs.Computed.{no_longer}
 use Rattle.kmip_enums.specs.declared.operation.Operation.{Operation}
-use Rattle.kmip_client.specs.Untyped.{has_tag, children_of, all_under, number_under, counts_one, status_answer, message_answer}
+use Rattle.kmip_shape.specs.Shape.{has_tag}
+use Rattle.kmip_client.specs.Untyped.{children_of, all_under, number_under, counts_one, status_answer, message_answer}
 use Rattle.kmip_client.proofs.Headlines.{parses_of, computed_of}
 
 -- the children of a structure are its items

@@ -1,10 +1,14 @@
 -- Several calls of a link, one after the other.
-use Rattle.std.proofs.Common.{◌≡◌, ℕ, ◌+◌, ◌-◌, ◌≤◌, List, [], ◌++◌, length, take, drop, refl, ◌∙◌, ap, sym, arith, append_assoc, subst}
+use Rattle.std.proofs.Common.{◌≡◌, ℕ, ◌+◌, ◌-◌, ◌≤◌, List, ◌++◌, length, take, drop, refl, ◌∙◌, ap, sym, arith, append_assoc, subst, Result, Err}
 use Rattle.std.proofs.lemmas.Grind.{common_steps}
 use Rattle.std.proofs.lemmas.List.{drop-drop, length-drop, length-take, take-take, take-append-le}
 use Rattle.std.proofs.Math.Seq.{take-add, take-length, take-append-add}
+use Rattle.kmip_link.specs.declared.link.LinkError.{LinkError}
 use Rattle.kmip_link.specs.State.{LinkState, Writes, Keeps, left}
 use Rattle.kmip_client.specs.Transfer.{Takes, TakesPart}
+
+pub same_error : {A : Type 0} {e f : LinkError} → ◌≡◌ {A = Result A LinkError} (Err e) (Err f) → e ≡ f
+same_error is = cc
 
 pub keeps_self : (a : LinkState) → Keeps a a
 keeps_self a = record { tells = refl; still = refl; mark = refl; faults = omega arith }

@@ -3,10 +3,11 @@ use Rattle.std.proofs.Common.{◌≡◌, ℕ, filter, pos, List, [], ◌∷◌, 
 use Rattle.std.specs.Option.{option_map, option_and_then}
 use Rattle.std.proofs.lemmas.Grind.{common_steps}
 use Rattle.std.proofs.lemmas.Bool.Decides.{Decides-int_eq, nat_tests}
+use Rattle.kmip_tags.specs.Tags.{BATCH_ITEM, RESPONSE_PAYLOAD}
 use Rattle.kmip_wire.specs.Tree.{Tree}
 use Rattle.kmip_wire.specs.Parts.{children_in}
 use Rattle.kmip_shape.specs.Val.{Val, Vals, Field, Fields, Number, Text, Bytes, Truth, Record, Case, Absent, One, Many, AndField, NoVal, AndVal}
-use Rattle.kmip_shape.specs.Shape.{Shape, RowList, Cases, Rows, NoRow, AndRow, Mark, Required, Role, Plain, Custom, outer_for, chosen_after, in_place, matches, NoCase, AndCase, ByNumbers, OuterValue, no_outer, NumberKey, chosen_by, among, AtLeastOne, Optional}
+use Rattle.kmip_shape.specs.Shape.{Shape, RowList, Cases, Rows, NoRow, AndRow, Mark, Required, Role, Plain, Custom, Place, Under, has_tag, outer_for, chosen_after, in_place, matches, NoCase, AndCase, ByNumbers, OuterValue, no_outer, NumberKey, chosen_by, among, AtLeastOne, Optional}
 use Rattle.kmip_shape.specs.Reads.{each, marked_field, with_field, read_in, read_rows, read_case, root_read}
 use Rattle.kmip_enums.specs.Operations.{operation_line}
 use Rattle.kmip_enums.specs.declared.operation.Operation.{Operation}
@@ -51,6 +52,7 @@ field_some (Some g) rest fields h =
 record IsRows (rows : RowList) (tree : Tree) (value : Val) : Type 0 where
   trees : List Tree
   fields : Fields
+  children : children_in tree ≡ Some trees
   reads : read_rows rows no_outer no_outer trees ≡ Some fields
   all : value ≡ Record fields
 
@@ -60,7 +62,7 @@ rows_some rows tree value h =
     let it = and_then_some (λ (trees : List Tree).
     option_map Record (read_rows rows no_outer no_outer trees)) (children_in tree) value h in
     let fields = map_some Record (read_rows rows no_outer no_outer it.0) value it.2 in
-    record { trees = it.0; fields = fields.0; reads = fields.1; all = sym fields.2 }
+    record { trees = it.0; fields = fields.0; children = it.1; reads = fields.1; all = sym fields.2 }
 
 many_some : (read : Tree → Option Val) (trees : List Tree) (field : Field)
     → marked_field AtLeastOne read trees ≡ Some field → each read trees ≡ Some (many_of field)
@@ -69,9 +71,9 @@ many_some read (tree ∷ trees) field h =
     let it = map_some Many (each read (tree ∷ trees)) field h in
     it.1 ∙ ap (λ f. Some (many_of f)) it.2
 
-optional_some : (read : Tree → Option Val) (trees : List Tree) (field : Field) (val : Val)
+pub optional_some : (read : Tree → Option Val) (trees : List Tree) (field : Field) (val : Val)
     → marked_field Optional read trees ≡ Some field → one_of field ≡ Some val → (tree : Tree)
-    × (read tree ≡ Some val)
+    × (read tree ≡ Some val) × (trees ≡ tree ∷ [])
 optional_some read [] field val h is = absurd (let e : one_of field ≡ None = ap one_of (some_is (sym h)) in cc)
   where
     some_is : {f g : Field} → Some f ≡ Some g → f ≡ g
@@ -79,18 +81,19 @@ optional_some read [] field val h is = absurd (let e : one_of field ≡ None = a
 optional_some read (tree ∷ []) field val h is =
     let it = map_some One (read tree) field h in
     let e : Some it.0 ≡ Some val = ap one_of it.2 ∙ is in
-    (tree, it.1 ∙ e)
+    (tree, it.1 ∙ e, refl)
 optional_some read (tree ∷ next ∷ trees) field val h is = absurd (cc)
 
 -- one value that was read of a list
-single_some : (read : Tree → Option Val) (trees : List Tree) (val : Val)
-    → each read trees ≡ Some (AndVal val NoVal) → (tree : Tree) × (read tree ≡ Some val)
+pub single_some : (read : Tree → Option Val) (trees : List Tree) (val : Val)
+    → each read trees ≡ Some (AndVal val NoVal) → (tree : Tree) × (read tree ≡ Some val) × (more : List Tree)
+    × (trees ≡ tree ∷ more)
 single_some read [] val h = absurd (cc)
 single_some read (tree ∷ trees) val h =
     let it = and_then_some (λ (v : Val). option_map (AndVal v) (each read trees)) (read tree) (AndVal val NoVal) h in
     let more = map_some (AndVal it.0) (each read trees) (AndVal val NoVal) it.2 in
     let e : it.0 ≡ val = head_is more.2 in
-    (tree, it.1 ∙ ap Some e)
+    (tree, it.1 ∙ ap Some e, trees, refl)
   where
     head_is : {v w : Val} {vs ws : Vals} → AndVal v vs ≡ AndVal w ws → v ≡ w
     head_is e = cc
@@ -107,10 +110,13 @@ rows_in (Rows rows) = rows
 rows_in _ = NoRow
 
 -- what the operation and the payload of a batch item were read as
-record IsItem (item : Val) : Type 0 where
+pub record IsItem (tree : Tree) (item : Val) : Type 0 where
+  children : List Tree
   operation : Field
   payload : Field
   trees : List Tree
+  children_are : children_in tree ≡ Some children
+  trees_are : trees ≡ filter (has_tag RESPONSE_PAYLOAD) children
   first : field_at 0 item ≡ operation
   sixth : field_at 5 item ≡ payload
   reads : marked_field Optional (read_in response_payload NoCase (chosen_by operation)) trees ≡ Some payload
@@ -122,6 +128,10 @@ tail_of (AndRow name place mark role shape rows) = rows
 abbrev mark_of : RowList → Mark
 mark_of NoRow = Required
 mark_of (AndRow name place mark role shape rows) = mark
+
+abbrev place_of : RowList → Place
+place_of NoRow = Under 0
+place_of (AndRow name place mark role shape rows) = place
 
 abbrev role_of : RowList → Role
 role_of NoRow = Plain
@@ -140,6 +150,8 @@ record IsRow (rows : RowList) (chosen : OuterValue) (trees : List Tree) (fields 
   field : Field
   others : Fields
   items : List Tree
+  items_are : items ≡ filter (in_place (place_of rows) (shape_of rows)
+      (outer_for (role_of rows) no_outer chosen)) trees
   first : marked_field (mark_of rows)
       (read_in (shape_of rows) NoCase (outer_for (role_of rows) no_outer chosen)) items ≡ Some field
   next : read_rows (tail_of rows) no_outer (chosen_after (role_of rows) field chosen) trees ≡ Some others
@@ -154,9 +166,17 @@ row_some (AndRow name place mark role shape rows) chosen trees fields some h =
     let it = field_some (marked_field mark
     (read_in shape NoCase (outer_for role no_outer chosen)) items)
     (λ field. read_rows rows no_outer (chosen_after role field chosen) trees) fields h in
-    record { field = it.field; others = it.others; items = items; first = it.first; next = it.next; all = it.all }
+    record {
+      field = it.field;
+      others = it.others;
+      items = items;
+      items_are = refl;
+      first = it.first;
+      next = it.next;
+      all = it.all;
+    }
 
-item_read : (tree : Tree) (item : Val) → read_in batch_item NoCase no_outer tree ≡ Some item → IsItem item
+pub item_read : (tree : Tree) (item : Val) → read_in batch_item NoCase no_outer tree ≡ Some item → IsItem tree item
 item_read tree item h =
     let it = rows_some (rows_in batch_item) tree item h in
     let r0 = row_some (rows_in batch_item) no_outer it.trees it.fields refl it.reads in
@@ -169,9 +189,12 @@ item_read tree item h =
     let r5 = row_some (tail_of (tail_of (tail_of (tail_of (tail_of (rows_in batch_item))))))
     (chosen_by r0.field) it.trees r4.others refl r4.next in
     record {
+      children = it.trees;
       operation = r0.field;
       payload = r5.field;
       trees = r5.items;
+      children_are = it.children;
+      trees_are = r5.items_are;
       first = ap (λ v. field_at 0 v) it.all ∙ at_first r0.all;
       sixth = ap (λ v. field_at 5 v) it.all ∙ at_next 4 r0.all ∙ at_next 3 r1.all ∙ at_next 2 r2.all
           ∙ at_next 1 r3.all ∙ at_next 0 r4.all ∙ at_first r5.all;
@@ -179,16 +202,23 @@ item_read tree item h =
     }
 
 -- the batch items of a response message
-items_read : (tree : Tree) (value : Val)
+pub items_read : (tree : Tree) (value : Val)
     → read_in response_message NoCase no_outer tree ≡ Some value → (trees : List Tree)
     × (each (read_in batch_item NoCase no_outer) trees ≡ Some (batch_items value))
+    × (children : List Tree) × (children_in tree ≡ Some children)
+    × (trees ≡ filter (has_tag BATCH_ITEM) children)
 items_read tree value h =
     let it = rows_some (rows_in response_message) tree value h in
     let r0 = row_some (rows_in response_message) no_outer it.trees it.fields refl it.reads in
     let r1 = row_some (tail_of (rows_in response_message)) no_outer it.trees r0.others refl r0.next in
     let same : batch_items value ≡ many_of r1.field =
-    ap batch_items it.all ∙ ap many_of (at_next 0 r0.all ∙ at_first r1.all) in
-    (r1.items, many_some (read_in batch_item NoCase no_outer) r1.items r1.field r1.first ∙ ap Some (sym same))
+    ap batch_items it.all ∙ ap many_of (at_next 0 r0.all ∙ at_first r1.all) in (
+      r1.items,
+      many_some (read_in batch_item NoCase no_outer) r1.items r1.field r1.first ∙ ap Some (sym same),
+      it.trees,
+      it.children,
+      r1.items_are,
+    )
 
 -- an item that answers with a payload names the operation and holds the payload
 ok_else : (b : Bool) (x y : Answer) (payload : Val) → (x ≡ Ok payload → ⊥) → cond b x y ≡ Ok payload
@@ -301,10 +331,24 @@ own_payloads = (
   ),
 )
 
-pub variant_of : (operation : Operation) (tree : Tree) (value payload : Val)
+-- where the payload of a response was read: of the one item with its tag of the one batch item
+pub record IsHeld (operation : Operation) (tree : Tree) (payload : Val) : Type 0 where
+  pub children : List Tree
+  pub item : Tree
+  pub more : List Tree
+  pub item_children : List Tree
+  pub read : Tree
+  pub children_are : children_in tree ≡ Some children
+  pub items_are : filter (has_tag BATCH_ITEM) children ≡ item ∷ more
+  pub item_children_are : children_in item ≡ Some item_children
+  pub payloads_are : filter (has_tag RESPONSE_PAYLOAD) item_children ≡ read ∷ []
+  pub own : read_in response_payload NoCase
+      (chosen_by (One (Number (pos (operation_line operation).number)))) read ≡ Some payload
+
+pub held_in : (operation : Operation) (tree : Tree) (value payload : Val)
     → root_read response_message response_tag tree ≡ Some value
-    → check_response operation value ≡ Ok payload → IsOfOperation operation payload
-variant_of operation tree value payload reads checks =
+    → check_response operation value ≡ Ok payload → IsHeld operation tree payload
+held_in operation tree value payload reads checks =
     let items = items_read tree value (cond_some _ _ value reads) in
     let single = items_ok operation _ (batch_items value) payload checks in
     let one = single_some _ items.0 single.0 (items.1 ∙ ap Some single.1) in
@@ -314,9 +358,24 @@ variant_of operation tree value payload reads checks =
     sym item.first ∙ one_is _ _ (number_is _ _ ok.0) in
     let held : one_of item.payload ≡ Some payload = ap one_of (sym item.sixth) ∙ ok.1 in
     let read = optional_some _ item.trees item.payload payload item.reads held in
-    let own : read_in response_payload NoCase
-    (chosen_by (One (Number (pos (operation_line operation).number)))) read.0 ≡ Some payload =
-    ap (λ f. read_in response_payload NoCase (chosen_by f) read.0) (sym named) ∙ read.1 in
+    record {
+      children = items.2;
+      item = one.0;
+      more = one.2;
+      item_children = item.children;
+      read = read.0;
+      children_are = items.3;
+      items_are = sym items.4 ∙ one.3;
+      item_children_are = item.children_are;
+      payloads_are = sym item.trees_are ∙ read.2;
+      own = ap (λ f. read_in response_payload NoCase (chosen_by f) read.0) (sym named) ∙ read.1;
+    }
+
+pub variant_of : (operation : Operation) (tree : Tree) (value payload : Val)
+    → root_read response_message response_tag tree ≡ Some value
+    → check_response operation value ≡ Ok payload → IsOfOperation operation payload
+variant_of operation tree value payload reads checks =
+    let held = held_in operation tree value payload reads checks in
     case_own response_payloads response_payloads operation
     (chosen_by (One (Number (pos (operation_line operation).number))))
-    read.0 payload own_payloads own
+    held.read payload own_payloads held.own

@@ -1,24 +1,25 @@
 -- Messages as trees: how many levels items have, and what a message answers.
-use Rattle.std.proofs.Common.{◌≡◌, ℕ, ◌+◌, ◌-◌, ◌<◌, ◌≤◌, List, ◌++◌, [], ◌∷◌, length, take, drop, get_or, refl, sym, ap, subst, ◌∙◌, arith, Bool, false, true, cond, Option, Some, None, Result, Ok, Err}
+use Rattle.std.proofs.Common.{◌≡◌, ℕ, ◌+◌, ◌<◌, ◌≤◌, List, ◌++◌, [], ◌∷◌, length, take, get_or, refl, sym, ap, subst, ◌∙◌, arith, Bool, false, true, cond, Option, Some, None, Result, Ok, Err}
 use Rattle.std.specs.Prelude.{nat_le, nat_lt, ◌==◌, IfOk}
 use Rattle.std.proofs.Math.Nat.{max-le, le-max_left, le-max_right}
 use Rattle.std.proofs.lemmas.Bool.{le-leb, lt-leb, leb-true, leb-false, eqb-true}
 use Rattle.std.proofs.lemmas.List.{get_or-take}
 use Rattle.std.proofs.lemmas.List.Recursion.{max_bounds}
 use Rattle.std.proofs.lemmas.Grind.{take_at_read}
-use Rattle.kmip_wire.specs.Tree.{Tree, Trees, Scalar, trees_of, scalar, structure, none, more, integer, long_integer, big_integer, enumeration, boolean, text_string, byte_string, date_time, interval}
+use Rattle.kmip_wire.specs.Tree.{Tree, Scalar, trees_of, scalar, structure, integer, long_integer, big_integer, enumeration, boolean, text_string, byte_string, date_time, interval}
 use Rattle.kmip_wire.specs.Kinds.{code_of, kind_of_scalar}
-use Rattle.kmip_wire.specs.Head.{head_code, head_length, value_of}
+use Rattle.kmip_wire.specs.Head.{head_code, head_length}
 use Rattle.kmip_wire.specs.Heads.{within, head_says}
-use Rattle.kmip_wire.specs.Parses.{Parses, ParseAll}
+use Rattle.kmip_wire.specs.Parses.{Parses}
 use Rattle.kmip_wire.specs.declared.error.HeadError.{HeadError}
 use Rattle.kmip_wire.specs.declared.error.HeadError.TheVariants.{NotStructure}
 use Rattle.kmip_wire.specs.Bytes.{levels, levels_of_all}
 use Rattle.kmip_wire.specs.Reading.{item_of}
+use Rattle.kmip_wire.proofs.Levels.{tree_levels}
 use Rattle.kmip_client.specs.declared.error.Error.{Error}
 use Rattle.kmip_client.specs.Message.{Message, message_at, message_by, Whole}
 use Rattle.kmip_client.specs.Headline.{IsReadBy}
-use Rattle.kmip_client.specs.Outcome.{reading_failed, answer_by, Caused, not_valid, given, no_memory}
+use Rattle.kmip_client.specs.Outcome.{reading_failed, writing_failed, answer_by, Gives, Caused, not_valid, given, no_memory}
 use Rattle.kmip_client.specs.WholeMessage.{is_message, tree_of_message, whole_answer, IsWholeTree}
 use Rattle.kmip_client.proofs.Headlines.{parses_of, computed_of}
 
@@ -33,7 +34,7 @@ pub no_level : (tree : Tree) (most : ℕ) → most ≡ 0 → false ≡ nat_le (l
 no_level tree most is = sym (lt-leb (levels tree) most (omega (arith, is, some_level tree)))
 
 -- one item more
-append_within : (trees : List Tree) (tree : Tree) (most : ℕ)
+pub append_within : (trees : List Tree) (tree : Tree) (most : ℕ)
     → levels_of_all (trees_of trees) ≤ most → levels tree ≤ most
     → levels_of_all (trees_of (trees ++ tree ∷ [])) ≤ most
 append_within [] tree most all one = max-le one (omega arith)
@@ -76,6 +77,13 @@ not_failed (Some message) is = cc
 pub whole_never_fails : (m : List ℕ) → whole_answer m ≡ reading_failed → ⊥
 whole_never_fails m = not_failed (item_of 64 m)
 
+not_written : (message : Option Tree) → tree_of_message message ≡ writing_failed → ⊥
+not_written None is = cc
+not_written (Some message) is = cc
+
+pub whole_never_writes : (m : List ℕ) → whole_answer m ≡ writing_failed → ⊥
+whole_never_writes m = not_written (item_of 64 m)
+
 from_message : (limit : Option ℕ) (rest m : List ℕ) (tree : Tree) (message : Option Tree)
     → message_at rest limit ≡ Whole m → item_of 64 m ≡ message
     → tree_of_message message ≡ Ok tree → IsWholeTree limit rest m tree
@@ -94,21 +102,6 @@ whole_valid limit = record {
 
 -- ---- the tree that is answered is a message
 
-mutual
-  parsed_levels : (tree : Tree) (level : ℕ) (b : List ℕ) → Parses tree level b → levels tree + level ≤ 65
-  parsed_levels (scalar tag s) level b p = omega (arith, p.level_is.1)
-  parsed_levels (structure tag ts) level b p =
-      omega (arith, all_levels ts (level + 1) (value_of b) (omega (arith, p.level_is.1)) p.value)
-
-  all_levels : (ts : Trees) (level : ℕ) (b : List ℕ) → level ≤ 65 → ParseAll ts level b
-      → levels_of_all ts + level ≤ 65
-  all_levels none level b most p = omega (arith, most)
-  all_levels (more t ts) level b most (n, within, p, q) =
-      let first : levels t ≤ 65 - level = omega (arith, parsed_levels t level (take n b) p) in
-      let rest : levels_of_all ts ≤ 65 - level =
-      omega (arith, all_levels ts level (drop n b) most q) in
-      omega (arith, max-le first rest, most)
-
 scalar_code : (s : Scalar) → 2 ≤ code_of (kind_of_scalar s)
 scalar_code (integer z) = omega arith
 scalar_code (long_integer z) = omega arith
@@ -124,7 +117,7 @@ scalar_code (interval n) = omega arith
 parsed_message : (tree : Tree) (m : List ℕ) → head_code m ≡ 1 → Parses tree 1 m → is_message tree ≡ true
 parsed_message (scalar tag s) m is p = absurd (omega (arith, is, p.kind_is, scalar_code s))
 parsed_message (structure tag ts) m is p =
-    le-leb (levels (structure tag ts)) 64 (omega (arith, parsed_levels (structure tag ts) 1 m p))
+    le-leb (levels (structure tag ts)) 64 (omega (arith, tree_levels (structure tag ts) 1 m p))
 
 -- an accepted head is that of a structure, and begins the message
 module _ (rest m : List ℕ) (limit : Option ℕ) where
@@ -165,6 +158,12 @@ given_message rest limit (Message.Refused error) tree front answers = absurd (cc
 given_message rest limit (Message.Whole m) tree front answers =
     parsed_message tree m (whole_head rest m limit front)
     (from_message limit rest m tree (item_of 64 m) front refl answers).parses
+
+pub front_message : (rest : List ℕ) (limit : Option ℕ) (result : Result Tree Error)
+    → Gives (answer_by whole_answer (message_at rest limit)) result
+    → IfOk result (λ tree. is_message tree ≡ true)
+front_message rest limit (Ok tree) gives = given_message rest limit (message_at rest limit) tree refl (sym gives)
+front_message rest limit (Err error) gives = tt
 
 caused_message : {before after : ℕ} (request : Option (List ℕ)) (limit : Option ℕ)
     (answer : Result Tree Error) (tree : Tree)

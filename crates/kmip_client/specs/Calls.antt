@@ -11,8 +11,8 @@ use Rattle.kmip_response.specs.declared.payload.ResponsePayload.{ResponsePayload
 use Rattle.kmip_response.specs.declared.payloads.identifiers.CreateKeyPairResponsePayload.{CreateKeyPairResponsePayload}
 use Rattle.kmip_client.specs.declared.error.Error.{Error}
 use Rattle.kmip_client.specs.declared.error.Error.TheVariants.{OutOfMemory}
-use Rattle.kmip_client.specs.Outcome.{Answer, seen_by, Exchanged, Caused, FailsReading}
-use Rattle.kmip_client.specs.Outcome.{reading_failed, OutcomeOf, outcome_by, left_for, read_answer}
+use Rattle.kmip_client.specs.Outcome.{Answer, seen_by, Exchanged, Caused, FailsReading, FailsWriting}
+use Rattle.kmip_client.specs.Outcome.{reading_failed, writing_failed, OutcomeOf, outcome_by, left_for, read_answer}
 use Rattle.kmip_client.specs.Headline.{Headline, IsValidResponse}
 use Rattle.kmip_client.specs.Client.{ClientState, loses_connection, count_after}
 use Rattle.kmip_client.specs.Diagnostics.{IsRequestText, IsResponseText}
@@ -47,6 +47,10 @@ pub record IsCallOf {T R A : Type 0} (kind : CallKind R A) (state : T → LinkSt
   -- cause: why it answered so
   pub caused : Caused (kind.bytes_of request before.credential) (kind.reads request) before.limit
       (state before.link).faults (state after.link).faults answer
+  -- failing write: the link took a proper part of the request and then failed, where the answer says
+  -- so
+  pub writing : IsTrue (state before.link).tells → answer ≡ writing_failed →
+      FailsWriting state (kind.bytes_of request before.credential) before.link after.link
   -- failing read: the link failed after it took the whole request, where the answer says so
   pub reading : IsTrue (state before.link).tells → answer ≡ reading_failed →
       FailsReading state (kind.bytes_of request before.credential)

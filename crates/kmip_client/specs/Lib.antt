@@ -1,6 +1,7 @@
 pub mod Transfer
 pub mod Message
 pub mod MessageStop
+pub mod Front
 pub mod Check
 pub mod Outcome
 pub mod Headline
@@ -9,6 +10,7 @@ pub mod Client
 pub mod Errors
 pub mod Calls
 pub mod Lending
+pub mod Kept
 pub mod Session
 pub mod Order
 pub mod Skeletons

@@ -14,6 +14,7 @@ use Rattle.kmip_client.specs.declared.operation.Version.{Version}
 use Rattle.kmip_client.specs.declared.operation.Version.TheVariants.{V1_0, V1_1, V1_2}
 use Rattle.kmip_client.specs.Message.{message_at, Whole}
 use Rattle.kmip_client.specs.Untyped.{IsSuccess, untyped_answer}
+use Rattle.kmip_client.specs.WholeMessage.{whole_bytes}
 use Rattle.kmip_client.specs.Client.{ClientState}
 use Rattle.kmip_client.specs.Calls.{CallKind, IsCallOf}
 
@@ -36,10 +37,10 @@ operation_tree operation version credential payload =
     message_tree (header_tree (minor_number version) (authentication_trees credential))
     (operation_line operation).number payload
 
--- the one canonical message of a request, where there is one
+-- the one canonical message of a request, where there is one: of at most 64 levels, as a reader wants
 abbrev pub operation_bytes : TreeRequest → Option CredentialType → Option (List ℕ)
 operation_bytes request credential =
-    bytes (operation_tree request.operation request.version credential request.payload)
+    whole_bytes (operation_tree request.operation request.version credential request.payload)
 
 -- The bytes left begin with the message m, which parses and is a success of this operation with
 -- this payload.

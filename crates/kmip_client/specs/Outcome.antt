@@ -18,7 +18,7 @@ use Rattle.kmip_request.specs.declared.payload.RequestPayload.{RequestPayload}
 use Rattle.kmip_response.specs.Tables.{response_message}
 use Rattle.kmip_response.specs.Values.{response_payload_val}
 use Rattle.kmip_response.specs.declared.payload.ResponsePayload.{ResponsePayload}
-use Rattle.kmip_link.specs.State.{LinkState, FaultCountRose, Writes, Keeps}
+use Rattle.kmip_link.specs.State.{LinkState, FaultCountRose, IsIdle, Writes, Keeps}
 use Rattle.kmip_client.specs.Transfer.{Grows, Takes}
 use Rattle.kmip_client.specs.declared.error.Error.{Error}
 use Rattle.kmip_client.specs.declared.error.Error.TheVariants.{SerializeError, RequestWriteError, ResponseReadError, DeserializeError, InternalError, OutOfMemory}
@@ -32,6 +32,10 @@ seen_by val (Ok payload) = Ok (val payload)
 seen_by val (Err error) = Err error
 
 -- ---- any reading
+
+-- what a whole message answers, whose payloads are seen as of type A
+abbrev pub ReadingOf : Type 0 → Type 0
+ReadingOf A = List ℕ → Result A Error
 
 abbrev pub refused_text : HeadError → List ℕ
 refused_text NotStructure = codes "not a structure"
@@ -119,7 +123,26 @@ pub record FailsReading {T : Type 0} (state : T → LinkState) (request : Option
   pub later : Keeps (state between) (state after)
   pub rose : FaultCountRose (state between).faults (state after).faults
 
--- the answer after such a failure
+-- The link failed while the request was written: it took a proper part of it and then stood as
+-- `between`; from there on no byte moved, and its count of faults rose.
+pub record FailsWriting {T : Type 0} (state : T → LinkState) (request : Option (List ℕ))
+    (before after : T) : Type 0 where
+  pub message : List ℕ
+  pub request_is : request ≡ Some message
+  pub between : T
+  pub n : ℕ
+  pub within : n < length message
+  pub writes : Writes (state before) (state between) (take n message)
+  pub keeps : Keeps (state before) (state between)
+  pub idle : IsIdle (state between) (state after)
+  pub later : Keeps (state between) (state after)
+  pub rose : FaultCountRose (state between).faults (state after).faults
+
+-- the answer after a failed writing
+abbrev pub writing_failed : {A : Type 0} → Result A Error
+writing_failed = Err (RequestWriteError (codes "link failed"))
+
+-- the answer after a failed reading
 abbrev pub reading_failed : {A : Type 0} → Result A Error
 reading_failed = Err (ResponseReadError (codes "link failed"))
 
@@ -148,7 +171,7 @@ pub data Caused {A : Type 0} (request : Option (List ℕ)) (reads : List ℕ →
       FaultCountRose before after → Caused request reads limit before after answer
   read_failed : IsSome request → answer ≡ Err (ResponseReadError (codes "link failed")) →
       FaultCountRose before after → Caused request reads limit before after answer
-  -- the link gave bytes that have this answer
+  -- some bytes have this answer; over a link that tells, `Exchanged` says that they are those left
   given : IsSome request → (rest : List ℕ) → answer ≡ answer_by reads (message_at rest limit) →
       Caused request reads limit before after answer
   no_memory : answer ≡ Err OutOfMemory → Caused request reads limit before after answer

@@ -10,8 +10,8 @@ use Rattle.kmip_link.specs.State.{LinkState, FaultCountRose, Keeps, left}
 use Rattle.kmip_client.specs.declared.error.Error.TheVariants.{SerializeError}
 use Rattle.kmip_client.specs.declared.error.Error.TheVariants.{RequestWriteError, ResponseReadError}
 use Rattle.kmip_client.specs.declared.session.Exchange.{Exchange}
-use Rattle.kmip_client.specs.Outcome.{Answer, seen_by, Outcome, outcome, Moves, FailsReading}
-use Rattle.kmip_client.specs.Outcome.{reading_failed}
+use Rattle.kmip_client.specs.Outcome.{Answer, seen_by, Outcome, outcome, Moves, FailsReading, FailsWriting}
+use Rattle.kmip_client.specs.Outcome.{reading_failed, writing_failed}
 use Rattle.kmip_client.specs.Client.{ClientState, loses_connection, lacks_memory, count_after}
 use Rattle.kmip_client.specs.Calls.{IsCall}
 use Rattle.kmip_client.specs.Diagnostics.{diagnostic_for, diagnostic_of}
@@ -101,6 +101,7 @@ pub record BreaksIn {T : Type 0} (state : T → LinkState) (done : List Turn) (t
   pub later : Keeps (state between) (state after)
   pub last_moves : Moves (state between) (state after) sent taken
   pub rose : FaultCountRose (state between).faults (state after).faults
+  pub writing : last ≡ writing_failed → FailsWriting state turn.request between after
   pub reading : last ≡ reading_failed →
       FailsReading state turn.request turn.outcome.taken between after
 

@@ -7,7 +7,8 @@ use Rattle.std.specs.Ordering.{int_eq}
 use Rattle.std.specs.Fmt.{decimal}
 use Rattle.kmip_tags.specs.Tags.{BATCH_COUNT, BATCH_ITEM, OPERATION, RESPONSE_HEADER, RESPONSE_MESSAGE, RESPONSE_PAYLOAD, RESULT_MESSAGE, RESULT_REASON, RESULT_STATUS}
 use Rattle.kmip_wire.specs.Tree.{Tree, structure, none}
-use Rattle.kmip_wire.specs.Parts.{tag_of, children_in, int_in, enumeration_in, text_in}
+use Rattle.kmip_shape.specs.Shape.{has_tag}
+use Rattle.kmip_wire.specs.Parts.{children_in, int_in, enumeration_in, text_in}
 use Rattle.kmip_wire.specs.Reading.{item_of}
 use Rattle.kmip_shape.specs.Enumerations.{variant_at}
 use Rattle.kmip_enums.specs.Operations.{operation_line}
@@ -22,9 +23,6 @@ use Rattle.kmip_client.specs.declared.error.Error.TheVariants.{DeserializeError,
 use Rattle.kmip_client.specs.Check.{count_text, failed_text}
 
 -- ---- items by their tags
-
-abbrev pub has_tag : ℕ → Tree → Bool
-has_tag tag tree = tag_of tree == tag
 
 abbrev pub children_of : Tree → List Tree
 children_of tree = elim (children_in tree) [ None ↦ [] | Some trees ↦ trees ]

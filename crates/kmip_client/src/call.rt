@@ -1,13 +1,15 @@
 //! One call of a client, with its diagnostics.
 ghost use Rattle.std.specs.Prelude.{◌≡◌, ◌⊎◌, ◌-◌, take, true, false, None, Some, Ok, Err};
-ghost use Rattle.std.specs.Prelude.{IfOk, IsTrue, option_map};
+ghost use Rattle.std.specs.Prelude.{◌+◌, ◌≤◌, IfOk, IsTrue, option_map, vec_capacity, vec_len};
 ghost use Rattle.kmip_link.specs.State.{Keeps};
 ghost use Rattle.kmip_request.specs.Message.{credential_of};
 ghost use Rattle.kmip_client.specs.Outcome.{Exchanged, Caused, FailsReading, reading_failed};
+ghost use Rattle.kmip_client.specs.Outcome.{FailsWriting, writing_failed};
 ghost use Rattle.kmip_client.specs.Outcome.{outcome_by, left_for, seen_by};
 ghost use Rattle.kmip_client.specs.declared.error.Error.TheVariants.{OutOfMemory as no_memory};
 ghost use Rattle.kmip_client.specs.Diagnostics.{diagnostic_for, has_response};
 ghost use Rattle.kmip_client.specs.Diagnostics.{IsRequestText, IsResponseText};
+ghost use Rattle.kmip_client.specs.Kept.{IsKept};
 
 use crate::call_request::CallRequest;
 use crate::error::Error;
@@ -88,7 +90,7 @@ fn keep<P: Drop>(
 }
 
 /// Writes the request, sends it, reads its response and keeps the diagnostics of both. The messages
-/// stand in `room`.
+/// stand in `room`, which has room for at most 65,536 bytes beyond those that were read.
 pub fn call<L: Link, R: CallRequest>(
     alloc: Global,
     link: &mut L,
@@ -100,6 +102,7 @@ pub fn call<L: Link, R: CallRequest>(
     requires readable { R.IsRead request.now }
     requires request { diagnostics.old.request ≡ None }
     requires response { diagnostics.old.response ≡ None }
+    requires kept { IsKept room.old }
     ensures keeps { Keeps (L.state link.old) (L.state link.new) }
     ensures exchange { IsTrue (L.state link.old).tells →
         Exchanged (outcome_by (R.kind.bytes_of (R.request request.now)
@@ -111,6 +114,10 @@ pub fn call<L: Link, R: CallRequest>(
         (option_map credential_of settings.now.authentication))
         (R.kind.reads (R.request request.now)) settings.now.config.max_bytes
         (L.state link.old).faults (L.state link.new).faults (seen_by (R.seen request.now) result) }
+    ensures writing { IsTrue (L.state link.old).tells →
+        seen_by (R.seen request.now) result ≡ writing_failed →
+        FailsWriting L.state (R.kind.bytes_of (R.request request.now)
+        (option_map credential_of settings.now.authentication)) link.old link.new }
     ensures reading { IsTrue (L.state link.old).tells →
         seen_by (R.seen request.now) result ≡ reading_failed →
         FailsReading L.state (R.kind.bytes_of (R.request request.now)
@@ -130,14 +137,14 @@ pub fn call<L: Link, R: CallRequest>(
         (left_for (L.state link.old) (L.state link.new)))
         (seen_by (R.seen request.now) result) diagnostics.new.response }
     ensures quiet { settings.now.config.has_buf ≡ false → diagnostics.new.response ≡ None }
+    ensures ahead { vec_capacity room.new.taken ≤ vec_len room.new.taken + 65536 }
 {
     match serialize(alloc, request, &settings.authentication, &mut room.request) {
         Ok(()) => {}
         Err(error) => return Err(error),
     }
     diagnostics.request = diagnostic_for(alloc, &settings.config, room.request.as_slice())?;
-    room.taken.clear();
-    room.taken.reserve(FIRST_ROOM)?;
+    room.taken.reserve_exact(FIRST_ROOM)?;
     let answer = exchange(
         alloc,
         link,

@@ -186,7 +186,7 @@ fn check_message(
 
 /// What the bytes of a whole message answer: they are checked, read as a response message, and its
 /// payload is taken out.
-fn read_response(alloc: Global, operation: Operation, m: &[u8]) -> Result<ResponsePayload, Error>
+fn payload_in(alloc: Global, operation: Operation, m: &[u8]) -> Result<ResponsePayload, Error>
     ensures { Gives (read_answer operation m.now) (answer_with_payload result) }
 {
     let Some(item) = ItemRef::root(m) else {
@@ -225,5 +225,5 @@ pub fn decode_response<P: Answered>(
     requires { P.Answers operation }
     ensures { Gives (read_answer operation m.now) (seen_by (P.val operation) result) }
 {
-    part(operation, read_response(alloc, operation, m))
+    part(operation, payload_in(alloc, operation, m))
 }

@@ -1,5 +1,5 @@
 //! A client over a link.
-ghost use Rattle.std.specs.Prelude.{◌≡◌, None, IfOk, option_map, true};
+ghost use Rattle.std.specs.Prelude.{◌≡◌, None, IfOk, IfSome, option_map, true};
 ghost use Rattle.kmip_request.specs.Message.{operation_of, credential_of};
 ghost use Rattle.kmip_request.specs.Fits.{FitsCredential};
 ghost use Rattle.kmip_response.specs.Values.{response_payload_val};
@@ -7,6 +7,7 @@ ghost use Rattle.kmip_client.specs.Client.{ClientState, loses_connection, lacks_
 ghost use Rattle.kmip_client.specs.Client.{count_after, IsOfOperation};
 ghost use Rattle.kmip_client.specs.Outcome.{answer_with_payload, seen_by};
 ghost use Rattle.kmip_client.specs.Calls.{IsCall, IsCallOf};
+ghost use Rattle.kmip_client.specs.Kept.{IsKept};
 ghost use Rattle.kmip_client.specs.Operation.{IsOperationCall};
 ghost use Rattle.kmip_client.specs.WholeMessage.{IsMessageCall, is_message};
 
@@ -15,7 +16,7 @@ use crate::call::{Diagnostics, Settings, call};
 use crate::call_request::{CallRequest, TypedRequest};
 use crate::error::Error;
 use crate::operation::{OperationRequest, Version};
-use crate::room::{Room, keep};
+use crate::room::{Room, keep, open};
 use crate::whole_message::MessageRequest;
 use kmip_enums::Operation;
 use kmip_link::Link;
@@ -48,6 +49,8 @@ impl<T> Model for Client<T> {
       request_text = c.diagnostics.request;
       response_text = c.diagnostics.response;
     } };
+
+    ghost invariant = { λ c. IfSome c.room IsKept };
 }
 
 impl<T> Client<T> {
@@ -91,8 +94,8 @@ impl<T> Client<T> {
         self.errors
     }
 
-    /// The diagnostic of the last call's request, where the buffer is on and the request was
-    /// written. It takes no memory.
+    /// The diagnostic of the last call's request. `None` where the buffer is off, no call was made
+    /// yet or the request has no wire form, and perhaps after `OutOfMemory`. It takes no memory.
     pub fn last_req_diag_str(&self) -> Option<&str>
         ensures { option_map (λ s. s.now) result ≡ self.now.request_text }
     {
@@ -102,8 +105,9 @@ impl<T> Client<T> {
         }
     }
 
-    /// The diagnostic of the bytes that the last call took, where the buffer is on and the whole
-    /// request was sent. It takes no memory.
+    /// The diagnostic of the bytes that the last call took. `None` where the buffer is off, no call
+    /// was made yet or the request was not sent whole, and perhaps after `OutOfMemory`. It takes no
+    /// memory.
     pub fn last_res_diag_str(&self) -> Option<&str>
         ensures { option_map (λ s. s.now) result ≡ self.now.response_text }
     {
@@ -179,6 +183,8 @@ impl<T: Link> Client<T> {
     ///
     /// - `exchange`: the outcome, which is what was answered, sent and taken.
     /// - `caused`: the cause of each answer, over any link.
+    /// - `writing`: where the link failed while writing, it failed after it took a part of the
+    ///   request, and nothing moved from then on.
     /// - `reading`: where the link failed while reading, it failed after it took the whole request.
     /// - `headline`: the promise of a payload, link faults and lack of memory aside.
     /// - `keeps`: what a link keeps through each call.
@@ -212,12 +218,15 @@ impl<T: Link> Client<T> {
     /// Success and this operation. The payload is that of the item, and an empty structure with the
     /// tag Response Payload where it has none. Its errors are those of `do_request`, but for these:
     ///
-    /// - `ServerError`, `ItemNotFound`: the server refused the request. The text always has the
-    ///   server's message, and the number of a reason that KMIP 1.0 does not list.
+    /// - `SerializeError`: the message would have more than 64 levels, so that the payload has more
+    ///   than 62, or it has no wire form. Nothing was sent or taken.
+    /// - `ServerError`, `ItemNotFound`: the server refused the request. The text has the server's
+    ///   message, where the batch item has exactly one Result Message and that is a text, and the
+    ///   number of a reason that KMIP 1.0 does not list.
     /// - `InternalError`: the message is well formed and is neither a success nor such a refusal.
     ///
     /// Its contract has the fields of `IsCall`, for this request and this reading of a response:
-    /// `exchange`, `caused`, `reading`, `headline`, `keeps`, `credential`, `limit`, `buffered`,
+    /// `exchange`, `caused`, `writing`, `reading`, `headline`, `keeps`, `credential`, `limit`, `buffered`,
     /// `count`, `request_text`, `response_text` and `quiet`.
     pub fn do_operation(
         &mut self,
@@ -254,7 +263,7 @@ impl<T: Link> Client<T> {
     /// - `ServerError`, `ItemNotFound`, `InternalError`: never.
     ///
     /// The clause `call` has the fields of `IsCall`, for this message and this reading of a
-    /// response: `exchange`, `caused`, `reading`, `headline`, `keeps`, `credential`, `limit`,
+    /// response: `exchange`, `caused`, `writing`, `reading`, `headline`, `keeps`, `credential`, `limit`,
     /// `buffered`, `count`, `request_text`, `response_text` and `quiet`. The clause `message`
     /// promises that the tree of a response is a structure of at most 64 levels.
     pub fn do_message(&mut self, alloc: Global, message: &Tree) -> Result<Tree, Error>
@@ -296,16 +305,16 @@ impl<T: Link> Client<T> {
             request: None,
             response: None,
         };
-        let room = self.room.get_or_insert_with(|| Room::new(alloc));
+        let mut room = open(alloc, self.room.take());
         let answer = call(
             alloc,
             &mut self.link,
             &self.settings,
             request,
             &mut self.diagnostics,
-            room,
+            &mut room,
         );
-        keep(&mut self.room);
+        self.room = keep(room);
         self.errors = count_after(self.errors, loses_connection(&answer));
         answer
     }

@@ -1,26 +1,28 @@
 //! One request and its response over a link.
 ghost use Rattle.std.specs.Prelude.{◌≡◌, ◌+◌, ◌-◌, take, false, ◌<◌, ◌≤◌, ◌↔◌, ◌⊎◌, [], None, Some};
 ghost use Rattle.std.specs.Prelude.{Err, Ok, List, ℕ, IfOk, IfErr, OnOk, OnErr, IsErrOf, IsTrue};
-ghost use Rattle.std.specs.Prelude.{codes};
+ghost use Rattle.std.specs.Prelude.{codes, max, vec_capacity, vec_len};
 ghost use Rattle.std.specs.Option.{option_map};
 ghost use Rattle.kmip_link.specs.State.{Keeps, FaultCountRose, Writes, left};
 ghost use Rattle.kmip_request.specs.Message.{credential_of};
 ghost use Rattle.kmip_client.specs.Transfer.{WritesPart};
 ghost use Rattle.kmip_client.specs.Outcome.{Exchanged, Caused, FailsReading, reading_failed, Gives};
-ghost use Rattle.kmip_client.specs.Outcome.{outcome_by, left_for, seen_by, refused_text};
-ghost use Rattle.kmip_client.specs.Outcome.{reading_answer};
+ghost use Rattle.kmip_client.specs.Outcome.{outcome_by, left_for, seen_by};
+ghost use Rattle.kmip_client.specs.Outcome.{reading_answer, writing_failed, FailsWriting};
 ghost use Rattle.kmip_client.specs.Client.{lacks_memory};
 ghost use Rattle.kmip_client.specs.declared.error.Error.TheVariants.{SerializeError};
 ghost use Rattle.kmip_client.specs.declared.error.Error.TheVariants.{RequestWriteError};
-ghost use Rattle.kmip_client.specs.declared.error.Error.TheVariants.{DeserializeError, OutOfMemory};
+ghost use Rattle.kmip_client.specs.declared.error.Error.TheVariants.{OutOfMemory};
 
-use crate::call_request::CallRequest;
+use crate::call_request::{AnswersTo, CallRequest};
 use crate::error::Error;
+use crate::front::Front;
 use crate::message::{MessageStop, read_message};
+use crate::reading::answer;
 use crate::transfer::write_all;
 use kmip_link::{Link, LinkError};
 use kmip_request::Authentication;
-use kmip_wire::{Buffer, Config, HeadError, Text, WireError};
+use kmip_wire::{Buffer, Config, Text, WireError};
 use std::alloc::Global;
 
 /// Writes the one canonical message of a request, in place of what was in the buffer.
@@ -52,6 +54,9 @@ pub fn send<L: Link>(alloc: Global, link: &mut L, request: &[u8]) -> Result<(), 
         WritesPart (L.state link.old) (L.state link.new) request.now) }
     ensures err { IfErr result (λ e. ((e ≡ RequestWriteError (codes "link failed")) ×
         FaultCountRose (L.state link.old).faults (L.state link.new).faults) ⊎ (e ≡ OutOfMemory)) }
+    ensures failing { IfErr result (λ e. e ≡ RequestWriteError (codes "link failed") →
+        IsTrue (L.state link.old).tells →
+        FailsWriting L.state (Some request.now) link.old link.new) }
 {
     match write_all(link, request) {
         Ok(()) => Ok(()),
@@ -60,23 +65,8 @@ pub fn send<L: Link>(alloc: Global, link: &mut L, request: &[u8]) -> Result<(), 
     }
 }
 
-/// Why a head was refused.
-fn refused<P>(alloc: Global, error: HeadError) -> Result<P, Error>
-    ensures { Gives (Err (DeserializeError (refused_text error))) result }
-{
-    match error {
-        HeadError::NotStructure => {
-            Err(Error::DeserializeError(Text::of(alloc, "not a structure")?))
-        }
-        HeadError::TooLong { size, limit } => {
-            let text = format!(in alloc; "response size {size} exceeds limit {limit}")?;
-            Err(Error::DeserializeError(Text::of_string(text)))
-        }
-    }
-}
-
-/// What is answered after a message was read, or was not. These bytes were taken.
-fn answer<R: CallRequest>(
+/// What is answered after a message was read off a link, or was not. These bytes were taken.
+fn answer_taken<R: CallRequest>(
     alloc: Global,
     request: &R,
     taken: &[u8],
@@ -86,12 +76,11 @@ fn answer<R: CallRequest>(
     ensures { Gives (reading_answer (R.kind.reads (R.request request.now)) taken.now read)
         (seen_by (R.seen request.now) result) }
 {
+    let reader = AnswersTo { request };
     match read {
-        Ok(()) => request.read(alloc, taken),
-        Err(MessageStop::Ended) => {
-            Err(Error::ResponseReadError(Text::of(alloc, "end of input")?))
-        }
-        Err(MessageStop::Refused(error)) => refused(alloc, error),
+        Ok(()) => answer(alloc, &reader, Front::Whole(taken)),
+        Err(MessageStop::Ended) => answer(alloc, &reader, Front::Ended),
+        Err(MessageStop::Refused(error)) => answer(alloc, &reader, Front::Refused(error)),
         Err(MessageStop::Fault) => {
             Err(Error::ResponseReadError(Text::of(alloc, "link failed")?))
         }
@@ -119,6 +108,9 @@ pub fn exchange<L: Link, R: CallRequest>(
     ensures caused { Caused (Some bytes.now) (R.kind.reads (R.request request.now))
         config.now.max_bytes (L.state link.old).faults (L.state link.new).faults
         (seen_by (R.seen request.now) result) }
+    ensures writing { IsTrue (L.state link.old).tells →
+        seen_by (R.seen request.now) result ≡ writing_failed →
+        FailsWriting L.state (Some bytes.now) link.old link.new }
     ensures reading { IsTrue (L.state link.old).tells →
         seen_by (R.seen request.now) result ≡ reading_failed →
         FailsReading L.state (Some bytes.now)
@@ -130,6 +122,8 @@ pub fn exchange<L: Link, R: CallRequest>(
         taken.new.items ≡
         take ((L.state link.new).pos - (L.state link.old).pos)
         (left_for (L.state link.old) (L.state link.new)) }
+    ensures ahead { vec_capacity taken.new ≤
+        max (vec_capacity taken.old) (vec_len taken.new + 65536) }
 {
     match send(alloc, link, bytes) {
         Ok(()) => {}
@@ -137,5 +131,5 @@ pub fn exchange<L: Link, R: CallRequest>(
     }
     let read = read_message(link, config, taken);
     R::readings_hold();
-    answer(alloc, request, taken, read)
+    answer_taken(alloc, request, taken, read)
 }

@@ -1,8 +1,22 @@
 //! Laws over sessions, each the contract of a function that does nothing.
 
-ghost use Rattle.std.specs.Prelude.{◌≡◌, ◌↔◌, ℕ, List, Option, map};
+ghost use Rattle.std.specs.Prelude.{◌≡◌, ◌≢◌, ◌↔◌, ◌++◌, ℕ, List, Ok, Option, Some, map, take};
+ghost use Rattle.kmip_wire.specs.Bytes.{HasRanges};
+ghost use Rattle.kmip_wire.specs.Tree.{Tree};
+ghost use Rattle.kmip_shape.specs.Val.{Val, One};
+ghost use Rattle.kmip_shape.specs.Shape.{chosen_by};
+ghost use Rattle.kmip_shape.specs.Reads.{read_of};
+ghost use Rattle.kmip_enums.specs.Operations.{operation_val};
+ghost use Rattle.kmip_enums.specs.declared.operation.Operation.{Operation};
+ghost use Rattle.kmip_response.specs.Tables.{response_payload};
+ghost use Rattle.kmip_client.specs.Outcome.{read_answer};
+ghost use Rattle.kmip_client.specs.Untyped.{untyped_answer};
+ghost use Rattle.kmip_wire.specs.Parses.{Parses};
 ghost use Rattle.kmip_types.specs.declared.auth.CredentialType.{CredentialType};
 ghost use Rattle.kmip_request.specs.declared.payload.RequestPayload.{RequestPayload};
+ghost use Rattle.kmip_request.specs.Fits.{FitsCredential};
+ghost use Rattle.kmip_client.specs.Message.{Ended, message_at, taken_for};
+ghost use Rattle.kmip_client.specs.Operation.{TreeRequest, operation_bytes, operation_tree};
 ghost use Rattle.kmip_client.specs.Session.{session};
 ghost use Rattle.kmip_client.specs.Order.{AreServed, answers_to};
 ghost use Rattle.kmip_client.specs.Skeletons.{AllParse, skeletons_of, texts_of};
@@ -35,3 +49,28 @@ pub fn diagnostics_of_sessions()
 {
     diagnostics_tell_skeletons();
 }
+
+/// What stands at the front of bytes, and so what a reading of them answers, depends on no bytes
+/// after those that it takes, but where they end before the message does.
+pub fn later_bytes_play_no_part()
+    ensures { (rest more : List ℕ) (limit : Option ℕ) → message_at rest limit ≢ Ended →
+        message_at (take (taken_for rest (message_at rest limit)) rest ++ more) limit ≡
+        message_at rest limit }
+{}
+
+/// Each request that `do_operation` sends parses as its message. The two premises are true of every
+/// credential and every tree in Rust.
+pub fn operation_parses()
+    ensures { (request : TreeRequest) (credential : Option CredentialType) (b : List ℕ) →
+        FitsCredential credential → HasRanges request.payload →
+        operation_bytes request credential ≡ Some b →
+        Parses (operation_tree request.operation request.version credential request.payload) 1 b }
+{}
+
+/// Where one message answers a payload to `do_request` and a tree to `do_operation`, the payload is
+/// what KMIP's tables read of that tree, as the response payload of the operation.
+pub fn typed_payload_is_of_the_tree()
+    ensures { (operation : Operation) (m : List ℕ) (payload : Val) (tree : Tree) →
+        read_answer operation m ≡ Ok payload → untyped_answer operation m ≡ Ok tree →
+        read_of response_payload (chosen_by (One (operation_val operation))) tree ≡ Some payload }
+{}

@@ -27,21 +27,29 @@ mod check;
 mod client;
 mod error;
 mod exchange;
+mod front;
 mod helpers;
 mod laws;
 mod message;
 mod operation;
+mod reading;
 mod room;
 mod session;
 mod transfer;
 mod untyped;
 mod whole_message;
+mod writing;
 
 pub use builder::ClientBuilder;
 pub use client::Client;
 pub use error::{Error, Result};
 pub use kmip_request as request;
 pub use kmip_response as response;
-pub use laws::{diagnostics_of_sessions, messages_are_answered_in_order};
+pub use laws::{
+    diagnostics_of_sessions, later_bytes_play_no_part, messages_are_answered_in_order,
+    operation_parses, typed_payload_is_of_the_tree,
+};
 pub use operation::Version;
+pub use reading::{Reading, read_operation_response, read_response, read_whole_message};
 pub use session::{Answers, Exchange, exchange_all};
+pub use writing::{write_operation_request, write_whole_message};

@@ -10,13 +10,15 @@ ghost use Rattle.kmip_enums.specs.Operations.{operation_line};
 ghost use Rattle.kmip_request.specs.Tables.{request_header};
 ghost use Rattle.kmip_request.specs.Values.{lent_header_val};
 ghost use Rattle.kmip_client.specs.Headline.{IsReadBy};
-ghost use Rattle.kmip_client.specs.Outcome.{reading_failed};
+ghost use Rattle.kmip_client.specs.Outcome.{reading_failed, writing_failed};
 ghost use Rattle.kmip_client.specs.Operation.{TreeRequest, operation_calls, minor_number};
 ghost use Rattle.kmip_client.specs.Operation.{message_bytes};
+ghost use Rattle.kmip_client.specs.Untyped.{untyped_answer};
 
-use crate::call_request::CallRequest;
+use crate::call_request::{CallRequest, ReadsAnswer};
 use crate::error::Error;
 use crate::untyped::untyped_answer;
+use crate::whole_message::is_within;
 use kmip_enums::Operation;
 use kmip_request::{
     Authentication, BatchCount, MaximumResponseSize, ProtocolVersion, ProtocolVersionMajor,
@@ -32,6 +34,9 @@ use kmip_tags::tags::{
 };
 use kmip_wire::{Buffer, Tag, Tree, WireError, write_tree};
 use std::alloc::Global;
+
+/// The most levels of a payload: those of a message, which is 64, without the message and its item.
+const MOST_LEVELS: u32 = 62;
 
 /// A version of KMIP, which a request's header names: KMIP 1.0, 6.1.
 #[derive(Clone, Copy, Debug, PartialEq, Eq, Drop)]
@@ -212,6 +217,9 @@ impl<'a> CallRequest for OperationRequest<'a> {
         authentication: &Option<Authentication>,
         out: &mut Buffer,
     ) -> Result<(), WireError> {
+        if !is_within(self.payload, MOST_LEVELS) {
+            return Err(WireError::NoForm);
+        }
         let payload = write_tree(alloc, self.payload)?;
         let version = self.version.number();
         write_message(
@@ -230,7 +238,32 @@ impl<'a> CallRequest for OperationRequest<'a> {
     fn readings_hold()
         ensures never_fails { (r : TreeRequest) (m : List ℕ) →
             operation_calls.reads r m ≡ reading_failed → ⊥ }
+        ensures never_writes { (r : TreeRequest) (m : List ℕ) →
+            operation_calls.reads r m ≡ writing_failed → ⊥ }
         ensures valid { (r : TreeRequest) (limit : Option ℕ) →
             IsReadBy (operation_calls.reads r) limit (operation_calls.IsValid r limit) }
     {}
+}
+
+/// The answers to requests of any operation.
+#[derive(Clone, Copy)]
+pub struct OperationAnswers {
+    /// The operation that was asked for, which the response must name too.
+    pub operation: Operation,
+}
+
+impl ReadsAnswer for OperationAnswers {
+    type Payload = Tree;
+
+    ghost Seen = { TheTree };
+
+    ghost reads = { λ r. untyped_answer r.operation };
+
+    ghost seen = { λ r tree. tree };
+
+    ghost IsRead = { λ r. Unit {0} };
+
+    fn read(&self, alloc: Global, m: &[u8]) -> Result<Tree, Error> {
+        untyped_answer(alloc, self.operation, m)
+    }
 }

@@ -1,5 +1,6 @@
 //! The room of a client's messages, which it keeps from call to call.
-ghost use Rattle.std.specs.Prelude.{◌≡◌, [], MatchOption};
+ghost use Rattle.std.specs.Prelude.{◌≡◌, [], IfSome, vec_capacity};
+ghost use Rattle.kmip_client.specs.Kept.{IsKept};
 
 use kmip_wire::{Buffer, wipe};
 use std::alloc::Global;
@@ -19,38 +20,39 @@ pub struct Room {
     pub taken: Vec<u8>,
 }
 
-impl Room {
-    /// No room yet. It takes no memory.
-    pub fn new(alloc: Global) -> Room
-        ensures { result.taken.items ≡ [] }
-    {
-        Room {
+/// The room of a call: what was kept, or none yet. It takes no memory.
+pub fn open(alloc: Global, kept: Option<Room>) -> Room
+    requires { IfSome kept IsKept }
+    ensures { IsKept result }
+{
+    match kept {
+        Some(room) => room,
+        None => Room {
             request: Buffer::new(alloc),
             taken: Vec::new(alloc),
-        }
-    }
-
-    /// Leaves no bytes, after zeros were written over its messages, and says whether it is kept:
-    /// very much room is to be let go.
-    fn wipe(&mut self) -> bool
-        ensures request { self.new.request.bytes ≡ [] }
-        ensures taken { self.new.taken.items ≡ [] }
-    {
-        self.request.wipe();
-        wipe(&mut self.taken);
-        // a buffer has at most twice the memory of its room, since its vector doubles when it grows
-        self.request.spare() <= MOST_KEPT / 2 && self.taken.capacity() <= MOST_KEPT
+        },
     }
 }
 
-/// What is kept after a call: zeros are written over its messages, and very much room is let go.
-pub fn keep(room: &mut Option<Room>)
-    ensures { MatchOption room.new (Unit {0})
-        (λ room. (room.request.bytes ≡ []) × (room.taken.items ≡ [])) }
+/// Leaves no bytes, after zeros were written over the messages. The memory stays.
+fn wipe_both(room: &mut Room)
+    ensures request { room.new.request.bytes ≡ [] }
+    ensures taken { room.new.taken.items ≡ [] }
+    ensures capacity { vec_capacity room.new.taken ≡ vec_capacity room.old.taken }
 {
-    if let Some(used) = room
-        && !used.wipe()
-    {
-        *room = None;
+    room.request.wipe();
+    wipe(&mut room.taken);
+}
+
+/// What is kept after a call: zeros are written over its messages, and very much room is let go.
+pub fn keep(mut room: Room) -> Option<Room>
+    ensures { IfSome result IsKept }
+{
+    wipe_both(&mut room);
+    // a buffer has at most twice the memory of its room, since its vector doubles when it grows
+    if room.request.spare() <= MOST_KEPT / 2 && room.taken.capacity() <= MOST_KEPT {
+        Some(room)
+    } else {
+        None
     }
 }

@@ -1,12 +1,14 @@
 //! Loops over the calls of a link: all of a request, and so many bytes of a response.
 ghost use Rattle.std.specs.Prelude.{◌≡◌, ◌+◌, ◌-◌, ◌<◌, ◌≤◌, ◌++◌, [], ℕ, length, take, drop, min};
-ghost use Rattle.std.specs.Prelude.{IfOk, IfErr, OnErr, OnOk, IsErrOf, IsTrue, vec_len, max};
+ghost use Rattle.std.specs.Prelude.{IfOk, IfErr, OnErr, OnOk, IsErrOf, IsTrue, Some, vec_len, max};
 ghost use Rattle.std.specs.Prelude.{vec_capacity};
 ghost use Rattle.kmip_link.specs.State.{Keeps, Writes, FaultCountRose, left};
 ghost use Rattle.kmip_client.specs.Transfer.{WritesPart, Takes, TakesPart};
+ghost use Rattle.kmip_client.specs.Outcome.{FailsWriting};
 
 use kmip_link::{Link, LinkError};
 use std::alloc::AllocError;
+use std::mem::replace;
 
 /// The most room that one read is offered.
 const MAX_PIECE: usize = 65536;
@@ -54,12 +56,29 @@ pub fn write_all<L: Link>(link: &mut L, bytes: &[u8]) -> Result<(), LinkError>
         WritesPart (L.state link.old) (L.state link.new) bytes.now) }
     ensures cause { IsErrOf result LinkError.Fault →
         FaultCountRose (L.state link.old).faults (L.state link.new).faults }
+    ensures failing { IsErrOf result LinkError.Fault → IsTrue (L.state link.old).tells →
+        FailsWriting L.state (Some bytes.now) link.old link.new }
 {
     let mut done = 0;
     while done < bytes.len() {
         done += link.write(&bytes[done..])?;
     }
     Ok(())
+}
+
+/// The bytes, and zeros after them up to this length, for which there is room. The vector is passed
+/// by value, so that its parts stand in registers and the loop becomes a fill of memory.
+fn fill_up(mut bytes: Vec<u8>, end: usize) -> Vec<u8>
+    requires within { vec_len bytes ≤ end }
+    requires room { end ≤ vec_capacity bytes }
+    ensures kept { take (length bytes.items) result.items ≡ bytes.items }
+    ensures len { vec_len result ≡ end }
+    ensures capacity { vec_capacity result ≡ vec_capacity bytes }
+{
+    while bytes.len() < end {
+        bytes.push_reserved(0);
+    }
+    bytes
 }
 
 /// Makes `taken` longer by `room` bytes that mean nothing. No more room is taken than for these.
@@ -72,9 +91,8 @@ fn lengthen(taken: &mut Vec<u8>, room: usize) -> Result<(), AllocError>
 {
     taken.reserve_exact(room)?;
     let end = taken.len() + room;
-    while taken.len() < end {
-        taken.push_reserved(0);
-    }
+    let none = Vec::new(*taken.allocator());
+    *taken = fill_up(replace(taken, none), end);
     Ok(())
 }
 
@@ -120,6 +138,7 @@ fn read_piece<L: Link>(link: &mut L, room: usize, taken: &mut Vec<u8>) -> Result
 
 /// Reads `count` bytes to the end of `taken`, in pieces of at most 65,536. Room is taken piece by
 /// piece, so that it is never for more than one piece ahead of the bytes that were read.
+#[inline(always)]
 pub fn read_more<L: Link>(link: &mut L, count: usize, taken: &mut Vec<u8>) -> Result<(), ReadStop>
     ensures keeps { Keeps (L.state link.old) (L.state link.new) }
     ensures kept { take (length taken.old.items) taken.new.items ≡ taken.old.items }

@@ -4,11 +4,11 @@ ghost use Rattle.std.specs.Prelude.{OnOk, IfErr, IsErrOf};
 ghost use Rattle.kmip_wire.specs.Tree.{Tree as TheTree, trees_of};
 ghost use Rattle.kmip_wire.specs.Bytes.{levels, levels_of_all};
 ghost use Rattle.kmip_client.specs.Headline.{IsReadBy};
-ghost use Rattle.kmip_client.specs.Outcome.{Gives, reading_failed};
+ghost use Rattle.kmip_client.specs.Outcome.{Gives, reading_failed, writing_failed};
 ghost use Rattle.kmip_client.specs.WholeMessage.{is_message, whole_bytes, whole_answer};
 ghost use Rattle.kmip_client.specs.WholeMessage.{message_calls};
 
-use crate::call_request::CallRequest;
+use crate::call_request::{CallRequest, ReadsAnswer};
 use crate::error::Error;
 use crate::untyped::{malformed, whole_tree};
 use kmip_request::Authentication;
@@ -17,7 +17,7 @@ use std::alloc::Global;
 
 /// Whether an item has at most so many levels.
 #[cycle(levels)]
-fn is_within(tree: &Tree, most: u32) -> bool
+pub fn is_within(tree: &Tree, most: u32) -> bool
     ensures { result ≡ nat_le (levels tree.now) most }
 {
     if most == 0 {
@@ -115,7 +115,29 @@ impl<'a> CallRequest for MessageRequest<'a> {
     fn readings_hold()
         ensures never_fails { (r : TheTree) (m : List ℕ) →
             message_calls.reads r m ≡ reading_failed → ⊥ }
+        ensures never_writes { (r : TheTree) (m : List ℕ) →
+            message_calls.reads r m ≡ writing_failed → ⊥ }
         ensures valid { (r : TheTree) (limit : Option ℕ) →
             IsReadBy (message_calls.reads r) limit (message_calls.IsValid r limit) }
     {}
+}
+
+/// The answers to whole messages.
+#[derive(Clone, Copy)]
+pub struct WholeAnswers;
+
+impl ReadsAnswer for WholeAnswers {
+    type Payload = Tree;
+
+    ghost Seen = { TheTree };
+
+    ghost reads = { λ r. whole_answer };
+
+    ghost seen = { λ r tree. tree };
+
+    ghost IsRead = { λ r. Unit {0} };
+
+    fn read(&self, alloc: Global, m: &[u8]) -> Result<Tree, Error> {
+        whole_answer(alloc, m)
+    }
 }

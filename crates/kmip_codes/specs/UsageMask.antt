@@ -1,3 +1,4 @@
+-- Written by tables/generate.py from tables/*.toml: change these instead.
 -- The uses of a key, each with its bit: KMIP 1.2, 9.1.3.3.1.
 use Rattle.std.specs.Prelude.{ℕ, List, [], ◌∷◌, codes}
 use Rattle.kmip_codes.specs.declared.usage_mask.CryptographicUsageMask.{CryptographicUsageMask}

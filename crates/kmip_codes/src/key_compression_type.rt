@@ -1,3 +1,4 @@
+// Written by tables/generate.py from tables/*.toml: change these instead.
 //! The ways in which a key is compressed.
 
 ghost use Rattle.std.specs.Prelude.{◌≡◌, Some, refl};

@@ -1,8 +1,8 @@
+// Written by tables/generate.py from tables/*.toml: change these instead.
 //! The formats of key material.
 
 ghost use Rattle.std.specs.Prelude.{◌≡◌, Some, refl};
-ghost use Rattle.kmip_codes.specs.KeyFormatTypes.{key_format_type_line};
-ghost use Rattle.kmip_codes.specs.KeyFormatTypes.{key_format_type_variants};
+ghost use Rattle.kmip_codes.specs.KeyFormatTypes.{key_format_type_line, key_format_type_variants};
 ghost use Rattle.kmip_codes.specs.KeyFormatTypes.{key_format_type_found};
 
 use kmip_shape::Enumeration;

@@ -1,3 +1,4 @@
+// Written by tables/generate.py from tables/*.toml: change these instead.
 //! The enumerations of KMIP for algorithms and for the format of keys, and Cryptographic Usage
 //! Mask.
 #![tactic(auto)]

@@ -1,8 +1,8 @@
+// Written by tables/generate.py from tables/*.toml: change these instead.
 //! The ways to pad a message.
 
 ghost use Rattle.std.specs.Prelude.{◌≡◌, Some, refl};
-ghost use Rattle.kmip_codes.specs.PaddingMethods.{padding_method_line};
-ghost use Rattle.kmip_codes.specs.PaddingMethods.{padding_method_variants};
+ghost use Rattle.kmip_codes.specs.PaddingMethods.{padding_method_line, padding_method_variants};
 ghost use Rattle.kmip_codes.specs.PaddingMethods.{padding_method_found};
 
 use kmip_shape::Enumeration;

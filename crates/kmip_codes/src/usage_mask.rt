@@ -1,3 +1,4 @@
+// Written by tables/generate.py from tables/*.toml: change these instead.
 //! The uses of a key.
 
 ghost use Rattle.std.specs.Prelude.{⊤, ◌≡◌};

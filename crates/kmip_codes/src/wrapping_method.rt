@@ -1,8 +1,8 @@
+// Written by tables/generate.py from tables/*.toml: change these instead.
 //! The ways to wrap a key.
 
 ghost use Rattle.std.specs.Prelude.{◌≡◌, Some, refl};
-ghost use Rattle.kmip_codes.specs.WrappingMethods.{wrapping_method_line};
-ghost use Rattle.kmip_codes.specs.WrappingMethods.{wrapping_method_variants};
+ghost use Rattle.kmip_codes.specs.WrappingMethods.{wrapping_method_line, wrapping_method_variants};
 ghost use Rattle.kmip_codes.specs.WrappingMethods.{wrapping_method_found};
 
 use kmip_shape::Enumeration;

@@ -2,6 +2,7 @@
 use Rattle.std.specs.Prelude.{true, ℕ, zero, suc, ◌+◌, List, [], ◌∷◌, ◌++◌, Option, Some, None, codes}
 use Rattle.std.specs.Fmt.{digits}
 use Rattle.kmip_wire.specs.Kinds.{code_of}
+use Rattle.kmip_wire.specs.Names.{kind_name}
 use Rattle.kmip_wire.specs.declared.kind.Kind as wire
 use Rattle.kmip_wire.specs.declared.kind.Kind.TheVariants as kinds
 use Rattle.kmip_tags.specs.Names.{name_of}
@@ -18,18 +19,6 @@ indent (suc n) = 32 ∷ 32 ∷ indent n
 abbrev pub name_text : Option (List ℕ) → List ℕ
 name_text (Some name) = name
 name_text None = codes "Unknown"
-
-abbrev pub kind_name : wire.Kind → List ℕ
-kind_name kinds.Structure = codes "Structure"
-kind_name kinds.Integer = codes "Integer"
-kind_name kinds.LongInteger = codes "LongInteger"
-kind_name kinds.BigInteger = codes "BigInteger"
-kind_name kinds.Enumeration = codes "Enumeration"
-kind_name kinds.Boolean = codes "Boolean"
-kind_name kinds.TextString = codes "TextString"
-kind_name kinds.ByteString = codes "ByteString"
-kind_name kinds.DateTime = codes "DateTime"
-kind_name kinds.Interval = codes "Interval"
 
 abbrev pub mark_kind : Mark → wire.Kind
 mark_kind Integer = kinds.Integer

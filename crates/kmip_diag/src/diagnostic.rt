@@ -1,52 +1,14 @@
 //! Prints the diagnostic of any bytes, cut off or malformed ones too.
-ghost use Rattle.std.specs.Prelude.{◌≡◌, ◌≤◌, IfOk, IfSome, length, option_map, drop};
-ghost use Rattle.kmip_wire.specs.Head.{head_tag, head_length, size_at, value_of};
-ghost use Rattle.kmip_wire.specs.Items.{item_tree};
-ghost use Rattle.kmip_wire.specs.Reading.{front_at};
+ghost use Rattle.std.specs.Prelude.{◌≡◌, IfOk, IfSome, option_map};
+ghost use Rattle.kmip_wire.specs.Head.{value_of};
 ghost use Rattle.kmip_diag.specs.declared.token.Token.TheVariants.{Open};
 ghost use Rattle.kmip_diag.specs.Diagnostic.{opening_tag, diagnostic};
 
 use crate::printer::PrettyPrinter;
+use crate::steps::{contents, front, opening_tag};
 use crate::token::Token;
-use kmip_wire::{ItemRef, OutOfMemory, Tag, Text, split_front};
+use kmip_wire::{OutOfMemory, Text};
 use std::alloc::Global;
-
-/// The item at the front that parses at the level, and the bytes after it. From level 65 on there
-/// is none.
-fn front(bytes: &[u8], level: u32) -> Option<(ItemRef<'_>, &[u8])>
-    requires { 1 ≤ level }
-    ensures tree { option_map (λ p. item_tree p.0) result ≡ front_at level bytes.now }
-    ensures rest { IfSome result (λ p. p.1.now ≡ drop (size_at bytes.now) bytes.now) }
-{
-    if level > 64 {
-        return None;
-    }
-    split_front(bytes, level)
-}
-
-/// The tag in the head.
-#[tactic(auto, unfolding(kmip_wire::specs::Head::head_tag))]
-fn head_tag(bytes: &[u8]) -> Tag
-    requires { 8 ≤ length bytes.now }
-    ensures { result ≡ head_tag bytes.now }
-{
-    Tag::of(u32::from_be_bytes([0, bytes[0], bytes[1], bytes[2]]))
-}
-
-/// The part that is there of the contents whose length the head says.
-#[tactic(auto, unfolding(kmip_wire::specs::Head::head_length))]
-fn contents(bytes: &[u8]) -> &[u8]
-    requires { 8 ≤ length bytes.now }
-    ensures { result.now ≡ value_of bytes.now }
-{
-    let length = u32::from_be_bytes([bytes[4], bytes[5], bytes[6], bytes[7]]) as usize;
-    let there = &bytes[8..];
-    if length < there.len() {
-        &there[..length]
-    } else {
-        there
-    }
-}
 
 /// If the bytes begin with the whole head of a structure: the piece that opens it, and the part of
 /// its contents that is there.
@@ -54,10 +16,10 @@ fn opening(bytes: &[u8], level: u32) -> Option<(Token, &[u8])>
     ensures token { option_map (λ p. p.0) result ≡ option_map Open (opening_tag level bytes.now) }
     ensures contents { IfSome result (λ p. p.1.now ≡ value_of bytes.now) }
 {
-    if level > 64 || bytes.len() < 8 || bytes[3] != 1 {
+    let Some(tag) = opening_tag(bytes, level) else {
         return None;
-    }
-    Some((Token::Open(head_tag(bytes)), contents(bytes)))
+    };
+    Some((Token::Open(tag), contents(bytes)))
 }
 
 impl PrettyPrinter {

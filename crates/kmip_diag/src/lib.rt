@@ -19,6 +19,7 @@ mod lines;
 mod print;
 mod printer;
 mod read;
+mod steps;
 mod token;
 
 pub use expand::DiagError;
@@ -28,3 +29,4 @@ pub use laws::{
     printing_is_injective,
 };
 pub use printer::PrettyPrinter;
+pub use steps::{contents, front, opening_tag};

@@ -1,7 +1,7 @@
 //! Writes the line of an item.
 ghost use Rattle.std.specs.Prelude.{◌≡◌, ◌++◌, codes, IfOk};
 ghost use Rattle.kmip_tags.specs.Names.{name_of};
-ghost use Rattle.kmip_diag.specs.Lines.{indent, name_text, kind_name, mark_kind, data_text};
+ghost use Rattle.kmip_diag.specs.Lines.{indent, name_text, mark_kind, data_text};
 ghost use Rattle.kmip_diag.specs.Lines.{number_part, tag_part, type_part};
 ghost use Rattle.kmip_diag.specs.Expansion.{token_line};
 
@@ -51,30 +51,12 @@ fn push_tag_part(text: &mut Text, tag: Tag) -> Result<(), OutOfMemory>
     push_number_part(text, tag)
 }
 
-/// The name of a type.
-fn kind_name(kind: Kind) -> &'static str
-    ensures { result.now ≡ kind_name kind }
-{
-    match kind {
-        Kind::Structure => "Structure",
-        Kind::Integer => "Integer",
-        Kind::LongInteger => "LongInteger",
-        Kind::BigInteger => "BigInteger",
-        Kind::Enumeration => "Enumeration",
-        Kind::Boolean => "Boolean",
-        Kind::TextString => "TextString",
-        Kind::ByteString => "ByteString",
-        Kind::DateTime => "DateTime",
-        Kind::Interval => "Interval",
-    }
-}
-
 /// Appends the name and number of a type.
 fn push_type_part(text: &mut Text, kind: Kind) -> Result<(), OutOfMemory>
     ensures { IfOk result (λ _. text.new ≡ text.old ++ type_part kind) }
 {
     text.push_str("Type: ")?;
-    text.push_str(kind_name(kind))?;
+    text.push_str(kind.name())?;
     text.push_str(" (0x")?;
     push_two(text, kind.code() as u32)?;
     text.push_str("), ")

@@ -17,12 +17,12 @@ use Rattle.hex.proofs.HexLemmas.{decode_of-encode_upper}
 use Rattle.kmip_tags.specs.Table.{first_tag, names}
 use Rattle.kmip_wire.specs.Bytes.{AreBytes}
 use Rattle.kmip_encodings.specs.Words.{words, tag_word, named_from, tag_named}
-use Rattle.kmip_encodings.specs.Names.{entries_of, enumeration_name}
+use Rattle.kmip_encodings.specs.Names.{enumeration_name}
 use Rattle.kmip_encodings.specs.Dates.{civil_of, civil_text, date_number}
 use Rattle.kmip_encodings.specs.declared.date.Civil.{Civil}
 use Rattle.kmip_encodings.specs.Texts.{hex_text, tag_text, enumeration_text, date_text, is_number}
 use Rattle.kmip_encodings.specs.Reading.{has_mark, hex_bytes, hex_or, tag_of_bytes, word_of_bytes, long_of_bytes, tag_of_text, enumeration_of_text, date_of_text, whole_number}
-use Rattle.kmip_encodings.proofs.Entries.{are_sound, number_of_name, name_plain}
+use Rattle.kmip_encodings.proofs.TheLines.{number_of_name, name_plain}
 
 -- ---- `0x` and digits
 
@@ -146,13 +146,17 @@ word_at tag w h =
       | false ↦ λ e k. (grind (arith, nat_tests), k)
     ] refl h
 
-named_back : (tag : ℕ) (w : List ℕ) → tag_word tag ≡ Some w → tag_of_text w ≡ Some tag
-unfolding tag_of_text tag_named
-named_back tag w h =
+pub word_named : (tag : ℕ) (w : List ℕ) → tag_word tag ≡ Some w → tag_named w ≡ Some tag
+unfolding tag_named
+word_named tag w h =
     let at = word_at tag w h in
     let back : first_tag + (tag - first_tag) ≡ tag = omega (arith, at.0) in
-    rw (unmarked w (word_plain words (tag - first_tag) w words_good at.1))
-    (word_found words first_tag (tag - first_tag) w words_good at.1 ∙ ap Some back)
+    word_found words first_tag (tag - first_tag) w words_good at.1 ∙ ap Some back
+
+named_back : (tag : ℕ) (w : List ℕ) → tag_word tag ≡ Some w → tag_of_text w ≡ Some tag
+unfolding tag_of_text
+named_back tag w h =
+    rw (unmarked w (word_plain words (tag - first_tag) w words_good (word_at tag w h).1)) (word_named tag w h)
 
 three : (tag : ℕ) → tag < 2 ^ 24 → tag_of_bytes (drop 1 (to_be_bytes w32 tag)) ≡ Some tag
 three tag h = ap Some (omega (arith, from_be_bytes-to_be_bytes_4 tag (omega arith)))
@@ -176,9 +180,7 @@ tag_back tag h =
 
 entry_back : (tag n : ℕ) (w : List ℕ) → enumeration_name tag n ≡ Some w → enumeration_of_text tag w ≡ Some n
 unfolding enumeration_of_text
-entry_back tag n w h =
-    rw (unmarked w (name_plain (entries_of tag) n w (are_sound tag).1 h))
-    (number_of_name (entries_of tag) n w (are_sound tag).0 h)
+entry_back tag n w h = rw (unmarked w (name_plain tag n w h)) (number_of_name tag n w h)
 
 digits_back : (tag n : ℕ) → n < 2 ^ 32 → enumeration_of_text tag (hex_text (to_be_bytes w32 n)) ≡ Some n
 unfolding enumeration_of_text

@@ -1,5 +1,5 @@
 -- Reading the JSON of a tree gives the tree, and its text is a text of JSON.
-use Rattle.std.proofs.Common.{◌≡◌, ◌≢◌, ℕ, zero, suc, ◌+◌, ◌*◌, ◌^◌, ◌<◌, ◌≤◌, true, false, cond, List, [], ◌∷◌, Some, option_map, option_and_then, refl, ap, ◌∙◌, nat_lt, arith, ℤ, pos, negsuc}
+use Rattle.std.proofs.Common.{◌≡◌, ◌≢◌, ℕ, zero, suc, ◌+◌, ◌*◌, ◌^◌, ◌<◌, ◌≤◌, true, false, cond, List, [], ◌∷◌, Some, None, option_map, option_and_then, refl, ap, ◌∙◌, nat_lt, arith, ℤ, pos, negsuc}
 use Rattle.std.proofs.lemmas.List.Elements.{All-nil, All-cons}
 use Rattle.std.proofs.lemmas.List.Kept.{AllPairs-cons}
 use Rattle.std.specs.Prelude.{All, AllPairs, codes, unsigned_abs, FitsSigned, Ok}
@@ -21,12 +21,15 @@ use Rattle.kmip_wire.specs.declared.kind.Kind.TheVariants.{Structure, Integer, L
 use Rattle.kmip_wire.specs.Kinds.{kind_of_scalar}
 use Rattle.kmip_wire.specs.Tree.{Tree, Trees, Scalar, scalar, structure, none, more, integer, long_integer, big_integer, enumeration, boolean, text_string, byte_string, date_time, interval}
 use Rattle.kmip_wire.specs.Bytes.{levels, levels_of_all, IsInRange, HasRanges, HaveRanges}
-use Rattle.kmip_encodings.specs.Texts.{kind_text, hex_text}
-use Rattle.kmip_encodings.specs.Encoding.{is_short, long_json, value_json, json_of, items_json, text_at, json_text}
-use Rattle.kmip_encodings.specs.Reading.{kind_named, small_integer, small_natural, parts_read, node_read, structure_read, scalar_read, trees_read, within, items_by, read_item, tree_of, Read}
+use Rattle.kmip_wire.specs.Names.{kind_name}
+use Rattle.kmip_encodings.specs.Texts.{hex_text}
+use Rattle.kmip_tags.specs.Tags.{ATTRIBUTE_VALUE}
+use Rattle.kmip_encodings.specs.Context.{place, named_after}
+use Rattle.kmip_encodings.specs.Encoding.{is_short, long_json, value_json, json_at, items_at, json_of, items_json, text_at, json_text}
+use Rattle.kmip_encodings.specs.Reading.{kind_named, small_integer, small_natural, parts_read, node_read, structure_read, scalar_read, trees_read, within, named_from, items_by, read_item, tree_of, Read}
 use Rattle.kmip_encodings.proofs.Back.{hex_back, long_back, tag_back, enumeration_back, date_back, whole_back}
 
-kind_back : (kind : Kind) → kind_named (kind_text kind) ≡ Some kind
+kind_back : (kind : Kind) → kind_named (kind_name kind) ≡ Some kind
 kind_back Structure = refl
 kind_back Integer = refl
 kind_back LongInteger = refl
@@ -55,12 +58,12 @@ is_short-abs z h = grind (arith, nat_tests)
 signed_fits : (z : ℤ) → FitsSigned w64 z → cast_unsigned w64 z < 2 ^ 64
 signed_fits z h = omega (arith, ints, h)
 
-module _ (one : Json → Read Tree) (tag : ℕ) where
+module _ (one : ℕ → Json → Read Tree) (named tag : ℕ) where
   long_is_back : (z : ℤ) → FitsSigned w64 z
-      → node_read one tag LongInteger (long_json z) ≡ Ok (scalar tag (long_integer z))
+      → node_read one named tag LongInteger (long_json z) ≡ Ok (scalar tag (long_integer z))
   long_is_back z h =
       elim (is_short z) as (λ b. is_short z ≡ b
-      → node_read one tag LongInteger
+      → node_read one named tag LongInteger
       (cond b (json.number (signed_decimal z))
       (json.string (hex_text (to_be_bytes w64 (cast_unsigned w64 z)))))
       ≡ Ok (scalar tag (long_integer z))) [
@@ -72,12 +75,13 @@ module _ (one : Json → Read Tree) (tag : ℕ) where
             ∙ ap (λ y. Ok (scalar tag (long_integer y))) (to_z-of_z w64 z h)
       ] refl
 
-  scalar_back : (s : Scalar) → IsInRange s → node_read one tag (kind_of_scalar s) (value_json tag s) ≡ Ok (scalar tag s)
+  scalar_back : (s : Scalar) → IsInRange s
+      → node_read one named tag (kind_of_scalar s) (value_json (place named tag) s) ≡ Ok (scalar tag s)
   scalar_back (integer z) h = rw (whole_back z (abs_small z h), small_back z h) refl
   scalar_back (long_integer z) h = long_is_back z h
   scalar_back (big_integer b) h = ap (λ o. scalar_read tag BigInteger (option_map big_integer o)) (hex_back b h)
   scalar_back (enumeration n) h = ap (λ o. scalar_read tag Enumeration (option_map enumeration o))
-      (enumeration_back tag n h)
+      (enumeration_back (place named tag) n h)
   scalar_back (boolean b) h = refl
   scalar_back (text_string b) h = refl
   scalar_back (byte_string b) h = ap (λ r. scalar_read tag ByteString
@@ -91,29 +95,31 @@ module _ (one : Json → Read Tree) (tag : ℕ) where
 mutual
   unfolding read_item
 
-  pub item_back : (t : Tree) (n : ℕ) → HasRanges t → levels t ≤ n → read_item n (json_of t) ≡ Ok t
-  item_back (scalar tag s) zero h d = absurd (omega arith)
-  item_back (structure tag ts) zero h d = absurd (omega arith)
-  item_back (scalar tag s) (suc n) h d =
-      ap (λ o. parts_read (read_item n) o (kind_named (kind_text (kind_of_scalar s)))
-      (Some (value_json tag s))) (tag_back tag h.0)
-      ∙ ap (λ o. parts_read (read_item n) (Some tag) o (Some (value_json tag s))) (kind_back (kind_of_scalar s))
-      ∙ scalar_back (read_item n) tag s h.1
-  item_back (structure tag ts) (suc n) h d =
-      ap (λ o. parts_read (read_item n) o (Some Structure) (Some (json.array (items_json ts)))) (tag_back tag h.0)
-      ∙ ap (structure_read tag) (items_back ts n 0 h.1 (omega arith))
+  pub item_back : (t : Tree) (n named : ℕ) → HasRanges t → levels t ≤ n → read_item n named (json_at None named t) ≡ Ok t
+  item_back (scalar tag s) zero named h d = absurd (omega arith)
+  item_back (structure tag ts) zero named h d = absurd (omega arith)
+  item_back (scalar tag s) (suc n) named h d =
+      let value = value_json (place named tag) s in
+      ap (λ o. parts_read (read_item n) named o (kind_named (kind_name (kind_of_scalar s)))
+      (Some value)) (tag_back tag h.0)
+      ∙ ap (λ o. parts_read (read_item n) named (Some tag) o (Some value)) (kind_back (kind_of_scalar s))
+      ∙ scalar_back (read_item n) named tag s h.1
+  item_back (structure tag ts) (suc n) named h d =
+      ap (λ o. parts_read (read_item n) named o (Some Structure) (Some (json.array (items_json ts)))) (tag_back tag h.0)
+      ∙ ap (structure_read tag) (items_back ts n 0 ATTRIBUTE_VALUE h.1 (omega arith))
 
-  items_back : (ts : Trees) (n index : ℕ) → HaveRanges ts → levels_of_all ts ≤ n
-      → items_by (read_item n) index (items_json ts) ≡ Ok ts
-  items_back none n index h d = refl
-  items_back (more t ts) n index h d =
-      ap (λ r. trees_read (within index r) (items_by (read_item n) (index + 1) (items_json ts)))
-      (item_back t n h.0 (omega arith))
-      ∙ ap (trees_read (Ok t)) (items_back ts n (index + 1) h.1 (omega arith))
+  items_back : (ts : Trees) (n index named : ℕ) → HaveRanges ts → levels_of_all ts ≤ n
+      → items_by (read_item n) index named (items_at None named ts) ≡ Ok ts
+  items_back none n index named h d = refl
+  items_back (more t ts) n index named h d =
+      ap (λ r. trees_read (within index r)
+      (items_by (read_item n) (index + 1) (named_from named r) (items_at None (named_after named t) ts)))
+      (item_back t n named h.0 (omega arith))
+      ∙ ap (trees_read (Ok t)) (items_back ts n (index + 1) (named_after named t) h.1 (omega arith))
 
 pub tree_back : (t : Tree) → HasRanges t → levels t ≤ 64 → tree_of (json_of t) ≡ Ok t
 unfolding tree_of
-tree_back t h d = item_back t 64 h d
+tree_back t h d = item_back t 64 ATTRIBUTE_VALUE h d
 
 -- ---- the text
 
@@ -137,13 +143,13 @@ flat tag (date_time n) = refl
 flat tag (interval n) = refl
 
 mutual
-  nests : (t : Tree) → depth (json_of t) ≤ 2 * levels t
-  nests (scalar tag s) = omega (arith, flat tag s)
-  nests (structure tag ts) = omega (arith, items_nest ts)
+  nests : (t : Tree) (named : ℕ) → depth (json_at None named t) ≤ 2 * levels t
+  nests (scalar tag s) named = omega (arith, flat (place named tag) s)
+  nests (structure tag ts) named = omega (arith, items_nest ts ATTRIBUTE_VALUE)
 
-  items_nest : (ts : Trees) → items_depth (items_json ts) ≤ 2 * levels_of_all ts
-  items_nest none = omega arith
-  items_nest (more t ts) = omega (arith, nests t, items_nest ts)
+  items_nest : (ts : Trees) (named : ℕ) → items_depth (items_at None named ts) ≤ 2 * levels_of_all ts
+  items_nest none named = omega arith
+  items_nest (more t ts) named = omega (arith, nests t named, items_nest ts (named_after named t))
 
 mag_of : (z : ℤ) → unsigned_abs z < 2 ^ 53 → mag z < 2 ^ 63
 mag_of (pos n) h = omega arith
@@ -170,17 +176,17 @@ number_is tag (date_time n) h = tt
 number_is tag (interval n) h = IsNumber-signed_decimal (pos n) (mag_of (pos n) (omega arith))
 
 mutual
-  numbers : (t : Tree) → HasRanges t → HasNumbers (json_of t)
-  numbers (scalar tag s) h = (tt, (tt, (number_is tag s h.1, tt)))
-  numbers (structure tag ts) h = (tt, (items_numbers ts h.1, tt))
+  pub numbers : (t : Tree) (named : ℕ) → HasRanges t → HasNumbers (json_at None named t)
+  numbers (scalar tag s) named h = (tt, (tt, (number_is (place named tag) s h.1, tt)))
+  numbers (structure tag ts) named h = (tt, (items_numbers ts ATTRIBUTE_VALUE h.1, tt))
 
-  items_numbers : (ts : Trees) → HaveRanges ts → ItemsHaveNumbers (items_json ts)
-  items_numbers none h = tt
-  items_numbers (more t ts) h = (numbers t h.0, items_numbers ts h.1)
+  items_numbers : (ts : Trees) (named : ℕ) → HaveRanges ts → ItemsHaveNumbers (items_at None named ts)
+  items_numbers none named h = tt
+  items_numbers (more t ts) named h = (numbers t named h.0, items_numbers ts (named_after named t) h.1)
 
 pub text_back : (t : Tree) → HasRanges t → levels t ≤ 64 → document (json_text t) ≡ Some (json_of t)
 unfolding text_at
-text_back t h d = document-print (json_of t) (numbers t h) (omega (arith, nests t))
+text_back t h d = document-print (json_of t) (numbers t ATTRIBUTE_VALUE h) (omega (arith, nests t ATTRIBUTE_VALUE))
 
 value_unique : (tag : ℕ) (s : Scalar) → HasUniqueKeys (value_json tag s)
 value_unique tag (integer z) = tt
@@ -228,10 +234,14 @@ type_value : codes "type" ≢ codes "value"
 type_value e = cc
 
 mutual
-  pub unique : (t : Tree) → HasUniqueKeys (json_of t)
-  unique (scalar tag s) = (three_keys _ _ _ tag_type tag_value type_value, (tt, (tt, (value_unique tag s, tt))))
-  unique (structure tag ts) = (two_keys _ _ tag_value, (tt, (items_unique ts, tt)))
+  unique_at : (t : Tree) (named : ℕ) → HasUniqueKeys (json_at None named t)
+  unique_at (scalar tag s) named =
+      (three_keys _ _ _ tag_type tag_value type_value, (tt, (tt, (value_unique (place named tag) s, tt))))
+  unique_at (structure tag ts) named = (two_keys _ _ tag_value, (tt, (items_unique ts ATTRIBUTE_VALUE, tt)))
 
-  items_unique : (ts : Trees) → ItemsHaveUniqueKeys (items_json ts)
-  items_unique none = tt
-  items_unique (more t ts) = (unique t, items_unique ts)
+  items_unique : (ts : Trees) (named : ℕ) → ItemsHaveUniqueKeys (items_at None named ts)
+  items_unique none named = tt
+  items_unique (more t ts) named = (unique_at t named, items_unique ts (named_after named t))
+
+pub unique : (t : Tree) → HasUniqueKeys (json_of t)
+unique t = unique_at t ATTRIBUTE_VALUE

@@ -1,5 +1,5 @@
 pub mod TheWords
-pub mod Entries
+pub mod TheLines
 pub mod Named
 pub mod Written
 pub mod Back
@@ -8,3 +8,6 @@ pub mod Numbers
 pub mod Items
 pub mod Elements
 pub mod Parsed
+pub mod Xml
+pub mod Levels
+pub mod Line

@@ -4,9 +4,10 @@ use Rattle.std.proofs.lemmas.List.{length-take, length-drop}
 use Rattle.kmip_wire.specs.Tree.{Tree, Trees, Scalar, scalar, structure, none, more, integer, long_integer, big_integer, enumeration, boolean, text_string, byte_string, date_time, interval}
 use Rattle.kmip_wire.specs.Head.{head_length, pads, size_at, value_of}
 use Rattle.kmip_wire.specs.Parses.{Parses, ParseAll, IsValue}
-use Rattle.kmip_encodings.specs.Sizes.{value_size, size_of, sizes_of}
+use Rattle.kmip_shape.specs.Writes.{len_of}
+use Rattle.kmip_encodings.specs.Sizes.{size_of, sizes_of}
 
-value_is : (s : Scalar) (v : List ℕ) → IsValue s v → length v ≡ value_size s
+value_is : (s : Scalar) (v : List ℕ) → IsValue s v → length v ≡ len_of s
 value_is (integer z) v h = h.0
 value_is (long_integer z) v h = h.0
 value_is (big_integer b) v h = ap length (sym h.1)
@@ -26,7 +27,7 @@ mutual
   parsed_size (scalar tag s) level b h =
       let v = value_is s (value_of b) h.value in
       let n = value_length b h.whole in
-      let same : head_length b ≡ value_size s = sym n ∙ v in
+      let same : head_length b ≡ len_of s = sym n ∙ v in
       (ap (λ k. 8 + k + pads k) (sym same) ∙ sym h.whole, omega (arith, h.whole))
   parsed_size (structure tag ts) level b h =
       let n = value_length b h.whole in

@@ -8,16 +8,18 @@ use Rattle.json.specs.Tree.{json_tokens, items_tokens}
 use Rattle.kmip_wire.specs.declared.kind.Kind.{Kind}
 use Rattle.kmip_wire.specs.Tree.{Tree, trees_of}
 use Rattle.kmip_wire.specs.Sizes.{tree_size, trees_size}
-use Rattle.kmip_encodings.specs.Texts.{tag_text, kind_text}
+use Rattle.kmip_wire.specs.Names.{kind_name}
+use Rattle.kmip_encodings.specs.Texts.{tag_text}
 use Rattle.kmip_encodings.specs.Parts.{offset_tokens}
 use Rattle.kmip_encodings.specs.Sizes.{size_of, sizes_of}
+use Rattle.kmip_encodings.specs.Context.{named_after}
 use Rattle.kmip_encodings.specs.Encoding.{Offset, after, item_json, json_at, items_at}
 
 pub item_written : (at : Offset) (tag : ℕ) (kind : Kind) (value : Json)
     (old a b c d e f : List Token)
     → a ≡ old ++ token.begin_object ∷ (offset_tokens at
     ++ token.key (codes "tag") ∷ token.string (tag_text tag) ∷ [])
-    → b ≡ a ++ token.key (codes "type") ∷ [] → c ≡ b ++ token.string (kind_text kind) ∷ []
+    → b ≡ a ++ token.key (codes "type") ∷ [] → c ≡ b ++ token.string (kind_name kind) ∷ []
     → d ≡ c ++ token.key (codes "value") ∷ [] → e ≡ d ++ json_tokens value
     → f ≡ e ++ token.end_object ∷ []
     → f ≡ old ++ json_tokens (item_json at tag kind value)
@@ -30,19 +32,21 @@ rest_at : (items : List Tree) (i : ℕ) (item : Tree) → i < length items → i
     → drop i items ≡ item ∷ drop (i + 1) items
 rest_at items i item h e = rw (add-one, drop-cons items i item h, ← e) refl
 
-pub items_more : (items : List Tree) (i : ℕ) (item : Tree) (at next : Offset)
+pub items_more : (items : List Tree) (i : ℕ) (item : Tree) (at next : Offset) (named later : ℕ)
     (old new all : List Token)
-    → i < length items → item ≡ get_or items i item → new ≡ old ++ json_tokens (json_at at item)
-    → next ≡ after (size_of item) at
-    → old ++ items_tokens (items_at at (trees_of (drop i items))) ≡ all
-    → new ++ items_tokens (items_at next (trees_of (drop (i + 1) items))) ≡ all
-items_more items i item at next old new all h e p n q =
-    let later = trees_of (drop (i + 1) items) in
-    ap (λ l. l ++ items_tokens (items_at next later)) p
-    ∙ ap (λ o. (old ++ json_tokens (json_at at item)) ++ items_tokens (items_at o later)) n
-    ∙ append_assoc old (json_tokens (json_at at item))
-    (items_tokens (items_at (after (size_of item) at) later))
-    ∙ sym (ap (λ ts. old ++ items_tokens (items_at at (trees_of ts))) (rest_at items i item h e))
+    → i < length items → item ≡ get_or items i item → new ≡ old ++ json_tokens (json_at at named item)
+    → next ≡ after (size_of item) at → later ≡ named_after named item
+    → old ++ items_tokens (items_at at named (trees_of (drop i items))) ≡ all
+    → new ++ items_tokens (items_at next later (trees_of (drop (i + 1) items))) ≡ all
+items_more items i item at next named later old new all h e p n l q =
+    let rest = trees_of (drop (i + 1) items) in
+    ap (λ t. t ++ items_tokens (items_at next later rest)) p
+    ∙ ap (λ m. (old ++ json_tokens (json_at at named item)) ++ items_tokens (items_at next m rest)) l
+    ∙ ap (λ o. (old ++ json_tokens (json_at at named item))
+    ++ items_tokens (items_at o (named_after named item) rest)) n
+    ∙ append_assoc old (json_tokens (json_at at named item))
+    (items_tokens (items_at (after (size_of item) at) (named_after named item) rest))
+    ∙ sym (ap (λ ts. old ++ items_tokens (items_at at named (trees_of ts))) (rest_at items i item h e))
     ∙ q
 
 pub item_smaller : (items : List Tree) (i : ℕ) (item : Tree) → i < length items

@@ -1,6 +1,5 @@
--- A Date-Time (KMIP 1.0, 9.1.1.4) as a text of ISO 8601 in UTC, as 2001-01-01T10:00:00+00:00. The
--- number is the eight bytes of the signed seconds since 1970, as an unsigned number.
-use Rattle.std.specs.Prelude.{ℕ, ◌+◌, ◌-◌, ◌*◌, ◌/◌, ◌%◌, ◌^◌, ◌==◌, ◌&&◌, ◌||◌, not, nat_lt, nat_le, Bool, List, [], ◌∷◌, ◌++◌, codes, Option, Some, None, option_and_then, if◌then◌else◌, bytes_eq, drop, length, slice_index}
+-- A Date-Time (KMIP 1.0, 9.1.1.4) as a text of ISO 8601, as 2001-01-01T10:00:00+00:00. The number is the eight bytes of the signed seconds since 1970, as an unsigned number.
+use Rattle.std.specs.Prelude.{ℕ, ◌+◌, ◌-◌, ◌*◌, ◌/◌, ◌%◌, ◌^◌, ◌==◌, ◌&&◌, ◌||◌, not, nat_lt, nat_le, Bool, true, false, List, [], ◌∷◌, ◌++◌, codes, Option, Some, None, option_map, option_and_then, if◌then◌else◌, bytes_eq, drop, length, slice_index}
 use Rattle.std.specs.Char.{is_ascii_digit}
 use Rattle.kmip_encodings.specs.declared.date.Civil.{Civil}
 
@@ -50,15 +49,43 @@ two_at text i =
     if is_ascii_digit (slice_index text i) && is_ascii_digit (slice_index text (i + 1))
     then Some ((slice_index text i - 48) * 10 + (slice_index text (i + 1) - 48)) else None
 
-abbrev pub is_utc : List ℕ → Bool
-is_utc rest = bytes_eq rest (codes "+00:00") || bytes_eq rest (codes "Z")
-
--- what is no digit: `-`, `-`, `T`, `:`, `:`, and at the end `+00:00` or `Z`
+-- what is no digit: `-`, `-`, `T`, `:` and `:`
 abbrev pub has_marks : List ℕ → Bool
 has_marks text =
     nat_le 20 (length text) && ((slice_index text 4 == 45) && ((slice_index text 7 == 45)
     && ((slice_index text 10 == 84) && ((slice_index text 13 == 58)
-    && ((slice_index text 16 == 58) && is_utc (drop 19 text))))))
+    && (slice_index text 16 == 58)))))
+
+-- seconds that are less than a day
+abbrev pub seconds_of : ℕ → ℕ → Option ℕ
+seconds_of hours minutes =
+    if nat_lt hours 24 && nat_lt minutes 60 then Some (hours * 3600 + minutes * 60) else None
+
+-- a place to the east, `+`, is ahead of UTC, and one to the west, `-`, behind it: whether it is to the
+-- east, and by how many seconds
+abbrev pub Zone : Type 0
+Zone = Bool × ℕ
+
+abbrev pub signed_zone : ℕ → ℕ → Option Zone
+signed_zone sign seconds =
+    if sign == 43 then Some (true, seconds)
+    else if sign == 45 then Some (false, seconds)
+    else None
+
+-- `+00:00`, whose sign may be `-`
+abbrev pub offset_in : List ℕ → Option Zone
+offset_in rest = do
+  hours ← two_at rest 1
+  minutes ← two_at rest 4
+  seconds ← seconds_of hours minutes
+  signed_zone (slice_index rest 0) seconds
+
+-- `Z` is UTC
+unfoldable pub zone_of : List ℕ → Option Zone
+zone_of rest =
+    if bytes_eq rest (codes "Z") then Some (false, 0)
+    else if (length rest == 6) && (slice_index rest 3 == 58) then offset_in rest
+    else None
 
 abbrev pub fields_in : List ℕ → Option Civil
 fields_in text = do
@@ -78,13 +105,25 @@ fields_in text = do
     second = second;
   })
 
-abbrev pub civil_in : List ℕ → Option Civil
+unfoldable pub civil_in : List ℕ → Option Civil
 civil_in text = if has_marks text then fields_in text else None
 
--- the number of a text that is a date and a time of day
+-- the number of a time of day in UTC, by that in a zone
+abbrev pub in_utc : ℕ → Zone → ℕ
+in_utc number zone =
+    if zone.0 then (number + (2 ^ 64 - zone.1)) % 2 ^ 64 else (number + zone.1) % 2 ^ 64
+
+abbrev pub utc_number : Civil → Option Zone → Option ℕ
+utc_number c zone = option_map (in_utc (civil_number c)) zone
+
+-- the number of a date and a time of day with what stands after it
+unfoldable pub number_in : Civil → List ℕ → Option ℕ
+number_in c rest = if is_civil c then utc_number c (zone_of rest) else None
+
+-- the number of a text that is a date and a time of day, in UTC or in another zone
 unfoldable pub date_number : List ℕ → Option ℕ
 date_number text =
-    option_and_then (λ c. if is_civil c then Some (civil_number c) else None) (civil_in text)
+    option_and_then (λ c. number_in c (drop 19 text)) (civil_in text)
 
 -- The other way: a day of an era of 400 years, its year in the era, and its day in the year, each
 -- counted from March and from 0.

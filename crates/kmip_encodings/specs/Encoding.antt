@@ -9,8 +9,11 @@ use Rattle.json.specs.Tree.{json_tokens}
 use Rattle.kmip_wire.specs.declared.kind.Kind.{Kind}
 use Rattle.kmip_wire.specs.Kinds.{kind_of_scalar}
 use Rattle.kmip_wire.specs.Tree.{Tree, Trees, Scalar, scalar, structure, none, more, integer, long_integer, big_integer, enumeration, boolean, text_string, byte_string, date_time, interval}
+use Rattle.kmip_wire.specs.Names.{kind_name}
+use Rattle.kmip_tags.specs.Tags as tags
 use Rattle.kmip_encodings.specs.Sizes.{size_of}
-use Rattle.kmip_encodings.specs.Texts.{hex_text, tag_text, enumeration_text, date_text, kind_text}
+use Rattle.kmip_encodings.specs.Context.{place, named_after}
+use Rattle.kmip_encodings.specs.Texts.{hex_text, tag_text, enumeration_text, date_text}
 
 -- whether a number is nearer to 0 than 2^52
 abbrev pub is_short : ℤ → Bool
@@ -21,7 +24,7 @@ long_json z =
     if is_short z then number (signed_decimal z)
     else string (hex_text (to_be_bytes w64 (cast_unsigned w64 z)))
 
--- the value of an item with the tag
+-- the value of an item, whose names are looked up under the tag
 abbrev pub value_json : ℕ → Scalar → Json
 value_json tag (integer z) = number (signed_decimal z)
 value_json tag (long_integer z) = long_json z
@@ -56,31 +59,33 @@ value_member value = member (codes "value") value no_members
 abbrev pub item_json : Offset → ℕ → Kind → Json → Json
 item_json at tag kind value =
     object (offset_member at (tag_member tag
-    (member (codes "type") (string (kind_text kind)) (value_member value))))
+    (member (codes "type") (string (kind_name kind)) (value_member value))))
 
 -- an object of the offset where offsets are told, of the tag, of the type unless it is Structure,
 -- and of the value; a structure's value is an array of its items, the first of which begins after
 -- its head of 8 bytes, and each other where the one before it ends
 abbrev mutual
-  pub json_at : Offset → Tree → Json
-  json_at at (scalar tag s) = item_json at tag (kind_of_scalar s) (value_json tag s)
-  json_at at (structure tag ts) =
-      object (offset_member at (tag_member tag (value_member (array (items_at (after 8 at) ts)))))
+  pub json_at : Offset → ℕ → Tree → Json
+  json_at at named (scalar tag s) = item_json at tag (kind_of_scalar s) (value_json (place named tag) s)
+  json_at at named (structure tag ts) =
+      object (offset_member at (tag_member tag (value_member (array
+      (items_at (after 8 at) tags.ATTRIBUTE_VALUE ts)))))
 
-  pub items_at : Offset → Trees → Items
-  items_at at none = no_items
-  items_at at (more t ts) = item (json_at at t) (items_at (after (size_of t) at) ts)
+  pub items_at : Offset → ℕ → Trees → Items
+  items_at at named none = no_items
+  items_at at named (more t ts) =
+      item (json_at at named t) (items_at (after (size_of t) at) (named_after named t) ts)
 
 -- with no offsets
 abbrev pub json_of : Tree → Json
-json_of t = json_at None t
+json_of t = json_at None tags.ATTRIBUTE_VALUE t
 
 abbrev pub items_json : Trees → Items
-items_json ts = items_at None ts
+items_json ts = items_at None tags.ATTRIBUTE_VALUE ts
 
 -- the text of a tree's JSON, with no white space
 unfoldable pub text_at : Offset → Tree → List ℕ
-text_at at t = print (json_tokens (json_at at t))
+text_at at t = print (json_tokens (json_at at tags.ATTRIBUTE_VALUE t))
 
 abbrev pub json_text : Tree → List ℕ
 json_text t = text_at None t

@@ -1,9 +1,14 @@
 pub mod Words
+pub mod Lines
 pub mod Names
+pub mod Attributes
+pub mod Masks
+pub mod Context
 pub mod Dates
 pub mod Texts
 pub mod Sizes
 pub mod Encoding
 pub mod Parts
 pub mod Reading
+pub mod XmlGrammar
 pub mod Xml

@@ -3,8 +3,6 @@ use Rattle.std.specs.Prelude.{ℕ, ◌==◌, Bool, false, List, ◌++◌, drop, 
 use Rattle.std.specs.Option.{unwrap_or}
 use Rattle.std.specs.Int.{w32, w64, to_be_bytes}
 use Rattle.hex.specs.Hex.{encode_upper}
-use Rattle.kmip_wire.specs.declared.kind.Kind.{Kind}
-use Rattle.kmip_wire.specs.declared.kind.Kind.TheVariants.{Structure, Integer, LongInteger, BigInteger, Enumeration, Boolean, TextString, ByteString, DateTime, Interval}
 use Rattle.kmip_encodings.specs.Words.{tag_word}
 use Rattle.kmip_encodings.specs.Names.{enumeration_name}
 use Rattle.kmip_encodings.specs.Dates.{civil_of, civil_text, date_number}
@@ -32,15 +30,3 @@ unfoldable pub date_text : ℕ → List ℕ
 date_text n =
     if is_number (date_number (civil_text (civil_of n))) n then civil_text (civil_of n)
     else hex_text (to_be_bytes w64 n)
-
-abbrev pub kind_text : Kind → List ℕ
-kind_text Structure = codes "Structure"
-kind_text Integer = codes "Integer"
-kind_text LongInteger = codes "LongInteger"
-kind_text BigInteger = codes "BigInteger"
-kind_text Enumeration = codes "Enumeration"
-kind_text Boolean = codes "Boolean"
-kind_text TextString = codes "TextString"
-kind_text ByteString = codes "ByteString"
-kind_text DateTime = codes "DateTime"
-kind_text Interval = codes "Interval"

@@ -1,8 +1,10 @@
-//! Date-Times (KMIP 1.0, 9.1.1.4) as texts of ISO 8601 in UTC.
+//! Date-Times (KMIP 1.0, 9.1.1.4) as texts of ISO 8601.
 ghost use Rattle.std.specs.Prelude.{◌≡◌, ◌+◌, ◌<◌, ◌≤◌, ◌%◌, ◌^◌, length, IfSome, IsAscii};
 ghost use Rattle.kmip_encodings.specs.Dates.{is_leap_year, days_in_month, is_civil, days_before};
 ghost use Rattle.kmip_encodings.specs.Dates.{days_from_march, civil_number, two_at, has_marks};
-ghost use Rattle.kmip_encodings.specs.Dates.{is_utc, fields_in, civil_in, date_number, year_of_era};
+ghost use Rattle.kmip_encodings.specs.Dates.{seconds_of, signed_zone, offset_in, zone_of, in_utc};
+ghost use Rattle.kmip_encodings.specs.Dates.{utc_number, number_in};
+ghost use Rattle.kmip_encodings.specs.Dates.{fields_in, civil_in, date_number, year_of_era};
 ghost use Rattle.kmip_encodings.specs.Dates.{day_of_year, month_of, civil_at, civil_of_day};
 ghost use Rattle.kmip_encodings.specs.Dates.{civil_of, two, civil_text, march_seconds};
 
@@ -102,10 +104,73 @@ fn two_at(text: &[u8], at: usize) -> Option<u64>
     }
 }
 
-fn is_utc(rest: &[u8]) -> bool
-    ensures { result ≡ is_utc rest.now }
+/// The seconds of hours and minutes, where they are less than a day.
+fn seconds_of(hours: u64, minutes: u64) -> Option<u64>
+    requires hours { hours < 100 }
+    requires minutes { minutes < 100 }
+    ensures { result ≡ seconds_of hours minutes }
 {
-    rest == b"+00:00".as_slice() || rest == b"Z".as_slice()
+    if hours < 24 && minutes < 60 {
+        Some(hours * 3600 + minutes * 60)
+    } else {
+        None
+    }
+}
+
+fn signed_zone(sign: u8, seconds: u64) -> Option<(bool, u64)>
+    ensures { result ≡ signed_zone sign seconds }
+{
+    match sign {
+        b'+' => Some((true, seconds)),
+        b'-' => Some((false, seconds)),
+        _ => None,
+    }
+}
+
+fn offset_in(rest: &[u8]) -> Option<(bool, u64)>
+    requires { length rest.now ≡ 6 }
+    ensures { result ≡ offset_in rest.now }
+{
+    let hours = two_at(rest, 1)?;
+    let minutes = two_at(rest, 4)?;
+    signed_zone(rest[0], seconds_of(hours, minutes)?)
+}
+
+#[tactic(auto, unfolding(crate::specs::Dates::zone_of))]
+/// Whether a zone is ahead of UTC, and by how many seconds it is ahead or behind.
+fn zone_of(rest: &[u8]) -> Option<(bool, u64)>
+    ensures { result ≡ zone_of rest.now }
+{
+    if rest == b"Z".as_slice() {
+        return Some((false, 0));
+    }
+    if rest.len() == 6 && rest[3] == b':' {
+        offset_in(rest)
+    } else {
+        None
+    }
+}
+
+fn in_utc(number: u64, zone: (bool, u64)) -> u64
+    ensures { result ≡ in_utc number zone }
+{
+    if zone.0 {
+        number.wrapping_sub(zone.1)
+    } else {
+        number.wrapping_add(zone.1)
+    }
+}
+
+fn utc_number(civil: Civil, zone: Option<(bool, u64)>) -> Option<u64>
+    requires year { civil.year < 10000 }
+    requires month { civil.month < 100 }
+    requires day { civil.day < 100 }
+    requires hour { civil.hour < 100 }
+    requires minute { civil.minute < 100 }
+    requires second { civil.second < 100 }
+    ensures { result ≡ utc_number civil zone }
+{
+    Some(in_utc(civil_number(civil), zone?))
 }
 
 fn has_marks(text: &[u8]) -> bool
@@ -117,7 +182,6 @@ fn has_marks(text: &[u8]) -> bool
         && text[10] == b'T'
         && text[13] == b':'
         && text[16] == b':'
-        && is_utc(&text[19..])
 }
 
 fn fields_in(text: &[u8]) -> Option<Civil>
@@ -147,21 +211,50 @@ fn fields_in(text: &[u8]) -> Option<Civil>
     })
 }
 
-#[tactic(auto, unfolding(crate::specs::Dates::date_number))]
-/// The number of a text that is a date from the year 1 to the year 9999 and a time of day, as
-/// `2001-01-01T10:00:00+00:00` or `2001-01-01T10:00:00Z`.
-pub(crate) fn date_number(text: &[u8]) -> Option<u64>
-    ensures { result ≡ date_number text.now }
+#[tactic(auto, unfolding(crate::specs::Dates::civil_in))]
+fn civil_in(text: &[u8]) -> Option<Civil>
+    ensures value { result ≡ civil_in text.now }
+    ensures length { IfSome result (λ _. 20 ≤ length text.now) }
+    ensures year { IfSome result (λ c. c.year < 10000) }
+    ensures month { IfSome result (λ c. c.month < 100) }
+    ensures day { IfSome result (λ c. c.day < 100) }
+    ensures hour { IfSome result (λ c. c.hour < 100) }
+    ensures minute { IfSome result (λ c. c.minute < 100) }
+    ensures second { IfSome result (λ c. c.second < 100) }
 {
     if !has_marks(text) {
         return None;
     }
     let civil = fields_in(text)?;
+    Some(civil)
+}
+
+#[tactic(auto, unfolding(crate::specs::Dates::number_in))]
+/// The number of a date and a time of day with what stands after it.
+fn number_in(civil: Civil, rest: &[u8]) -> Option<u64>
+    requires year { civil.year < 10000 }
+    requires month { civil.month < 100 }
+    requires day { civil.day < 100 }
+    requires hour { civil.hour < 100 }
+    requires minute { civil.minute < 100 }
+    requires second { civil.second < 100 }
+    ensures { result ≡ number_in civil rest.now }
+{
     if is_civil(civil) {
-        Some(civil_number(civil))
+        utc_number(civil, zone_of(rest))
     } else {
         None
     }
+}
+
+#[tactic(auto, unfolding(crate::specs::Dates::date_number))]
+/// The number of a text that is a date from the year 1 to the year 9999 and a time of day, as
+/// `2001-01-01T10:00:00+00:00`, `2001-01-01T12:00:00+02:00` or `2001-01-01T10:00:00Z`.
+pub(crate) fn date_number(text: &[u8]) -> Option<u64>
+    ensures { result ≡ date_number text.now }
+{
+    let civil = civil_in(text)?;
+    number_in(civil, &text[19..])
 }
 
 fn year_of_era(day: u64) -> u64

@@ -32,8 +32,10 @@ pub struct Fault {
 /// Why a text is not read as a tree.
 #[derive(Debug, Drop)]
 pub enum EncodingError {
-    /// It is no text of JSON, or nests more than 128 deep: reading stopped at this byte.
+    /// It is no text of JSON: reading stopped at this byte.
     NotJson(usize),
+    /// It nests more than 128 deep, as items of more than 64 levels do: reading stopped there.
+    TooDeep(usize),
     /// An object has a name twice.
     RepeatedName,
     /// An item is none.

@@ -11,11 +11,18 @@
 //! ```
 #![tactic(auto)]
 
+mod attributes;
+mod context;
 mod date;
 mod error;
+mod expected;
+mod found;
 mod laws;
+mod lines;
+mod masks;
 mod names;
 mod read_json;
+mod refusal;
 mod table;
 mod text;
 mod words;
@@ -23,10 +30,10 @@ mod write_json;
 mod write_xml;
 
 pub use error::{EncodingError, Expected, Fault};
-pub use laws::{item_sizes, read_back};
+pub use laws::{item_sizes, names_back, read_back, read_levels, written_xml};
 pub use names::{enumeration_name, enumeration_number};
 pub use read_json::from_json;
-pub use text::kind_text;
+pub use refusal::{Refusal, push_refusal, refusal_of};
 pub use words::{tag_named, tag_word};
 pub use write_json::{to_json, to_json_with_offsets};
 pub use write_xml::to_xml;

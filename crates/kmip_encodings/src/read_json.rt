@@ -1,33 +1,42 @@
 //! Reading JSON as a tree.
-ghost use Rattle.std.specs.Prelude.{bytes_eq, ◌≡◌, ℕ, ◌∷◌, IfOk, Err, option_map, option_and_then};
+ghost use Rattle.std.specs.Prelude.{bytes_eq, ◌≡◌, ◌<◌, ◌==◌, ℕ, ◌∷◌, IfOk, Err, map};
+ghost use Rattle.std.specs.Prelude.{option_map, option_and_then};
+ghost use Rattle.std.specs.List.{slice_split};
 ghost use Rattle.std.specs.Result.{result_ok};
 ghost use Rattle.std.specs.Fmt.{signed_decimal};
 ghost use Rattle.hex.specs.Hex.{decode_of};
-ghost use Rattle.json.specs.Find.{as_array};
+ghost use Rattle.json.specs.Find.{as_array, is_null};
 ghost use Rattle.json.specs.Value.{value_view, items_view, members_view};
 ghost use Rattle.std.specs.Int.{w32, w64, cast_signed};
-ghost use Rattle.kmip_wire.specs.declared.kind.Kind.TheVariants.{Structure};
+ghost use Rattle.kmip_wire.specs.declared.kind.Kind.TheVariants.{Structure, BigInteger};
 ghost use Rattle.kmip_wire.specs.Sees.{tree_of_node};
 ghost use Rattle.kmip_wire.specs.Tree.{scalar, integer, long_integer, big_integer};
-ghost use Rattle.kmip_wire.specs.Tree.{enumeration, byte_string, date_time, interval};
+ghost use Rattle.kmip_wire.specs.Tree.{enumeration, boolean, byte_string, date_time, interval};
+ghost use Rattle.kmip_tags.specs.Tags.{ATTRIBUTE_VALUE};
+ghost use Rattle.kmip_encodings.specs.Context.{place};
 ghost use Rattle.kmip_encodings.specs.Reading.{has_mark, hex_bytes, tag_of_bytes, word_of_bytes};
 ghost use Rattle.kmip_encodings.specs.Reading.{long_of_bytes, tag_of_text, enumeration_of_text};
 ghost use Rattle.kmip_encodings.specs.Reading.{date_of_text, whole_number, small_natural};
+ghost use Rattle.kmip_encodings.specs.Reading.{part_of_text, bits_of_parts, big_bytes};
+ghost use Rattle.kmip_encodings.specs.Reading.{is_big, any_number, empty_read};
+ghost use Rattle.kmip_encodings.specs.Reading.{mask_of_text, truth_of_long};
 ghost use Rattle.kmip_encodings.specs.Reading.{small_integer, natural, number_scalar};
 ghost use Rattle.kmip_encodings.specs.Reading.{string_scalar, truth_scalar, scalar_in, kind_named};
 ghost use Rattle.kmip_encodings.specs.Reading.{kind_from, tag_from, is_known, are_known, Read};
 ghost use Rattle.kmip_encodings.specs.Reading.{wants, within, items_by, node_read, parts_in};
 ghost use Rattle.kmip_encodings.specs.Reading.{is_exact, known_members, scalar_read};
-ghost use Rattle.kmip_encodings.specs.Reading.{read_item, Fails, FailsTree, Reads, ReadsItems};
+ghost use Rattle.kmip_encodings.specs.Reading.{read_item, Fails, Reads, ReadsItems};
 ghost use Rattle.kmip_encodings.specs.Reading.{ReadsText};
 
+use crate::context::{named_after, place, unnamed};
 use crate::date::date_number;
 use crate::error::{EncodingError, Expected, Fault};
+use crate::masks::mask_bit;
 use crate::names::enumeration_number;
 use crate::words::tag_named;
 use hex::FromHexError;
 use itoa::Buffer;
-use json::{Error, MAX_DEPTH, Reader, Scratch, Value};
+use json::{Error, MAX_DEPTH, Reader, Scratch, Token, Value};
 use kmip_wire::{Blob, Kind, Node, OutOfMemory, Tag, Text, Tree, Trees};
 use std::alloc::Global;
 
@@ -125,7 +134,7 @@ fn tag_in(alloc: Global, text: &str) -> Result<Option<Tag>, OutOfMemory>
 
 /// The tag of `0x` and six digits, or of a name.
 #[tactic(auto, unfolding(crate::specs::Reading::tag_of_text))]
-fn tag_of_text(alloc: Global, text: &str) -> Result<Option<Tag>, OutOfMemory>
+pub(crate) fn tag_of_text(alloc: Global, text: &str) -> Result<Option<Tag>, OutOfMemory>
     ensures { IfOk result (λ tag. tag ≡ tag_of_text text.now) }
 {
     if has_mark(text.as_bytes()) {
@@ -156,6 +165,64 @@ fn date_of_text(alloc: Global, text: &str) -> Result<Option<u64>, OutOfMemory>
         long_in(alloc, text)
     } else {
         Ok(date_number(text.as_bytes()))
+    }
+}
+
+/// The number of `0x` and eight digits, or of the name of a bit of the mask under the tag.
+fn part_of_text(alloc: Global, tag: Tag, text: &str) -> Result<Option<u32>, OutOfMemory>
+    ensures { IfOk result (λ n. n ≡ part_of_text tag text.now) }
+{
+    if has_mark(text.as_bytes()) {
+        word_in(alloc, text)
+    } else {
+        Ok(mask_bit(tag, text))
+    }
+}
+
+/// The bits of these parts together.
+fn bits_of_parts(alloc: Global, tag: Tag, parts: &[&str]) -> Result<Option<u32>, OutOfMemory>
+    ensures { IfOk result
+        (λ bits. bits ≡ bits_of_parts tag (map (λ part. part.now) parts.now)) }
+{
+    match parts {
+        [] => Ok(Some(0)),
+        [first, rest @ ..] => {
+            let Some(part) = part_of_text(alloc, tag, first)? else {
+                return Ok(None);
+            };
+            let Some(bits) = bits_of_parts(alloc, tag, rest)? else {
+                return Ok(None);
+            };
+            Ok(Some(bits | part))
+        }
+    }
+}
+
+/// What stands between the separators, each a character of ASCII.
+fn parts_between(alloc: Global, separator: char, text: &str) -> Result<Vec<&str>, OutOfMemory>
+    requires { separator < 128 }
+    ensures { IfOk result
+        (λ parts. map (λ part. part.now) parts.items ≡ slice_split (λ c. c == separator) text.now) }
+{
+    Ok(text.split(separator).collect(alloc)?)
+}
+
+/// The bits of a mask, given by their names.
+#[tactic(auto, unfolding(crate::specs::Reading::mask_of_text))]
+fn mask_of_text(alloc: Global, tag: Tag, text: &str) -> Result<Option<u32>, OutOfMemory>
+    ensures { IfOk result (λ bits. bits ≡ mask_of_text tag text.now) }
+{
+    let parts = parts_between(alloc, '|', text)?;
+    bits_of_parts(alloc, tag, &parts)
+}
+
+fn truth_of_long(number: u64) -> Option<bool>
+    ensures { result ≡ truth_of_long number }
+{
+    match number {
+        0 => Some(false),
+        1 => Some(true),
+        _ => None,
     }
 }
 
@@ -211,7 +278,7 @@ fn natural(text: &str) -> Option<u32>
     small_natural(whole_number(text)?)
 }
 
-/// The value of an item of the type, given as a number.
+/// The value of an item of the type, given as a number; none of a Big Integer.
 fn number_node(kind: Kind, text: &str) -> Option<Node>
     ensures { (tag : ℕ) → option_map (tree_of_node tag) result ≡
         option_map (scalar tag) (number_scalar kind text.now) }
@@ -223,6 +290,49 @@ fn number_node(kind: Kind, text: &str) -> Option<Node>
         Kind::Interval => Some(Node::Interval(natural(text)?)),
         _ => None,
     }
+}
+
+/// The bytes of a number as a Big Integer has them: the eight of its two's complement.
+fn big_number_node(alloc: Global, text: &str) -> Result<Option<Node>, OutOfMemory>
+    ensures { IfOk result (λ node. (tag : ℕ) → option_map (tree_of_node tag) node ≡
+        option_map (scalar tag)
+        (option_map big_integer (option_map big_bytes (whole_number text.now)))) }
+{
+    match whole_number(text) {
+        Some(number) => {
+            let bytes = number.cast_unsigned().to_be_bytes();
+            Ok(Some(Node::BigInteger(Blob::of(alloc, &bytes)?)))
+        }
+        None => Ok(None),
+    }
+}
+
+fn is_big(kind: Kind) -> bool
+    ensures { result ≡ is_big kind }
+{
+    match kind {
+        Kind::BigInteger => true,
+        _ => false,
+    }
+}
+
+/// The value of an item of the type, given as a number.
+fn any_number_node(alloc: Global, kind: Kind, text: &str) -> Result<Option<Node>, OutOfMemory>
+    ensures { IfOk result (λ node. (tag : ℕ) → option_map (tree_of_node tag) node ≡
+        option_map (scalar tag) (any_number kind text.now)) }
+{
+    if is_big(kind) {
+        big_number_node(alloc, text)
+    } else {
+        Ok(number_node(kind, text))
+    }
+}
+
+fn boolean_node(number: Option<u64>) -> Option<Node>
+    ensures { (tag : ℕ) → option_map (tree_of_node tag) result ≡
+        option_map (scalar tag) (option_map boolean (option_and_then truth_of_long number)) }
+{
+    Some(Node::Boolean(truth_of_long(number?)?))
 }
 
 fn integer_node(word: Option<u32>) -> Option<Node>
@@ -274,13 +384,13 @@ fn interval_node(word: Option<u32>) -> Option<Node>
     Some(Node::Interval(word?))
 }
 
-/// The value of an item of the tag and the type, given as a string.
+/// The value of an item of the type, given as a string; its names are looked up under the tag.
 fn string_node(alloc: Global, tag: Tag, kind: Kind, text: &str) -> Result<Option<Node>, OutOfMemory>
     ensures { IfOk result (λ node. (t : ℕ) → option_map (tree_of_node t) node ≡
         option_map (scalar t) (string_scalar tag kind text.now)) }
 {
     match kind {
-        Kind::Integer => Ok(integer_node(word_in(alloc, text)?)),
+        Kind::Integer => Ok(integer_node(mask_of_text(alloc, tag, text)?)),
         Kind::LongInteger => Ok(long_node(long_in(alloc, text)?)),
         Kind::BigInteger => Ok(big_node(hex_bytes(alloc, text.as_bytes())?)),
         Kind::Enumeration => Ok(enumeration_node(enumeration_of_text(alloc, tag, text)?)),
@@ -288,7 +398,8 @@ fn string_node(alloc: Global, tag: Tag, kind: Kind, text: &str) -> Result<Option
         Kind::ByteString => Ok(bytes_node(spelled(alloc, text.as_bytes())?)),
         Kind::DateTime => Ok(date_node(date_of_text(alloc, text)?)),
         Kind::Interval => Ok(interval_node(word_in(alloc, text)?)),
-        Kind::Structure | Kind::Boolean => Ok(None),
+        Kind::Boolean => Ok(boolean_node(long_in(alloc, text)?)),
+        Kind::Structure => Ok(None),
     }
 }
 
@@ -302,7 +413,7 @@ fn truth_node(kind: Kind, truth: bool) -> Option<Node>
     }
 }
 
-/// The value of an item of the tag and the type, which is no structure.
+/// The value of an item of the type, which is no structure; its names are looked up under the tag.
 fn scalar_node(
     alloc: Global,
     tag: Tag,
@@ -313,7 +424,7 @@ fn scalar_node(
         option_map (scalar t) (scalar_in tag kind (value_view value.now))) }
 {
     match value {
-        Value::Number(text) => Ok(number_node(kind, text)),
+        Value::Number(text) => any_number_node(alloc, kind, text),
         Value::String(text) => string_node(alloc, tag, kind, text),
         Value::Bool(truth) => Ok(truth_node(kind, *truth)),
         _ => Ok(None),
@@ -365,7 +476,7 @@ fn tag_from(alloc: Global, member: Option<&Value<'_>>) -> Result<Option<Tag>, Ou
 fn is_known(key: &str) -> bool
     ensures { result ≡ is_known key.now }
 {
-    key == "tag" || key == "type" || key == "value"
+    key == "tag" || key == "type" || key == "value" || key == "name"
 }
 
 /// Whether each member is one of an item's.
@@ -382,7 +493,7 @@ fn are_known<'a>(members: &Vec<(&'a str, Value<'a>)>) -> bool
 
 /// The error where this was expected.
 fn wants(alloc: Global, expected: Expected) -> EncodingError
-    ensures { FailsTree result (wants expected) }
+    ensures { Fails {A = Tree} result (wants expected) }
 {
     EncodingError::Misfit(Fault {
         place: Vec::new(alloc),
@@ -430,19 +541,39 @@ fn read_scalar(
     tag: Tag,
     kind: Kind,
     value: &Value<'_>,
+    named: Tag,
 ) -> Result<Tree, EncodingError>
     ensures { Reads result
-        (scalar_read tag kind (scalar_in tag kind (value_view value.now))) }
+        (scalar_read tag kind (scalar_in (place named tag) kind (value_view value.now))) }
 {
-    match scalar_node(alloc, tag, kind, value)? {
+    match scalar_node(alloc, place(named, tag), kind, value)? {
         Some(node) => Ok(Tree { tag, node }),
         None => Err(wants(alloc, Expected::Value(kind))),
     }
 }
 
+/// Reads the value of a structure, which is no array.
+fn read_empty(alloc: Global, tag: Tag, value: &Value<'_>) -> Result<Tree, EncodingError>
+    ensures { Reads result (empty_read tag (is_null (value_view value.now))) }
+{
+    if value.is_null() {
+        Ok(Tree {
+            tag,
+            node: Node::Structure(Trees::new(alloc)),
+        })
+    } else {
+        Err(wants(alloc, Expected::Value(Kind::Structure)))
+    }
+}
+
 #[cycle(read)]
-fn read_item(alloc: Global, value: &Value<'_>, levels: u32) -> Result<Tree, EncodingError>
-    ensures { Reads result (read_item levels (value_view value.now)) }
+fn read_item(
+    alloc: Global,
+    value: &Value<'_>,
+    levels: u32,
+    named: Tag,
+) -> Result<Tree, EncodingError>
+    ensures { Reads result (read_item levels named (value_view value.now)) }
 {
     if levels == 0 {
         return Err(wants(alloc, Expected::FewerLevels));
@@ -451,7 +582,7 @@ fn read_item(alloc: Global, value: &Value<'_>, levels: u32) -> Result<Tree, Enco
         return Err(wants(alloc, Expected::Object));
     };
     if known {
-        read_parts(alloc, value, levels - 1)
+        read_parts(alloc, value, levels - 1, named)
     } else {
         Err(wants(alloc, Expected::Members))
     }
@@ -459,8 +590,13 @@ fn read_item(alloc: Global, value: &Value<'_>, levels: u32) -> Result<Tree, Enco
 
 /// Reads an object with no member but an item's.
 #[cycle(read)]
-fn read_parts(alloc: Global, value: &Value<'_>, levels: u32) -> Result<Tree, EncodingError>
-    ensures { Reads result (parts_in (read_item levels) (value_view value.now)) }
+fn read_parts(
+    alloc: Global,
+    value: &Value<'_>,
+    levels: u32,
+    named: Tag,
+) -> Result<Tree, EncodingError>
+    ensures { Reads result (parts_in (read_item levels) named (value_view value.now)) }
 {
     let Some(tag) = tag_from(alloc, value.get("tag"))? else {
         return Err(wants(alloc, Expected::Tag));
@@ -468,9 +604,10 @@ fn read_parts(alloc: Global, value: &Value<'_>, levels: u32) -> Result<Tree, Enc
     let Some(kind) = kind_from(value.get("type")) else {
         return Err(wants(alloc, Expected::Type));
     };
+    let null = Value::Null;
     match value.get("value") {
-        Some(inner) => read_node(alloc, tag, kind, inner, levels),
-        None => Err(wants(alloc, Expected::Value(kind))),
+        Some(inner) => read_node(alloc, tag, kind, inner, levels, named),
+        None => read_node(alloc, tag, kind, &null, levels, named),
     }
 }
 
@@ -482,16 +619,17 @@ fn read_node(
     kind: Kind,
     value: &Value<'_>,
     levels: u32,
+    named: Tag,
 ) -> Result<Tree, EncodingError>
-    ensures { Reads result (node_read (read_item levels) tag kind (value_view value.now)) }
+    ensures { Reads result (node_read (read_item levels) named tag kind (value_view value.now)) }
 {
     match kind {
         Kind::Structure => read_structure(alloc, tag, value, levels),
-        _ => read_scalar(alloc, tag, kind, value),
+        _ => read_scalar(alloc, tag, kind, value, named),
     }
 }
 
-/// Reads the value of a structure.
+/// Reads the value of a structure, which has no items where it is null.
 #[cycle(read)]
 fn read_structure(
     alloc: Global,
@@ -499,10 +637,11 @@ fn read_structure(
     value: &Value<'_>,
     levels: u32,
 ) -> Result<Tree, EncodingError>
-    ensures { Reads result (node_read (read_item levels) tag Structure (value_view value.now)) }
+    ensures { Reads result
+        (node_read (read_item levels) ATTRIBUTE_VALUE tag Structure (value_view value.now)) }
 {
     let Some(items) = items_of(value) else {
-        return Err(wants(alloc, Expected::Value(Kind::Structure)));
+        return read_empty(alloc, tag, value);
     };
     let trees = read_items(alloc, items, levels)?;
     Ok(Tree {
@@ -514,16 +653,51 @@ fn read_structure(
 /// Reads the items of a structure.
 #[cycle(read)]
 fn read_items(alloc: Global, items: &Vec<Value<'_>>, levels: u32) -> Result<Trees, EncodingError>
-    ensures { ReadsItems result (items_by (read_item levels) 0 (items_view items.now.items)) }
+    ensures { ReadsItems result
+        (items_by (read_item levels) 0 ATTRIBUTE_VALUE (items_view items.now.items)) }
 {
     let mut trees = Trees::new(alloc);
+    let mut named = unnamed();
     for index in 0..items.len() {
-        match read_item(alloc, &items[index], levels) {
-            Ok(tree) => trees.push(tree)?,
+        match read_item(alloc, &items[index], levels, named) {
+            Ok(tree) => {
+                named = named_after(named, &tree);
+                trees.push(tree)?;
+            }
             Err(error) => return Err(within(error, index)),
         }
     }
     Ok(trees)
+}
+
+/// The tree that a value means, if any.
+pub(crate) fn read_one(alloc: Global, value: &Value<'_>) -> Result<Option<Tree>, OutOfMemory> {
+    match read_item(alloc, value, 64, unnamed()) {
+        Ok(tree) => Ok(Some(tree)),
+        Err(EncodingError::OutOfMemory) => Err(OutOfMemory),
+        Err(_) => Ok(None),
+    }
+}
+
+/// Whether the text nests more than 128 deep at this byte, where reading stopped.
+fn is_too_deep(alloc: Global, text: &str, place: usize) -> Result<bool, OutOfMemory> {
+    let mut scratch = Scratch::new(alloc);
+    let mut reader = Reader::new(text, &mut scratch)?;
+    let mut depth = 0usize;
+    for _ in 0..text.len() {
+        match reader.next() {
+            Some(Token::BeginObject) | Some(Token::BeginArray) => {
+                if depth == MAX_DEPTH {
+                    return Ok(reader.offset() == place);
+                }
+                depth = depth.saturating_add(1);
+            }
+            Some(Token::EndObject) | Some(Token::EndArray) => depth = depth.saturating_sub(1),
+            Some(Token::Bad) | None => return Ok(false),
+            Some(_) => {}
+        }
+    }
+    Ok(false)
 }
 
 /// Where a text that is no JSON stops being one.
@@ -535,22 +709,38 @@ fn broken_at(alloc: Global, text: &str) -> Result<usize, OutOfMemory> {
 }
 
 /// The tree of a text of JSON: an object with the members `tag`, `type` (Structure where it is left
-/// out) and `value`, in any order. What `to_json` writes is read as the tree that was written.
+/// out) and `value`, in any order, and maybe `name`, which is not looked at. What `to_json` writes of
+/// a tree of at most 64 levels is read as that tree.
 ///
-/// A tag and an enumeration's number may be given by name or as `0x` and their digits, an Integer,
-/// a Long Integer and an Interval as a number nearer to 0 than 2^53 or as `0x` and their digits, an
-/// enumeration's number as a number, and a Date-Time as `0x` and 16 digits. Digits may be of either
-/// case.
+/// A tag may be given by name or as `0x` and six digits, and a number by any of these:
 ///
-/// `NotJson` has the byte at which reading stopped, and `Misfit` the place of the item
-/// that is none with what was expected there. At most 64 levels are read.
+/// - an Integer, a Long Integer, a Big Integer and an Interval as a number nearer to 0 than 2^53, or
+///   as `0x` and digits: 8 of an Integer or an Interval, 16 of a Long Integer, any of a Big Integer;
+/// - a mask also by the names of its bits with `|` between two, as `Encrypt|Decrypt`;
+/// - an enumeration's number also by its name, as `SHA_256` or `SHA256`;
+/// - a Boolean also as `0x` and 16 digits;
+/// - a Date-Time as a date with its offset from UTC, as `2001-01-01T12:00:00+02:00`, or as `0x` and
+///   16 digits.
+///
+/// Digits may be of either case. A Structure has no items where its `value` is null or left out.
+///
+/// `NotJson` and `TooDeep` have the byte at which reading stopped, and `Misfit` the place of the
+/// item that is none with what was expected there; `refusal_of` says each of them to a person. At
+/// most 64 levels are read.
 pub fn from_json(alloc: Global, text: &str) -> Result<Tree, EncodingError>
     ensures { ReadsText result text.now }
 {
     let mut scratch = Scratch::new(alloc);
     match Value::parse_strict(alloc, text, &mut scratch) {
-        Ok(value) => read_item(alloc, &value, 64),
-        Err(Error::Invalid) => Err(EncodingError::NotJson(broken_at(alloc, text)?)),
+        Ok(value) => read_item(alloc, &value, 64, unnamed()),
+        Err(Error::Invalid) => {
+            let place = broken_at(alloc, text)?;
+            if is_too_deep(alloc, text, place)? {
+                Err(EncodingError::TooDeep(place))
+            } else {
+                Err(EncodingError::NotJson(place))
+            }
+        }
         Err(Error::DuplicateKey) => Err(EncodingError::RepeatedName),
         Err(_) => Err(EncodingError::OutOfMemory),
     }

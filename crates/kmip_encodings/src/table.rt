@@ -1,3 +1,4 @@
+// Written by tables/generate.py from tables/*.toml: change these instead.
 //! The names of the tags as one word each, in tag order from FIRST.
 
 pub(crate) const FIRST: u32 = 0x42_0001;

@@ -4,12 +4,12 @@ ghost use Rattle.std.specs.Prelude.{drop, ◌≡◌, ◌++◌, [], ◌∷◌, �
 ghost use Rattle.hex.specs.Hex.{encode_upper};
 ghost use Rattle.kmip_encodings.specs.Dates.{two, civil_text};
 ghost use Rattle.kmip_encodings.specs.Texts.{hex_text, tag_text, enumeration_text, date_text};
-ghost use Rattle.kmip_encodings.specs.Texts.{is_number, kind_text};
+ghost use Rattle.kmip_encodings.specs.Texts.{is_number};
 
 use crate::date::{Civil, civil_of, date_number};
 use crate::names::enumeration_name;
 use crate::words::tag_word;
-use kmip_wire::{Kind, OutOfMemory, Tag, Text};
+use kmip_wire::{OutOfMemory, Tag, Text};
 use std::alloc::Global;
 
 /// `0x` and the digits of the bytes in upper-case hex.
@@ -124,23 +124,5 @@ pub(crate) fn date_text(alloc: Global, number: u64) -> Result<Text, OutOfMemory>
         Ok(text)
     } else {
         hex_text(alloc, &number.to_be_bytes())
-    }
-}
-
-/// The name of the type, as `TextString`.
-pub fn kind_text(kind: Kind) -> &'static str
-    ensures { result.now ≡ kind_text kind }
-{
-    match kind {
-        Kind::Structure => "Structure",
-        Kind::Integer => "Integer",
-        Kind::LongInteger => "LongInteger",
-        Kind::BigInteger => "BigInteger",
-        Kind::Enumeration => "Enumeration",
-        Kind::Boolean => "Boolean",
-        Kind::TextString => "TextString",
-        Kind::ByteString => "ByteString",
-        Kind::DateTime => "DateTime",
-        Kind::Interval => "Interval",
     }
 }

@@ -1,17 +1,19 @@
 //! Writing a tree as JSON.
 ghost use Rattle.std.specs.Prelude.{◌≡◌, ◌+◌, ◌≤◌, ◌^◌, ◌++◌, [], ◌∷◌, codes};
-ghost use Rattle.std.specs.Prelude.{IfSome, IfOk, OnOk, OnErr, Some};
+ghost use Rattle.std.specs.Prelude.{IfSome, IfOk, OnOk, OnErr, IsUtf8, Some};
 ghost use Rattle.json.specs.Token.{begin_object, key, string};
 ghost use Rattle.json.specs.Tree.{json_tokens};
 ghost use Rattle.kmip_wire.specs.Head.{pads};
 ghost use Rattle.kmip_wire.specs.Tree.{structure, trees_of};
+ghost use Rattle.kmip_tags.specs.Tags.{ATTRIBUTE_VALUE};
 ghost use Rattle.kmip_encodings.specs.Texts.{tag_text};
 ghost use Rattle.kmip_encodings.specs.Parts.{part_json, offset_tokens};
 ghost use Rattle.kmip_encodings.specs.Sizes.{size_of};
 ghost use Rattle.kmip_encodings.specs.Encoding.{is_short, long_json, after, item_json, json_at};
 ghost use Rattle.kmip_encodings.specs.Encoding.{text_at, json_text};
 
-use crate::text::{bytes_text, date_text, enumeration_text, hex_text, kind_text, tag_text};
+use crate::context::{named_after, place, unnamed};
+use crate::text::{bytes_text, date_text, enumeration_text, hex_text, tag_text};
 use json::Writer;
 use kmip_wire::{Kind, Node, OutOfMemory, Tag, Text, Tree};
 use std::alloc::Global;
@@ -123,24 +125,25 @@ fn put_item(
 {
     put_start(alloc, at, tag, writer)?;
     writer.key("type")?;
-    writer.string(kind_text(kind))?;
+    writer.string(kind.name())?;
     writer.key("value")?;
     put_part(part, writer)?;
     writer.end_object()?;
     Ok(())
 }
 
-/// Writes an item, and returns where it ends.
+/// Writes an item, and returns where it ends. Names of Attribute Value are those of `named`.
 #[cycle(write)]
 fn put_tree(
     alloc: Global,
     at: Option<u64>,
+    named: Tag,
     tree: &Tree,
     writer: &mut Writer,
 ) -> Result<Option<u64>, OutOfMemory>
     requires { IfSome at (λ a. a + size_of tree.now ≤ 2 ^ 63) }
     ensures tokens { OnOk result (writer.new.tokens ≡
-        writer.old.tokens ++ json_tokens (json_at at tree.now)) }
+        writer.old.tokens ++ json_tokens (json_at at named tree.now)) }
     ensures before { writer.new.before ≡ writer.old.before }
     ensures end { IfOk result (λ end. end ≡ after (size_of tree.now) at) }
 {
@@ -154,7 +157,7 @@ fn put_tree(
             (Kind::BigInteger, bytes.len(), Part::Made(digits))
         }
         Node::Enumeration(number) => {
-            let name = enumeration_text(alloc, tag, *number)?;
+            let name = enumeration_text(alloc, place(named, tag), *number)?;
             (Kind::Enumeration, 4, Part::Made(name))
         }
         Node::Boolean(truth) => (Kind::Boolean, 8, Part::Truth(*truth)),
@@ -184,7 +187,8 @@ fn put_structure(
 ) -> Result<Option<u64>, OutOfMemory>
     requires { IfSome at (λ a. a + size_of (structure tag (trees_of items.now)) ≤ 2 ^ 63) }
     ensures tokens { OnOk result (writer.new.tokens ≡
-        writer.old.tokens ++ json_tokens (json_at at (structure tag (trees_of items.now)))) }
+        writer.old.tokens
+        ++ json_tokens (json_at at ATTRIBUTE_VALUE (structure tag (trees_of items.now)))) }
     ensures before { writer.new.before ≡ writer.old.before }
     ensures end { IfOk result (λ end.
         end ≡ after (size_of (structure tag (trees_of items.now))) at) }
@@ -193,8 +197,10 @@ fn put_structure(
     writer.key("value")?;
     writer.begin_array()?;
     let mut next = first_item(at);
+    let mut named = unnamed();
     for item in items {
-        next = put_tree(alloc, next, item, writer)?;
+        next = put_tree(alloc, next, named, item, writer)?;
+        named = named_after(named, item);
     }
     writer.end_array()?;
     writer.end_object()?;
@@ -210,11 +216,12 @@ fn append_json(
 ) -> Result<(), OutOfMemory>
     requires { IfSome at (λ a. a + size_of tree.now ≤ 2 ^ 63) }
     ensures all { OnOk result (out.new.items ≡ out.old.items ++ text_at at tree.now) }
+    ensures utf8 { OnOk result (IsUtf8 (text_at at tree.now)) }
     ensures nothing { OnErr result (out.new.items ≡ out.old.items) }
 {
     let len = out.len();
     let mut writer = Writer::new(mem::replace(out, Vec::new(alloc)));
-    let written = put_tree(alloc, at, tree, &mut writer);
+    let written = put_tree(alloc, at, unnamed(), tree, &mut writer);
     *out = writer.into_inner();
     match written {
         Ok(_) => Ok(()),
@@ -227,13 +234,16 @@ fn append_json(
 
 /// Appends the tree's JSON: an object with the members `tag`, `type` (left out for Structure) and
 /// `value`. A tag is its name as one word, or `0x` and six digits; an enumeration's number is its
-/// name, or `0x` and eight digits where no table has one; a Long Integer from 2^52 on, in either
-/// direction, is `0x` and its 16 digits, a Big Integer `0x` and the digits of its bytes, a Byte
-/// String the digits of its bytes, and a Date-Time a text of ISO 8601 in UTC.
+/// name, or `0x` and eight digits where no table has one (under Attribute Value it is the name that
+/// the attribute's values have, as the Attribute Name before it says); a Long Integer from 2^52 on,
+/// in either direction, is `0x` and its 16 digits, a Big Integer `0x` and the digits of its bytes,
+/// a Byte String the digits of its bytes, and a Date-Time a text of ISO 8601 in UTC, or `0x` and 16
+/// digits before the year 1 and after 9999.
 ///
-/// The text has no white space. Where memory runs out, nothing was appended.
+/// The text is in UTF-8 and has no white space. Where memory runs out, nothing was appended.
 pub fn to_json(alloc: Global, tree: &Tree, out: &mut Vec<u8>) -> Result<(), OutOfMemory>
     ensures all { OnOk result (out.new.items ≡ out.old.items ++ json_text tree.now) }
+    ensures utf8 { OnOk result (IsUtf8 (json_text tree.now)) }
     ensures nothing { OnErr result (out.new.items ≡ out.old.items) }
 {
     append_json(alloc, None, tree, out)
@@ -253,6 +263,7 @@ pub fn to_json_with_offsets(
 ) -> Result<(), OutOfMemory>
     requires { start + size_of tree.now ≤ 2 ^ 63 }
     ensures all { OnOk result (out.new.items ≡ out.old.items ++ text_at (Some start) tree.now) }
+    ensures utf8 { OnOk result (IsUtf8 (text_at (Some start) tree.now)) }
     ensures nothing { OnErr result (out.new.items ≡ out.old.items) }
 {
     append_json(alloc, Some(start), tree, out)

@@ -1,25 +1,39 @@
 //! Writing a tree as XML.
-ghost use Rattle.std.specs.Prelude.{◌≡◌, ◌++◌, flat_map, IfOk, None};
-ghost use Rattle.std.specs.Char.{encode_utf8};
+ghost use Rattle.std.specs.Prelude.{◌≡◌, ◌++◌, IfOk, None};
+ghost use Rattle.std.specs.Str.{chars};
 ghost use Rattle.std.specs.Fmt.{signed_decimal};
 ghost use Rattle.hex.specs.Hex.{encode_upper};
 ghost use Rattle.kmip_shape.specs.Shown.{truth_shown};
 ghost use Rattle.kmip_wire.specs.declared.kind.Kind.TheVariants.{Enumeration, Boolean};
-ghost use Rattle.kmip_wire.specs.declared.kind.Kind.TheVariants.{TextString, DateTime};
+ghost use Rattle.kmip_wire.specs.declared.kind.Kind.TheVariants.{DateTime};
+ghost use Rattle.kmip_tags.specs.Tags.{ATTRIBUTE_VALUE};
 ghost use Rattle.kmip_encodings.specs.Texts.{enumeration_text, date_text};
 ghost use Rattle.kmip_wire.specs.Tree.{structure, trees_of};
-ghost use Rattle.kmip_encodings.specs.Xml.{xml_byte, escaped, start_xml, end_xml, item_xml};
-ghost use Rattle.kmip_encodings.specs.Xml.{name_xml, xml_of};
+ghost use Rattle.kmip_encodings.specs.XmlGrammar.{IsElement, is_xml_char};
+ghost use Rattle.kmip_encodings.specs.Xml.{xml_char, escaped, attribute_xml, start_xml, end_xml};
+ghost use Rattle.kmip_encodings.specs.Xml.{item_xml, name_xml, xml_at, xml_of};
 
-use crate::text::{bytes_text, date_text, enumeration_text, kind_text, tag_digits};
+use crate::context::{named_after, place, unnamed};
+use crate::laws::written_xml;
+use crate::text::{bytes_text, date_text, enumeration_text, tag_digits};
 use crate::words::tag_word;
 use itoa::Buffer;
 use kmip_wire::{Kind, Node, OutOfMemory, Tag, Text, Tree};
 use std::alloc::Global;
 
-/// Appends a character of a text in the value of an attribute.
+/// Whether XML has the character.
+fn is_xml_char(ch: char) -> bool
+    ensures { result ≡ is_xml_char ch }
+{
+    matches!(
+        ch,
+        '\t' | '\n' | '\r' | ' '..='\u{d7ff}' | '\u{e000}'..='\u{fffd}' | '\u{10000}'..='\u{10ffff}'
+    )
+}
+
+/// Appends a character of the value of an attribute.
 fn put_escaped(out: &mut Text, ch: char) -> Result<(), OutOfMemory>
-    ensures { IfOk result (λ _. out.new ≡ out.old ++ flat_map xml_byte (encode_utf8 ch)) }
+    ensures { IfOk result (λ _. out.new ≡ out.old ++ xml_char ch) }
 {
     match ch {
         '"' => out.push_str("&quot;"),
@@ -29,20 +43,30 @@ fn put_escaped(out: &mut Text, ch: char) -> Result<(), OutOfMemory>
         '\t' => out.push_str("&#9;"),
         '\n' => out.push_str("&#10;"),
         '\r' => out.push_str("&#13;"),
-        '\0'..='\x1f' => out.push_str("\u{fffd}"),
-        _ => out.push(ch),
+        _ if is_xml_char(ch) => out.push(ch),
+        _ => out.push_str("\u{fffd}"),
     }
 }
 
-/// A text as it stands in the value of an attribute.
-fn escaped(alloc: Global, text: &str) -> Result<Text, OutOfMemory>
-    ensures { IfOk result (λ made. made ≡ escaped text.now) }
+/// Appends the value of an attribute.
+fn put_value(value: &str, out: &mut Text) -> Result<(), OutOfMemory>
+    ensures { IfOk result (λ _. out.new ≡ out.old ++ escaped (chars value.now)) }
 {
-    let mut out = Text::new(alloc);
-    for ch in text.chars() {
-        put_escaped(&mut out, ch)?;
+    for ch in value.chars() {
+        put_escaped(out, ch)?;
     }
-    Ok(out)
+    Ok(())
+}
+
+/// Appends a space and an attribute.
+fn put_attribute(name: &str, value: &str, out: &mut Text) -> Result<(), OutOfMemory>
+    ensures { IfOk result (λ _. out.new ≡ out.old ++ attribute_xml name.now value.now) }
+{
+    out.push_str(" ")?;
+    out.push_str(name)?;
+    out.push_str("=\"")?;
+    put_value(value, out)?;
+    out.push_str("\"")
 }
 
 /// Appends the name of an element whose tag has none, with the tag as an attribute.
@@ -50,9 +74,8 @@ fn put_unnamed(alloc: Global, tag: Tag, out: &mut Text) -> Result<(), OutOfMemor
     ensures { IfOk result (λ _. out.new ≡ out.old ++ name_xml None tag) }
 {
     let digits = tag_digits(alloc, tag)?;
-    out.push_str("TTLV tag=\"")?;
-    out.push_str(digits.as_str())?;
-    out.push_str("\"")
+    out.push_str("TTLV")?;
+    put_attribute("tag", digits.as_str(), out)
 }
 
 /// Appends the start of an element, with its name.
@@ -89,11 +112,9 @@ fn put_item(
     ensures { IfOk result (λ _. out.new ≡ out.old ++ item_xml tag kind value.now) }
 {
     put_start(alloc, tag, out)?;
-    out.push_str(" type=\"")?;
-    out.push_str(kind_text(kind))?;
-    out.push_str("\" value=\"")?;
-    out.push_str(value)?;
-    out.push_str("\"/>")
+    put_attribute("type", kind.name(), out)?;
+    put_attribute("value", value, out)?;
+    out.push_str("/>")
 }
 
 fn put_number(
@@ -134,20 +155,18 @@ fn put_bytes(
     put_item(alloc, tag, kind, digits.as_str(), out)
 }
 
-fn put_name(alloc: Global, tag: Tag, number: u32, out: &mut Text) -> Result<(), OutOfMemory>
+fn put_name(
+    alloc: Global,
+    tag: Tag,
+    place: Tag,
+    number: u32,
+    out: &mut Text,
+) -> Result<(), OutOfMemory>
     ensures { IfOk result
-        (λ _. out.new ≡ out.old ++ item_xml tag Enumeration (enumeration_text tag number)) }
+        (λ _. out.new ≡ out.old ++ item_xml tag Enumeration (enumeration_text place number)) }
 {
-    let name = enumeration_text(alloc, tag, number)?;
+    let name = enumeration_text(alloc, place, number)?;
     put_item(alloc, tag, Kind::Enumeration, name.as_str(), out)
-}
-
-fn put_text(alloc: Global, tag: Tag, text: &str, out: &mut Text) -> Result<(), OutOfMemory>
-    ensures { IfOk result
-        (λ _. out.new ≡ out.old ++ item_xml tag TextString (escaped text.now)) }
-{
-    let value = escaped(alloc, text)?;
-    put_item(alloc, tag, Kind::TextString, value.as_str(), out)
 }
 
 fn put_date(alloc: Global, tag: Tag, seconds: u64, out: &mut Text) -> Result<(), OutOfMemory>
@@ -159,8 +178,8 @@ fn put_date(alloc: Global, tag: Tag, seconds: u64, out: &mut Text) -> Result<(),
 }
 
 #[cycle(write)]
-fn put_tree(alloc: Global, tree: &Tree, out: &mut Text) -> Result<(), OutOfMemory>
-    ensures { IfOk result (λ _. out.new ≡ out.old ++ xml_of tree.now) }
+fn put_tree(alloc: Global, named: Tag, tree: &Tree, out: &mut Text) -> Result<(), OutOfMemory>
+    ensures { IfOk result (λ _. out.new ≡ out.old ++ xml_at named tree.now) }
 {
     let tag = tree.tag;
     match &tree.node {
@@ -170,9 +189,9 @@ fn put_tree(alloc: Global, tree: &Tree, out: &mut Text) -> Result<(), OutOfMemor
         Node::BigInteger(bytes) => {
             put_bytes(alloc, tag, Kind::BigInteger, bytes.as_slice(), out)
         }
-        Node::Enumeration(number) => put_name(alloc, tag, *number, out),
+        Node::Enumeration(number) => put_name(alloc, tag, place(named, tag), *number, out),
         Node::Boolean(truth) => put_truth(alloc, tag, *truth, out),
-        Node::TextString(text) => put_text(alloc, tag, text.as_str(), out),
+        Node::TextString(text) => put_item(alloc, tag, Kind::TextString, text.as_str(), out),
         Node::ByteString(bytes) => {
             put_bytes(alloc, tag, Kind::ByteString, bytes.as_slice(), out)
         }
@@ -184,12 +203,14 @@ fn put_tree(alloc: Global, tree: &Tree, out: &mut Text) -> Result<(), OutOfMemor
 #[cycle(write)]
 fn put_structure(alloc: Global, tag: Tag, items: &[Tree], out: &mut Text) -> Result<(), OutOfMemory>
     ensures { IfOk result
-        (λ _. out.new ≡ out.old ++ xml_of (structure tag (trees_of items.now))) }
+        (λ _. out.new ≡ out.old ++ xml_at ATTRIBUTE_VALUE (structure tag (trees_of items.now))) }
 {
     put_start(alloc, tag, out)?;
     out.push_str(">")?;
+    let mut named = unnamed();
     for item in items {
-        put_tree(alloc, item, out)?;
+        put_tree(alloc, named, item, out)?;
+        named = named_after(named, item);
     }
     put_end(tag, out)
 }
@@ -199,13 +220,16 @@ fn put_structure(alloc: Global, tag: Tag, items: &[Tree], out: &mut Text) -> Res
 ///
 /// A tag that has no name is the attribute `tag` of an element `TTLV`, as `0x` and six digits. The
 /// values are as in `to_json`, but for a Long Integer, which is always in decimal, and a Big
-/// Integer, whose digits stand without `0x`. XML has no control characters but tab, line feed and
-/// carriage return: U+FFFD stands for each of the others. There is no white space between elements,
-/// and no declaration before the first.
+/// Integer, whose digits stand without `0x`. U+FFFD stands for each character that XML lacks: the
+/// control characters but tab, line feed and carriage return, U+FFFE and U+FFFF. There is no white
+/// space between elements, and no declaration before the first. It fails only where memory runs
+/// out.
 pub fn to_xml(alloc: Global, tree: &Tree) -> Result<Text, OutOfMemory>
-    ensures { IfOk result (λ text. text ≡ xml_of tree.now) }
+    ensures text { IfOk result (λ text. text ≡ xml_of tree.now) }
+    ensures xml { IfOk result IsElement }
 {
+    written_xml();
     let mut out = Text::new(alloc);
-    put_tree(alloc, tree, &mut out)?;
+    put_tree(alloc, unnamed(), tree, &mut out)?;
     Ok(out)
 }

@@ -10,4 +10,6 @@ mod offsets;
 #[cfg(test)]
 mod refusals;
 #[cfg(test)]
+mod sentences;
+#[cfg(test)]
 mod xml;

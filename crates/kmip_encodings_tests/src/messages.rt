@@ -7,7 +7,7 @@ pub(crate) struct Row {
 }
 
 /// The items of KMIP 1.0, 9.1.2, each with the tag 0x420020.
-pub(crate) const EXAMPLES: [Row; 10] = [
+pub(crate) const EXAMPLES: &[Row] = &[
     Row {
         hex: "42002002000000040000000800000000",
         json: r#"{"tag":"CompromiseDate","type":"Integer","value":8}"#,
@@ -51,11 +51,11 @@ pub(crate) const EXAMPLES: [Row; 10] = [
 ];
 
 /// Whole messages.
-pub(crate) const MESSAGES: [Row; 8] = [
+pub(crate) const MESSAGES: &[Row] = &[
     // Locate by an Object Type.
     Row {
         hex: "42007801000000904200770100000038420069010000002042006A0200000004000000010000000042006B0200000004000000000000000042000D0200000004000000010000000042000F010000004842005C050000000400000008000000004200790100000030420008010000002842000A070000000B4F626A6563742054797065000000000042000B05000000040000000400000000",
-        json: r#"{"tag":"RequestMessage","value":[{"tag":"RequestHeader","value":[{"tag":"ProtocolVersion","value":[{"tag":"ProtocolVersionMajor","type":"Integer","value":1},{"tag":"ProtocolVersionMinor","type":"Integer","value":0}]},{"tag":"BatchCount","type":"Integer","value":1}]},{"tag":"BatchItem","value":[{"tag":"Operation","type":"Enumeration","value":"Locate"},{"tag":"RequestPayload","value":[{"tag":"Attribute","value":[{"tag":"AttributeName","type":"TextString","value":"Object Type"},{"tag":"AttributeValue","type":"Enumeration","value":"0x00000004"}]}]}]}]}"#,
+        json: r#"{"tag":"RequestMessage","value":[{"tag":"RequestHeader","value":[{"tag":"ProtocolVersion","value":[{"tag":"ProtocolVersionMajor","type":"Integer","value":1},{"tag":"ProtocolVersionMinor","type":"Integer","value":0}]},{"tag":"BatchCount","type":"Integer","value":1}]},{"tag":"BatchItem","value":[{"tag":"Operation","type":"Enumeration","value":"Locate"},{"tag":"RequestPayload","value":[{"tag":"Attribute","value":[{"tag":"AttributeName","type":"TextString","value":"Object Type"},{"tag":"AttributeValue","type":"Enumeration","value":"PrivateKey"}]}]}]}]}"#,
     },
     // A failure.
     Row {
@@ -65,12 +65,12 @@ pub(crate) const MESSAGES: [Row; 8] = [
     // The payload of a request to create a key.
     Row {
         hex: "4200790100000088420057050000000400000002000000004200910100000070420008010000003042000A070000001743727970746F6772617068696320416C676F726974686D0042000B05000000040000000300000000420008010000003042000A070000001843727970746F67726170686963205573616765204D61736B42000B02000000040000000C00000000",
-        json: r#"{"tag":"RequestPayload","value":[{"tag":"ObjectType","type":"Enumeration","value":"SymmetricKey"},{"tag":"TemplateAttribute","value":[{"tag":"Attribute","value":[{"tag":"AttributeName","type":"TextString","value":"Cryptographic Algorithm"},{"tag":"AttributeValue","type":"Enumeration","value":"0x00000003"}]},{"tag":"Attribute","value":[{"tag":"AttributeName","type":"TextString","value":"Cryptographic Usage Mask"},{"tag":"AttributeValue","type":"Integer","value":12}]}]}]}"#,
+        json: r#"{"tag":"RequestPayload","value":[{"tag":"ObjectType","type":"Enumeration","value":"SymmetricKey"},{"tag":"TemplateAttribute","value":[{"tag":"Attribute","value":[{"tag":"AttributeName","type":"TextString","value":"Cryptographic Algorithm"},{"tag":"AttributeValue","type":"Enumeration","value":"AES"}]},{"tag":"Attribute","value":[{"tag":"AttributeName","type":"TextString","value":"Cryptographic Usage Mask"},{"tag":"AttributeValue","type":"Integer","value":12}]}]}]}"#,
     },
     // Cryptographic parameters with names of several tables.
     Row {
         hex: "42002B01000000804200110500000004000000010000000042005F0500000004000000030000000042003805000000040000000600000000420083050000000400000001000000004200AE0500000004000000050000000042002805000000040000000400000000420028050000000400000007000000004200C506000000080000000000000000",
-        json: r#"{"tag":"CryptographicParameters","value":[{"tag":"BlockCipherMode","type":"Enumeration","value":"CBC"},{"tag":"PaddingMethod","type":"Enumeration","value":"PKCS5"},{"tag":"HashingAlgorithm","type":"Enumeration","value":"SHA256"},{"tag":"KeyRoleType","type":"Enumeration","value":"BDK"},{"tag":"DigitalSignatureAlgorithm","type":"Enumeration","value":"SHA256WithRSAEncryption_PKCS1_v1_5"},{"tag":"CryptographicAlgorithm","type":"Enumeration","value":"RSA"},{"tag":"CryptographicAlgorithm","type":"Enumeration","value":"0x00000007"},{"tag":"RandomIV","type":"Boolean","value":false}]}"#,
+        json: r#"{"tag":"CryptographicParameters","value":[{"tag":"BlockCipherMode","type":"Enumeration","value":"CBC"},{"tag":"PaddingMethod","type":"Enumeration","value":"PKCS5"},{"tag":"HashingAlgorithm","type":"Enumeration","value":"SHA_256"},{"tag":"KeyRoleType","type":"Enumeration","value":"BDK"},{"tag":"DigitalSignatureAlgorithm","type":"Enumeration","value":"SHA_256WithRSAEncryptionPKCS_1V1_5"},{"tag":"CryptographicAlgorithm","type":"Enumeration","value":"RSA"},{"tag":"CryptographicAlgorithm","type":"Enumeration","value":"HMAC_SHA1"},{"tag":"RandomIV","type":"Boolean","value":false}]}"#,
     },
     // An item whose tag has no name, empty values, and a text with characters that are escaped.
     Row {
@@ -91,5 +91,45 @@ pub(crate) const MESSAGES: [Row; 8] = [
     Row {
         hex: "540004010000004042006A0200000004800000000000000042006A02000000047FFFFFFF0000000042006A0A00000004FFFFFFFF0000000042006A0A000000040000000000000000",
         json: r#"{"tag":"0x540004","value":[{"tag":"ProtocolVersionMajor","type":"Integer","value":-2147483648},{"tag":"ProtocolVersionMajor","type":"Integer","value":2147483647},{"tag":"ProtocolVersionMajor","type":"Interval","value":4294967295},{"tag":"ProtocolVersionMajor","type":"Interval","value":0}]}"#,
+    },
+    // An attribute's name says nothing of the values in other structures.
+    Row {
+        hex: "4200910100000038420008010000002042000A0700000005537461746500000042000B0500000004000000020000000042000B05000000040000000200000000",
+        json: r#"{"tag":"TemplateAttribute","value":[{"tag":"Attribute","value":[{"tag":"AttributeName","type":"TextString","value":"State"},{"tag":"AttributeValue","type":"Enumeration","value":"Active"}]},{"tag":"AttributeValue","type":"Enumeration","value":"0x00000002"}]}"#,
+    },
+];
+
+/// Items whose names are read, and written otherwise: kmip-protocol's names, numbers in hex, and
+/// attributes whose values have no name.
+pub(crate) const READ: &[Row] = &[
+    Row {
+        hex: "42003805000000040000000600000000",
+        json: r#"{"tag":"HashingAlgorithm","type":"Enumeration","value":"SHA256"}"#,
+    },
+    Row {
+        hex: "42003805000000040000000600000000",
+        json: r#"{"tag":"HashingAlgorithm","type":"Enumeration","value":"0x00000006"}"#,
+    },
+    Row {
+        hex: "42005C05000000040000001D00000000",
+        json: r#"{"tag":"Operation","type":"Enumeration","value":"RekeyKeyPair"}"#,
+    },
+    Row {
+        hex: "42004105000000040000000200000000",
+        json: r#"{"tag":"KeyCompressionType","type":"Enumeration","value":"ECPUblicKeyTypeX962CompressedPrime"}"#,
+    },
+    Row {
+        hex: "4200AE05000000040000000800000000",
+        json: r#"{"tag":"DigitalSignatureAlgorithm","type":"Enumeration","value":"RSASSA_PSS_PKCS1_v1_5"}"#,
+    },
+    // The attribute's name says which table its value is of, and an index may stand between.
+    Row {
+        hex: "420008010000004042000A070000001743727970746F6772617068696320416C676F726974686D004200090200000004000000000000000042000B05000000040000000200000000",
+        json: r#"{"tag":"Attribute","value":[{"tag":"AttributeName","type":"TextString","value":"Cryptographic Algorithm"},{"tag":"AttributeIndex","type":"Integer","value":0},{"tag":"AttributeValue","type":"Enumeration","value":"TRIPLE_DES"}]}"#,
+    },
+    // An attribute of no table has a number alone.
+    Row {
+        hex: "420008010000002042000A0700000003782D61000000000042000B05000000040000000200000000",
+        json: r#"{"tag":"Attribute","value":[{"tag":"AttributeName","type":"TextString","value":"x-a"},{"tag":"AttributeValue","type":"Enumeration","value":"0x00000002"}]}"#,
     },
 ];

@@ -15,7 +15,7 @@ struct Row {
     json: &'static str,
 }
 
-const ROWS: [Row; 3] = [
+const ROWS: &[Row] = &[
     Row {
         hex: "42002002000000040000000800000000",
         start: 4611686018427387800,
@@ -48,7 +48,7 @@ fn front(alloc: Global, bytes: &[u8]) -> Result<Tree, Fail>
 #[test]
 fn each_item_has_its_offset(rt: HostRuntime) -> Result<(), Fail> {
     let alloc = rt.alloc();
-    for row in &ROWS {
+    for row in ROWS {
         let bytes = hex::decode(alloc, row.hex)?;
         let tree = front(alloc, &bytes)?;
         assert!(rt; bytes.len() < 4096 && row.start < 1 << 62);

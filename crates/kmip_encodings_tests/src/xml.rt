@@ -1,9 +1,10 @@
 //! Items as bytes in hex and as XML, both written by hand.
 use kmip_encodings::to_xml;
 use kmip_wire::read_tree;
-use std::test::Fail;
+use std::alloc::Global;
+use std::process::Abort;
 
-const ROWS: [(&str, &str); 8] = [
+const ROWS: &[(&str, &str)] = &[
     (
         "42002002000000040000000800000000",
         r#"<CompromiseDate type="Integer" value="8"/>"#,
@@ -36,15 +37,29 @@ const ROWS: [(&str, &str); 8] = [
         "5400010100000028540002010000000042007D07000000133C612026202262223E0909C3A90D0AE282AC010000000000",
         "<TTLV tag=\"0x540001\"><TTLV tag=\"0x540002\"></TTLV><ResultMessage type=\"TextString\" value=\"&lt;a &amp; &quot;b&quot;&gt;&#9;&#9;\u{e9}&#13;&#10;\u{20ac}\u{fffd}\"/></TTLV>",
     ),
+    (
+        "420094070000000AEFBFBEEFBFBFF48FBFBF000000000000",
+        "<UniqueIdentifier type=\"TextString\" value=\"\u{fffd}\u{fffd}\u{10ffff}\"/>",
+    ),
+    // A value of an attribute has the name that the attribute's values have.
+    (
+        "420008010000002042000A0700000005537461746500000042000B05000000040000000200000000",
+        r#"<Attribute><AttributeName type="TextString" value="State"/><AttributeValue type="Enumeration" value="Active"/></Attribute>"#,
+    ),
 ];
 
+/// The item of these bytes in hex is written as this XML.
+fn is_written(rt: &impl Abort, alloc: Global, digits: &str, xml: &str) {
+    let bytes = hex::decode(alloc, digits).expect(rt, "hex");
+    let (tree, _) = read_tree(alloc, &bytes).expect(rt, "an item");
+    let text = to_xml(alloc, &tree).expect(rt, "memory");
+    drop(tree);
+    assert_eq!(rt; text.as_str(), xml);
+}
+
 #[test]
-fn items_are_written_as_xml(rt: HostRuntime) -> Result<(), Fail> {
-    let alloc = rt.alloc();
+fn items_are_written_as_xml(rt: HostRuntime) {
     for (digits, xml) in ROWS {
-        let bytes = hex::decode(alloc, digits)?;
-        let (tree, _) = read_tree(alloc, &bytes)?;
-        assert_eq!(rt; to_xml(alloc, &tree)?.as_str(), xml);
+        is_written(&rt, rt.alloc(), digits, xml);
     }
-    Ok(())
 }

@@ -1,3 +1,4 @@
+-- Written by tables/generate.py from tables/*.toml: change these instead.
 pub mod CertificateTypes
 pub mod CredentialTypes
 pub mod LinkTypes

@@ -1,3 +1,4 @@
+-- Written by tables/generate.py from tables/*.toml: change these instead.
 -- The kinds of managed objects: KMIP 1.2, 9.1.3.2.
 use Rattle.std.specs.Prelude.{List, [], ◌∷◌, map, codes}
 use Rattle.std.proofs.Common.{rules}
@@ -24,8 +25,7 @@ object_type_line PGPKey = entry 0x9 (codes "PGPKey")
 abbrev pub object_type_variants : List ObjectType
 object_type_variants =
     Certificate ∷ SymmetricKey ∷ PublicKey ∷ PrivateKey ∷ SplitKey ∷ Template ∷ SecretData ∷
-    OpaqueObject ∷ PGPKey
-    ∷ []
+    OpaqueObject ∷ PGPKey ∷ []
 
 abbrev pub object_types : List Entry
 object_types = map object_type_line object_type_variants

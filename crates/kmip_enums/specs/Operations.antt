@@ -1,3 +1,4 @@
+-- Written by tables/generate.py from tables/*.toml: change these instead.
 -- The operations: KMIP 1.2, 9.1.3.2.
 use Rattle.std.specs.Prelude.{List, [], ◌∷◌, map, codes}
 use Rattle.std.proofs.Common.{rules}
@@ -59,8 +60,8 @@ operation_variants =
     Get ∷ GetAttributes ∷ GetAttributeList ∷ AddAttribute ∷ ModifyAttribute ∷ DeleteAttribute ∷
     ObtainLease ∷ GetUsageAllocation ∷ Activate ∷ Revoke ∷ Destroy ∷ Archive ∷ Recover ∷ Validate ∷
     Query ∷ Cancel ∷ Poll ∷ Notify ∷ Put ∷ RekeyKeyPair ∷ DiscoverVersions ∷ Encrypt ∷ Decrypt ∷
-    Sign ∷ SignatureVerify ∷ MAC ∷ MACVerify
-    ∷ RNGRetrieve ∷ RNGSeed ∷ Hash ∷ CreateSplitKey ∷ JoinSplitKey ∷ []
+    Sign ∷ SignatureVerify ∷ MAC ∷ MACVerify ∷ RNGRetrieve ∷ RNGSeed ∷ Hash ∷ CreateSplitKey ∷
+    JoinSplitKey ∷ []
 
 abbrev pub operations : List Entry
 operations = map operation_line operation_variants

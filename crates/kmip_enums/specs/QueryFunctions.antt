@@ -1,3 +1,4 @@
+-- Written by tables/generate.py from tables/*.toml: change these instead.
 -- The functions of a Query: KMIP 1.2, 9.1.3.2.
 use Rattle.std.specs.Prelude.{List, [], ◌∷◌, map, codes}
 use Rattle.std.proofs.Common.{rules}

@@ -1,3 +1,4 @@
+-- Written by tables/generate.py from tables/*.toml: change these instead.
 -- The states of an object: KMIP 1.2, 9.1.3.2.
 use Rattle.std.specs.Prelude.{List, [], ◌∷◌, map, codes}
 use Rattle.std.proofs.Common.{rules}
@@ -19,8 +20,8 @@ state_line DestroyedCompromised = entry 0x6 (codes "DestroyedCompromised")
 
 -- in the order of their numbers
 abbrev pub state_variants : List State
-state_variants = PreActive ∷ Active ∷ Deactivated ∷ Compromised ∷ Destroyed ∷ DestroyedCompromised ∷
-    []
+state_variants =
+    PreActive ∷ Active ∷ Deactivated ∷ Compromised ∷ Destroyed ∷ DestroyedCompromised ∷ []
 
 abbrev pub states : List Entry
 states = map state_line state_variants

@@ -1,3 +1,4 @@
+// Written by tables/generate.py from tables/*.toml: change these instead.
 //! The enumerations of KMIP in requests, responses and attributes. Those of algorithms and keys are
 //! in kmip_codes.
 #![tactic(auto)]

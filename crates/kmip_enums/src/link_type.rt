@@ -1,3 +1,4 @@
+// Written by tables/generate.py from tables/*.toml: change these instead.
 //! The kinds of links.
 
 ghost use Rattle.std.specs.Prelude.{◌≡◌, Some, refl};

@@ -1,3 +1,4 @@
+// Written by tables/generate.py from tables/*.toml: change these instead.
 //! The operations.
 
 ghost use Rattle.std.specs.Prelude.{◌≡◌, Some, refl};

@@ -1,3 +1,4 @@
+// Written by tables/generate.py from tables/*.toml: change these instead.
 //! The functions of a Query.
 
 ghost use Rattle.std.specs.Prelude.{◌≡◌, Some, refl};

@@ -1,3 +1,4 @@
+// Written by tables/generate.py from tables/*.toml: change these instead.
 //! The reasons for a failure.
 
 ghost use Rattle.std.specs.Prelude.{◌≡◌, Some, refl};

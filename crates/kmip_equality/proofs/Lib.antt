@@ -1,1 +1,1 @@
-mod Exact
+mod Rows

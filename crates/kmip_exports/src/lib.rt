@@ -22,6 +22,3 @@ pub fn copy_out(bytes: &[u8], room: &mut [u8]) -> i64
     }
     bytes.len() as i64
 }
-
-#[cfg(test)]
-mod tests;

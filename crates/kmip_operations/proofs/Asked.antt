@@ -1,14 +1,15 @@
 -- A name, a version and a payload ask for one call at most.
-use Rattle.std.proofs.Common.{◌≡◌, List, ℕ, Option, Some, None, Ok, ap, ◌∙◌}
+use Rattle.std.proofs.Common.{◌≡◌, List, ℕ, Bool, true, false, Option, Some, None, Ok, ap, ◌∙◌}
 use Rattle.std.specs.Option.{IsSomeAnd}
 use Rattle.json.specs.Json.{Json, document}
 use Rattle.json.specs.Strict.{HasUniqueKeys}
 use Rattle.kmip_enums.specs.declared.operation.Operation.{Operation}
+use Rattle.kmip_tags.specs.Tags.{REQUEST_PAYLOAD}
 use Rattle.kmip_wire.specs.Tree.{Tree}
 use Rattle.kmip_encodings.specs.Reading.{tree_of}
 use Rattle.kmip_client.specs.Operation.{TreeRequest}
 use Rattle.kmip_client.specs.declared.operation.Version.{Version}
-use Rattle.kmip_operations.specs.Calls.{IsStructureText, Asks}
+use Rattle.kmip_operations.specs.Calls.{IsStructureText, IsPayloadText, has_empty_identifier, Asks}
 
 same_tree : (j : Option Json) (t u : Tree) → IsSomeAnd j (λ j. HasUniqueKeys j × (tree_of j ≡ Ok t))
     → IsSomeAnd j (λ j. HasUniqueKeys j × (tree_of j ≡ Ok u)) → t ≡ u
@@ -29,7 +30,18 @@ one_call name version payload r s a b =
     (let first = a.operation_is in let second = b.operation_is in cc) in
     let versions : r.version ≡ s.version =
     (let first = a.version_is in let second = b.version_is in cc) in
-    let payloads : r.payload ≡ s.payload = same_tree (document payload) r.payload s.payload a.payload_is.0 b.payload_is.0 in
+    let payloads : r.payload ≡ s.payload = same_tree (document payload) r.payload s.payload a.payload_is.0.0 b.payload_is.0.0 in
     ap (λ (o : Operation). record { operation = o; version = r.version; payload = r.payload }) operations
     ∙ ap (λ (v : Version). record { operation = s.operation; version = v; payload = r.payload }) versions
     ∙ ap (λ (t : Tree). record { operation = s.operation; version = s.version; payload = t }) payloads
+
+clash : {G : Type 0} (b : Bool) → b ≡ true → b ≡ false → G
+clash true e f = absurd (cc)
+clash false e f = absurd (cc)
+
+-- a text whose one tree has an empty identifier is no payload's
+pub no_payload : (text : List ℕ) (found t : Tree) → IsStructureText REQUEST_PAYLOAD text found
+    → has_empty_identifier found ≡ true → IsPayloadText text t → ⊥
+no_payload text found t is empty asked =
+    clash (has_empty_identifier t)
+    (ap has_empty_identifier (one_structure REQUEST_PAYLOAD text t found asked.0 is) ∙ empty) asked.1

@@ -1,24 +1,39 @@
 -- What a response answers to a call of an operation and to a message, as a line of JSON.
-use Rattle.std.specs.Prelude.{◌≡◌, ◌≢◌, ℕ, List, ◌++◌, take, Result, Err}
+use Rattle.std.specs.Prelude.{◌≡◌, ◌≢◌, ℕ, List, [], ◌++◌, take, Option, Some, None, Result, Ok, Err}
 use Rattle.kmip_wire.specs.Tree.{Tree}
 use Rattle.kmip_shape.specs.declared.style.Style.TheVariants.{Json}
+use Rattle.kmip_enums.specs.declared.operation.Operation.{Operation}
 use Rattle.kmip_encodings.specs.Encoding.{json_text}
 use Rattle.kmip_client.specs.Operation.{TreeRequest, operation_bytes}
-use Rattle.kmip_client.specs.Outcome.{OutcomeOf, outcome_by}
+use Rattle.kmip_client.specs.Message.{message_at, taken_for}
+use Rattle.kmip_client.specs.Outcome.{OutcomeOf, answer_by, outcome_by}
 use Rattle.kmip_client.specs.Untyped.{untyped_answer}
 use Rattle.kmip_client.specs.WholeMessage.{whole_bytes, whole_answer}
 use Rattle.kmip_client.specs.declared.error.Error.{Error}
-use Rattle.kmip_client.specs.declared.error.Error.TheVariants.{InternalError, OutOfMemory}
-use Rattle.kmip_words.specs.Exchange.{Settings, answer_line, ending_of}
-use Rattle.kmip_words.specs.Refusal.{internal_error_line}
+use Rattle.kmip_client.specs.declared.error.Error.TheVariants.{OutOfMemory}
+use Rattle.kmip_words.specs.Exchange.{Settings, value_line}
+use Rattle.kmip_words.specs.Refusal.{failure_line}
+use Rattle.kmip_words.specs.Strays.{error_to, ending_to}
 use Rattle.kmip_words.specs.declared.ending.Ending.{Ending}
+use Rattle.kmip_words.specs.declared.ending.Ending.TheVariants.{Answered}
 use Rattle.kmip_operations.specs.JsonLines.{IsTextLine}
 
--- the line of JSON of an answer, where `first` is the message that was taken; that of an
--- `InternalError` shows this message
+-- the line of JSON of an answer, where `first` is the message that was taken; that of an error
+-- shows what this message says of it
 abbrev pub tree_line : Result Tree Error → List ℕ → List ℕ
-tree_line (Err (InternalError text)) first = internal_error_line text first
-tree_line answer first = answer_line json_text Json answer
+tree_line (Ok tree) first = value_line (json_text tree) Json
+tree_line (Err error) first = failure_line error first
+
+-- the answer that is shown, to a call of this operation or to a message of the caller's: a failure
+-- of another operation is an error of its own
+abbrev pub answer_to : Option Operation → Result Tree Error → List ℕ → Result Tree Error
+answer_to operation (Ok tree) first = Ok tree
+answer_to operation (Err error) first = Err (error_to operation error first)
+
+-- how the call ended
+abbrev pub tree_ending : Option Operation → Result Tree Error → List ℕ → Ending
+tree_ending operation (Ok tree) first = Answered
+tree_ending operation (Err error) first = ending_to operation error first
 
 -- the answer, and the bytes that were taken of a response, are those of the outcome, unless memory
 -- ran out
@@ -27,18 +42,25 @@ IsTreeReply answer first outcome response =
     answer ≢ Err OutOfMemory →
     (answer ≡ outcome.answer) × (first ≡ take outcome.taken response)
 
--- the line of this answer was added, where `first` is the message that was taken, and the answer is
--- not `OutOfMemory`
-pub record TellsTree (answer : Result Tree Error) (first : List ℕ) (ending : Ending)
-    (old new : List ℕ) : Type 0 where
-  pub told : new ≡ old ++ tree_line answer first
-  pub ending_is : ending ≡ ending_of answer
-  pub json : IsTextLine (tree_line answer first)
+-- the line of this answer to a call of an operation, or to a message, was added, where `first` is
+-- the message that was taken, and the answer is not `OutOfMemory`
+pub record TellsTree (operation : Option Operation) (answer : Result Tree Error) (first : List ℕ)
+    (ending : Ending) (old new : List ℕ) : Type 0 where
+  pub told : new ≡ old ++ tree_line (answer_to operation answer first) first
+  pub ending_is : ending ≡ tree_ending operation answer first
+  pub json : IsTextLine (tree_line (answer_to operation answer first) first)
   pub some : answer ≢ Err OutOfMemory
 
 -- the line of JSON of an outcome over these bytes
-abbrev pub outcome_line : OutcomeOf Tree → List ℕ → List ℕ
-outcome_line outcome response = tree_line outcome.answer (take outcome.taken response)
+abbrev pub outcome_line : Option Operation → OutcomeOf Tree → List ℕ → List ℕ
+outcome_line operation outcome response =
+    tree_line (answer_to operation outcome.answer (take outcome.taken response))
+    (take outcome.taken response)
+
+-- and how the call ended
+abbrev pub outcome_ending : Option Operation → OutcomeOf Tree → List ℕ → Ending
+outcome_ending operation outcome response =
+    tree_ending operation outcome.answer (take outcome.taken response)
 
 -- the outcome of a call over these bytes left
 abbrev pub operation_outcome : Settings → TreeRequest → List ℕ → OutcomeOf Tree
@@ -46,15 +68,25 @@ operation_outcome settings request rest =
     outcome_by (operation_bytes request settings.credential) (untyped_answer request.operation)
     settings.limit rest
 
+-- what these bytes answer to a call whose request was sent; nothing more is
+abbrev pub sent_outcome : (List ℕ → Result Tree Error) → Settings → List ℕ → OutcomeOf Tree
+sent_outcome reads settings response = record {
+  sent = [];
+  taken = taken_for response (message_at response settings.limit);
+  answer = answer_by reads (message_at response settings.limit);
+}
+
 -- the line of JSON that says what these bytes answer: of the payload, or of the error
 abbrev pub operation_json_line : Settings → TreeRequest → List ℕ → List ℕ
 operation_json_line settings request response =
-    outcome_line (operation_outcome settings request response) response
+    outcome_line (Some request.operation)
+    (sent_outcome (untyped_answer request.operation) settings response) response
 
 -- how the call ended that these bytes answer
 abbrev pub operation_ending : Settings → TreeRequest → List ℕ → Ending
 operation_ending settings request response =
-    ending_of (operation_outcome settings request response).answer
+    outcome_ending (Some request.operation)
+    (sent_outcome (untyped_answer request.operation) settings response) response
 
 -- the same of a message of the caller's; the credential plays no part
 
@@ -62,9 +94,10 @@ abbrev pub message_outcome : Settings → Tree → List ℕ → OutcomeOf Tree
 message_outcome settings message rest =
     outcome_by (whole_bytes message) whole_answer settings.limit rest
 
-abbrev pub message_json_line : Settings → Tree → List ℕ → List ℕ
-message_json_line settings message response =
-    outcome_line (message_outcome settings message response) response
+abbrev pub message_json_line : Settings → List ℕ → List ℕ
+message_json_line settings response =
+    outcome_line None (sent_outcome whole_answer settings response) response
 
-abbrev pub message_ending : Settings → Tree → List ℕ → Ending
-message_ending settings message response = ending_of (message_outcome settings message response).answer
+abbrev pub message_ending : Settings → List ℕ → Ending
+message_ending settings response =
+    outcome_ending None (sent_outcome whole_answer settings response) response

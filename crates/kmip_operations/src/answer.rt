@@ -1,27 +1,28 @@
 //! The line of what a response answers to a call whose payloads are trees.
-ghost use Rattle.std.specs.Prelude.{◌≡◌, ◌++◌, ◌≤◌, [], length, take, Err, IfOk, OnOk};
+ghost use Rattle.std.specs.Prelude.{◌≡◌, ◌++◌, ◌≤◌, [], length, take, Err, IfOk, OnOk, IsUtf8};
 ghost use Rattle.kmip_shape.specs.declared.style.Style.TheVariants.{Json};
 ghost use Rattle.kmip_encodings.specs.Encoding.{json_text};
 ghost use Rattle.kmip_words.specs.Exchange.{value_line};
 ghost use Rattle.kmip_operations.specs.Calls.{request_of};
-ghost use Rattle.kmip_operations.specs.Answers.{operation_outcome, operation_json_line};
-ghost use Rattle.kmip_operations.specs.Answers.{operation_ending, IsTreeReply, TellsTree};
+ghost use Rattle.kmip_operations.specs.Answers.{operation_json_line, operation_ending};
+ghost use Rattle.kmip_operations.specs.Answers.{TellsTree};
 ghost use Rattle.kmip_operations.specs.JsonLines.{IsTextLine};
 
 use crate::call::OperationCall;
 use crate::laws::lines_are_json;
-use kmip_client::Error;
+use kmip_client::{Error, Reading, read_operation_response};
 use kmip_encodings::to_json;
-use kmip_shape::Style;
+use kmip_enums::Operation;
 use kmip_wire::{OutOfMemory, Text, Tree};
-use kmip_words::{Ending, Settings, left_for, link_over, push_internal_error, show_error};
+use kmip_words::{Ending, Settings, show_failure};
 use std::alloc::Global;
 
 /// Adds a tree as a line of JSON: `{"answer":TREE}`.
 #[tactic(auto, using(std::proofs::lemmas::List::append_assoc))]
 fn push_tree(alloc: Global, tree: &Tree, line: &mut Vec<u8>) -> Result<(), OutOfMemory>
-    ensures { OnOk result
+    ensures line { OnOk result
         (line.new.items ≡ line.old.items ++ value_line (json_text tree.now) Json) }
+    ensures utf8 { OnOk result (IsUtf8 (value_line (json_text tree.now) Json)) }
 {
     line.extend_from_slice(b"{\"answer\":")?;
     to_json(alloc, tree, line)?;
@@ -30,37 +31,36 @@ fn push_tree(alloc: Global, tree: &Tree, line: &mut Vec<u8>) -> Result<(), OutOf
 }
 
 /// Adds an error as a line of JSON, and returns how the call ended. `first` is the message that was
-/// taken.
+/// taken, and `operation` that of the call, `None` for a message of the caller's.
 fn push_error(
     alloc: Global,
+    operation: Option<Operation>,
     error: &Error,
     first: &[u8],
     line: &mut Text,
 ) -> Result<Ending, OutOfMemory>
     ensures { IfOk result
-        (λ ending. TellsTree (Err error.now) first.now ending line.old line.new) }
+        (λ ending. TellsTree operation (Err error.now) first.now ending line.old line.new) }
 {
     lines_are_json();
-    match error {
-        Error::InternalError(text) => {
-            push_internal_error(alloc, text.as_str(), first, line)?;
-            Ok(Ending::Refused)
-        }
-        _ => show_error(alloc, Style::Json, error, line),
-    }
+    line.as_str();
+    let told = show_failure(alloc, operation, error, first, line);
+    line.as_str();
+    told
 }
 
 /// Adds the line of what a call is answered with, and returns how the call ended. `first` is the
-/// message that was taken. Its only error is `OutOfMemory`; then a part of the line may have been
-/// added.
+/// message that was taken, and `operation` that of the call, `None` for a message of the caller's.
+/// Its only error is `OutOfMemory`; then a part of the line may have been added.
 fn push_answer(
     alloc: Global,
+    operation: Option<Operation>,
     answer: Result<Tree, Error>,
     first: &[u8],
     line: &mut Vec<u8>,
 ) -> Result<Ending, OutOfMemory>
     ensures { IfOk result
-        (λ ending. TellsTree answer first.now ending line.old.items line.new.items) }
+        (λ ending. TellsTree operation answer first.now ending line.old.items line.new.items) }
 {
     lines_are_json();
     match answer {
@@ -71,20 +71,11 @@ fn push_answer(
         }
         Err(error) => {
             let mut text = Text::new(alloc);
-            let ending = push_error(alloc, &error, first, &mut text)?;
+            let ending = push_error(alloc, operation, &error, first, &mut text)?;
             line.extend_from_slice(text.as_str().as_bytes())?;
             Ok(ending)
         }
     }
-}
-
-/// What some bytes answer to a call.
-#[derive(Drop)]
-pub struct TreeReply {
-    /// The payload of the response, or the whole response to a message; or why there is none.
-    pub answer: Result<Tree, Error>,
-    /// How many of the bytes the answer depends on.
-    pub taken: usize,
 }
 
 /// How a call ended, and the line of its answer.
@@ -92,49 +83,44 @@ pub struct TreeReply {
 pub struct TreeAnswer {
     /// Whether it returned an error, and whether the connection is good for the next call.
     pub ending: Ending,
-    /// The line of JSON, with its line feed.
+    /// The line of JSON in UTF-8, with its line feed.
     pub line: Vec<u8>,
 }
 
-/// How a call ended with this reply to a response, and its line.
-pub fn told(alloc: Global, reply: TreeReply, response: &[u8]) -> Result<TreeAnswer, OutOfMemory>
-    requires { reply.taken ≤ length response.now }
-    ensures { IfOk result (λ answer. TellsTree reply.answer (take reply.taken response.now)
-        answer.ending [] answer.line.items) }
+/// How a call of this operation ended with this reading of a response, and its line; of a message
+/// of the caller's where `operation` is `None`.
+pub fn told(
+    alloc: Global,
+    operation: Option<Operation>,
+    reading: Reading<Tree>,
+    response: &[u8],
+) -> Result<TreeAnswer, OutOfMemory>
+    requires { reading.taken ≤ length response.now }
+    ensures { IfOk result (λ answer. TellsTree operation reading.answer
+        (take reading.taken response.now) answer.ending [] answer.line.items) }
 {
-    let TreeReply { answer, taken } = reply;
+    let Reading { answer, taken } = reading;
     let mut line = Vec::new(alloc);
-    let ending = push_answer(alloc, answer, &response[..taken], &mut line)?;
+    let ending = push_answer(alloc, operation, answer, &response[..taken], &mut line)?;
     Ok(TreeAnswer { ending, line })
 }
 
-/// What these bytes answer to a call.
-fn reply_of(
-    alloc: Global,
-    settings: &Settings,
-    call: &OperationCall,
-    response: &[u8],
-) -> Result<TreeReply, OutOfMemory>
-    ensures outcome { IfOk result (λ reply. IsTreeReply reply.answer
-        (take reply.taken response.now)
-        (operation_outcome settings.now (request_of call.now) response.now) response.now) }
-    ensures within { IfOk result (λ reply. reply.taken ≤ length response.now) }
-{
-    let mut client = settings.client(alloc, link_over(alloc, response)?)?;
-    let answer = client.do_operation(alloc, call.operation, call.version, &call.payload);
-    let taken = response.len() - left_for(&mut client);
-    Ok(TreeReply { answer, taken })
-}
-
 /// The answer that these bytes are to a call, as a line of JSON, and how the call ended: what a
-/// client with these settings returns over a link with these bytes to read. It depends on no byte
-/// after the first message.
+/// client with these settings returns, once the request was sent, over a link with these bytes to
+/// read. It depends on no byte after the first message.
 ///
 /// The line is `{"answer":TREE}` with the payload of the response, or
 /// `{"error":"ServerError","text":".."}` with the name of the error's variant and its text. The
-/// line of an `InternalError` also has the member `response`, the skeleton of the first message as
-/// kmip_diag prints it, and where that reports failure `reason`, the number of the server's reason,
-/// and `message`, the server's text, as far as they stand in it.
+/// line of a `ServerError` or an `ItemNotFound` has what the response says of the failure, as far
+/// as it stands in it: the members `reason`, an object with the `name` of the server's reason, where
+/// it is one of KMIP 1.2, and its `number`; and `message`, the server's text. That of an
+/// `InternalError` has them too, and before them the member `response`, the skeleton of the first
+/// message as kmip_diag prints it.
+///
+/// A response that is none to the call belongs to another one, and so may the next response: the
+/// call ended as `Lost`. Such is one that is no response message of one batch item, one that names
+/// another operation, and a success that names none. The line of a failure of another operation has
+/// the error `InternalError`, and a text that names both operations.
 pub fn operation_answer(
     alloc: Global,
     settings: &Settings,
@@ -147,6 +133,6 @@ pub fn operation_answer(
         operation_ending settings.now (request_of call.now) response.now) }
     ensures json { IfOk result (λ answer. IsTextLine answer.line.items) }
 {
-    let reply = reply_of(alloc, settings, call, response)?;
-    told(alloc, reply, response)
+    let reading = read_operation_response(alloc, call.operation, response, settings.limit());
+    told(alloc, Some(call.operation), reading, response)
 }

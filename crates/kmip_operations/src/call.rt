@@ -3,12 +3,13 @@ ghost use Rattle.std.specs.Prelude.{◌≡◌, IfOk, MatchOption, Result};
 ghost use Rattle.kmip_wire.specs.Tree.{Tree as TheTree};
 ghost use Rattle.kmip_client.specs.Operation.{TreeRequest};
 ghost use Rattle.kmip_operations.specs.Calls.{operation_named, version_written, is_structure};
-ghost use Rattle.kmip_operations.specs.Calls.{IsStructureText, Asks, request_of};
+ghost use Rattle.kmip_operations.specs.Calls.{is_empty_identifier, has_empty_identifier};
+ghost use Rattle.kmip_operations.specs.Calls.{IsStructureText, IsPayloadText, Asks, request_of};
 
 use kmip_client::Version;
 use kmip_encodings::{EncodingError, enumeration_number, from_json};
 use kmip_enums::{Enumeration, Operation};
-use kmip_tags::tags::{OPERATION, REQUEST_PAYLOAD};
+use kmip_tags::tags::{OPERATION, REQUEST_PAYLOAD, UNIQUE_IDENTIFIER};
 use kmip_wire::{Node, OutOfMemory, Tag, Tree};
 use std::alloc::Global;
 
@@ -43,7 +44,7 @@ pub fn version_written(text: &str) -> Option<Version>
 }
 
 /// Whether an item is a structure with this tag.
-fn is_structure(tree: &Tree, tag: u32) -> bool
+pub(crate) fn is_structure(tree: &Tree, tag: u32) -> bool
     ensures { result ≡ is_structure tag tree.now }
 {
     match &tree.node {
@@ -70,10 +71,51 @@ pub fn structure_of(alloc: Global, text: &str, tag: u32) -> Result<Option<Tree>,
     }
 }
 
+/// Whether an item is an empty Unique Identifier.
+fn is_empty_identifier(tree: &Tree) -> bool
+    ensures { result ≡ is_empty_identifier tree.now }
+{
+    match &tree.node {
+        Node::TextString(text) => {
+            tree.tag.number() == UNIQUE_IDENTIFIER && text.as_str().is_empty()
+        }
+        _ => false,
+    }
+}
+
+/// Whether an empty Unique Identifier stands in a payload.
+fn has_empty_identifier(payload: &Tree) -> bool
+    ensures { result ≡ has_empty_identifier payload.now }
+{
+    match &payload.node {
+        Node::Structure(items) => items
+            .as_slice()
+            .iter()
+            .any(|item| is_empty_identifier(item)),
+        _ => false,
+    }
+}
+
+/// The payload whose JSON a text is, and in which no identifier is empty.
+pub(crate) fn payload_of(alloc: Global, text: &str) -> Result<Option<Tree>, OutOfMemory>
+    ensures { IfOk result (λ tree. MatchOption tree
+        ((t : TheTree) → IsPayloadText text.now t → ⊥) (IsPayloadText text.now)) }
+{
+    let Some(payload) = structure_of(alloc, text, REQUEST_PAYLOAD)? else {
+        return Ok(None);
+    };
+    if has_empty_identifier(&payload) {
+        return Ok(None);
+    }
+    Ok(Some(payload))
+}
+
 /// The call of an operation. `name` is the operation's name, as `Encrypt`, `Rekey` or
 /// `MACVerify`; `version` is `1.0`, `1.1` or `1.2`; `payload` is the JSON of a structure with the
 /// tag `RequestPayload`, as kmip_encodings reads it: any of the names, types and values that it
-/// has, in at most 64 levels. `None` exactly where one of the three is not so.
+/// has, in at most 64 levels, and with no empty Unique Identifier in it, which a server may take for
+/// that of another object: who means one sends a message. `None` exactly where one of the three is
+/// not so.
 pub fn operation_call(
     alloc: Global,
     name: &str,
@@ -90,7 +132,7 @@ pub fn operation_call(
     let Some(version) = version_written(version) else {
         return Ok(None);
     };
-    let Some(payload) = structure_of(alloc, payload, REQUEST_PAYLOAD)? else {
+    let Some(payload) = payload_of(alloc, payload)? else {
         return Ok(None);
     };
     Ok(Some(OperationCall {

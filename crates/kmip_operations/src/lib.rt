@@ -12,12 +12,12 @@ mod answer;
 mod call;
 mod laws;
 mod message;
+mod refusal;
 mod request;
-#[cfg(test)]
-mod tests;
 
 pub use answer::{TreeAnswer, operation_answer};
 pub use call::{OperationCall, operation_call, operation_named, version_written};
-pub use laws::lines_are_json;
+pub use laws::{lines_are_json, responses_are_outcomes};
 pub use message::{message_answer, message_of, message_request};
+pub use refusal::{message_refusal, payload_refusal};
 pub use request::operation_request;

@@ -29,7 +29,7 @@ use std::alloc::Global;
 pub enum RequestReadError {
     /// The bytes are not exactly one well-formed item.
     Malformed,
-    /// The bytes are one well-formed item, but not a request as a client writes it.
+    /// The bytes are one well-formed item, but no matched request has these bytes.
     NotCanonical,
     /// Out of memory. The bytes may be a request or not.
     OutOfMemory,

@@ -154,7 +154,10 @@ fn activation_date(rt: HostRuntime) {
 fn object_group(rt: HostRuntime) {
     let alloc = rt.alloc();
     let attribute = made(&rt, Attribute::ObjectGroup(alloc, text(&rt, alloc, "g")));
-    let expected = r#"08{0A "Object Group",0B "g"}"#;
+    let expected = concat!(
+        "!420008010000002842000A070000000C4F626A6563742047726F757000000000",
+        "42000B07000000016700000000000000",
+    );
     is_made(&rt, alloc, attribute, expected);
 }
 

@@ -3,23 +3,22 @@
 //! Memory is ample, so what makes a payload here has no error to pass on: that keeps the proof of these functions short.
 
 use bitflags::Flags;
-use kmip_enums::{ObjectType, QueryFunction, RevocationReasonCode};
+use kmip_enums::{ObjectType, RevocationReasonCode};
 use kmip_request::{
     Attribute, Authentication, CommonTemplateAttribute, EncryptionKeyInformation,
     IVOrCounterOrNonce, KeyBlock, KeyValue, KeyWrappingData, KeyWrappingSpecification,
     MACOrSignature, MACOrSignatureKeyInformation, ManagedObject, PrivateKey,
-    PrivateKeyTemplateAttribute, ProtocolVersion, ProtocolVersionMajor, ProtocolVersionMinor,
-    PublicKey, PublicKeyTemplateAttribute, RequestPayload, RevocationReason, SymmetricKey,
-    Template, TemplateAttribute, to_vec, write_request_into,
+    PrivateKeyTemplateAttribute, PublicKeyTemplateAttribute, RequestPayload, RevocationReason,
+    SymmetricKey, TemplateAttribute, to_vec, write_request_into,
 };
+use kmip_request_read::from_slice;
 use kmip_test_messages::message;
 use kmip_types::auth::{CredentialType, UsernameAndPasswordCredential};
 use kmip_types::{
     AttributeIndex, AttributeName, AttributeValue, BlockCipherMode, CompromiseOccurrenceDate,
     CryptographicAlgorithm, CryptographicLength, CryptographicParameters, CryptographicUsageMask,
-    Data, DataLength, HashingAlgorithm, KeyCompressionType, KeyFormatType, KeyMaterial,
-    PaddingMethod, RevocationMessage, TransparentRSAPublicKey, UniqueIdentifier, Values,
-    WrappingMethod,
+    Data, HashingAlgorithm, KeyCompressionType, KeyFormatType, KeyMaterial, PaddingMethod,
+    RevocationMessage, UniqueIdentifier, Values, WrappingMethod,
 };
 use kmip_wire::{Blob, Boxed, Buffer, List, OutOfMemory, Text, TryClone, WireError};
 use std::alloc::AllocGlobal;
@@ -119,6 +118,67 @@ fn register(object_type: ObjectType, object: ManagedObject) -> RequestPayload {
     RequestPayload::Register(object_type, TemplateAttribute(None, None), Some(object))
 }
 
+/// Requests, each with its name.
+const REQUESTS: &[(&str, &str)] = &[
+    (
+        "Register, of a template",
+        r#"REQ0(3, 57 e6,91{},90{08{0A "Object Group",0B "g"}})"#,
+    ),
+    (
+        "Register, of a transparent key",
+        "REQ0(3, 57 e3,91{},6D{40{42 eB,45{43{52 b0000000000C5A1B3,6C b0000000000010001}}}})",
+    ),
+    (
+        "Locate, by an object type",
+        r#"REQ0(8, 08{0A "Object Type",0B e4})"#,
+    ),
+    ("Get Attributes", r#"REQ0(B, 94 "k1",0A "Name",0A "State")"#),
+    ("Get Attribute List", r#"REQ0(C, 94 "k1")"#),
+    (
+        "Add Attribute",
+        r#"REQ0(D, 94 "k1",08{0A "Object Group",0B "g"})"#,
+    ),
+    (
+        "Modify Attribute",
+        r#"REQ0(E, 94 "k1",08{0A "Name",0B{55 "my key",54 e1}})"#,
+    ),
+    ("Activate", r#"REQ0(12, 94 "k1")"#),
+    ("Activate, without an identifier", "REQ0(12, )"),
+    ("Destroy", r#"REQ0(14, 94 "k1")"#),
+    ("Query", "REQ2(18, 74 e1,74 e2,74 e3)"),
+    ("Discover Versions", "REQ1(1E, 69{6A i1,6B i2})"),
+    (
+        "Create Key Pair, of RSA keys",
+        r#"REQ0(2, 1F{08{0A "Cryptographic Algorithm",0B e4},08{0A "Cryptographic Length",0B i2048}},65{08{0A "Name",0B{55 "priv",54 e1}},08{0A "Cryptographic Usage Mask",0B i1}},6E{08{0A "Name",0B{55 "pub",54 e1}},08{0A "Cryptographic Usage Mask",0B i2}})"#,
+    ),
+    (
+        "Register, of a private key",
+        "REQ0(3, 57 e4,91{},64{40{42 e4,45{43 xCC}}})",
+    ),
+    ("Activate, of an empty identifier", r#"REQ0(12, 94 "")"#),
+    ("Discover Versions, of none", "REQ1(1E, )"),
+    (
+        "Locate, by a Big Integer of eight bytes",
+        r#"REQ0(8, 08{0A "x-a",0B b0000000000000000})"#,
+    ),
+    ("RNG Retrieve", "REQ2(25, C4 i16)"),
+];
+
+/// The bytes are read as a request without a credential that is written as the same bytes.
+fn is_read_and_written(rt: &(impl Abort + AllocGlobal), name: &str, notation: &str) {
+    let bytes = message(rt.alloc(), notation).expect(rt, name);
+    let (payload, credential) = from_slice(rt.alloc(), &bytes).expect(rt, name);
+    assert!(rt; credential.is_none(), "{name}");
+    is_written(rt, payload, notation);
+}
+
+#[test]
+fn requests_are_read_and_written(rt: HostRuntime) {
+    for (name, notation) in REQUESTS {
+        is_read_and_written(&rt, name, notation);
+    }
+}
+
 const CREATE: &str =
     r#"REQ0(1, 57 e2,91{08{0A "Cryptographic Algorithm",0B e3},08{0A "Cryptographic Length",0B i128},08{0A "Cryptographic Usage Mask",0B i12}})"#;
 
@@ -180,42 +240,7 @@ fn register_a_key(rt: HostRuntime) {
     is_written(&rt, register(ObjectType::SymmetricKey, key), REGISTER_A_KEY);
 }
 
-const REGISTER_A_TEMPLATE: &str = r#"REQ0(3, 57 e6,91{},90{08{0A "Object Group",0B "g"}})"#;
-
-#[test]
-fn register_a_template(rt: HostRuntime) {
-    let template = ManagedObject::Template(Template(list(&rt, [group(&rt, "g")])));
-    is_written(
-        &rt,
-        register(ObjectType::Template, template),
-        REGISTER_A_TEMPLATE,
-    );
-}
-
-const REGISTER_A_TRANSPARENT_KEY: &str =
-    "REQ0(3, 57 e3,91{},6D{40{42 eB,45{43{52 b0000000000C5A1B3,6C b0000000000010001}}}})";
-
-#[test]
-fn register_a_transparent_key(rt: HostRuntime) {
-    let material = KeyMaterial::TransparentRSAPublicKey(TransparentRSAPublicKey {
-        modulus: blob(&rt, &[0, 0, 0, 0, 0, 0xC5, 0xA1, 0xB3]),
-        public_exponent: blob(&rt, &[0, 0, 0, 0, 0, 1, 0, 1]),
-    });
-    let block = block(&rt, KeyFormatType::TransparentRSAPublicKey, material);
-    let key = ManagedObject::PublicKey(PublicKey(block));
-    is_written(
-        &rt,
-        register(ObjectType::PublicKey, key),
-        REGISTER_A_TRANSPARENT_KEY,
-    );
-}
-
 const LOCATE: &str = r#"REQ0(8, 08{0A "Object Type",0B e4})"#;
-
-#[test]
-fn locate(rt: HostRuntime) {
-    is_written(&rt, RequestPayload::Locate(private_keys(&rt)), LOCATE);
-}
 
 const GET: &str = r#"REQ0(A, 94 "k1",42 e1,41 e1,47{9E e1,36{94 "w1",2B{11 eD}},4E{94 "w2"}})"#;
 
@@ -239,45 +264,12 @@ fn get(rt: HostRuntime) {
     is_written(&rt, payload, GET);
 }
 
-const GET_ATTRIBUTES: &str = r#"REQ0(B, 94 "k1",0A "Name",0A "State")"#;
-
-#[test]
-fn get_attributes(rt: HostRuntime) {
-    let names = list(&rt, [name(&rt, "Name"), name(&rt, "State")]);
-    let payload = RequestPayload::GetAttributes(Some(id(&rt, "k1")), Some(names));
-    is_written(&rt, payload, GET_ATTRIBUTES);
-}
-
 const AN_EMPTY_LIST_WRITES_NOTHING: &str = "REQ0(B, )";
 
 #[test]
 fn an_empty_list_writes_nothing(rt: HostRuntime) {
     let payload = RequestPayload::GetAttributes(None, Some(List::new(rt.alloc())));
     is_written(&rt, payload, AN_EMPTY_LIST_WRITES_NOTHING);
-}
-
-const GET_ATTRIBUTE_LIST: &str = r#"REQ0(C, 94 "k1")"#;
-
-#[test]
-fn get_attribute_list(rt: HostRuntime) {
-    let payload = RequestPayload::GetAttributeList(Some(id(&rt, "k1")));
-    is_written(&rt, payload, GET_ATTRIBUTE_LIST);
-}
-
-const ADD_ATTRIBUTE: &str = r#"REQ0(D, 94 "k1",08{0A "Object Group",0B "g"})"#;
-
-#[test]
-fn add_attribute(rt: HostRuntime) {
-    let payload = RequestPayload::AddAttribute(Some(id(&rt, "k1")), group(&rt, "g"));
-    is_written(&rt, payload, ADD_ATTRIBUTE);
-}
-
-const MODIFY_ATTRIBUTE: &str = r#"REQ0(E, 94 "k1",08{0A "Name",0B{55 "my key",54 e1}})"#;
-
-#[test]
-fn modify_attribute(rt: HostRuntime) {
-    let payload = RequestPayload::ModifyAttribute(Some(id(&rt, "k1")), named(&rt, "my key"));
-    is_written(&rt, payload, MODIFY_ATTRIBUTE);
 }
 
 const DELETE_ATTRIBUTE: &str = r#"REQ0(F, 94 "k1",0A "x-a",09 i1)"#;
@@ -287,24 +279,6 @@ fn delete_attribute(rt: HostRuntime) {
     let index = Some(AttributeIndex(1));
     let payload = RequestPayload::DeleteAttribute(Some(id(&rt, "k1")), name(&rt, "x-a"), index);
     is_written(&rt, payload, DELETE_ATTRIBUTE);
-}
-
-const ACTIVATE: &str = r#"REQ0(12, 94 "k1")"#;
-
-#[test]
-fn activate(rt: HostRuntime) {
-    is_written(&rt, RequestPayload::Activate(Some(id(&rt, "k1"))), ACTIVATE);
-}
-
-const ACTIVATE_WITHOUT_AN_IDENTIFIER: &str = "REQ0(12, )";
-
-#[test]
-fn activate_without_an_identifier(rt: HostRuntime) {
-    is_written(
-        &rt,
-        RequestPayload::Activate(None),
-        ACTIVATE_WITHOUT_AN_IDENTIFIER,
-    );
 }
 
 const REVOKE: &str = r#"REQ0(13, 94 "k1",81{82 e6,80 "why"},21 d5)"#;
@@ -318,34 +292,6 @@ fn revoke(rt: HostRuntime) {
     is_written(&rt, payload, REVOKE);
 }
 
-const DESTROY: &str = r#"REQ0(14, 94 "k1")"#;
-
-#[test]
-fn destroy(rt: HostRuntime) {
-    is_written(&rt, RequestPayload::Destroy(Some(id(&rt, "k1"))), DESTROY);
-}
-
-const QUERY: &str = "REQ2(18, 74 e1,74 e2,74 e3)";
-
-#[test]
-fn query(rt: HostRuntime) {
-    let functions = [
-        QueryFunction::QueryOperations,
-        QueryFunction::QueryObjects,
-        QueryFunction::QueryServerInformation,
-    ];
-    is_written(&rt, RequestPayload::Query(list(&rt, functions)), QUERY);
-}
-
-const DISCOVER_VERSIONS: &str = "REQ1(1E, 69{6A i1,6B i2})";
-
-#[test]
-fn discover_versions(rt: HostRuntime) {
-    let version = ProtocolVersion(ProtocolVersionMajor(1), ProtocolVersionMinor(2));
-    let payload = RequestPayload::DiscoverVersions(list(&rt, [version]));
-    is_written(&rt, payload, DISCOVER_VERSIONS);
-}
-
 const SIGN: &str = r#"REQ2(21, 94 "k1",2B{5F e8,38 e6,28 e4},C2 x0102)"#;
 
 #[test]
@@ -357,81 +303,6 @@ fn sign(rt: HostRuntime) {
     let data = Data(blob(&rt, b"\x01\x02"));
     let payload = RequestPayload::Sign(Some(id(&rt, "k1")), Some(parameters), data);
     is_written(&rt, payload, SIGN);
-}
-
-const RSA_KEY_PAIR: &str =
-    r#"REQ0(2, 1F{08{0A "Cryptographic Algorithm",0B e4},08{0A "Cryptographic Length",0B i2048}},65{08{0A "Name",0B{55 "priv",54 e1}},08{0A "Cryptographic Usage Mask",0B i1}},6E{08{0A "Name",0B{55 "pub",54 e1}},08{0A "Cryptographic Usage Mask",0B i2}})"#;
-
-#[test]
-fn rsa_key_pair(rt: HostRuntime) {
-    let common = [
-        algorithm(&rt, CryptographicAlgorithm::RSA),
-        length(&rt, 2048),
-    ];
-    let private = [named(&rt, "priv"), usage(&rt, CryptographicUsageMask::Sign)];
-    let public = [
-        named(&rt, "pub"),
-        usage(&rt, CryptographicUsageMask::Verify),
-    ];
-    let payload = RequestPayload::CreateKeyPair(
-        Some(CommonTemplateAttribute::unnamed(list(&rt, common))),
-        Some(PrivateKeyTemplateAttribute::unnamed(list(&rt, private))),
-        Some(PublicKeyTemplateAttribute::unnamed(list(&rt, public))),
-    );
-    is_written(&rt, payload, RSA_KEY_PAIR);
-}
-
-const REGISTER_A_PRIVATE_KEY: &str = "REQ0(3, 57 e4,91{},64{40{42 e4,45{43 xCC}}})";
-
-#[test]
-fn register_a_private_key(rt: HostRuntime) {
-    let block = block(
-        &rt,
-        KeyFormatType::PKCS8,
-        KeyMaterial::Bytes(blob(&rt, b"\xCC")),
-    );
-    let key = ManagedObject::PrivateKey(PrivateKey(block));
-    is_written(
-        &rt,
-        register(ObjectType::PrivateKey, key),
-        REGISTER_A_PRIVATE_KEY,
-    );
-}
-
-const ACTIVATE_AN_EMPTY_IDENTIFIER: &str = r#"REQ0(12, 94 "")"#;
-
-#[test]
-fn activate_an_empty_identifier(rt: HostRuntime) {
-    let payload = RequestPayload::Activate(Some(id(&rt, "")));
-    is_written(&rt, payload, ACTIVATE_AN_EMPTY_IDENTIFIER);
-}
-
-const DISCOVER_VERSIONS_OF_NONE: &str = "REQ1(1E, )";
-
-#[test]
-fn discover_versions_of_none(rt: HostRuntime) {
-    let payload = RequestPayload::DiscoverVersions(List::new(rt.alloc()));
-    is_written(&rt, payload, DISCOVER_VERSIONS_OF_NONE);
-}
-
-const BIG_INTEGER_OF_EIGHT_BYTES: &str = r#"REQ0(8, 08{0A "x-a",0B b0000000000000000})"#;
-
-#[test]
-fn big_integer_of_eight_bytes(rt: HostRuntime) {
-    let value = AttributeValue::BigInteger(blob(&rt, &[0; 8]));
-    let payload = RequestPayload::Locate(list(&rt, [Attribute(name(&rt, "x-a"), None, value)]));
-    is_written(&rt, payload, BIG_INTEGER_OF_EIGHT_BYTES);
-}
-
-const RNG_RETRIEVE: &str = "REQ2(25, C4 i16)";
-
-#[test]
-fn rng_retrieve(rt: HostRuntime) {
-    is_written(
-        &rt,
-        RequestPayload::RNGRetrieve(DataLength(16)),
-        RNG_RETRIEVE,
-    );
 }
 
 const WITH_A_CREDENTIAL: &str =

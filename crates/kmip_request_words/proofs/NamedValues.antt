@@ -3,6 +3,7 @@ use Rattle.std.proofs.Common.{◌≡◌, ◌≤◌, ℕ, List, [], ◌∷◌, �
 use Rattle.std.specs.List.{starts_with}
 use Rattle.std.proofs.lemmas.Slice.Eq.{starts_is}
 use Rattle.std.proofs.lemmas.Bool.Decides.{Decides-eqb}
+use Rattle.kmip_request_words.specs.Complaints.{value_after}
 use Rattle.kmip_request_words.specs.Options.{Given, option_given, value_given, name_given}
 
 -- a list that is not empty
@@ -85,3 +86,24 @@ value_later name word words some at not =
     let whole : words ≡ word ∷ drop 1 words =
     first_and_rest words word some ∙ ap (λ (w : List ℕ). w ∷ drop 1 words) (sym at) in
     sym (ap (value_given name) whole ∙ value_not name word (drop 1 words) not)
+
+-- a word that begins with a name, and one that does not
+pub after_here : (name word value : List ℕ) (n : ℕ) → n ≡ length name → word ≡ name ++ drop n word
+    → value ≡ drop n word → Some value ≡ value_after name word
+after_here name word value n size is value_is =
+    rw ((starts_is Decides-eqb word name (starts_with nat_eq word name) refl).1 (drop n word) is)
+    (ap (λ (v : List ℕ). Some v) (value_is ∙ ap (λ (k : ℕ). drop k word) size))
+
+abbrev nothing : Option (List ℕ)
+nothing = None
+
+pub after_not : (name word : List ℕ) → ((rest : List ℕ) → word ≡ name ++ rest → ⊥)
+    → nothing ≡ value_after name word
+after_not name word not =
+    elim (starts_with nat_eq word name) as
+    (λ b. starts_with nat_eq word name ≡ b
+    → nothing ≡ cond b (Some (drop (length name) word)) nothing) [
+      | true ↦ λ e. absurd (not (drop (length name) word)
+          ((starts_is Decides-eqb word name (starts_with nat_eq word name) refl).0 e))
+      | false ↦ λ e. refl
+    ] refl

@@ -171,6 +171,14 @@ get_asked (id ∷ options) =
     else None
 get_asked [] = None
 
+-- ---- `locate [where] ATTRIBUTE..`
+
+-- the attributes: what stands after the word `where`, which may be left out where the words are not
+-- one
+abbrev pub after_where : List (List ℕ) → List (List ℕ)
+after_where (word ∷ words) = if bytes_eq word (codes "where") then words else word ∷ words
+after_where [] = []
+
 -- ---- `attributes ID NAME..`
 
 abbrev pub attributes_with : Option (List ℕ) → Option (List AttributeName) → Option RequestPayload
@@ -239,7 +247,7 @@ asked_by name words =
     else if bytes_eq name (codes "revoke") then revoke_asked words
     else if bytes_eq name (codes "get") then get_asked words
     else if bytes_eq name (codes "locate")
-    then option_map RequestPayload.Locate (all_of attribute_in words)
+    then option_map RequestPayload.Locate (all_of attribute_in (after_where words))
     else if bytes_eq name (codes "attributes") then attributes_asked words
     else edit_asked name words
 

@@ -7,3 +7,7 @@ pub mod Attributes
 pub mod Given
 pub mod Keys
 pub mod Asked
+pub mod Refusals
+pub mod Grammar
+pub mod Kinds
+pub mod Complaints

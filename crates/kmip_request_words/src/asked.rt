@@ -28,7 +28,7 @@ use kmip_wire::{Boxed, OutOfMemory, Text};
 use std::alloc::Global;
 
 /// The hashing algorithms: KMIP 1.0, 9.1.3.2.15.
-const HASHES: &[HashingAlgorithm] = &[
+pub const HASHES: &[HashingAlgorithm] = &[
     HashingAlgorithm::MD2,
     HashingAlgorithm::MD4,
     HashingAlgorithm::MD5,
@@ -43,7 +43,7 @@ const HASHES: &[HashingAlgorithm] = &[
 ];
 
 /// The padding methods: KMIP 1.0, 9.1.3.2.14.
-const PADDINGS: &[PaddingMethod] = &[
+pub const PADDINGS: &[PaddingMethod] = &[
     PaddingMethod::None,
     PaddingMethod::OAEP,
     PaddingMethod::PKCS5,
@@ -57,7 +57,7 @@ const PADDINGS: &[PaddingMethod] = &[
 ];
 
 /// The reasons for a revocation: KMIP 1.0, 9.1.3.2.18.
-const REASONS: &[RevocationReasonCode] = &[
+pub const REASONS: &[RevocationReasonCode] = &[
     RevocationReasonCode::Unspecified,
     RevocationReasonCode::KeyCompromise,
     RevocationReasonCode::CACompromise,
@@ -270,12 +270,29 @@ fn get_asked(alloc: Global, words: &[Text]) -> Result<Option<RequestPayload>, Ou
     Ok(Some(RequestPayload::Get(Some(UniqueIdentifier(id)), format, None, wrapping)))
 }
 
+/// The words of attributes: what stands after `where`, which may be left out.
+pub fn after_where(words: &[Text]) -> &[Text]
+    ensures { result.now ≡ asked.after_where words.now }
+{
+    match words {
+        [word, rest @ ..] => {
+            if word.as_str() == "where" {
+                rest
+            } else {
+                words
+            }
+        }
+        [] => words,
+    }
+}
+
 /// `locate` with the attributes that the objects are to have; without any it asks for all objects:
 /// KMIP 1.0, 4.8.
 fn locate_asked(alloc: Global, words: &[Text]) -> Result<Option<RequestPayload>, OutOfMemory>
-    ensures { IfOk result (λ made. made ≡ option_map Payload.Locate (all_of attribute_in words.now)) }
+    ensures { IfOk result (λ made. made ≡
+        option_map Payload.Locate (all_of attribute_in (asked.after_where words.now))) }
 {
-    match attributes_in(alloc, words)? {
+    match attributes_in(alloc, after_where(words))? {
         Some(attributes) => Ok(Some(RequestPayload::Locate(attributes))),
         None => Ok(None),
     }

@@ -21,7 +21,7 @@ use kmip_wire::{List, OutOfMemory, Text};
 use std::alloc::Global;
 
 /// The types of objects: KMIP 1.0, 9.1.3.2.11.
-const OBJECT_TYPES: &[ObjectType] = &[
+pub const OBJECT_TYPES: &[ObjectType] = &[
     ObjectType::Certificate,
     ObjectType::SymmetricKey,
     ObjectType::PublicKey,
@@ -34,7 +34,7 @@ const OBJECT_TYPES: &[ObjectType] = &[
 ];
 
 /// The states of objects: KMIP 1.0, 9.1.3.2.17.
-const STATES: &[State] = &[
+pub const STATES: &[State] = &[
     State::PreActive,
     State::Active,
     State::Deactivated,

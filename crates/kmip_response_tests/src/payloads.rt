@@ -10,7 +10,6 @@ use kmip_test_messages::message;
 use kmip_wire::{Text, TryClone};
 use std::alloc::Global;
 use std::process::Abort;
-use std::test::Fail;
 
 /// A structure in the notation, and what it shows as where it is read.
 #[derive(Drop)]
@@ -19,29 +18,52 @@ struct Case {
     shown: Option<&'static str>,
 }
 
+/// The bytes of items in the notation of kmip_test_messages.
+pub fn bytes_of(rt: &impl Abort, alloc: Global, notation: &str) -> Vec<u8> {
+    message(alloc, notation).expect(rt, "the notation of messages")
+}
+
+/// The value of a structure, where it is read. Here and below each function ends the run where
+/// something is wrong, so that no test has a way out at which it drops the values that it holds.
+fn read<T: ReadRoot>(rt: &impl Abort, alloc: Global, notation: &str) -> Option<T> {
+    let bytes = bytes_of(rt, alloc, notation);
+    match from_slice::<T>(alloc, bytes.as_slice()) {
+        Ok(value) => Some(value),
+        Err(ResponseError::Unread) => None,
+        Err(_) => panic!(rt; "{notation}: read otherwise"),
+    }
+}
+
+/// The value is shown as this text, and has a copy that equals it.
+fn is_shown<T: ShowItem + TryClone + PartialEq + Drop>(
+    rt: &impl Abort,
+    alloc: Global,
+    value: &T,
+    shown: &str,
+) {
+    let mut text = Text::new(alloc);
+    value.show(alloc, &mut text).expect(rt, "memory");
+    assert_eq!(rt; text.as_str(), shown);
+    let copy = value.try_clone(alloc).expect(rt, "memory");
+    assert!(rt; copy == *value, "{shown}");
+}
+
 /// Each structure is read exactly where it shows something, and what is read has a copy that equals it.
 fn are_read<T: ReadRoot + ShowItem + TryClone + PartialEq>(
     rt: &impl Abort,
     alloc: Global,
     cases: &[Case],
-) -> Result<(), Fail> {
+) {
     for case in cases {
-        let bytes = message(alloc, case.notation)?;
-        match (from_slice::<T>(alloc, bytes.as_slice()), case.shown) {
-            (Ok(value), Some(shown)) => {
-                let mut text = Text::new(alloc);
-                value.show(alloc, &mut text)?;
-                assert_eq!(rt; text.as_str(), shown, "{}", case.notation);
-                assert!(rt; value.try_clone(alloc)? == value, "{}", case.notation);
-            }
-            (Err(ResponseError::Unread), None) => {}
-            _ => panic!(rt; "{}: read otherwise", case.notation),
+        let value = read::<T>(rt, alloc, case.notation);
+        match case.shown {
+            Some(shown) => is_shown(rt, alloc, &value.expect(rt, case.notation), shown),
+            None => assert!(rt; value.is_none(), "{}", case.notation),
         }
     }
-    Ok(())
 }
 
-const CREATED: [Case; 4] = [
+const CREATED: &[Case] = &[
     Case {
         notation: r#"7C{57 e2,94 "k1"}"#,
         shown: Some("{object_type=SymmetricKey,unique_identifier=\"k1\"}"),
@@ -63,21 +85,21 @@ const CREATED: [Case; 4] = [
 ];
 
 #[test]
-fn reads_create(rt: HostRuntime) -> Result<(), Fail> {
-    are_read::<CreateResponsePayload>(&rt, rt.alloc(), &CREATED)
+fn reads_create(rt: HostRuntime) {
+    are_read::<CreateResponsePayload>(&rt, rt.alloc(), CREATED);
 }
 
-const CREATED_PAIRS: [Case; 1] = [Case {
+const CREATED_PAIRS: &[Case] = &[Case {
     notation: r#"7C{66 "a",6F "b"}"#,
     shown: Some("{private_key_unique_identifier=\"a\",public_key_unique_identifier=\"b\"}"),
 }];
 
 #[test]
-fn reads_create_key_pair(rt: HostRuntime) -> Result<(), Fail> {
-    are_read::<CreateKeyPairResponsePayload>(&rt, rt.alloc(), &CREATED_PAIRS)
+fn reads_create_key_pair(rt: HostRuntime) {
+    are_read::<CreateKeyPairResponsePayload>(&rt, rt.alloc(), CREATED_PAIRS);
 }
 
-const REGISTERED: [Case; 1] = [Case {
+const REGISTERED: &[Case] = &[Case {
     notation: r#"7C{94 "k1",91{53{55 "n",54 e1},08{0A "x-a",09 i1,0B i5}}}"#,
     shown: Some(
         "{unique_identifier=\"k1\",template_attributes=[{name=[{name=\"n\",name_type=UninterpretedTextString}],attributes=[{name=\"x-a\",index=1,value=Integer(5)}]}]}",
@@ -85,11 +107,11 @@ const REGISTERED: [Case; 1] = [Case {
 }];
 
 #[test]
-fn reads_register(rt: HostRuntime) -> Result<(), Fail> {
-    are_read::<RegisterResponsePayload>(&rt, rt.alloc(), &REGISTERED)
+fn reads_register(rt: HostRuntime) {
+    are_read::<RegisterResponsePayload>(&rt, rt.alloc(), REGISTERED);
 }
 
-const LOCATED: [Case; 3] = [
+const LOCATED: &[Case] = &[
     Case {
         notation: "7C{}",
         shown: Some("{unique_identifiers=[]}"),
@@ -105,11 +127,11 @@ const LOCATED: [Case; 3] = [
 ];
 
 #[test]
-fn reads_locate(rt: HostRuntime) -> Result<(), Fail> {
-    are_read::<LocateResponsePayload>(&rt, rt.alloc(), &LOCATED)
+fn reads_locate(rt: HostRuntime) {
+    are_read::<LocateResponsePayload>(&rt, rt.alloc(), LOCATED);
 }
 
-const GOT: [Case; 6] = [
+const GOT: &[Case] = &[
     Case {
         notation: r#"7C{57 e2,94 "s1",8F{40{42 e1,45{43 x00112233445566778899AABBCCDDEEFF},28 e3,2A i128}}}"#,
         shown: Some(
@@ -143,11 +165,11 @@ const GOT: [Case; 6] = [
 ];
 
 #[test]
-fn reads_get(rt: HostRuntime) -> Result<(), Fail> {
-    are_read::<GetResponsePayload>(&rt, rt.alloc(), &GOT)
+fn reads_get(rt: HostRuntime) {
+    are_read::<GetResponsePayload>(&rt, rt.alloc(), GOT);
 }
 
-const GOT_OTHER_KEYS: [Case; 2] = [
+const GOT_OTHER_KEYS: &[Case] = &[
     Case {
         notation: r#"7C{57 e2,94 "s1",8F{40{42 e1,45 xAABB,28 e3,2A i128,46{9E e1,36{94 "w1",2B{11 eD}}}}}}"#,
         shown: Some(
@@ -163,11 +185,11 @@ const GOT_OTHER_KEYS: [Case; 2] = [
 ];
 
 #[test]
-fn reads_get_of_other_keys(rt: HostRuntime) -> Result<(), Fail> {
-    are_read::<GetResponsePayload>(&rt, rt.alloc(), &GOT_OTHER_KEYS)
+fn reads_get_of_other_keys(rt: HostRuntime) {
+    are_read::<GetResponsePayload>(&rt, rt.alloc(), GOT_OTHER_KEYS);
 }
 
-const ATTRIBUTES_GOT: [Case; 2] = [
+const ATTRIBUTES_GOT: &[Case] = &[
     Case {
         notation: r#"7C{94 "k1",08{0A "Lease Time",0B n3600},08{0A "Cryptographic Usage Mask",0B i1}}"#,
         shown: Some(
@@ -181,11 +203,11 @@ const ATTRIBUTES_GOT: [Case; 2] = [
 ];
 
 #[test]
-fn reads_get_attributes(rt: HostRuntime) -> Result<(), Fail> {
-    are_read::<GetAttributesResponsePayload>(&rt, rt.alloc(), &ATTRIBUTES_GOT)
+fn reads_get_attributes(rt: HostRuntime) {
+    are_read::<GetAttributesResponsePayload>(&rt, rt.alloc(), ATTRIBUTES_GOT);
 }
 
-const ATTRIBUTE_NAMES: [Case; 2] = [
+const ATTRIBUTE_NAMES: &[Case] = &[
     Case {
         notation: r#"7C{94 "2",0A "Name"}"#,
         shown: Some("{unique_identifier=\"2\",attributes=[\"Name\"]}"),
@@ -197,11 +219,11 @@ const ATTRIBUTE_NAMES: [Case; 2] = [
 ];
 
 #[test]
-fn reads_get_attribute_list(rt: HostRuntime) -> Result<(), Fail> {
-    are_read::<GetAttributeListResponsePayload>(&rt, rt.alloc(), &ATTRIBUTE_NAMES)
+fn reads_get_attribute_list(rt: HostRuntime) {
+    are_read::<GetAttributeListResponsePayload>(&rt, rt.alloc(), ATTRIBUTE_NAMES);
 }
 
-const ATTRIBUTE_EDITED: [Case; 1] = [Case {
+const ATTRIBUTE_EDITED: &[Case] = &[Case {
     notation: r#"7C{94 "k1",08{0A "Name",0B{54 e1,55 "my key"}}}"#,
     shown: Some(
         "{unique_identifier=\"k1\",attribute={name=\"Name\",value=Name{name_value=\"my key\",name_type=UninterpretedTextString}}}",
@@ -209,11 +231,11 @@ const ATTRIBUTE_EDITED: [Case; 1] = [Case {
 }];
 
 #[test]
-fn reads_edited_attributes(rt: HostRuntime) -> Result<(), Fail> {
-    are_read::<AttributeEditResponsePayload>(&rt, rt.alloc(), &ATTRIBUTE_EDITED)
+fn reads_edited_attributes(rt: HostRuntime) {
+    are_read::<AttributeEditResponsePayload>(&rt, rt.alloc(), ATTRIBUTE_EDITED);
 }
 
-const IDENTIFIED: [Case; 3] = [
+const IDENTIFIED: &[Case] = &[
     Case {
         notation: r#"7C{94 "k1"}"#,
         shown: Some("{unique_identifier=\"k1\"}"),
@@ -229,11 +251,11 @@ const IDENTIFIED: [Case; 3] = [
 ];
 
 #[test]
-fn reads_identifiers(rt: HostRuntime) -> Result<(), Fail> {
-    are_read::<UniqueIdentifierResponsePayload>(&rt, rt.alloc(), &IDENTIFIED)
+fn reads_identifiers(rt: HostRuntime) {
+    are_read::<UniqueIdentifierResponsePayload>(&rt, rt.alloc(), IDENTIFIED);
 }
 
-const QUERIED: [Case; 2] = [
+const QUERIED: &[Case] = &[
     Case {
         notation: r#"7C{5C e1,5C e18,57 e2,9D "x",88{9D "skipped"}}"#,
         shown: Some(
@@ -247,51 +269,52 @@ const QUERIED: [Case; 2] = [
 ];
 
 #[test]
-fn reads_query(rt: HostRuntime) -> Result<(), Fail> {
-    are_read::<QueryResponsePayload>(&rt, rt.alloc(), &QUERIED)
+fn reads_query(rt: HostRuntime) {
+    are_read::<QueryResponsePayload>(&rt, rt.alloc(), QUERIED);
 }
 
-const VERSIONS: [Case; 1] = [Case {
+const VERSIONS: &[Case] = &[Case {
     notation: "7C{69{6A i1,6B i2},69{6A i1,6B i0}}",
     shown: Some("{supported_versions=[{major=1,minor=2},{major=1,minor=0}]}"),
 }];
 
 #[test]
-fn reads_discover_versions(rt: HostRuntime) -> Result<(), Fail> {
-    are_read::<DiscoverVersionsResponsePayload>(&rt, rt.alloc(), &VERSIONS)
+fn reads_discover_versions(rt: HostRuntime) {
+    are_read::<DiscoverVersionsResponsePayload>(&rt, rt.alloc(), VERSIONS);
 }
 
-const SIGNED: [Case; 1] = [Case {
+const SIGNED: &[Case] = &[Case {
     notation: r#"7C{94 "k1",C3 x0A0B}"#,
     shown: Some("{unique_identifier=\"k1\",signature_data=x\"0A0B\"}"),
 }];
 
 #[test]
-fn reads_sign(rt: HostRuntime) -> Result<(), Fail> {
-    are_read::<SignResponsePayload>(&rt, rt.alloc(), &SIGNED)
+fn reads_sign(rt: HostRuntime) {
+    are_read::<SignResponsePayload>(&rt, rt.alloc(), SIGNED);
 }
 
-const RANDOM: [Case; 1] = [Case {
+const RANDOM: &[Case] = &[Case {
     notation: "7C{C2 xDEADBEEF}",
     shown: Some("{random_bytes=x\"DEADBEEF\"}"),
 }];
 
 #[test]
-fn reads_rng_retrieve(rt: HostRuntime) -> Result<(), Fail> {
-    are_read::<RNGRetrieveResponsePayload>(&rt, rt.alloc(), &RANDOM)
+fn reads_rng_retrieve(rt: HostRuntime) {
+    are_read::<RNGRetrieveResponsePayload>(&rt, rt.alloc(), RANDOM);
 }
 
-/// The JSON of a structure in the notation.
-fn json_of<T: ReadRoot + ShowItem>(alloc: Global, notation: &str) -> Result<Text, Fail> {
-    let bytes = message(alloc, notation)?;
-    match from_slice::<T>(alloc, bytes.as_slice()) {
-        Ok(value) => {
-            let mut text = Text::new(alloc);
-            value.show_json(alloc, &mut text)?;
-            Ok(text)
-        }
-        Err(_) => Err(Fail::from("not read")),
-    }
+/// The structure is shown in JSON so.
+fn shows_json<T: ReadRoot + ShowItem>(
+    rt: &impl Abort,
+    alloc: Global,
+    notation: &str,
+    expected: &str,
+) {
+    let value = read::<T>(rt, alloc, notation).expect(rt, notation);
+    let mut text = Text::new(alloc);
+    value.show_json(alloc, &mut text).expect(rt, "memory");
+    assert_eq!(rt; text.as_str(), expected);
+    drop(value);
 }
 
 const KEY_JSON: &str =
@@ -304,41 +327,55 @@ const SERVER_JSON: &str =
     r#"{"operations":["Create","Query"],"object_types":["SymmetricKey"],"vendor_identification":"x"}"#;
 
 #[test]
-fn shows_json(rt: HostRuntime) -> Result<(), Fail> {
+fn payloads_are_shown_in_json(rt: HostRuntime) {
     let alloc = rt.alloc();
-    let key = json_of::<GetResponsePayload>(alloc, GOT[0].notation)?;
-    assert_eq!(&rt; key.as_str(), KEY_JSON);
-    let created = json_of::<CreateResponsePayload>(alloc, CREATED[1].notation)?;
-    assert_eq!(&rt; created.as_str(), CREATED_JSON);
-    let server = json_of::<QueryResponsePayload>(alloc, QUERIED[0].notation)?;
-    assert_eq!(&rt; server.as_str(), SERVER_JSON);
-    let none = json_of::<LocateResponsePayload>(alloc, LOCATED[0].notation)?;
-    assert_eq!(&rt; none.as_str(), r#"{"unique_identifiers":[]}"#);
-    Ok(())
+    let key =
+        r#"7C{57 e2,94 "s1",8F{40{42 e1,45{43 x00112233445566778899AABBCCDDEEFF},28 e3,2A i128}}}"#;
+    shows_json::<GetResponsePayload>(&rt, alloc, key, KEY_JSON);
+    let created = r#"7C{94 "k1",57 e2,08{0A "State",0B e1}}"#;
+    shows_json::<CreateResponsePayload>(&rt, alloc, created, CREATED_JSON);
+    let server = r#"7C{5C e1,5C e18,57 e2,9D "x",88{9D "skipped"}}"#;
+    shows_json::<QueryResponsePayload>(&rt, alloc, server, SERVER_JSON);
+    shows_json::<LocateResponsePayload>(&rt, alloc, "7C{}", r#"{"unique_identifiers":[]}"#);
 }
 
 const VERSION: &str = "69{6A i1,6B i2}";
 
 const MAJOR: &str = "6A i1";
 
-/// What is read of the text as a version.
-fn version_of(
+/// What is read of the text as a value.
+fn read_as<T: ReadRoot>(
+    rt: &impl Abort,
     alloc: Global,
     notation: &str,
-) -> Result<Result<ProtocolVersion, ResponseError>, Fail> {
-    let bytes = message(alloc, notation)?;
-    Ok(from_slice::<ProtocolVersion>(alloc, bytes.as_slice()))
+) -> Result<T, ResponseError> {
+    from_slice::<T>(alloc, &bytes_of(rt, alloc, notation))
+}
+
+/// Whether a text is not read as a value for this cause.
+fn fails_with<T: ReadRoot>(
+    rt: &impl Abort,
+    alloc: Global,
+    notation: &str,
+    cause: ResponseError,
+) -> bool {
+    match read_as::<T>(rt, alloc, notation) {
+        Ok(value) => {
+            drop(value);
+            false
+        }
+        Err(error) => error == cause,
+    }
 }
 
 #[test]
-fn reads_the_item_at_the_front(rt: HostRuntime) -> Result<(), Fail> {
+fn reads_the_item_at_the_front(rt: HostRuntime) {
     let alloc = rt.alloc();
-    let version = version_of(alloc, VERSION)??;
+    let version = read_as::<ProtocolVersion>(&rt, alloc, VERSION).expect(&rt, "a version");
     assert!(&rt; (version.major, version.minor) == (1, 2));
-    assert!(&rt; version_of(alloc, MAJOR)? == Err(ResponseError::Malformed));
-    assert!(&rt; version_of(alloc, "")? == Err(ResponseError::Malformed));
-    let bytes = message(alloc, VERSION)?;
-    let message = from_slice::<ResponseMessage>(alloc, bytes.as_slice());
-    assert!(&rt; message == Err(ResponseError::Unread));
-    Ok(())
+    let malformed = ResponseError::Malformed;
+    assert!(&rt; fails_with::<ProtocolVersion>(&rt, alloc, MAJOR, malformed));
+    assert!(&rt; fails_with::<ProtocolVersion>(&rt, alloc, "", malformed));
+    let unread = ResponseError::Unread;
+    assert!(&rt; fails_with::<ResponseMessage>(&rt, alloc, VERSION, unread));
 }

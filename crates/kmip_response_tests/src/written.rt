@@ -1,5 +1,6 @@
 //! Responses written: each as the bytes that it was read from, which come from outside.
 
+use crate::payloads::bytes_of;
 use kmip_enums::{ObjectType, Operation, ResultStatus};
 use kmip_response::{
     BatchItem, GetResponsePayload, KeyBlock, KeyValue, ManagedObject, ProtocolVersion,
@@ -7,18 +8,16 @@ use kmip_response::{
     UniqueIdentifierResponsePayload, from_slice,
 };
 use kmip_response_write::to_vec;
-use kmip_test_messages::message;
 use kmip_types::{KeyFormatType, KeyMaterial, UniqueIdentifier};
 use kmip_wire::{Blob, Boxed, List, Text, WireError};
 use std::alloc::Global;
 use std::process::Abort;
-use std::test::Fail;
 
 /// The response of a server that made a key Active.
 const ACTIVATED: &str = r#"OK0(12, 94 "k1")"#;
 
 /// Batch items: failed ones, a pending one, with an identifier and with an extension, and two at once.
-const ITEMS: [(&str, &str); 6] = [
+const ITEMS: &[(&str, &str)] = &[
     (
         "failed with a reason and a text",
         r#"RES0(5C e14,7F e1,7E e1,7D "gone")"#,
@@ -40,7 +39,7 @@ const ITEMS: [(&str, &str); 6] = [
 ];
 
 /// Payloads without an object.
-const PAYLOADS: [(&str, &str); 15] = [
+const PAYLOADS: &[(&str, &str)] = &[
     (
         "Create with an attribute",
         r#"OK0(1, 57 e2,94 "k1",08{0A "State",0B e1})"#,
@@ -68,7 +67,7 @@ const PAYLOADS: [(&str, &str); 15] = [
 ];
 
 /// Objects: two keys, a certificate, a transparent key, and a wrapped key.
-const OBJECTS: [(&str, &str); 5] = [
+const OBJECTS: &[(&str, &str)] = &[
     (
         "a symmetric key",
         r#"OK0(A, 57 e2,94 "s1",8F{40{42 e1,45{43 x00112233445566778899AABBCCDDEEFF},28 e3,2A i128}})"#,
@@ -102,70 +101,56 @@ const RENAMED: &str = r#"OK0(E, 94 "k1",08{0A "Name",0B{54 e1,55 "my key"}})"#;
 /// The same in the order of the table.
 const RENAMED_WRITTEN: &str = r#"OK0(E, 94 "k1",08{0A "Name",0B{55 "my key",54 e1}})"#;
 
+/// The message of these bytes.
+fn message_in(rt: &impl Abort, alloc: Global, notation: &str, name: &str) -> ResponseMessage {
+    from_slice(alloc, &bytes_of(rt, alloc, notation)).expect(rt, name)
+}
+
+/// The message is written as these bytes.
+fn is_written(rt: &impl Abort, alloc: Global, message: &ResponseMessage, notation: &str) {
+    let bytes = to_vec(alloc, message).expect(rt, notation);
+    let expected = bytes_of(rt, alloc, notation);
+    assert_eq!(rt; bytes.as_slice(), expected.as_slice(), "{notation}");
+}
+
 /// What is read from the bytes of the first text is written as those of the second.
-fn is_written(
-    rt: &impl Abort,
-    alloc: Global,
-    name: &str,
-    read: &str,
-    written: &str,
-) -> Result<(), Fail> {
-    let read = message(alloc, read)?;
-    let written = message(alloc, written)?;
-    let Ok(message) = from_slice::<ResponseMessage>(alloc, &read) else {
-        panic!(rt; "{name}: not read");
-    };
-    let Ok(bytes) = to_vec(alloc, &message) else {
-        panic!(rt; "{name}: not written");
-    };
-    assert_eq!(rt; bytes.as_slice(), written.as_slice(), "{name}");
-    Ok(())
+fn is_rewritten(rt: &impl Abort, alloc: Global, name: &str, read: &str, written: &str) {
+    let message = message_in(rt, alloc, read, name);
+    is_written(rt, alloc, &message, written);
+    drop(message);
 }
 
 /// Each is written as the bytes that it was read from.
-fn are_written(rt: &impl Abort, alloc: Global, cases: &[(&str, &str)]) -> Result<(), Fail> {
+fn are_written(rt: &impl Abort, alloc: Global, cases: &[(&str, &str)]) {
     for (name, bytes) in cases {
-        is_written(rt, alloc, name, bytes, bytes)?;
+        is_rewritten(rt, alloc, name, bytes, bytes);
     }
-    Ok(())
 }
 
 #[test]
-fn writes_batch_items_back(rt: HostRuntime) -> Result<(), Fail> {
-    are_written(&rt, rt.alloc(), &ITEMS)
-}
-
-#[test]
-fn writes_payloads_back(rt: HostRuntime) -> Result<(), Fail> {
-    are_written(&rt, rt.alloc(), &PAYLOADS)
-}
-
-#[test]
-fn writes_objects_back(rt: HostRuntime) -> Result<(), Fail> {
-    are_written(&rt, rt.alloc(), &OBJECTS)
+fn writes_messages_back(rt: HostRuntime) {
+    are_written(&rt, rt.alloc(), ITEMS);
+    are_written(&rt, rt.alloc(), PAYLOADS);
+    are_written(&rt, rt.alloc(), OBJECTS);
 }
 
 /// What is not canonical is written canonically.
 #[test]
-fn writes_canonically(rt: HostRuntime) -> Result<(), Fail> {
-    is_written(
-        &rt,
-        rt.alloc(),
-        "a custom structure",
-        ATTRIBUTES,
-        ATTRIBUTES_WRITTEN,
-    )?;
-    is_written(&rt, rt.alloc(), "another order", RENAMED, RENAMED_WRITTEN)
+fn writes_canonically(rt: HostRuntime) {
+    let alloc = rt.alloc();
+    let name = "a custom structure";
+    is_rewritten(&rt, alloc, name, ATTRIBUTES, ATTRIBUTES_WRITTEN);
+    is_rewritten(&rt, alloc, "another order", RENAMED, RENAMED_WRITTEN);
 }
 
 /// A message of one batch item, in KMIP 1.0.
 fn message_of(
+    rt: &impl Abort,
     alloc: Global,
     operation: Operation,
     payload: ResponsePayload,
-) -> Result<ResponseMessage, Fail> {
-    let mut batch_items = List::new(alloc);
-    batch_items.push(BatchItem {
+) -> ResponseMessage {
+    let item = BatchItem {
         operation: Some(operation),
         unique_batch_item_id: None,
         result_status: ResultStatus::Success,
@@ -173,40 +158,37 @@ fn message_of(
         result_message: None,
         payload: Some(payload),
         message_extension: None,
-    })?;
-    Ok(ResponseMessage {
+    };
+    let mut batch_items = List::new(alloc);
+    batch_items.push(item).expect(rt, "memory");
+    ResponseMessage {
         header: ResponseHeader {
             protocol_version: ProtocolVersion { major: 1, minor: 0 },
             timestamp: 1,
             batch_count: 1,
         },
         batch_items,
-    })
+    }
+}
+
+/// The identifier of an object.
+fn identifier(rt: &impl Abort, alloc: Global, id: &str) -> UniqueIdentifier {
+    UniqueIdentifier(Text::of(alloc, id).expect(rt, "memory"))
 }
 
 #[test]
-fn writes_a_message_that_was_made(rt: HostRuntime) -> Result<(), Fail> {
+fn writes_a_message_that_was_made(rt: HostRuntime) {
     let alloc = rt.alloc();
-    let activated = message(alloc, ACTIVATED)?;
     let payload = ResponsePayload::Activate(UniqueIdentifierResponsePayload {
-        unique_identifier: UniqueIdentifier(Text::of(alloc, "k1")?),
+        unique_identifier: identifier(&rt, alloc, "k1"),
     });
-    let message = message_of(alloc, Operation::Activate, payload)?;
-    let Ok(bytes) = to_vec(alloc, &message) else {
-        return Err(Fail::from("not written"));
-    };
-    assert_eq!(rt;
-        bytes.as_slice(),
-        activated.as_slice(),
-        "the response of Activate"
-    );
-    Ok(())
+    let message = message_of(&rt, alloc, Operation::Activate, payload);
+    is_written(&rt, alloc, &message, ACTIVATED);
+    drop(message);
 }
 
-/// Key material that is a structure of unknown content has no wire form.
-#[test]
-fn refuses_what_has_no_wire_form(rt: HostRuntime) -> Result<(), Fail> {
-    let alloc = rt.alloc();
+/// A key whose material is a structure of unknown content, which has no wire form.
+fn unformed(alloc: Global) -> ManagedObject {
     let key_block = KeyBlock {
         key_format_type: KeyFormatType::Raw,
         key_compression_type: None,
@@ -218,17 +200,20 @@ fn refuses_what_has_no_wire_form(rt: HostRuntime) -> Result<(), Fail> {
         cryptographic_length: None,
         key_wrapping_data: None,
     };
+    ManagedObject::SymmetricKey(SymmetricKey { key_block })
+}
+
+#[test]
+fn refuses_what_has_no_wire_form(rt: HostRuntime) {
+    let alloc = rt.alloc();
     let payload = GetResponsePayload {
         object_type: ObjectType::SymmetricKey,
-        unique_identifier: UniqueIdentifier(Text::of(alloc, "s1")?),
-        cryptographic_object: ManagedObject::SymmetricKey(SymmetricKey { key_block }),
+        unique_identifier: identifier(&rt, alloc, "s1"),
+        cryptographic_object: unformed(alloc),
     };
-    let payload = ResponsePayload::Get(Boxed::new(alloc, payload)?);
-    let message = message_of(alloc, Operation::Get, payload)?;
+    let payload = Boxed::new(alloc, payload).expect(&rt, "memory");
+    let message = message_of(&rt, alloc, Operation::Get, ResponsePayload::Get(payload));
     let written = to_vec(alloc, &message);
-    assert!(rt;
-        matches!(written, Err(WireError::NoForm)),
-        "a structure of unknown content"
-    );
-    Ok(())
+    assert!(rt; matches!(written, Err(WireError::NoForm)));
+    drop(message);
 }

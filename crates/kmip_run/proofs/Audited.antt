@@ -8,7 +8,7 @@ use Rattle.kmip_words.specs.Values.{bytes_of}
 use Rattle.kmip_run.specs.Script.{lines_of}
 use Rattle.kmip_run.specs.Auditing.{stream_of, next_stream, both_streams, after_sent, from_first, captured_in}
 use Rattle.kmip_run.specs.declared.auditing.Captured.TheVariants.{Bad}
-use Rattle.kmip_words.proofs.Calls.{not_utf8}
+use Rattle.kmip_words.proofs.LineCalls.{not_utf8}
 
 pub stream_utf8 : (line : List ℕ) → IsUtf8 line → stream_of line ≡ bytes_of line
 unfolding stream_of

@@ -8,7 +8,7 @@ use Rattle.kmip_run.specs.Transcript.{Transcript, only_text, bad_line, then_text
 use Rattle.kmip_run.specs.declared.status.ScriptEnd.TheVariants.{Answered}
 use Rattle.kmip_run.specs.declared.status.Status.{Status}
 use Rattle.kmip_run.specs.declared.status.Status.TheVariants.{Ended}
-use Rattle.kmip_words.proofs.Calls.{not_utf8}
+use Rattle.kmip_words.proofs.LineCalls.{not_utf8}
 use Rattle.kmip_run.proofs.Runs.{append_none, no_lines}
 
 pub expanded_utf8 : (line : List ℕ) → IsUtf8 line → line_expansion line ≡ expansion (Some 0x4200) line

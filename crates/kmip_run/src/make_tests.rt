@@ -1,10 +1,8 @@
 //! The command `make` over sources, sinks and links in memory.
-use crate::program::run;
-use crate::tests::list_of;
-use kmip_link::{MemoryLink, MemorySink, MemorySource};
+use crate::tests::{run_over, writes};
+use kmip_link::MemoryLink;
 use std::alloc::Global;
 use std::process::Abort;
-use std::test::Fail;
 
 /// What the program writes for these words, and with which status it ends.
 struct Row {
@@ -100,27 +98,21 @@ const MANY: &[Row] = &[
 ];
 
 /// The program writes for each row what the row says, and ends with its status.
-fn rows_hold(rt: &impl Abort, alloc: Global, rows: &[Row]) -> Result<(), Fail> {
+fn rows_hold(rt: &impl Abort, alloc: Global, rows: &[Row]) {
     for row in rows {
-        let words = list_of(alloc, row.words)?;
-        let mut source = MemorySource::new(alloc, b"", &[])?;
-        let mut sink = MemorySink::new(alloc, &[])?;
-        let mut link = MemoryLink::new(alloc);
-        let status = run(alloc, &words, &mut source, &mut sink, &mut link);
-        assert_eq!(rt; sink.written(), row.written.as_bytes(), "{}", row.shows);
-        assert_eq!(rt; status, row.status, "{}", row.shows);
+        let expected = (row.written.as_bytes(), row.status);
+        writes(rt, alloc, row.words, b"", expected, row.shows);
     }
-    Ok(())
 }
 
 #[test]
-fn make_counts_answers_errors_and_bytes(rt: HostRuntime) -> Result<(), Fail> {
-    rows_hold(&rt, rt.alloc(), ROWS)
+fn make_counts_answers_errors_and_bytes(rt: HostRuntime) {
+    rows_hold(&rt, rt.alloc(), ROWS);
 }
 
 #[test]
-fn a_thousand_exchanges_give_the_same_counts_each_time(rt: HostRuntime) -> Result<(), Fail> {
-    rows_hold(&rt, rt.alloc(), MANY)
+fn a_thousand_exchanges_give_the_same_counts_each_time(rt: HostRuntime) {
+    rows_hold(&rt, rt.alloc(), MANY);
 }
 
 /// The request for 43 random bytes.
@@ -133,56 +125,54 @@ const REQUEST: &[u8] = b"\x42\x00\x78\x01\x00\x00\x00\x70\x42\x00\x77\x01\x00\x0
 \x42\x00\xC4\x02\x00\x00\x00\x04\x00\x00\x00\x2B\x00\x00\x00\x00";
 
 /// Runs `make 1` on a link of these pieces, and looks at what it was sent and what is left to read.
-fn one_exchange_is_sent(rt: &impl Abort, alloc: Global, pieces: &[usize]) -> Result<(), Fail> {
-    let words = list_of(alloc, &["make", "1"])?;
-    let mut source = MemorySource::new(alloc, b"", &[])?;
-    let mut sink = MemorySink::new(alloc, &[])?;
+fn one_exchange_is_sent(rt: &impl Abort, alloc: Global, pieces: &[usize]) {
     let mut link = MemoryLink::new(alloc);
-    link.plan_pieces(pieces)?;
-    let status = run(alloc, &words, &mut source, &mut sink, &mut link);
-    assert_eq!(rt;
-        sink.written(),
-        b"exchanges 1\nok 1\nerrors 0\nsent 120\ntaken 192\n".as_slice()
-    );
+    let Ok(()) = link.plan_pieces(pieces) else {
+        panic!(rt; "no memory");
+    };
+    let (status, sink) = run_over(rt, alloc, &["make", "1"], b"", (&[], &[]), &mut link);
+    let counts = b"exchanges 1\nok 1\nerrors 0\nsent 120\ntaken 192\n";
+    assert_eq!(rt; sink.written(), counts.as_slice());
     assert_eq!(rt; status, 0);
     assert_eq!(rt; link.sent(), REQUEST);
     assert_eq!(rt; link.rest().len(), 0);
-    Ok(())
 }
 
 #[test]
-fn make_sends_over_the_link_handed_in(rt: HostRuntime) -> Result<(), Fail> {
-    one_exchange_is_sent(&rt, rt.alloc(), &[])
+fn make_sends_over_the_link_handed_in(rt: HostRuntime) {
+    one_exchange_is_sent(&rt, rt.alloc(), &[]);
 }
 
 #[test]
-fn make_gives_the_same_over_pieces_of_seven_bytes(rt: HostRuntime) -> Result<(), Fail> {
-    one_exchange_is_sent(&rt, rt.alloc(), &[7])
+fn make_gives_the_same_over_pieces_of_seven_bytes(rt: HostRuntime) {
+    one_exchange_is_sent(&rt, rt.alloc(), &[7]);
 }
 
 /// Runs the program on `make 4`, where the source fails at its first read and these writes fail:
 /// its status, and how many bytes it wrote.
-fn made_over_faults(alloc: Global, writes: &[u64]) -> Result<(u8, usize), Fail> {
-    let words = list_of(alloc, &["make", "4"])?;
-    let mut source = MemorySource::new(alloc, b"query -\n", &[0])?;
-    let mut sink = MemorySink::new(alloc, writes)?;
+fn made_over_faults(rt: &impl Abort, alloc: Global, failing: &[u64]) -> (u8, usize) {
     let mut link = MemoryLink::new(alloc);
-    let status = run(alloc, &words, &mut source, &mut sink, &mut link);
-    Ok((status, sink.written().len()))
+    let (status, sink) = run_over(
+        rt,
+        alloc,
+        &["make", "4"],
+        b"query -\n",
+        (&[0], failing),
+        &mut link,
+    );
+    (status, sink.written().len())
 }
 
 #[test]
-fn make_reads_nothing_from_a_source_that_fails(rt: HostRuntime) -> Result<(), Fail> {
-    let (status, written) = made_over_faults(rt.alloc(), &[])?;
+fn make_reads_nothing_from_a_source_that_fails(rt: HostRuntime) {
+    let (status, written) = made_over_faults(&rt, rt.alloc(), &[]);
     assert_eq!(rt; status, 0);
     assert_eq!(rt; written, 45);
-    Ok(())
 }
 
 #[test]
-fn make_ends_with_status_4_where_the_sink_fails(rt: HostRuntime) -> Result<(), Fail> {
-    let (status, written) = made_over_faults(rt.alloc(), &[0])?;
+fn make_ends_with_status_4_where_the_sink_fails(rt: HostRuntime) {
+    let (status, written) = made_over_faults(&rt, rt.alloc(), &[0]);
     assert_eq!(rt; status, 4);
     assert_eq!(rt; written, 0);
-    Ok(())
 }

@@ -24,8 +24,8 @@ pub fn end_after(end: ScriptEnd, failed: bool) -> ScriptEnd
 }
 
 /// Makes the calls of the lines, up to a line that is not of the grammar, and returns how they
-/// ended. Their text is added to `output`, which is written and emptied each time that it has
-/// 65,536 bytes: so fewer are kept at the end, but where the last line read is not of the grammar.
+/// ended. Their text is added to `output`, and a first part of it may be written by then: the rest
+/// is kept, fewer than 65,536 bytes where fewer were kept before and each line is of the grammar.
 /// `diag` is whether the client keeps diagnostics.
 pub fn replay<K: Sink>(
     alloc: Global,

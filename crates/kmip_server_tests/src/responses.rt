@@ -70,30 +70,40 @@ fn check_shown(rt: &impl Abort, alloc: Global, payload: &ResponsePayload, expect
     assert_eq!(rt; shown.as_str(), expected, "the payload");
 }
 
+/// The item reports success, with a payload that is shown so.
+fn check_success(rt: &impl Abort, alloc: Global, item: &BatchItem, shown: &str) {
+    let is_success = item.result_status == ResultStatus::Success;
+    assert!(rt; is_success, "success of {shown}");
+    assert!(rt; item.result_reason.is_none(), "no reason with {shown}");
+    assert!(rt; item.result_message.is_none(), "no message with {shown}");
+    let payload = item.payload.as_ref().expect(rt, shown);
+    check_shown(rt, alloc, payload, shown);
+}
+
+/// The item reports a failure of this operation, for this reason, in these words.
+fn check_failure(
+    rt: &impl Abort,
+    item: &BatchItem,
+    operation: Option<Operation>,
+    reason: ResultReason,
+    words: &str,
+) {
+    assert!(rt; item.operation == operation, "the operation of: {words}");
+    let is_failure = item.result_status == ResultStatus::OperationFailed;
+    assert!(rt; is_failure, "failure: {words}");
+    let is_reason = item.result_reason == Some(reason);
+    assert!(rt; is_reason, "the reason of: {words}");
+    assert!(rt; item.payload.is_none(), "no payload with: {words}");
+    let message = item.result_message.as_ref().expect(rt, words);
+    assert_eq!(rt; message.as_str(), words, "the message");
+}
+
 fn check_item(rt: &impl Abort, alloc: Global, item: &BatchItem, expected: Item) {
-    match (expected, &item.payload, &item.result_message) {
-        (Item::Payload(shown), Some(payload), None) => {
-            assert!(rt;
-                item.result_status == ResultStatus::Success,
-                "success of {shown}"
-            );
-            assert!(rt; item.result_reason.is_none(), "no reason with {shown}");
-            check_shown(rt, alloc, payload, shown);
+    match expected {
+        Item::Payload(shown) => check_success(rt, alloc, item, shown),
+        Item::Failure(operation, reason, words) => {
+            check_failure(rt, item, operation, reason, words);
         }
-        (Item::Failure(operation, reason, words), None, Some(message)) => {
-            assert!(rt; item.operation == operation, "the operation of: {words}");
-            assert!(rt;
-                item.result_status == ResultStatus::OperationFailed,
-                "failure: {words}"
-            );
-            assert!(rt;
-                item.result_reason == Some(reason),
-                "the reason of: {words}"
-            );
-            assert_eq!(rt; message.as_str(), words, "the message");
-        }
-        (Item::Payload(_), ..) => panic!(rt; "a failure in place of a payload"),
-        (Item::Failure(..), ..) => panic!(rt; "a payload in place of a failure"),
     }
 }
 

@@ -1,6 +1,7 @@
--- The texts of JSON by the grammar of RFC 8259, byte for byte and with no white space. Bytes from
--- 128 on, of which longer characters are made, stand for themselves.
-use Rattle.std.specs.Prelude.{ℕ, ℤ, ◌≤◌, ◌≡◌, ◌⊎◌, List, [], ◌∷◌, ◌++◌, codes}
+-- The texts of JSON by RFC 8259, with no white space: its grammar, byte for byte, and UTF-8. In the
+-- grammar bytes from 128 on, of which longer characters are made, stand for themselves; that they make
+-- whole characters, and that each number is a byte, is said by UTF-8.
+use Rattle.std.specs.Prelude.{ℕ, ℤ, ◌≤◌, ◌≡◌, ◌⊎◌, List, [], ◌∷◌, ◌++◌, codes, IsUtf8}
 use Rattle.std.specs.Fmt.{signed_decimal}
 
 -- `0` to `9`, `A` to `F`
@@ -40,3 +41,8 @@ mutual
   pub data AreElements : List ℕ → Type 0 where
     AnElement : (value : List ℕ) → IsJson value → AreElements value
     AndElements : (s t : List ℕ) → AreElements s → AreElements t → AreElements (s ++ 44 ∷ t)
+
+-- a text of JSON (RFC 8259, sections 2 and 8.1)
+pub record IsJsonText (text : List ℕ) : Type 0 where
+  pub grammar : IsJson text
+  pub utf8 : IsUtf8 text

@@ -1,3 +1,4 @@
+-- Written by tables/generate.py from tables/*.toml: change these instead.
 -- The tags of KMIP by their names (KMIP 1.0, 9.1.3.1), up to the last that a definition uses.
 use Rattle.std.specs.Prelude.{ℕ}
 

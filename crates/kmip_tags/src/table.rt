@@ -1,3 +1,4 @@
+// Written by tables/generate.py from tables/*.toml: change these instead.
 //! The names of the tags, in tag order from FIRST. Two names have two spaces in a row.
 
 pub(crate) const FIRST: u32 = 0x42_0001;

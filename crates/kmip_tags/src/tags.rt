@@ -1,3 +1,4 @@
+// Written by tables/generate.py from tables/*.toml: change these instead.
 //! The tags of KMIP by their names: KMIP 1.0, 9.1.3.1, and the tables of later versions.
 
 /// Activation Date.

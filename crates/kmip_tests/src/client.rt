@@ -1,9 +1,9 @@
 //! The client over links with planned faults, and over a link of this file's own.
-use crate::helpers::{bytes_of, client_fed, is_answered, is_copied, text, told};
+use crate::helpers::{bytes_of, is_answered, is_copied, text, told};
 use kmip_client::{Client, ClientBuilder, Error};
 use kmip_link::{Link, LinkError, MemoryLink, PlannedLink};
 use kmip_request::{Attribute, RequestPayload};
-use kmip_types::{AttributeName, AttributeValue, UniqueIdentifier, Values};
+use kmip_types::{AttributeName, AttributeValue, Values};
 use kmip_wire::{Config, List, Text};
 use std::alloc::Global;
 use std::process::Abort;
@@ -63,21 +63,23 @@ fn planned_fault(
     drop(client);
 }
 
+/// The call that fails, the answer, and how many bytes are then sent and left.
+const FAULTS: &[(u64, &str, usize, usize)] = &[
+    (0, UNSENT, 0, 152),
+    (1, UNSENT, 40, 152),
+    (2, UNSENT, 80, 152),
+    (3, UNREAD, 120, 152),
+    (4, UNREAD, 120, 144),
+    (5, UNREAD, 120, 104),
+    (6, UNREAD, 120, 64),
+    (7, UNREAD, 120, 24),
+    (8, ANSWERED, 120, 0),
+];
+
 #[test]
 fn planned_faults(rt: HostRuntime) {
-    let rows = [
-        (0, UNSENT, 0, 152),
-        (1, UNSENT, 40, 152),
-        (2, UNSENT, 80, 152),
-        (3, UNREAD, 120, 152),
-        (4, UNREAD, 120, 144),
-        (5, UNREAD, 120, 104),
-        (6, UNREAD, 120, 64),
-        (7, UNREAD, 120, 24),
-        (8, ANSWERED, 120, 0),
-    ];
-    for (call, expected, sent, left) in rows {
-        planned_fault(&rt, rt.alloc(), call, expected, sent, left);
+    for (call, expected, sent, left) in FAULTS {
+        planned_fault(&rt, rt.alloc(), *call, expected, *sent, *left);
     }
 }
 
@@ -173,32 +175,6 @@ fn errors_are_printed_and_cloned(rt: HostRuntime) {
     is_error(&rt, alloc, Error::OutOfMemory, "Out of memory", false);
 }
 
-// The request of Activate for k1, and its response.
-const ACTIVATE: &str = "REQ0(12, 94 \"k1\")";
-
-const ACTIVATED: &str = "OK0(12, 94 \"k1\")";
-
-#[test]
-fn a_key_is_activated(rt: HostRuntime) {
-    let mut client = client_fed(&rt, rt.alloc(), ACTIVATED);
-    let answer = client.activate_key(rt.alloc(), "k1");
-    answer.expect(&rt, "an answer");
-    let request = bytes_of(&rt, rt.alloc(), ACTIVATE);
-    assert!(&rt; client.inner().sent() == request.as_slice());
-    assert!(&rt; client.inner().rest().is_empty());
-    drop(client);
-}
-
-/// The request for an object.
-fn get(rt: &impl Abort, alloc: Global, id: &str) -> RequestPayload {
-    RequestPayload::Get(Some(identifier(rt, alloc, id)), None, None, None)
-}
-
-/// The identifier of an object.
-fn identifier(rt: &impl Abort, alloc: Global, id: &str) -> UniqueIdentifier {
-    UniqueIdentifier(text(rt, alloc, id))
-}
-
 /// What a request is answered.
 fn answer(
     rt: &impl Abort,
@@ -207,128 +183,6 @@ fn answer(
     request: RequestPayload,
 ) -> Text {
     told(rt, alloc, client.do_request(alloc, request))
-}
-
-/// The request is answered so by this response, which is taken whole.
-fn answers(
-    rt: &impl Abort,
-    alloc: Global,
-    notation: &str,
-    request: RequestPayload,
-    expected: &str,
-) {
-    let mut client = client_fed(rt, alloc, notation);
-    let answer = answer(rt, alloc, &mut client, request);
-    is_answered(rt, client, &answer, expected);
-}
-
-const A_TRANSPARENT_KEY_IS_GOT: &str =
-    "OK0(A, 57 e3,94 \"p1\",6D{40{42 eB,45{43{52 b0000000000C5A1B3,6C b0000000000010001}}}})";
-
-#[test]
-fn a_transparent_key_is_got(rt: HostRuntime) {
-    let request = get(&rt, rt.alloc(), "p1");
-    let expected =
-        "Get{object_type=PublicKey,unique_identifier=\"p1\",cryptographic_object=PublicKey{key_block={key_format_type=TransparentRSAPublicKey,key_value={key_material=TransparentRSAPublicKey{modulus=x\"0000000000C5A1B3\",public_exponent=x\"0000000000010001\"}}}}}";
-    answers(&rt, rt.alloc(), A_TRANSPARENT_KEY_IS_GOT, request, expected);
-}
-
-const A_KEY_IS_GOT: &str =
-    "OK0(A, 57 e2,94 \"s1\",8F{40{42 e1,45{43 x00112233445566778899AABBCCDDEEFF},28 e3,2A i128}})";
-
-#[test]
-fn a_key_is_got(rt: HostRuntime) {
-    let request = get(&rt, rt.alloc(), "s1");
-    let expected =
-        "Get{object_type=SymmetricKey,unique_identifier=\"s1\",cryptographic_object=SymmetricKey{key_block={key_format_type=Raw,key_value={key_material=Bytes(x\"00112233445566778899AABBCCDDEEFF\")},cryptographic_algorithm=AES,cryptographic_length=128}}}";
-    answers(&rt, rt.alloc(), A_KEY_IS_GOT, request, expected);
-}
-
-const THE_OBJECT_TYPE_MAY_COME_LAST: &str =
-    "OK0(A, 8F{40{42 e1,45{43 x00112233445566778899AABBCCDDEEFF},28 e3,2A i128}},94 \"s1\",57 e2)";
-
-#[test]
-fn the_object_type_may_come_last(rt: HostRuntime) {
-    let request = get(&rt, rt.alloc(), "s1");
-    let expected =
-        "Get{object_type=SymmetricKey,unique_identifier=\"s1\",cryptographic_object=SymmetricKey{key_block={key_format_type=Raw,key_value={key_material=Bytes(x\"00112233445566778899AABBCCDDEEFF\")},cryptographic_algorithm=AES,cryptographic_length=128}}}";
-    answers(
-        &rt,
-        rt.alloc(),
-        THE_OBJECT_TYPE_MAY_COME_LAST,
-        request,
-        expected,
-    );
-}
-
-const A_WRAPPED_KEY_IS_GOT: &str =
-    "OK0(A, 57 e2,94 \"s1\",8F{40{42 e1,45 xAABB,28 e3,2A i128,46{9E e1,36{94 \"w1\",2B{11 eD}}}}})";
-
-#[test]
-fn a_wrapped_key_is_got(rt: HostRuntime) {
-    let request = get(&rt, rt.alloc(), "s1");
-    let expected =
-        "Get{object_type=SymmetricKey,unique_identifier=\"s1\",cryptographic_object=SymmetricKey{key_block={key_format_type=Raw,key_value={key_material=Wrapped(x\"AABB\")},cryptographic_algorithm=AES,cryptographic_length=128,key_wrapping_data={wrapping_method=Encrypt,encryption_key_information={unique_identifier=\"w1\",cryptographic_parameters={block_cipher_mode=NISTKeyWrap}}}}}}";
-    answers(&rt, rt.alloc(), A_WRAPPED_KEY_IS_GOT, request, expected);
-}
-
-const NOTHING_IS_LOCATED: &str = "OK0(8, )";
-
-#[test]
-fn nothing_is_located(rt: HostRuntime) {
-    let request = RequestPayload::Locate(List::new(rt.alloc()));
-    let expected = "Locate{unique_identifiers=[]}";
-    answers(&rt, rt.alloc(), NOTHING_IS_LOCATED, request, expected);
-}
-
-const ATTRIBUTES_ARE_GOT: &str =
-    "OK0(B, 94 \"2\",08{0A \"Name\",0B{55 \"priv\",54 e1}},08{0A \"Object Type\",0B e4},08{0A \"Cryptographic Algorithm\",0B e4},08{0A \"Cryptographic Length\",0B i2048},08{0A \"Cryptographic Usage Mask\",0B i1},08{0A \"State\",0B e2},08{0A \"Initial Date\",0B d1700000000},08{0A \"Link\",0B{4B e102,4C \"1\"}},08{0A \"Digest\",0B{38 e6,35 xAABB,42 e3}},08{0A \"Lease Time\",0B n3600})";
-
-#[test]
-fn attributes_are_got(rt: HostRuntime) {
-    let request = RequestPayload::GetAttributes(Some(identifier(&rt, rt.alloc(), "2")), None);
-    let expected =
-        "GetAttributes{unique_identifier=\"2\",attributes=[{name=\"Name\",value=Name{name_value=\"priv\",name_type=UninterpretedTextString}},{name=\"Object Type\",value=ObjectType(PrivateKey)},{name=\"Cryptographic Algorithm\",value=CryptographicAlgorithm(RSA)},{name=\"Cryptographic Length\",value=Integer(2048)},{name=\"Cryptographic Usage Mask\",value=Integer(1)},{name=\"State\",value=State(Active)},{name=\"Initial Date\",value=DateTime(1700000000)},{name=\"Link\",value=Link{link_type=PublicKeyLink,linked_object_identifier=\"1\"}},{name=\"Digest\",value=Structure[Enumeration(6),ByteString(x\"AABB\"),Enumeration(3)]},{name=\"Lease Time\",value=Interval(3600)}]}";
-    answers(&rt, rt.alloc(), ATTRIBUTES_ARE_GOT, request, expected);
-}
-
-const ATTRIBUTE_NAMES_ARE_LISTED: &str = "OK0(C, 94 \"2\",0A \"Name\")";
-
-#[test]
-fn attribute_names_are_listed(rt: HostRuntime) {
-    let request = RequestPayload::GetAttributeList(Some(identifier(&rt, rt.alloc(), "2")));
-    let expected = "GetAttributeList{unique_identifier=\"2\",attributes=[\"Name\"]}";
-    answers(
-        &rt,
-        rt.alloc(),
-        ATTRIBUTE_NAMES_ARE_LISTED,
-        request,
-        expected,
-    );
-}
-
-const AN_EMPTY_LIST_OF_NAMES_IS_NO_ANSWER: &str = "OK0(C, 94 \"2\")";
-
-#[test]
-fn an_empty_list_of_names_is_no_answer(rt: HostRuntime) {
-    let request = RequestPayload::GetAttributeList(Some(identifier(&rt, rt.alloc(), "2")));
-    let expected = "Internal error: not a response message";
-    answers(
-        &rt,
-        rt.alloc(),
-        AN_EMPTY_LIST_OF_NAMES_IS_NO_ANSWER,
-        request,
-        expected,
-    );
-}
-
-const VERSIONS_ARE_TOLD: &str = "OK1(1E, 69{6A i1,6B i2},69{6A i1,6B i0})";
-
-#[test]
-fn versions_are_told(rt: HostRuntime) {
-    let request = RequestPayload::DiscoverVersions(List::new(rt.alloc()));
-    let expected = "DiscoverVersions{supported_versions=[{major=1,minor=2},{major=1,minor=0}]}";
-    answers(&rt, rt.alloc(), VERSIONS_ARE_TOLD, request, expected);
 }
 
 /// A request that has no wire form: a structure within a custom attribute.

@@ -8,8 +8,6 @@
 #[cfg(test)]
 mod audit;
 #[cfg(test)]
-mod calls;
-#[cfg(test)]
 mod client;
 #[cfg(test)]
 mod helpers;

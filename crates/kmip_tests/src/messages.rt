@@ -42,54 +42,58 @@ fn is_refused(rt: &impl Abort, alloc: Global, message: &Tree) {
     drop(client);
 }
 
+/// Messages, and responses that answer them.
+const ANSWERS: &[(&str, &str)] = &[
+    // a Query, whose response has an operation, a tag and a message extension of a vendor
+    (
+        QUERY,
+        "7B{7A{69{6A i1,6B i2},92 d1,0D i1},0F{5C e18,7F e0,7C{5C e80000001,57 e2,9D \"acme\",88{540001{540002 i7}}},51{7D \"acme\",26 o0,9C{540003 x01}}}}",
+    ),
+    // a refusal, and a status that KMIP has not
+    (QUERY, "RES2(5C e18,7F e1,7E e1,7D \"gone\")"),
+    (QUERY, "RES2(7F e9)"),
+    // two batch items for two, and a count of none
+    (
+        "78{77{69{6A i1,6B i2},0D i2},0F{5C e18,93 x01,79{74 e1}},0F{5C e18,93 x02,79{74 e2}}}",
+        "7B{7A{69{6A i1,6B i2},92 d1,0D i2},0F{5C e18,93 x02,7F e0,7C{}},0F{5C e18,93 x01,7F e0,7C{}}}",
+    ),
+    (QUERY, "7B{7A{69{6A i1,6B i2},92 d1,0D i0}}"),
+    // structures that are no messages of KMIP
+    ("540001{}", "540002{}"),
+    ("540001{78 i1}", QUERY),
+    // as many levels as there may be
+    ("78^64{}", "7B^64{}"),
+];
+
 #[test]
 fn a_response_is_answered_as_it_stands(rt: HostRuntime) {
-    let rows = [
-        // a Query, whose response has an operation, a tag and a message extension of a vendor
-        (
-            QUERY,
-            "7B{7A{69{6A i1,6B i2},92 d1,0D i1},0F{5C e18,7F e0,7C{5C e80000001,57 e2,9D \"acme\",88{540001{540002 i7}}},51{7D \"acme\",26 o0,9C{540003 x01}}}}",
-        ),
-        // a refusal, and a status that KMIP has not
-        (QUERY, "RES2(5C e18,7F e1,7E e1,7D \"gone\")"),
-        (QUERY, "RES2(7F e9)"),
-        // two batch items for two, and a count of none
-        (
-            "78{77{69{6A i1,6B i2},0D i2},0F{5C e18,93 x01,79{74 e1}},0F{5C e18,93 x02,79{74 e2}}}",
-            "7B{7A{69{6A i1,6B i2},92 d1,0D i2},0F{5C e18,93 x02,7F e0,7C{}},0F{5C e18,93 x01,7F e0,7C{}}}",
-        ),
-        (QUERY, "7B{7A{69{6A i1,6B i2},92 d1,0D i0}}"),
-        // structures that are no messages of KMIP
-        ("540001{}", "540002{}"),
-        ("540001{78 i1}", QUERY),
-        // as many levels as there may be
-        ("78^64{}", "7B^64{}"),
-    ];
-    for (message, response) in rows {
+    for (message, response) in ANSWERS {
         answers(&rt, rt.alloc(), message, response);
     }
 }
 
+/// Bytes that are no message, and what is printed of them.
+const NO_MESSAGES: &[(&str, &str)] = &[
+    // no bytes, cut within the head, and within the contents
+    ("!", "Response read error: end of input"),
+    ("!42007B0100", "Response read error: end of input"),
+    (
+        "!42007B010000001042007A01",
+        "Response read error: end of input",
+    ),
+    // contents that are no item, and too many levels
+    (
+        "!42007B0100000008FFFFFFFFFFFFFFFF",
+        "Deserialize error: malformed TTLV",
+    ),
+    ("7B^65{}", "Deserialize error: malformed TTLV"),
+    // the head of an integer
+    ("!42007B0200000004", "Deserialize error: not a structure"),
+];
+
 #[test]
 fn bytes_that_are_no_message_are_no_answer(rt: HostRuntime) {
-    let rows = [
-        // no bytes, cut within the head, and within the contents
-        ("!", "Response read error: end of input"),
-        ("!42007B0100", "Response read error: end of input"),
-        (
-            "!42007B010000001042007A01",
-            "Response read error: end of input",
-        ),
-        // contents that are no item, and too many levels
-        (
-            "!42007B0100000008FFFFFFFFFFFFFFFF",
-            "Deserialize error: malformed TTLV",
-        ),
-        ("7B^65{}", "Deserialize error: malformed TTLV"),
-        // the head of an integer
-        ("!42007B0200000004", "Deserialize error: not a structure"),
-    ];
-    for (response, expected) in rows {
+    for (response, expected) in NO_MESSAGES {
         fails(&rt, rt.alloc(), response, expected);
     }
 }
@@ -110,13 +114,15 @@ fn a_response_past_the_limit_is_not_taken(rt: HostRuntime) {
     is_sent(&rt, alloc, client, QUERY);
 }
 
+/// Items that are no structures.
+const NO_STRUCTURES: &[&str] = &["78 i1", "78 \"message\"", "78 x42007801", "78 o1"];
+
 #[test]
 fn what_is_no_structure_is_not_sent(rt: HostRuntime) {
-    let rows = ["78 i1", "78 \"message\"", "78 x42007801", "78 o1"];
-    for message in rows {
-        let alloc = rt.alloc();
-        let message = tree_of(&rt, alloc, message);
-        is_refused(&rt, alloc, &message);
+    for message in NO_STRUCTURES {
+        let message = tree_of(&rt, rt.alloc(), message);
+        is_refused(&rt, rt.alloc(), &message);
+        drop(message);
     }
 }
 

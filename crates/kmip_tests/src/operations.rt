@@ -45,157 +45,167 @@ fn fails(rt: &impl Abort, alloc: Global, response: &str, expected: &str) {
     is_sent(rt, alloc, client, REQUEST);
 }
 
+/// Responses, and the payloads that they are answers with.
+const PAYLOADS: &[(&str, &str)] = &[
+    ("OK2(1F, 94 \"k1\",C2 xBEEF)", "7C{94 \"k1\",C2 xBEEF}"),
+    // no payload
+    ("RES2(5C e1F,7F e0)", "7C{}"),
+    // items and numbers that KMIP 1.2 has not, in a payload, in a batch item and round it
+    (
+        "OK2(1F, 540001{28 eFFFF,57 i9},94 xAA)",
+        "7C{540001{28 eFFFF,57 i9},94 xAA}",
+    ),
+    (
+        "RES2(540001 i7,7F e0,93 x01,5C e1F,7C{C2 xBEEF},540002{})",
+        "7C{C2 xBEEF}",
+    ),
+    (
+        "7B{540001 i7,7A{540002 \"x\",0D i1,69{6A i9,6B i9}},0F{5C e1F,7F e0,7C{C2 xBEEF}},540003{}}",
+        "7C{C2 xBEEF}",
+    ),
+    // a payload that is no structure
+    ("RES2(5C e1F,7F e0,7C xBEEF)", "7C xBEEF"),
+];
+
 #[test]
 fn a_payload_is_answered_as_it_stands(rt: HostRuntime) {
-    let rows = [
-        ("OK2(1F, 94 \"k1\",C2 xBEEF)", "7C{94 \"k1\",C2 xBEEF}"),
-        // no payload
-        ("RES2(5C e1F,7F e0)", "7C{}"),
-        // items and numbers that KMIP 1.2 has not, in a payload, in a batch item and round it
-        (
-            "OK2(1F, 540001{28 eFFFF,57 i9},94 xAA)",
-            "7C{540001{28 eFFFF,57 i9},94 xAA}",
-        ),
-        (
-            "RES2(540001 i7,7F e0,93 x01,5C e1F,7C{C2 xBEEF},540002{})",
-            "7C{C2 xBEEF}",
-        ),
-        (
-            "7B{540001 i7,7A{540002 \"x\",0D i1,69{6A i9,6B i9}},0F{5C e1F,7F e0,7C{C2 xBEEF}},540003{}}",
-            "7C{C2 xBEEF}",
-        ),
-        // a payload that is no structure
-        ("RES2(5C e1F,7F e0,7C xBEEF)", "7C xBEEF"),
-    ];
-    for (response, payload) in rows {
+    for (response, payload) in PAYLOADS {
         answers(&rt, rt.alloc(), response, payload);
     }
 }
 
+/// Refusals, and what is printed of them.
+const REFUSALS: &[(&str, &str)] = &[
+    (
+        "RES2(5C e1F,7F e1,7E e1,7D \"gone\")",
+        "Item not found: Operation Encrypt failed: gone",
+    ),
+    (
+        "RES2(5C e1F,7F e1,7E e5,7D \"no\")",
+        "Server error: Operation Encrypt failed: no",
+    ),
+    // a reason of KMIP 1.3, and one of a vendor
+    (
+        "RES2(5C e1F,7F e1,7E e15,7D \"read only\")",
+        "Server error: Operation Encrypt failed for reason 21: read only",
+    ),
+    (
+        "RES2(5C e1F,7F e1,7E e80000001,7D \"\")",
+        "Server error: Operation Encrypt failed for reason 2147483649: ",
+    ),
+    // no reason, no message, no operation
+    (
+        "RES2(5C e1F,7F e1,7D \"no\")",
+        "Server error: Operation Encrypt failed: no",
+    ),
+    (
+        "RES2(5C e1F,7F e1,7E e1)",
+        "Item not found: Operation Encrypt failed: ",
+    ),
+    ("RES2(7F e1)", "Server error: Operation Encrypt failed: "),
+];
+
 #[test]
 fn a_refusal_has_the_message_of_the_server(rt: HostRuntime) {
-    let rows = [
-        (
-            "RES2(5C e1F,7F e1,7E e1,7D \"gone\")",
-            "Item not found: Operation Encrypt failed: gone",
-        ),
-        (
-            "RES2(5C e1F,7F e1,7E e5,7D \"no\")",
-            "Server error: Operation Encrypt failed: no",
-        ),
-        // a reason of KMIP 1.3, and one of a vendor
-        (
-            "RES2(5C e1F,7F e1,7E e15,7D \"read only\")",
-            "Server error: Operation Encrypt failed for reason 21: read only",
-        ),
-        (
-            "RES2(5C e1F,7F e1,7E e80000001,7D \"\")",
-            "Server error: Operation Encrypt failed for reason 2147483649: ",
-        ),
-        // no reason, no message, no operation
-        (
-            "RES2(5C e1F,7F e1,7D \"no\")",
-            "Server error: Operation Encrypt failed: no",
-        ),
-        (
-            "RES2(5C e1F,7F e1,7E e1)",
-            "Item not found: Operation Encrypt failed: ",
-        ),
-        ("RES2(7F e1)", "Server error: Operation Encrypt failed: "),
-    ];
-    for (response, expected) in rows {
+    for (response, expected) in REFUSALS {
         fails(&rt, rt.alloc(), response, expected);
     }
 }
+
+/// Messages that are no answer, and what is printed of them.
+const OTHERS: &[(&str, &str)] = &[
+    // another operation, and none
+    (
+        "OK2(20, 94 \"k1\",C2 xBEEF)",
+        "Internal error: Response does not match request operation Encrypt",
+    ),
+    (
+        "RES2(7F e0,7C{})",
+        "Internal error: Response does not match request operation Encrypt",
+    ),
+    // another status, and none
+    (
+        "RES2(5C e1F,7F e2)",
+        "Internal error: Result status 2 is not supported",
+    ),
+    (
+        "RES2(5C e1F,7F e9)",
+        "Internal error: Result status 9 is not supported",
+    ),
+    ("RES2(5C e1F)", "Internal error: not a response message"),
+    // two payloads
+    (
+        "RES2(5C e1F,7F e0,7C{},7C{})",
+        "Internal error: not a response message",
+    ),
+    // a request
+    (
+        "REQ2(1F, 94 \"k1\")",
+        "Internal error: not a response message",
+    ),
+];
 
 #[test]
 fn other_messages_are_no_answer(rt: HostRuntime) {
-    let rows = [
-        // another operation, and none
-        (
-            "OK2(20, 94 \"k1\",C2 xBEEF)",
-            "Internal error: Response does not match request operation Encrypt",
-        ),
-        (
-            "RES2(7F e0,7C{})",
-            "Internal error: Response does not match request operation Encrypt",
-        ),
-        // another status, and none
-        (
-            "RES2(5C e1F,7F e2)",
-            "Internal error: Result status 2 is not supported",
-        ),
-        (
-            "RES2(5C e1F,7F e9)",
-            "Internal error: Result status 9 is not supported",
-        ),
-        ("RES2(5C e1F)", "Internal error: not a response message"),
-        // two payloads
-        (
-            "RES2(5C e1F,7F e0,7C{},7C{})",
-            "Internal error: not a response message",
-        ),
-        // a request
-        (
-            "REQ2(1F, 94 \"k1\")",
-            "Internal error: not a response message",
-        ),
-    ];
-    for (response, expected) in rows {
+    for (response, expected) in OTHERS {
         fails(&rt, rt.alloc(), response, expected);
     }
 }
+
+/// Messages of none or two batch items, or of another count.
+const COUNTS: &[(&str, &str)] = &[
+    // two items, of which the header counts one
+    (
+        "7B{7A{69{6A i1,6B i2},92 d1,0D i1},0F{5C e1F,7F e0,7C{}},0F{5C e1F,7F e0,7C{}}}",
+        "Internal error: Expected one batch item in response but received 2",
+    ),
+    // one item, of which the header counts two
+    (
+        "7B{7A{69{6A i1,6B i2},92 d1,0D i2},0F{5C e1F,7F e0,7C{}}}",
+        "Internal error: Expected one batch item in response but received 1",
+    ),
+    // no item, no count, no header
+    (
+        "7B{7A{69{6A i1,6B i2},92 d1,0D i1}}",
+        "Internal error: Expected one batch item in response but received 0",
+    ),
+    (
+        "7B{7A{69{6A i1,6B i2},92 d1},0F{5C e1F,7F e0,7C{}}}",
+        "Internal error: Expected one batch item in response but received 1",
+    ),
+    (
+        "7B{0F{5C e1F,7F e0,7C{}}}",
+        "Internal error: Expected one batch item in response but received 1",
+    ),
+];
 
 #[test]
 fn only_one_batch_item_is_an_answer(rt: HostRuntime) {
-    let rows = [
-        // two items, of which the header counts one
-        (
-            "7B{7A{69{6A i1,6B i2},92 d1,0D i1},0F{5C e1F,7F e0,7C{}},0F{5C e1F,7F e0,7C{}}}",
-            "Internal error: Expected one batch item in response but received 2",
-        ),
-        // one item, of which the header counts two
-        (
-            "7B{7A{69{6A i1,6B i2},92 d1,0D i2},0F{5C e1F,7F e0,7C{}}}",
-            "Internal error: Expected one batch item in response but received 1",
-        ),
-        // no item, no count, no header
-        (
-            "7B{7A{69{6A i1,6B i2},92 d1,0D i1}}",
-            "Internal error: Expected one batch item in response but received 0",
-        ),
-        (
-            "7B{7A{69{6A i1,6B i2},92 d1},0F{5C e1F,7F e0,7C{}}}",
-            "Internal error: Expected one batch item in response but received 1",
-        ),
-        (
-            "7B{0F{5C e1F,7F e0,7C{}}}",
-            "Internal error: Expected one batch item in response but received 1",
-        ),
-    ];
-    for (response, expected) in rows {
+    for (response, expected) in COUNTS {
         fails(&rt, rt.alloc(), response, expected);
     }
 }
 
+/// Bytes that are no message, and what is printed of them.
+const NO_MESSAGES: &[(&str, &str)] = &[
+    // cut within the contents, and within the head
+    (
+        "!42007B010000001042007A01",
+        "Response read error: end of input",
+    ),
+    ("!42007B0100", "Response read error: end of input"),
+    // contents that are no item
+    (
+        "!42007B0100000008FFFFFFFFFFFFFFFF",
+        "Deserialize error: malformed TTLV",
+    ),
+    // the head of an integer
+    ("!42007B0200000004", "Deserialize error: not a structure"),
+];
+
 #[test]
 fn bytes_that_are_no_message_are_no_answer(rt: HostRuntime) {
-    let rows = [
-        // cut within the contents, and within the head
-        (
-            "!42007B010000001042007A01",
-            "Response read error: end of input",
-        ),
-        ("!42007B0100", "Response read error: end of input"),
-        // contents that are no item
-        (
-            "!42007B0100000008FFFFFFFFFFFFFFFF",
-            "Deserialize error: malformed TTLV",
-        ),
-        // the head of an integer
-        ("!42007B0200000004", "Deserialize error: not a structure"),
-    ];
-    for (response, expected) in rows {
+    for (response, expected) in NO_MESSAGES {
         fails(&rt, rt.alloc(), response, expected);
     }
 }
@@ -285,4 +295,30 @@ fn a_payload_without_a_form_is_not_sent(rt: HostRuntime) {
     assert!(&rt; client.inner().sent().is_empty());
     drop(client);
     drop(payload);
+}
+
+/// Payloads of 63 and 64 levels, so that their messages would have 65 and 66.
+const DEEP: &[&str] = &["79^63{}", "79^64{}"];
+
+#[test]
+fn a_request_has_at_most_64_levels(rt: HostRuntime) {
+    let alloc = rt.alloc();
+    // the payload is the third level of its message
+    let mut client = client_fed(&rt, alloc, "OK2(1F, 94 \"k1\")");
+    let answer = encrypt(&rt, alloc, &mut client, Version::V1_2, "79^62{}");
+    let answer = answer.expect(&rt, "a payload");
+    drop(answer);
+    is_sent(&rt, alloc, client, "REQ2(1F, 79^61{})");
+    for payload in DEEP {
+        let mut client = client_fed(&rt, alloc, "OK2(1F, 94 \"k1\")");
+        let answer = encrypt(&rt, alloc, &mut client, Version::V1_2, payload);
+        fails_with(
+            &rt,
+            alloc,
+            answer,
+            "Serialize error: request has no wire form",
+        );
+        assert!(&rt; client.inner().sent().is_empty());
+        drop(client);
+    }
 }

@@ -18,37 +18,26 @@ use std::process::Abort;
 #[test]
 fn plain_values(rt: HostRuntime) {
     let alloc = rt.alloc();
-    // 09 i-5
     let notation = "09 i-5";
     is_plain::<i32>(&rt, alloc, notation, "-5");
-    // 0B l-5
     let notation = "0B l-5";
     is_plain::<i64>(&rt, alloc, notation, "-5");
-    // 26 t1
     let notation = "26 o1";
     is_plain::<bool>(&rt, alloc, notation, "true");
-    // 92 d5
     let notation = "92 d5";
     is_plain::<u64>(&rt, alloc, notation, "5");
-    // 49 n5
     let notation = "49 n5";
     is_plain::<u32>(&rt, alloc, notation, "5");
-    // 92 d5
     let notation = "92 d5";
     is_plain::<Timestamp>(&rt, alloc, notation, "5");
-    // 94 "a"
     let notation = "94 \"a\"";
     is_plain::<Text>(&rt, alloc, notation, "\"a\"");
-    // C2 xAA
     let notation = "C2 xAA";
     is_plain::<Blob>(&rt, alloc, notation, "x\"AA\"");
-    // 52 b0000000000000005
     let notation = "52 b0000000000000005";
     is_plain::<BigInteger>(&rt, alloc, notation, "x\"0000000000000005\"");
-    // 57 e2
     let notation = "57 e2";
     is_plain::<ObjectType>(&rt, alloc, notation, "SymmetricKey");
-    // 2B{11 e1}
     let notation = "2B{11 e1}";
     is_plain::<CryptographicParameters>(&rt, alloc, notation, "{block_cipher_mode=CBC}");
 }
@@ -92,7 +81,6 @@ fn copies(rt: HostRuntime) {
 #[test]
 fn copies_of_trees(rt: HostRuntime) {
     let alloc = rt.alloc();
-    // 36{94 "k",2B{11 e1}}
     let notation = "36{94 \"k\",2B{11 e1}}";
     let bytes = bytes_of(&rt, alloc, notation);
     let (tree, size) = read_tree(alloc, &bytes).expect(&rt, "a tree");
@@ -103,7 +91,6 @@ fn copies_of_trees(rt: HostRuntime) {
     drop(trees);
 }
 
-// 7C{57 e4,94 "k",64{40{42 e1,45{43 xAA}}}}
 const OBJECT: &str = "7C{57 e4,94 \"k\",64{40{42 e1,45{43 xAA}}}}";
 
 #[test]
@@ -139,7 +126,6 @@ fn lists(rt: HostRuntime) {
 #[test]
 fn a_record(rt: HostRuntime) {
     let alloc = rt.alloc();
-    // 08{09 i5}
     let notation = "08{09 i5}";
     let bytes = bytes_of(&rt, alloc, notation);
     let item = ItemRef::root(&bytes).expect(&rt, "an item");
@@ -159,7 +145,6 @@ fn a_root(rt: HostRuntime) {
 
 #[test]
 fn a_request(rt: HostRuntime) {
-    // 78{77{69{6A i1,6B i2},0D i1},0F{5C e37,79{C4 i16}}}
     let notation = "REQ2(25, C4 i16)";
     let payload = RequestPayload::RNGRetrieve(DataLength(16));
     let authentication = None;

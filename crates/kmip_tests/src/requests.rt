@@ -13,25 +13,18 @@ use kmip_request::{
 #[test]
 fn attributes_and_templates(rt: HostRuntime) {
     let alloc = rt.alloc();
-    // 53{55 "n",54 e1}
     let notation = "53{55 \"n\",54 e1}";
     is_written::<Name>(&rt, alloc, None, notation);
-    // 08{0A "x-a",09 i1,0B i5}
     let notation = "08{0A \"x-a\",09 i1,0B i5}";
     is_written::<Attribute>(&rt, alloc, None, notation);
-    // 91{53{55 "n",54 e1},08{0A "x-a",09 i1,0B i5}}
     let notation = "91{53{55 \"n\",54 e1},08{0A \"x-a\",09 i1,0B i5}}";
     is_written::<TemplateAttribute>(&rt, alloc, None, notation);
-    // 1F{53{55 "n",54 e1},08{0A "x-a",09 i1,0B i5}}
     let notation = "1F{53{55 \"n\",54 e1},08{0A \"x-a\",09 i1,0B i5}}";
     is_written::<CommonTemplateAttribute>(&rt, alloc, None, notation);
-    // 65{53{55 "n",54 e1},08{0A "x-a",09 i1,0B i5}}
     let notation = "65{53{55 \"n\",54 e1},08{0A \"x-a\",09 i1,0B i5}}";
     is_written::<PrivateKeyTemplateAttribute>(&rt, alloc, None, notation);
-    // 6E{53{55 "n",54 e1},08{0A "x-a",09 i1,0B i5}}
     let notation = "6E{53{55 \"n\",54 e1},08{0A \"x-a\",09 i1,0B i5}}";
     is_written::<PublicKeyTemplateAttribute>(&rt, alloc, None, notation);
-    // 81{82 e1,80 "why"}
     let notation = "81{82 e1,80 \"why\"}";
     is_written::<RevocationReason>(&rt, alloc, None, notation);
 }
@@ -39,22 +32,16 @@ fn attributes_and_templates(rt: HostRuntime) {
 #[test]
 fn wrapping(rt: HostRuntime) {
     let alloc = rt.alloc();
-    // 36{94 "k",2B{11 e1}}
     let notation = "36{94 \"k\",2B{11 e1}}";
     is_written::<EncryptionKeyInformation>(&rt, alloc, None, notation);
-    // 4E{94 "m"}
     let notation = "4E{94 \"m\"}";
     is_written::<MACOrSignatureKeyInformation>(&rt, alloc, None, notation);
-    // 4D xAA
     let notation = "4D xAA";
     is_written::<MACOrSignature>(&rt, alloc, None, notation);
-    // 3D xBB
     let notation = "3D xBB";
     is_written::<IVOrCounterOrNonce>(&rt, alloc, None, notation);
-    // 46{9E e1,36{94 "k"},4E{94 "m"},4D xAA,3D xBB,08{0A "x-a",09 i1,0B i5}}
     let notation = "46{9E e1,36{94 \"k\"},4E{94 \"m\"},4D xAA,3D xBB,08{0A \"x-a\",09 i1,0B i5}}";
     is_written::<KeyWrappingData>(&rt, alloc, None, notation);
-    // 47{9E e1,36{94 "k"},4E{94 "m"},08{0A "x-a",09 i1,0B i5}}
     let notation = "47{9E e1,36{94 \"k\"},4E{94 \"m\"},08{0A \"x-a\",09 i1,0B i5}}";
     is_written::<KeyWrappingSpecification>(&rt, alloc, None, notation);
 }
@@ -62,25 +49,18 @@ fn wrapping(rt: HostRuntime) {
 #[test]
 fn objects(rt: HostRuntime) {
     let alloc = rt.alloc();
-    // 45{43 xAA,08{0A "x-a",09 i1,0B i5}}
     let notation = "45{43 xAA,08{0A \"x-a\",09 i1,0B i5}}";
     is_written::<KeyValue>(&rt, alloc, Some(1), notation);
-    // 40{42 e1,45{43 xAA},28 e3,2A i128,46{9E e1}}
     let notation = "40{42 e1,45{43 xAA},28 e3,2A i128,46{9E e1}}";
     is_written::<KeyBlock>(&rt, alloc, None, notation);
-    // 8F{40{42 e1,45{43 xAA}}}
     let notation = "8F{40{42 e1,45{43 xAA}}}";
     is_written::<SymmetricKey>(&rt, alloc, None, notation);
-    // 6D{40{42 e1,45{43 xAA}}}
     let notation = "6D{40{42 e1,45{43 xAA}}}";
     is_written::<PublicKey>(&rt, alloc, None, notation);
-    // 64{40{42 e1,45{43 xAA}}}
     let notation = "64{40{42 e1,45{43 xAA}}}";
     is_written::<PrivateKey>(&rt, alloc, None, notation);
-    // 90{08{0A "x-a",09 i1,0B i5}}
     let notation = "90{08{0A \"x-a\",09 i1,0B i5}}";
     is_written::<Template>(&rt, alloc, None, notation);
-    // 8F{40{42 e1,45{43 xAA}}}
     let notation = "8F{40{42 e1,45{43 xAA}}}";
     is_written::<ManagedObject>(&rt, alloc, None, notation);
 }
@@ -88,31 +68,22 @@ fn objects(rt: HostRuntime) {
 #[test]
 fn messages_and_credentials(rt: HostRuntime) {
     let alloc = rt.alloc();
-    // 99 "alice"
     let notation = "99 \"alice\"";
     is_written::<Username>(&rt, alloc, None, notation);
-    // A1 "secret"
     let notation = "A1 \"secret\"";
     is_written::<Password>(&rt, alloc, None, notation);
-    // 25{99 "alice",A1 "secret"}
     let notation = "25{99 \"alice\",A1 \"secret\"}";
     is_written::<CredentialValue>(&rt, alloc, Some(1), notation);
-    // 23{24 e1,25{99 "alice",A1 "secret"}}
     let notation = "23{24 e1,25{99 \"alice\",A1 \"secret\"}}";
     is_written::<Credential>(&rt, alloc, None, notation);
-    // 0C{23{24 e1,25{99 "alice",A1 "secret"}}}
     let notation = "0C{23{24 e1,25{99 \"alice\",A1 \"secret\"}}}";
     is_written::<Authentication>(&rt, alloc, None, notation);
-    // 77{69{6A i1,6B i2},50 i256,0C{23{24 e1,25{99 "alice",A1 "secret"}}},0D i1}
     let notation = "77{69{6A i1,6B i2},50 i256,0C{23{24 e1,25{99 \"alice\",A1 \"secret\"}}},0D i1}";
     is_written::<RequestHeader>(&rt, alloc, None, notation);
-    // 79{C4 i16}
     let notation = "79{C4 i16}";
     is_written::<RequestPayload>(&rt, alloc, Some(37), notation);
-    // 0F{5C e37,93 xAA,79{C4 i16}}
     let notation = "0F{5C e25,93 xAA,79{C4 i16}}";
     is_written::<BatchItem>(&rt, alloc, None, notation);
-    // 78{77{69{6A i1,6B i2},50 i256,0C{23{24 e1,25{99 "alice",A1 "secret"}}},0D i1},0F{5C e37,93 xAA,79{C4 i16}}}
     let notation =
         "78{77{69{6A i1,6B i2},50 i256,0C{23{24 e1,25{99 \"alice\",A1 \"secret\"}}},0D i1},0F{5C e25,93 xAA,79{C4 i16}}}";
     is_written::<RequestMessage>(&rt, alloc, None, notation);
@@ -121,19 +92,14 @@ fn messages_and_credentials(rt: HostRuntime) {
 #[test]
 fn numbers(rt: HostRuntime) {
     let alloc = rt.alloc();
-    // 69{6A i1,6B i2}
     let notation = "69{6A i1,6B i2}";
     is_written_alone::<ProtocolVersion>(&rt, alloc, notation);
-    // 0D i1
     let notation = "0D i1";
     is_written_alone::<BatchCount>(&rt, alloc, notation);
-    // 50 i256
     let notation = "50 i256";
     is_written_alone::<MaximumResponseSize>(&rt, alloc, notation);
-    // 6A i1
     let notation = "6A i1";
     is_written_alone::<ProtocolVersionMajor>(&rt, alloc, notation);
-    // 6B i2
     let notation = "6B i2";
     is_written_alone::<ProtocolVersionMinor>(&rt, alloc, notation);
 }

@@ -39,14 +39,21 @@ fn credential_in(rt: &impl Abort, alloc: Global, text: &[u8]) -> Option<Credenti
     credential_with(rt, from_slice(alloc, text), expected)
 }
 
+/// Over pieces of these bytes each 120 bytes are a request without a credential.
+fn are_requests(rt: &impl Abort, alloc: Global, pieces: usize) {
+    let client = ClientBuilder::new(link_of(rt, alloc, pieces)).build();
+    let sent = sent(rt, alloc, client);
+    assert_eq!(rt; sent.len(), 360, "pieces of {pieces}");
+    for text in sent.chunks(120) {
+        let credential = credential_in(rt, alloc, text);
+        assert!(rt; credential.is_none(), "pieces of {pieces}");
+    }
+}
+
 #[test]
 fn each_text_is_its_request(rt: HostRuntime) {
-    let alloc = rt.alloc();
-    let client = ClientBuilder::new(link_of(&rt, alloc, 40)).build();
-    let sent = sent(&rt, alloc, client);
-    assert_eq!(&rt; sent.len(), 360);
-    for text in sent.chunks(120) {
-        assert!(&rt; credential_in(&rt, alloc, text).is_none());
+    for pieces in [1, 7, 65536] {
+        are_requests(&rt, rt.alloc(), pieces);
     }
 }
 
@@ -61,16 +68,22 @@ fn is_alice(rt: &impl Abort, alloc: Global, credential: &Option<CredentialType>)
     }
 }
 
-#[test]
-fn each_text_has_the_credential(rt: HostRuntime) {
-    let alloc = rt.alloc();
-    let (username, password) = (text(&rt, alloc, "alice"), text(&rt, alloc, "secret"));
-    let client = ClientBuilder::new(link_of(&rt, alloc, 40))
+/// Over pieces of these bytes each 192 bytes are a request with the credential.
+fn are_requests_of_alice(rt: &impl Abort, alloc: Global, pieces: usize) {
+    let (username, password) = (text(rt, alloc, "alice"), text(rt, alloc, "secret"));
+    let client = ClientBuilder::new(link_of(rt, alloc, pieces))
         .with_credentials(username, Some(password))
         .build();
-    let sent = sent(&rt, alloc, client);
-    assert_eq!(&rt; sent.len(), 576);
+    let sent = sent(rt, alloc, client);
+    assert_eq!(rt; sent.len(), 576, "pieces of {pieces}");
     for text in sent.chunks(192) {
-        is_alice(&rt, alloc, &credential_in(&rt, alloc, text));
+        is_alice(rt, alloc, &credential_in(rt, alloc, text));
+    }
+}
+
+#[test]
+fn each_text_has_the_credential(rt: HostRuntime) {
+    for pieces in [1, 7, 65536] {
+        are_requests_of_alice(&rt, rt.alloc(), pieces);
     }
 }

@@ -3,6 +3,7 @@
 //! It reads standard input to its end and writes standard output, so that it stands in pipes.
 #![tactic(auto)]
 
+mod laws;
 mod messages;
 mod program;
 #[cfg(test)]
@@ -43,11 +44,11 @@ fn given_words(rt: &HostRuntime) -> Result<List<Text>, OutOfMemory> {
 }
 
 /// Says why there is no output, and returns the status.
-fn complain(rt: &HostRuntime, failure: &Failure) -> u8 {
+fn complain(rt: &HostRuntime, input: &[u8], failure: &Failure) -> u8 {
     if let Failure::OutOfMemory = failure {
         return 5;
     }
-    let Ok(text) = message(rt.alloc(), failure) else {
+    let Ok(text) = message(rt.alloc(), input, failure) else {
         return 5;
     };
     let _told = rt.stderr().write_all(text.as_str().as_bytes());
@@ -68,7 +69,7 @@ fn run(rt: &HostRuntime) -> u8 {
     }
     let output = match transcode(rt.alloc(), command, &input) {
         Ok(output) => output,
-        Err(failure) => return complain(rt, &failure),
+        Err(failure) => return complain(rt, &input, &failure),
     };
     match rt.stdout().write_all(&output) {
         Ok(()) => 0,

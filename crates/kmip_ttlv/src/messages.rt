@@ -2,69 +2,80 @@
 ghost use Rattle.std.specs.Prelude.{IfOk};
 ghost use Rattle.kmip_ttlv.specs.Program.{IsMessage};
 
-use crate::program::Failure;
+use crate::program::{Failure, bytes_in};
 use itoa::Buffer;
-use kmip_encodings::{EncodingError, Expected, Fault, kind_text};
-use kmip_wire::{OutOfMemory, Text};
+use kmip_encodings::{EncodingError, push_refusal, refusal_of};
+use kmip_faults::fault_of;
+use kmip_wire::{OutOfMemory, Text, front_len};
 use std::alloc::Global;
+use std::str;
 
-fn push_number(out: &mut Text, number: usize) -> Result<(), OutOfMemory> {
-    out.push_str(Buffer::new().format(number))
+/// Why a text in JSON is not read, and where.
+fn push_error(
+    alloc: Global,
+    out: &mut Text,
+    input: &[u8],
+    error: &EncodingError,
+) -> Result<(), OutOfMemory> {
+    let Ok(text) = str::from_utf8(input) else {
+        return out.push_str("the input is not UTF-8");
+    };
+    push_refusal(out, &refusal_of(alloc, text, error)?)
 }
 
-fn push_expected(out: &mut Text, expected: Expected) -> Result<(), OutOfMemory> {
-    match expected {
-        Expected::Object => out.push_str("an object with \"tag\", \"type\" and \"value\""),
-        Expected::Members => out.push_str("no member but \"tag\", \"type\" and \"value\""),
-        Expected::Tag => out.push_str("a \"tag\" that is a name or 0x and six hex digits"),
-        Expected::Type => out.push_str("a \"type\" that is the name of one"),
-        Expected::Value(kind) => {
-            out.push_str("a \"value\" of the type ")?;
-            out.push_str(kind_text(kind))
+/// Appends a number of bytes.
+fn push_byte(out: &mut Text, front: &str, at: u64) -> Result<(), OutOfMemory> {
+    out.push_str(front)?;
+    out.push_str(Buffer::new().format(at))
+}
+
+/// Why bytes with an item at their front are not that item alone.
+fn push_rest(out: &mut Text, rest: &[u8], at: usize) -> Result<(), OutOfMemory> {
+    push_byte(out, "an item ends at byte ", at as u64)?;
+    if front_len(rest).is_some() {
+        out.push_str(", and a second one follows")
+    } else {
+        out.push_str(", and what follows is no item")
+    }
+}
+
+/// Why bytes are not one item.
+fn push_no_item(out: &mut Text, bytes: &[u8]) -> Result<(), OutOfMemory> {
+    if bytes.is_empty() {
+        return out.push_str("the input is empty");
+    }
+    if let Some(len) = front_len(bytes) {
+        if len <= bytes.len() {
+            return push_rest(out, &bytes[len..], len);
         }
-        Expected::FewerLevels => out.push_str("at most 64 levels"),
+    }
+    match fault_of(bytes) {
+        Some(fault) => {
+            push_byte(out, "no item: at byte ", fault.at())?;
+            out.push_str(": ")?;
+            out.push_str(fault.why())
+        }
+        None => out.push_str("the input is not one well-formed item"),
     }
 }
 
-/// The place of an item: the index of each item around it among its siblings, from the outermost.
-fn push_place(out: &mut Text, place: &[usize]) -> Result<(), OutOfMemory> {
-    if place.is_empty() {
-        return out.push_str("the item");
-    }
-    out.push_str("the item at value")?;
-    for index in place.iter().rev() {
-        out.push_str("[")?;
-        push_number(out, *index)?;
-        out.push_str("]")?;
+/// Why an input is not one item, in hex or as its bytes.
+fn push_not_item(alloc: Global, out: &mut Text, input: &[u8]) -> Result<(), OutOfMemory> {
+    let bytes = bytes_in(alloc, input)?;
+    push_no_item(out, bytes.as_slice())?;
+    if bytes.as_slice() == input && !input.is_empty() {
+        out.push_str("; the input is taken as bytes, since it is not of pairs of hex digits")?;
     }
     Ok(())
 }
 
-fn push_fault(out: &mut Text, fault: &Fault) -> Result<(), OutOfMemory> {
-    push_place(out, &fault.place)?;
-    out.push_str(" is none: expected ")?;
-    push_expected(out, fault.expected)
-}
-
-fn push_error(out: &mut Text, error: &EncodingError) -> Result<(), OutOfMemory> {
-    match error {
-        EncodingError::NotJson(place) => {
-            out.push_str("the input is no JSON: reading stopped at byte ")?;
-            push_number(out, *place)
-        }
-        EncodingError::RepeatedName => out.push_str("an object has a name twice"),
-        EncodingError::Misfit(fault) => push_fault(out, fault),
-        EncodingError::OutOfMemory => out.push_str("out of memory"),
-    }
-}
-
 /// Why there is no output.
-fn reason(alloc: Global, failure: &Failure) -> Result<Text, OutOfMemory> {
+fn reason(alloc: Global, input: &[u8], failure: &Failure) -> Result<Text, OutOfMemory> {
     let mut out = Text::new(alloc);
     match failure {
-        Failure::NotItem => out.push_str("the input is not one well-formed item")?,
+        Failure::NotItem => push_not_item(alloc, &mut out, input)?,
         Failure::NotText => out.push_str("the input is not UTF-8")?,
-        Failure::Unread(error) => push_error(&mut out, error)?,
+        Failure::Unread(error) => push_error(alloc, &mut out, input, error)?,
         Failure::NoForm => {
             out.push_str("an item is too long, or a Big Integer's length no multiple of 8")?
         }
@@ -73,11 +84,11 @@ fn reason(alloc: Global, failure: &Failure) -> Result<Text, OutOfMemory> {
     Ok(out)
 }
 
-/// A line that says why there is no output, behind the program's name.
-pub fn message(alloc: Global, failure: &Failure) -> Result<Text, OutOfMemory>
+/// A line that says why there is no output for this input, behind the program's name.
+pub fn message(alloc: Global, input: &[u8], failure: &Failure) -> Result<Text, OutOfMemory>
     ensures { IfOk result IsMessage }
 {
-    let why = reason(alloc, failure)?;
+    let why = reason(alloc, input, failure)?;
     let mut out = Text::of(alloc, "kmip_ttlv: ")?;
     out.push_str(why.as_str())?;
     out.push_str("\n")?;

@@ -109,7 +109,7 @@ fn end_line(line: &mut Vec<u8>) -> Result<(), NoMemory>
 }
 
 /// The bytes that the input spells in hex, with white space anywhere, or else the input itself.
-fn bytes_in(alloc: Global, input: &[u8]) -> Result<Vec<u8>, NoMemory>
+pub(crate) fn bytes_in(alloc: Global, input: &[u8]) -> Result<Vec<u8>, NoMemory>
     ensures { IfOk result (λ bytes. bytes.items ≡ bytes_in input.now) }
 {
     match hex::decode(alloc, marks(alloc, input)?.as_slice()) {

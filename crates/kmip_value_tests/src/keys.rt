@@ -6,7 +6,7 @@ use kmip_tags::tags::KEY_MATERIAL;
 use kmip_wire::Tag;
 
 /// By the number of the format.
-const MATERIALS: [Case; 16] = [
+const MATERIALS: &[Case] = &[
     Case {
         under: Number(1),
         notation: "43 xAA",
@@ -103,7 +103,7 @@ const MATERIALS: [Case; 16] = [
 
 #[test]
 fn materials_by_their_format(rt: HostRuntime) {
-    are_read::<KeyMaterial>(&rt, rt.alloc(), &MATERIALS);
+    are_read::<KeyMaterial>(&rt, rt.alloc(), MATERIALS);
 }
 
 #[test]

@@ -1,11 +1,10 @@
-use crate::support::{blob, comes_back, comes_back_copied, is_printed, is_unread, text};
+use crate::support::{comes_back, comes_back_copied, is_printed, is_unread, text};
 use kmip_names::{
     ApplicationData, ApplicationNamespace, AttributeIndex, AttributeName, CompromiseOccurrenceDate,
     CounterLength, CryptographicLength, Data, DataLength, FixedFieldLength, IVLength,
     InitialCounterValue, InvocationFieldLength, LinkedObjectIdentifier, NameValue, RandomIV,
     RevocationMessage, TagLength, UniqueBatchItemID, UniqueIdentifier,
 };
-use std::process::Abort;
 
 #[test]
 fn types_of_one_field_are_read_shown_and_written(rt: HostRuntime) {
@@ -33,31 +32,8 @@ fn types_of_one_field_are_read_shown_and_written(rt: HostRuntime) {
     is_unread::<UniqueIdentifier>(&rt, alloc, "94 xDEADBEEF");
 }
 
-fn is_identifier(rt: &impl Abort, identifier: &UniqueIdentifier) {
-    assert_eq!(rt; identifier.as_str(), "k1");
-    assert!(rt; identifier.is("k1"));
-    assert!(rt; !identifier.is("k12"));
-    assert!(rt; !identifier.is(""));
-}
-
-fn is_name(rt: &impl Abort, name: &AttributeName) {
-    assert!(rt; name.is("State"));
-    assert!(rt; !name.is("state"));
-}
-
-fn is_batch_item(rt: &impl Abort, batch_item: &UniqueBatchItemID) {
-    assert!(rt; batch_item.is(&[1, 2]));
-    assert!(rt; !batch_item.is(&[1]));
-}
-
 #[test]
-fn types_of_one_field_have_their_parts(rt: HostRuntime) {
-    let alloc = rt.alloc();
-    is_identifier(&rt, &UniqueIdentifier(text(&rt, alloc, "k1")));
-    is_name(&rt, &AttributeName(text(&rt, alloc, "State")));
-    is_batch_item(&rt, &UniqueBatchItemID(blob(&rt, alloc, &[1, 2])));
-    assert!(rt; AttributeIndex(-1).is(-1));
-    assert!(rt; !AttributeIndex(-1).is(1));
-    let name_value = NameValue(text(&rt, alloc, "disk \"1\""));
-    is_printed(&rt, alloc, &name_value, "disk \"1\"");
+fn a_name_value_prints_its_text(rt: HostRuntime) {
+    let name_value = NameValue(text(&rt, rt.alloc(), "disk \"1\""));
+    is_printed(&rt, rt.alloc(), &name_value, "disk \"1\"");
 }

@@ -8,7 +8,7 @@ use std::alloc::Global;
 use std::process::Abort;
 
 /// By the name, where it is one of the table's, and else by the type of the item.
-const VALUES: [Case; 26] = [
+const VALUES: &[Case] = &[
     Case {
         under: Name("Name"),
         notation: r#"0B{55 "my key",54 e1}"#,
@@ -146,7 +146,7 @@ const VALUES: [Case; 26] = [
 
 #[test]
 fn by_name_or_type(rt: HostRuntime) {
-    are_read::<AttributeValue>(&rt, rt.alloc(), &VALUES);
+    are_read::<AttributeValue>(&rt, rt.alloc(), VALUES);
 }
 
 const DIGEST: &str = "0B{38 e6,35 xAABB}";

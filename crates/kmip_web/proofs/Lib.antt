@@ -1,4 +1,2 @@
-mod Showing
 mod Listed
 mod Front
-mod Faultless

@@ -11,7 +11,8 @@ use Rattle.kmip_wire.specs.Tree.{Tree, Trees, Scalar, scalar, structure, none, m
 use Rattle.kmip_wire.specs.Kinds.{kind_of_scalar}
 use Rattle.kmip_tags.specs.Names.{name_of}
 use Rattle.kmip_encodings.specs.Names.{enumeration_name}
-use Rattle.kmip_diag.specs.Lines.{name_text, kind_name}
+use Rattle.kmip_wire.specs.Names.{kind_name}
+use Rattle.kmip_diag.specs.Lines.{name_text}
 use Rattle.kmip_diag.specs.Diagnostic.{Shown, ended, stopped, item, cut_off, shown_within}
 use Rattle.kmip_encodings.specs.Sizes.{size_of}
 

@@ -14,24 +14,22 @@ ghost use Rattle.kmip_wire.specs.Tree.{Trees};
 ghost use Rattle.kmip_wire.specs.Parses.{ParseAll};
 ghost use Rattle.kmip_wire.specs.Reading.{front_at};
 ghost use Rattle.kmip_web.specs.Listing.{listing};
-ghost use Rattle.kmip_web.specs.Fault.{fault_of, fault_text};
+ghost use Rattle.kmip_faults.specs.Fault.{fault_of, fault_text};
 ghost use Rattle.kmip_web.specs.Input.{text_bytes};
 ghost use Rattle.kmip_exports.specs.Exports.{IsShown, IsReported, memory, not_a_message};
 ghost use Rattle.kmip_web.specs.Shown.{frame_code, not_a_text};
 
-mod fault;
 mod input;
 mod json;
 mod listing;
 mod report;
-mod steps;
 mod values;
 
-use fault::{fault_of, fault_text};
 use input::text_bytes;
 use json::json_of;
 use kmip_diag::PrettyPrinter;
 use kmip_exports::{NO_MEMORY, NOT_A_MESSAGE, copy_out};
+use kmip_faults::{fault_of, fault_text};
 use kmip_wire::{Config, OutOfMemory, head};
 use listing::list_bytes;
 use report::report_text;

@@ -3,33 +3,17 @@ ghost use Rattle.std.specs.Prelude.{◌≡◌, ◌++◌, ◌+◌, ◌≤◌, ◌
 ghost use Rattle.kmip_wire.specs.Tree.{trees_of};
 ghost use Rattle.kmip_wire.specs.Parts.{scalar_in};
 ghost use Rattle.kmip_wire.specs.Items.{item_tree, trees_left};
-ghost use Rattle.kmip_diag.specs.Lines.{name_text, kind_name};
+ghost use Rattle.kmip_diag.specs.Lines.{name_text};
 ghost use Rattle.kmip_tags.specs.Names.{name_of};
-ghost use Rattle.kmip_encodings.specs.Sizes.{value_size, size_of, sizes_of};
+ghost use Rattle.kmip_shape.specs.Writes.{len_of};
+ghost use Rattle.kmip_encodings.specs.Sizes.{size_of, sizes_of};
 ghost use Rattle.kmip_web.specs.Listing.{head_text, listed, all_listed, listing};
 
-use crate::steps::{Step, step_at};
 use crate::values::push_value;
+use kmip_faults::{Step, step_at};
 use kmip_tags::name_of;
 use kmip_wire::{Children, ItemRef, Kind, OutOfMemory, Tag, Text};
 use std::alloc::Global;
-
-fn kind_name(kind: Kind) -> &'static str
-    ensures { result.now ≡ kind_name kind }
-{
-    match kind {
-        Kind::Structure => "Structure",
-        Kind::Integer => "Integer",
-        Kind::LongInteger => "LongInteger",
-        Kind::BigInteger => "BigInteger",
-        Kind::Enumeration => "Enumeration",
-        Kind::Boolean => "Boolean",
-        Kind::TextString => "TextString",
-        Kind::ByteString => "ByteString",
-        Kind::DateTime => "DateTime",
-        Kind::Interval => "Interval",
-    }
-}
 
 fn tag_name(tag: Tag) -> &'static str
     ensures { result.now ≡ name_text (name_of tag) }
@@ -51,7 +35,7 @@ fn push_head(
 {
     let number = tag.number();
     let name = tag_name(tag);
-    let kind = kind_name(kind);
+    let kind = kind.name();
     match format!(in alloc; "{at}\t{number:X}\t{name}\t{kind}\t") {
         Ok(made) => text.push_str(made.as_str()),
         Err(_) => Err(OutOfMemory),
@@ -60,7 +44,7 @@ fn push_head(
 
 /// How many bytes the value has, without pads; of a structure any number.
 fn value_size(item: ItemRef<'_>) -> usize
-    ensures { option_map value_size (scalar_in (item_tree item.entry)) ≡
+    ensures { option_map len_of (scalar_in (item_tree item.entry)) ≡
         option_map (λ _. result) (scalar_in (item_tree item.entry)) }
 {
     if let Some(bytes) = item.big() {

@@ -11,3 +11,4 @@ pub mod Writing
 pub mod Written
 pub mod Ranges
 pub mod Places
+pub mod Levels

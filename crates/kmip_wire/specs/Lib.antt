@@ -4,6 +4,7 @@ pub mod Sees
 pub mod Falls
 pub mod Same
 pub mod Kinds
+pub mod Names
 pub mod Head
 pub mod Heads
 pub mod Parses

@@ -1,5 +1,5 @@
 //! Laws over the definitions, each the contract of a function that does nothing.
-ghost use Rattle.std.specs.Prelude.{◌≡◌, ◌-◌, ◌≤◌, ◌↔◌, List, ℕ, [], ◌++◌, Some};
+ghost use Rattle.std.specs.Prelude.{◌≡◌, ◌+◌, ◌-◌, ◌≤◌, ◌↔◌, List, ℕ, [], ◌++◌, Some};
 ghost use Rattle.std.specs.Prelude.{length, take};
 ghost use Rattle.std.specs.Bool.{Decides};
 ghost use Rattle.std.specs.Str.{bytes_eq};
@@ -37,6 +37,12 @@ pub fn front_computed()
 /// A tree as which bytes parse has its numbers, texts and bytes in their ranges.
 pub fn parsed_ranges()
     ensures { (t : Tree) (level : ℕ) (b : List ℕ) → AreBytes b → Parses t level b → HasRanges t }
+{}
+
+/// A tree as which bytes parse at a level ends at level 64 at the latest: at level 1, that of a whole
+/// item, it has at most 64 levels.
+pub fn parsed_levels()
+    ensures { (t : Tree) (level : ℕ) (b : List ℕ) → Parses t level b → levels t + level ≤ 65 }
 {}
 
 /// The canonical bytes of a tree parse as this tree, if it has at most 64 levels.

@@ -47,8 +47,8 @@ pub use front::{check, front_len, front_len_at};
 pub use item::{Children, ItemRef};
 pub use kind::Kind;
 pub use laws::{
-    equality, front_computed, list_equality, one_text, one_tree, parsed_ranges, tree_computed,
-    written_parses,
+    equality, front_computed, list_equality, one_text, one_tree, parsed_levels, parsed_ranges,
+    tree_computed, written_parses,
 };
 pub use list::{List, clone_items};
 pub use memory::{OutOfMemory, TryClone, clone_optional, wipe};

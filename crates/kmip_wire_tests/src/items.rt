@@ -3,7 +3,7 @@
 use crate::support::bytes_of;
 use kmip_wire::{
     Blob, Boxed, Buffer, Kind, List, Node, Tag, Text, Tree, Trees, TryClone, check, clone_optional,
-    read_tree, wipe, write_tree,
+    read_tree, write_tree,
 };
 use std::alloc::Global;
 use std::process::Abort;
@@ -113,7 +113,7 @@ fn is_written(rt: &impl Abort, alloc: Global, number: u32, value: Value, hex: &s
 }
 
 /// Items, and the bytes that they are written as.
-const WRITTEN: [(u32, Value, &str); 22] = [
+const WRITTEN: &[(u32, Value, &str)] = &[
     (
         0x42006A,
         Value::Integer(-5),
@@ -219,7 +219,7 @@ fn are_written(rt: &impl Abort, alloc: Global, rows: &[(u32, Value, &str)]) {
 
 #[test]
 fn trees_have_their_canonical_bytes(rt: HostRuntime) {
-    are_written(&rt, rt.alloc(), &WRITTEN);
+    are_written(&rt, rt.alloc(), WRITTEN);
 }
 
 /// The value has a copy that equals it.
@@ -257,11 +257,11 @@ fn is_good_at(rt: &impl Abort, alloc: Global, levels: u32, is_good: bool) {
     drop(read);
 }
 
-const LEVELS: [(u32, bool); 4] = [(1, true), (63, true), (64, true), (65, false)];
+const LEVELS: &[(u32, bool)] = &[(1, true), (63, true), (64, true), (65, false)];
 
 #[test]
 fn stops_at_sixty_four_levels(rt: HostRuntime) {
-    for (levels, is_good) in &LEVELS {
+    for (levels, is_good) in LEVELS {
         is_good_at(&rt, rt.alloc(), *levels, *is_good);
     }
 }
@@ -344,11 +344,4 @@ fn a_buffer_has_the_items_put_into_it(rt: HostRuntime) {
     out.wipe();
     holds(&rt, alloc, &out, "");
     assert!(rt; 24 <= out.spare());
-}
-
-#[test]
-fn a_wiped_vector_has_no_bytes(rt: HostRuntime) {
-    let mut bytes = Vec::from_array(rt.alloc(), [1u8, 2, 3]).expect(&rt, "memory");
-    wipe(&mut bytes);
-    assert!(rt; bytes.is_empty());
 }

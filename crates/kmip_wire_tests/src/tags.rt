@@ -5,7 +5,7 @@ use std::alloc::Global;
 use std::process::Abort;
 
 /// Some lines of the table, at its ends, at the two names with two spaces, and on both sides of it.
-const LINES: [(u32, Option<&str>); 9] = [
+const LINES: &[(u32, Option<&str>)] = &[
     (0x42_0000, None),
     (0x42_0001, Some("Activation Date")),
     (0x42_001B, Some("Certificate Subject  Alternative Name")),
@@ -50,7 +50,7 @@ fn ends_with(rt: &impl Abort, map: &TagMap, number: u32, expected: &str) {
 #[test]
 fn tags_have_the_names_of_the_table(rt: HostRuntime) {
     let map = map_of_names(&rt, rt.alloc());
-    for (number, name) in &LINES {
+    for (number, name) in LINES {
         let tag = tag_of(&rt, *number);
         is_named(&rt, tag, *name);
         is_named_by(&rt, &map, tag, *name);
@@ -59,7 +59,7 @@ fn tags_have_the_names_of_the_table(rt: HostRuntime) {
 }
 
 /// Constants and the names that KMIP's table gives their numbers, from each version of the table.
-const NAMED: [(u32, &str); 24] = [
+const NAMED: &[(u32, &str)] = &[
     (tags::ACTIVATION_DATE, "Activation Date"),
     (tags::ATTRIBUTE, "Attribute"),
     (tags::ATTRIBUTE_INDEX, "Attribute Index"),
@@ -88,7 +88,7 @@ const NAMED: [(u32, &str); 24] = [
 
 #[test]
 fn constants_have_the_names_of_the_table(rt: HostRuntime) {
-    for (number, name) in &NAMED {
+    for (number, name) in NAMED {
         is_named(&rt, tag_of(&rt, *number), Some(name));
     }
 }

@@ -114,17 +114,6 @@ answer_shown style call payload answer (Ok ending) old new makes did shows =
     answered style call payload answer ending old new makes did shows.some shows.shown shows.ending_is
 answer_shown style call payload answer (Err error) old new makes did shows = tt
 
--- what was taken of some bytes, by how many are left
-pub taken_is : (n : ℕ) (bytes : List ℕ) → take (length bytes - length (drop n bytes)) bytes ≡ take n bytes
-taken_is zero bytes =
-    let none : length bytes - length bytes ≡ 0 = omega arith in
-    rw none refl
-taken_is (suc n) [] = refl
-taken_is (suc n) (byte ∷ bytes) =
-    let one : suc (length bytes) - length (drop n bytes)
-    ≡ suc (length bytes - length (drop n bytes)) = omega (arith, length-drop n bytes) in
-    rw one (ap (λ (l : List ℕ). byte ∷ l) (taken_is n bytes))
-
 -- the request that was made is that of a call
 pub request_made : {E : Type 0} (result : Result RequestPayload E) (wanted : RequestPayload)
     (call : Call) → IsRequestOf wanted call → IfOk result (λ made. made ≡ wanted) →
@@ -132,42 +121,7 @@ pub request_made : {E : Type 0} (result : Result RequestPayload E) (wanted : Req
 request_made (Ok made) wanted call same is = λ credential. ap (λ p. asked_of p credential) is ∙ same credential
 request_made (Err error) wanted call same is = tt
 
--- nothing comes to a link in memory by itself
-pub ever_kept : (o : Outcome) (before after : MemoryState) (answer : Answer)
-    → Exchanged o (memory_state before) (memory_state after) answer → after.ever ≡ before.ever
-ever_kept o before after answer (Exchanged.completed is moves) = moves.still refl
-ever_kept o before after answer (Exchanged.write_failed is rose n below moves) = moves.still refl
-ever_kept o before after answer (Exchanged.read_failed is rose n within moves) = moves.still refl
-ever_kept o before after answer (Exchanged.sending_cut is n within moves) = moves.still refl
-ever_kept o before after answer (Exchanged.reading_cut is n within moves) = moves.still refl
-
--- over a link that has these bytes to read, the answer and the bytes taken are the outcome's, unless memory ran out
-pub outcome_given : {before after : ClientState MemoryState} (settings : Settings) (call : Call)
-    (payload : RequestPayload) (response : List ℕ) (answer : Answer) →
-    settings_of before ≡ settings → before.link.ever ≡ response → before.link.pos ≡ 0
-    → IsRequestOf payload call → IsCall memory_state payload before after answer
-    → answer ≢ Err OutOfMemory →
-    (answer ≡ (call_outcome settings call response).answer)
-    × (after.link.pos ≡ (call_outcome settings call response).taken)
-outcome_given {before = before} {after = after} settings call payload response answer same ever pos makes did some =
-    let o : List ℕ → Outcome = λ rest. outcome payload before.credential before.limit rest in
-    let rest : List ℕ = drop before.link.pos after.link.ever in
-    let done : (answer ≡ (o rest).answer)
-    × Moves (memory_state before.link) (memory_state after.link) (o rest).sent (o rest).taken =
-    finished (o rest) before.link after.link answer (did.exchange refl) some in
-    let moves : Moves (memory_state before.link) (memory_state after.link) (o rest).sent (o rest).taken = done.1 in
-    let all : after.link.ever ≡ response = moves.still refl ∙ ever in
-    let here : rest ≡ response = rw (pos, all) refl in
-    let is : o rest ≡ call_outcome settings call response =
-    ap o here
-    ∙ ap (λ (it : Asked). outcome_of it.message it.operation before.limit response) (makes before.credential)
-    ∙ ap (λ (s : Settings). call_outcome s call response) same in (
-      done.0 ∙ ap (λ (it : Outcome). it.answer) is,
-      moves.pos ∙ ap (λ n. n + (o rest).taken) pos
-          ∙ zero-add (o rest).taken ∙ ap (λ (it : Outcome). it.taken) is,
-    )
-
--- and its payload is of the call's operation
+-- its payload is of the call's operation
 pub of_call : {E : Type 0} (payload : RequestPayload) (call : Call)
     (result : Result ResponsePayload E) → IsRequestOf payload call →
     IfOk result (λ answer. IsOfOperation (operation_of payload) (response_payload_val answer))
@@ -176,24 +130,3 @@ of_call {E} payload call result makes own =
     let P : Operation → Type 0 = λ operation.
     IfOk {E = E} result (λ answer. IsOfOperation operation (response_payload_val answer)) in
     subst P (ap (λ (it : Asked). it.operation) (makes None)) own
-
--- so the answer, and the bytes that were taken, are those of the outcome
-pub reply_given : {before after : ClientState MemoryState} (settings : Settings) (call : Call)
-    (payload : RequestPayload) (response : List ℕ) (answer : Answer) (left : ℕ) →
-    settings_of before ≡ settings → before.link.ever ≡ response → before.link.pos ≡ 0
-    → IsRequestOf payload call → IsCall memory_state payload before after answer →
-    left ≡ length (drop after.link.pos after.link.ever)
-    → IsReply answer (take (length response - left) response)
-    (call_outcome settings call response) response
-reply_given {before = before} {after = after}
-    settings call payload response answer left same ever pos makes did left_is = λ some.
-    let all : after.link.ever ≡ response =
-    ever_kept (outcome payload before.credential before.limit
-    (drop before.link.pos after.link.ever)) before.link after.link answer (did.exchange refl)
-    ∙ ever in
-    let given = outcome_given settings call payload response answer same ever pos makes did some in
-    let there : left ≡ length (drop after.link.pos response) = rw all at left_is in (
-      given.0,
-      ap (λ (n : ℕ). take (length response - n) response) there
-          ∙ taken_is after.link.pos response ∙ ap (λ (n : ℕ). take n response) given.1,
-    )

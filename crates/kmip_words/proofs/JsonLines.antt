@@ -1,6 +1,10 @@
 -- The lines of answers are JSON.
-use Rattle.std.proofs.Common.{◌≡◌, ℕ, ◌<◌, pos, Bool, true, false, ◌&&◌, not, nat_eq, nat_lt, List, [], ◌∷◌, ◌++◌, codes, Option, Some, None, Ok, Err, refl, sym, ap, subst, append_assoc, append-nil, arith}
+use Rattle.std.proofs.Common.{◌≡◌, ℕ, ◌<◌, pos, Bool, true, false, ◌&&◌, not, nat_eq, nat_lt, List, [], ◌∷◌, ◌++◌, length, codes, IsUtf8, Option, Some, None, Ok, Err, refl, sym, ap, subst, append_assoc, append-nil, arith}
+use Rattle.std.proofs.Math.Seq.{take-append_seam, drop-append_seam}
 use Rattle.std.proofs.lemmas.Bool.Decides.{nat_tests}
+use Rattle.std.proofs.lemmas.List.{length-append}
+use Rattle.std.proofs.lemmas.Str.{IsUtf8-take, IsUtf8-drop, IsCharBoundary-at_seam, IsCharBoundary-from_take}
+use Rattle.std.specs.Char.{encode_utf8}
 use Rattle.std.specs.Fmt.{decimal}
 use Rattle.kmip_shape.specs.declared.style.Style.TheVariants.{Json}
 use Rattle.kmip_shape.specs.Val.{Val, Field, Number, Text, Bytes, Truth, Record, Case, Absent, One, Many, NoField, AndField}
@@ -11,7 +15,10 @@ use Rattle.kmip_shape.specs.Shown.{shown_in_style, text_in_style}
 use Rattle.kmip_diag.specs.Diagnostic.{diagnostic}
 use Rattle.kmip_shape.specs.Json.{AreCharacters, NoCharacter, AsItIs, IsJson, AString, ANumber, NoMember, AnObject, AreMembers, AMember, AndMembers}
 use Rattle.kmip_shape.proofs.Json.{value_is}
+use Rattle.kmip_shape.specs.Enumerations.{variant_at}
 use Rattle.kmip_enums.specs.Operations.{operation_line}
+use Rattle.kmip_enums.specs.ResultReasons.{result_reason_line, result_reason_variants}
+use Rattle.kmip_enums.specs.declared.result_reason.ResultReason.{ResultReason}
 use Rattle.kmip_enums.specs.declared.operation.Operation.{Operation}
 use Rattle.kmip_enums.specs.declared.operation.Operation.TheVariants as operations
 use Rattle.kmip_request.specs.Message.{operation_of}
@@ -22,14 +29,14 @@ use Rattle.kmip_client.specs.Client.{IsOfOperation}
 use Rattle.kmip_client.specs.declared.error.Error.{Error}
 use Rattle.kmip_client.specs.declared.error.Error.TheVariants.{ConfigurationError, SerializeError, RequestWriteError, ResponseReadError, DeserializeError, ServerError, InternalError, ItemNotFound, Unknown, OutOfMemory}
 use Rattle.kmip_words.specs.Exchange.{operation_asked, payload_in_style, record_in_style, request_in_style, texts_in_style, value_in_style, value_line, error_line, json_line}
-use Rattle.kmip_words.specs.JsonLines.{IsJsonLine}
-use Rattle.kmip_words.specs.Refusal.{reason_of, message_of, reason_member, message_member, internal_error_line}
+use Rattle.kmip_words.specs.JsonLines.{IsGrammarLine, IsJsonLine}
+use Rattle.kmip_words.specs.Refusal.{reason_of, message_of, reason_name, reason_object, reason_member, message_member, internal_error_line, refused_line, failure_line}
 use Rattle.kmip_words.specs.declared.call.Call.{Call}
 use Rattle.kmip_words.specs.declared.call.Call.TheVariants.{Query, CreateRsa, Rng, Sign, Activate, Revoke, Destroy, Rename, Get, Raw, Request}
 use Rattle.kmip_words.proofs.Exchanges.{of_case}
 
 -- characters that stand in a string as they are
-abbrev plain : List ℕ → Bool
+abbrev pub plain : List ℕ → Bool
 plain [] = true
 plain (c ∷ s) = nat_lt 34 c && (not (nat_eq c 92) && plain s)
 
@@ -52,7 +59,7 @@ string_is : (s : List ℕ) → IsJson (text_in_style s Json)
 string_is s = value_is (Number (pos 0)) NoCase (OneOf (record { number = 0; name = s } ∷ [])) refl
 
 -- the line of a value
-value_line_is : (value : List ℕ) → IsJson value → IsJsonLine (value_line value Json)
+value_line_is : (value : List ℕ) → IsJson value → IsGrammarLine (value_line value Json)
 value_line_is value is = (
   codes "{\"answer\":" ++ (value ++ codes "}"),
   AnObject (codes "\"answer\":" ++ value) (AMember (codes "answer") value (are_plain (codes "answer") refl) is),
@@ -71,14 +78,14 @@ members_of name text e =
     (AString name (are_plain name e)))
     (AMember (codes "text") (text_in_style text Json) (are_plain (codes "text") refl) (string_is text)))
 
-error_line_by : (name text : List ℕ) → plain name ≡ true
-    → IsJsonLine (codes "{\"error\":\"" ++ (name ++ (codes "\",\"text\":"
+pub error_line_by : (name text : List ℕ) → plain name ≡ true
+    → IsGrammarLine (codes "{\"error\":\"" ++ (name ++ (codes "\",\"text\":"
     ++ (text_in_style text Json ++ codes "}\n"))))
 error_line_by name text e =
     let inner : List ℕ = codes "\"error\":\"" ++ (name ++ (codes "\",\"text\":" ++ text_in_style text Json)) in
     (123 ∷ (inner ++ 125 ∷ []), AnObject inner (members_of name text e), simp append_assoc)
 
-error_line_is : (error : Error) → IsJsonLine (error_line error Json)
+error_line_is : (error : Error) → IsGrammarLine (error_line error Json)
 error_line_is (ConfigurationError text) = error_line_by (codes "ConfigurationError") text refl
 error_line_is (SerializeError text) = error_line_by (codes "SerializeError") text refl
 error_line_is (RequestWriteError text) = error_line_by (codes "RequestWriteError") text refl
@@ -231,11 +238,11 @@ value_is_json (Raw request) payload fits own = value_is payload NoCase response_
 value_is_json (Request request) payload fits own = request_is_json request payload fits own
 
 pub payload_line_is : (call : Call) (payload : Val) → Fits response_payload payload
-    → IsOfOperation (operation_asked call) payload → IsJsonLine (json_line call (Ok payload))
+    → IsOfOperation (operation_asked call) payload → IsGrammarLine (json_line call (Ok payload))
 payload_line_is call payload fits own =
     value_line_is (value_in_style call payload Json) (value_is_json call payload fits own)
 
-pub failure_line_is : (call : Call) (error : Error) → IsJsonLine (json_line call (Err error))
+pub failure_line_is : (call : Call) (error : Error) → IsGrammarLine (json_line call (Err error))
 failure_line_is call error = error_line_is error
 
 -- members, and one more
@@ -244,8 +251,24 @@ and_member : (m : List ℕ) → AreMembers m → (name value : List ℕ) → pla
 and_member m are name value e is = AndMembers m (34 ∷ (name ++ 34 ∷ 58 ∷ value)) are
     (AMember name value (are_plain name e) is)
 
+-- a reason: its name, where it has one, and its number
+reason_is : (reason : Option ResultReason) (number : ℕ)
+    → IsJson (codes "{" ++ (reason_name reason ++ (codes "\"number\":" ++ (decimal number ++ codes "}"))))
+reason_is None number =
+    let inner : List ℕ = codes "\"number\":" ++ decimal number in
+    subst IsJson (simp append_assoc)
+    (AnObject inner (AMember (codes "number") (decimal number) (are_plain (codes "number") refl) (ANumber (pos number))))
+reason_is (Some reason) number =
+    let name : List ℕ = text_in_style (result_reason_line reason).name Json in
+    let inner : List ℕ = (codes "\"name\":" ++ name) ++ (codes ",\"number\":" ++ decimal number) in
+    subst IsJson (simp append_assoc)
+    (AnObject inner (AndMembers (codes "\"name\":" ++ name) (codes "\"number\":" ++ decimal number)
+    (AMember (codes "name") name (are_plain (codes "name") refl) (string_is (result_reason_line reason).name))
+    (AMember (codes "number") (decimal number) (are_plain (codes "number") refl) (ANumber (pos number)))))
+
 and_reason : (m : List ℕ) → AreMembers m → (reason : Option ℕ) → AreMembers (m ++ reason_member reason)
-and_reason m are (Some reason) = and_member m are (codes "reason") (decimal reason) refl (ANumber (pos reason))
+and_reason m are (Some reason) = and_member m are (codes "reason") (reason_object reason) refl
+    (reason_is (variant_at result_reason_line result_reason_variants reason) reason)
 and_reason m are None = subst AreMembers (sym (append-nil m)) are
 
 and_message : (m : List ℕ) → AreMembers m → (message : Option (List ℕ)) → AreMembers (m ++ message_member message)
@@ -253,17 +276,74 @@ and_message m are (Some message) = and_member m are (codes "message")
     (text_in_style message Json) refl (string_is message)
 and_message m are None = subst AreMembers (sym (append-nil m)) are
 
-pub internal_error_line_is : (text response : List ℕ) → IsJsonLine (internal_error_line text response)
+-- members, and what the server says of a failure
+and_failure : (m response : List ℕ) → AreMembers m
+    → AreMembers ((m ++ reason_member (reason_of response)) ++ message_member (message_of response))
+and_failure m response are = and_message (m ++ reason_member (reason_of response))
+    (and_reason m are (reason_of response)) (message_of response)
+
+pub internal_error_line_is : (text response : List ℕ) → IsGrammarLine (internal_error_line text response)
 internal_error_line_is text response =
     let error : List ℕ = codes "\"error\":\"InternalError\",\"text\":" ++ text_in_style text Json in
     let skeleton : List ℕ = text_in_style (diagnostic (Some 0x4200) response) Json in
     let shown : List ℕ = error ++ (codes ",\"response\":" ++ skeleton) in
     let all : List ℕ = (shown ++ reason_member (reason_of response)) ++ message_member (message_of response) in (
       123 ∷ (all ++ 125 ∷ []),
-      AnObject all (and_message (shown ++ reason_member (reason_of response))
-          (and_reason shown (and_member error (members_of (codes "InternalError") text refl)
-          (codes "response") skeleton refl (string_is (diagnostic (Some 0x4200) response)))
-          (reason_of response))
-          (message_of response)),
+      AnObject all (and_failure shown response
+          (and_member error (members_of (codes "InternalError") text refl)
+          (codes "response") skeleton refl (string_is (diagnostic (Some 0x4200) response)))),
       simp append_assoc,
+    )
+
+refused_line_is : (name text response : List ℕ) → plain name ≡ true
+    → IsGrammarLine (refused_line (codes "{\"error\":\"" ++ (name ++ codes "\",\"text\":")) text response)
+refused_line_is name text response e =
+    let error : List ℕ = codes "\"error\":\"" ++ (name ++ (codes "\",\"text\":" ++ text_in_style text Json)) in
+    let all : List ℕ = (error ++ reason_member (reason_of response)) ++ message_member (message_of response) in (
+      123 ∷ (all ++ 125 ∷ []),
+      AnObject all (and_failure error response (members_of name text e)),
+      simp append_assoc,
+    )
+
+-- the line of any error
+pub error_told_is : (error : Error) (response : List ℕ) → IsGrammarLine (failure_line error response)
+error_told_is (ConfigurationError text) response = error_line_is (ConfigurationError text)
+error_told_is (SerializeError text) response = error_line_is (SerializeError text)
+error_told_is (RequestWriteError text) response = error_line_is (RequestWriteError text)
+error_told_is (ResponseReadError text) response = error_line_is (ResponseReadError text)
+error_told_is (DeserializeError text) response = error_line_is (DeserializeError text)
+error_told_is (ServerError text) response = refused_line_is (codes "ServerError") text response refl
+error_told_is (InternalError text) response = internal_error_line_is text response
+error_told_is (ItemNotFound text) response = refused_line_is (codes "ItemNotFound") text response refl
+error_told_is (Unknown text) response = error_line_is (Unknown text)
+error_told_is OutOfMemory response = error_line_is OutOfMemory
+
+-- ---- in UTF-8
+
+-- what stands before a text
+front_utf8 : (a b : List ℕ) → IsUtf8 (a ++ b) → IsUtf8 b → IsUtf8 a
+front_utf8 a b u v =
+    subst IsUtf8 (take-append_seam a b)
+    (IsUtf8-take (a ++ b) (length a) u (IsCharBoundary-at_seam (a ++ b) a b refl v))
+
+-- and after one
+pub rest_utf8 : (a b : List ℕ) → IsUtf8 (a ++ b) → IsUtf8 a → IsUtf8 b
+rest_utf8 a b u v =
+    subst IsUtf8 (drop-append_seam a b)
+    (IsUtf8-drop (a ++ b) (length a) u
+    (IsCharBoundary-from_take (a ++ b) (length a) u (omega (arith, length-append a b))
+    (subst IsUtf8 (sym (take-append_seam a b)) v)))
+
+line_feed : IsUtf8 (codes "\n")
+unfolding encode_utf8
+line_feed = (codes "\n", (refl, refl))
+
+-- a line that was added to a text
+pub added_line : (old line new : List ℕ) → IsGrammarLine line → new ≡ old ++ line → IsUtf8 old
+    → IsUtf8 new → IsJsonLine line
+added_line old line new is told before after =
+    let whole : IsUtf8 line = rest_utf8 old line (subst IsUtf8 told after) before in (
+      is.0,
+      record { grammar = is.1; utf8 = front_utf8 is.0 (codes "\n") (subst IsUtf8 is.2 whole) line_feed },
+      is.2,
     )

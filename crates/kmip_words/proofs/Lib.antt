@@ -1,9 +1,12 @@
-pub mod OtherObjects
+pub mod Tagged
+pub mod Foreign
+pub mod Told
 pub mod Added
-pub mod Calls
+pub mod LineCalls
 pub mod Diagnostics
 pub mod Exchanges
 pub mod Moves
-pub mod EmptyLink
+pub mod Replies
 pub mod JsonLines
+mod Raws
 pub use Rattle.kmip_request_words.proofs.NamedValues

@@ -5,8 +5,9 @@ use Rattle.std.specs.Str.{is_utf8}
 use Rattle.kmip_request.specs.declared.payload.RequestPayload.{RequestPayload}
 use Rattle.kmip_request_read.specs.Reading.{request_read}
 use Rattle.kmip_request_words.specs.Asked.{asked_in}
+use Rattle.kmip_request_words.specs.Refusals.{why_refused}
 use Rattle.kmip_request_words.specs.Requests.{locate_request, attributes_request, create_aes_request, discover_request}
-use Rattle.kmip_request_words.specs.Words.{parts_between, words_of}
+use Rattle.kmip_request_words.specs.Words.{words_of}
 use Rattle.kmip_request_words.specs.Values.{int_of, bytes_of, word_text}
 use Rattle.kmip_words.specs.declared.call.Call.{Call}
 use Rattle.kmip_words.specs.declared.call.Call.TheVariants.{Query, CreateRsa, Rng, Sign, Activate, Revoke, Destroy, Rename, Get, Raw, Request}
@@ -122,15 +123,10 @@ abbrev pub attributes_of : Option (List ℕ) → Option Call
 attributes_of (Some id) = Some (Request (attributes_request id))
 attributes_of None = None
 
--- `locate TEXT`; a word with `=` is no TEXT of this call, but an option
-abbrev pub locate_parts : List (List ℕ) → Option Call
-locate_parts (name ∷ []) = locate_of (word_text name)
-locate_parts parts = None
-
--- `locate TEXT` and `attributes TEXT`
+-- `locate TEXT`, whose one word is a name whatever it is, also with `=`; and `attributes TEXT`
 abbrev pub typed_of_two : List ℕ → List ℕ → Option Call
 typed_of_two name word =
-    if bytes_eq name (codes "locate") then locate_parts (parts_between 61 word)
+    if bytes_eq name (codes "locate") then locate_of (word_text word)
     else if bytes_eq name (codes "attributes") then attributes_of (word_text word)
     else call_of_two name word
 
@@ -156,7 +152,13 @@ abbrev pub or_request : Option Call → Option RequestPayload → Option Call
 or_request (Some call) request = Some call
 or_request None request = option_map Request request
 
+-- no call where words are refused, for whatever reason
+abbrev pub unless_refused : Option (List ℕ) → Option Call → Option Call
+unless_refused (Some text) call = None
+unless_refused None call = call
+
 -- the call of words that are typed: one with no options, or else the request that words with
--- options ask for
+-- options ask for; none of words that ask for what is not meant
 unfoldable pub typed_call : List (List ℕ) → Option Call
-typed_call words = or_request (plain_call words) (asked_in words)
+typed_call words =
+    unless_refused (why_refused words) (or_request (plain_call words) (asked_in words))

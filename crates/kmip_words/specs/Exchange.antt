@@ -174,10 +174,14 @@ loses_link (ResponseReadError text) = true
 loses_link (DeserializeError text) = true
 loses_link error = false
 
+-- how a call with this error ended
+abbrev pub error_ending : Error → Ending
+error_ending error = cond (loses_link error) Lost Refused
+
 -- how a call with this answer ended
 abbrev pub ending_of : {R : Type 0} → Result R Error → Ending
 ending_of (Ok payload) = Answered
-ending_of (Err error) = cond (loses_link error) Lost Refused
+ending_of (Err error) = error_ending error
 
 -- whether the answer of the call is an error
 abbrev pub fails : Ending → Bool

@@ -3,6 +3,7 @@ pub mod Raw
 pub mod Streams
 pub mod Exchange
 pub mod Refusal
+pub mod Strays
 pub mod About
 pub mod Lookup
 pub mod JsonLines
@@ -11,3 +12,6 @@ pub use Rattle.kmip_request_words.specs.Values
 pub use Rattle.kmip_request_words.specs.Options
 pub use Rattle.kmip_request_words.specs.Requests
 pub use Rattle.kmip_request_words.specs.Asked
+pub use Rattle.kmip_request_words.specs.Refusals
+pub use Rattle.kmip_request_words.specs.Grammar
+pub use Rattle.kmip_request_words.specs.Complaints

@@ -1,14 +1,19 @@
-//! Whether an answer is about the object that its call asked about.
-ghost use Rattle.std.specs.Prelude.{◌≡◌};
+//! Whether an answer is one to its call: about the object that was asked about, and with what was
+//! asked for.
+ghost use Rattle.std.specs.Prelude.{◌≡◌, option_map};
+ghost use Rattle.kmip_enums.specs.declared.operation.Operation.{Operation as TheOperation};
+ghost use Rattle.kmip_request.specs.Message.{operation_of};
 ghost use Rattle.kmip_response.specs.Values.{response_payload_val};
-ghost use Rattle.kmip_client.specs.Outcome.{answer_with_payload};
-ghost use Rattle.kmip_words.specs.About.{identifier_or_none, named_in};
-ghost use Rattle.kmip_words.specs.About.{asked_about, identifier_in, is_about_another};
+ghost use Rattle.kmip_client.specs.Client.{IsOfOperation};
+ghost use Rattle.kmip_words.specs.Exchange.{operation_asked};
+ghost use Rattle.kmip_words.specs.About.{identifier_or_none, named_in, asked_about};
+ghost use Rattle.kmip_words.specs.About.{identifier_in, is_about_another, lacks_bytes, is_one_key};
+ghost use Rattle.kmip_words.specs.About.{is_wrapped, request_lack, call_lack};
+ghost use Rattle.kmip_words.specs.About.{objection};
 
 use crate::call::Call;
-use kmip_client::Error;
 use kmip_request::RequestPayload;
-use kmip_response::ResponsePayload;
+use kmip_response::{ManagedObject, ResponsePayload};
 use kmip_types::UniqueIdentifier;
 
 /// An identifier, or the empty text.
@@ -97,15 +102,146 @@ fn identifier_in(payload: &ResponsePayload) -> &str
     }
 }
 
-/// Whether an answer is about another object than the call asked about. It takes no memory.
-pub fn is_about_another(call: &Call, answer: &Result<ResponsePayload, Error>) -> bool
-    ensures { result ≡ is_about_another call.now (answer_with_payload answer.now) }
+/// Whether an answer is about another object than the call asked about.
+fn is_about_another(call: &Call, payload: &ResponsePayload) -> bool
+    ensures { result ≡ is_about_another call.now (response_payload_val payload.now) }
 {
-    match answer {
-        Ok(payload) => {
-            let asked = asked_about(call);
-            !asked.is_empty() && asked != identifier_in(payload)
+    let asked = asked_about(call);
+    !asked.is_empty() && asked != identifier_in(payload)
+}
+
+/// Whether no random bytes are answered where some were asked for.
+fn lacks_bytes(num_bytes: i32, payload: &ResponsePayload) -> bool
+    requires { IsOfOperation TheOperation.RNGRetrieve (response_payload_val payload.now) }
+    ensures { result ≡ lacks_bytes num_bytes (response_payload_val payload.now) }
+{
+    match payload {
+        ResponsePayload::RNGRetrieve(payload) => {
+            0 < num_bytes && payload.random_bytes.as_slice().is_empty()
         }
-        Err(_) => false,
+        _ => unreachable!(),
     }
+}
+
+/// Whether the two keys of a pair have one identifier.
+fn is_one_key(payload: &ResponsePayload) -> bool
+    requires { IsOfOperation TheOperation.CreateKeyPair (response_payload_val payload.now) }
+    ensures { result ≡ is_one_key (response_payload_val payload.now) }
+{
+    match payload {
+        ResponsePayload::CreateKeyPair(payload) => {
+            text_of(&payload.private_key_unique_identifier)
+                == text_of(&payload.public_key_unique_identifier)
+        }
+        _ => unreachable!(),
+    }
+}
+
+/// Whether the object in an answer to Get is wrapped.
+fn is_wrapped(payload: &ResponsePayload) -> bool
+    requires { IsOfOperation TheOperation.Get (response_payload_val payload.now) }
+    ensures { result ≡ is_wrapped (response_payload_val payload.now) }
+{
+    match payload {
+        ResponsePayload::Get(payload) => match &payload.get().cryptographic_object {
+            ManagedObject::SymmetricKey(key) => {
+                matches!(&key.key_block.key_wrapping_data, Some(_))
+            }
+            ManagedObject::PublicKey(key) => { matches!(&key.key_block.key_wrapping_data, Some(_)) }
+            ManagedObject::PrivateKey(key) => {
+                matches!(&key.key_block.key_wrapping_data, Some(_))
+            }
+            ManagedObject::Certificate(_) => false,
+        },
+        _ => unreachable!(),
+    }
+}
+
+/// What is said of a pair that is one key.
+const ONE_KEY: &str = "answer with one identifier for two keys";
+
+/// What an answer to a request lacks.
+fn request_lack(request: &RequestPayload, payload: &ResponsePayload) -> Option<&'static str>
+    requires { IsOfOperation (operation_of request.now) (response_payload_val payload.now) }
+    ensures { option_map (λ text. text.now) result ≡
+        request_lack request.now (response_payload_val payload.now) }
+{
+    match request {
+        RequestPayload::Get(_, _, _, Some(_)) => {
+            if is_wrapped(payload) {
+                None
+            } else {
+                Some("answer with an object that is not wrapped")
+            }
+        }
+        RequestPayload::CreateKeyPair(..) => {
+            if is_one_key(payload) {
+                Some(ONE_KEY)
+            } else {
+                None
+            }
+        }
+        RequestPayload::Get(_, _, _, None)
+        | RequestPayload::Create(..)
+        | RequestPayload::Register(..)
+        | RequestPayload::Locate(_)
+        | RequestPayload::GetAttributes(..)
+        | RequestPayload::GetAttributeList(_)
+        | RequestPayload::AddAttribute(..)
+        | RequestPayload::ModifyAttribute(..)
+        | RequestPayload::DeleteAttribute(..)
+        | RequestPayload::Activate(_)
+        | RequestPayload::Revoke(..)
+        | RequestPayload::Destroy(_)
+        | RequestPayload::Query(_)
+        | RequestPayload::DiscoverVersions(_)
+        | RequestPayload::Sign(..)
+        | RequestPayload::RNGRetrieve(_) => None,
+    }
+}
+
+/// What an answer to a call lacks, where it lacks something.
+fn call_lack(call: &Call, payload: &ResponsePayload) -> Option<&'static str>
+    requires { IsOfOperation (operation_asked call.now) (response_payload_val payload.now) }
+    ensures { option_map (λ text. text.now) result ≡
+        call_lack call.now (response_payload_val payload.now) }
+{
+    match call {
+        Call::Rng { num_bytes } => {
+            if lacks_bytes(*num_bytes, payload) {
+                Some("answer without random bytes")
+            } else {
+                None
+            }
+        }
+        Call::CreateRsa { .. } => {
+            if is_one_key(payload) {
+                Some(ONE_KEY)
+            } else {
+                None
+            }
+        }
+        Call::Request { payload: request } => request_lack(request.get(), payload),
+        Call::Query
+        | Call::Sign { .. }
+        | Call::Activate { .. }
+        | Call::Revoke { .. }
+        | Call::Destroy { .. }
+        | Call::Rename { .. }
+        | Call::Get { .. }
+        | Call::Raw { .. } => None,
+    }
+}
+
+/// Why a payload is no answer to the call, where it is none: it is about another object, or lacks
+/// what was asked for. It takes no memory.
+pub fn objection(call: &Call, payload: &ResponsePayload) -> Option<&'static str>
+    requires { IsOfOperation (operation_asked call.now) (response_payload_val payload.now) }
+    ensures { option_map (λ text. text.now) result ≡
+        objection call.now (response_payload_val payload.now) }
+{
+    if is_about_another(call, payload) {
+        return Some("answer for another object");
+    }
+    call_lack(call, payload)
 }

@@ -8,7 +8,7 @@ ghost use Rattle.kmip_client.specs.Outcome.{answer_with_payload};
 ghost use Rattle.kmip_words.specs.Exchange.{settings_of, operation_asked, payload_in_style};
 ghost use Rattle.kmip_words.specs.Exchange.{texts_in_style, request_in_style, value_in_style, value_line};
 ghost use Rattle.kmip_words.specs.Exchange.{step_in, json_line, Answers, Shows};
-ghost use Rattle.kmip_words.specs.JsonLines.{IsJsonLine};
+ghost use Rattle.kmip_words.specs.JsonLines.{IsGrammarLine};
 
 use crate::call::Call;
 use crate::ending::Ending;
@@ -110,7 +110,7 @@ fn push_answer_to(
 }
 
 /// Adds the payload that a call is answered with as a line.
-fn push_answer(
+pub fn push_answer(
     alloc: Global,
     style: Style,
     call: &Call,
@@ -140,7 +140,7 @@ fn push_answer(
 
 /// Adds the payload or the error that a call is answered with as a line, and returns how the call
 /// ended. Its only error is `OutOfMemory`.
-pub fn show_result(
+fn show_result(
     alloc: Global,
     style: Style,
     call: &Call,
@@ -151,7 +151,7 @@ pub fn show_result(
         (λ payload. IsOfOperation (operation_asked call.now) (response_payload_val payload)) }
     ensures shown { IfOk result (λ ending. Shows (λ payload. value_in_style call.now payload style)
         style (answer_with_payload answer.now) ending line.old line.new) }
-    ensures json { IsJsonLine (json_line call.now (answer_with_payload answer.now)) }
+    ensures json { IsGrammarLine (json_line call.now (answer_with_payload answer.now)) }
 {
     lines_are_json();
     match answer {

@@ -3,7 +3,7 @@ ghost use Rattle.std.specs.Prelude.{◌≡◌, Some, map, option_map, IfOk};
 ghost use Rattle.kmip_request_words.specs.Values.{int_of, bytes_of, word_text};
 ghost use Rattle.kmip_words.specs.Calls.{typed_of_one, locate_of, attributes_of, typed_of_two};
 ghost use Rattle.kmip_words.specs.Calls.{create_aes_of, typed_of_three, plain_call, typed_call};
-ghost use Rattle.kmip_words.specs.Calls.{rng_of, raw_of, locate_parts};
+ghost use Rattle.kmip_words.specs.Calls.{rng_of, raw_of};
 ghost use Rattle.kmip_request_words.specs.Asked.{asked_in};
 ghost use Rattle.kmip_words.specs.Calls.{key_call, call_of_one, call_of_two, sign_of, rename_of};
 ghost use Rattle.kmip_words.specs.Calls.{call_of_three, create_rsa_of, call_of_four, with_response};
@@ -14,7 +14,7 @@ use crate::raw::RawRequest;
 use kmip_request::RequestPayload;
 use kmip_request_words::{
     asked_in, attributes_request, bytes_of, create_aes_request, discover_request, int_of,
-    locate_request, parts_between, word_text, words_of,
+    locate_request, why_refused, word_text, words_of,
 };
 use kmip_wire::{Blob, Boxed, OutOfMemory, Text};
 use std::alloc::Global;
@@ -338,16 +338,6 @@ fn locate_of(alloc: Global, name: &str) -> Result<Option<Call>, OutOfMemory>
     }
 }
 
-/// `locate TEXT`, by the parts of the word; none where there is a `=`.
-fn locate_parts(alloc: Global, parts: &[&str]) -> Result<Option<Call>, OutOfMemory>
-    ensures { IfOk result (λ call. call ≡ locate_parts (map (λ part. part.now) parts.now)) }
-{
-    match parts {
-        [name] => locate_of(alloc, name),
-        _ => Ok(None),
-    }
-}
-
 /// `attributes TEXT`: all attributes of the object with this identifier (KMIP 1.0, 4.11).
 fn attributes_of(alloc: Global, id: &str) -> Result<Option<Call>, OutOfMemory>
     ensures { IfOk result (λ call. call ≡ attributes_of (word_text id.now)) }
@@ -363,10 +353,7 @@ fn typed_of_two(alloc: Global, name: &str, word: &str) -> Result<Option<Call>, O
     ensures { IfOk result (λ call. call ≡ typed_of_two name.now word.now) }
 {
     match name {
-        "locate" => {
-            let parts = parts_between(alloc, '=', word)?;
-            locate_parts(alloc, &parts)
-        }
+        "locate" => locate_of(alloc, word),
         "attributes" => attributes_of(alloc, word),
         _ => call_of_two(alloc, name, word),
     }
@@ -425,11 +412,15 @@ fn plain_call(alloc: Global, words: &[Text]) -> Result<Option<Call>, OutOfMemory
 
 /// The call of words that are typed, without a response: a call that a script may have; or
 /// `locate TEXT`, `attributes TEXT`, `create-aes INT TEXT` or `discover`; or a call with options.
-/// `None` where the words are not of this grammar.
+/// `None` where the words are not of this grammar, or ask for what is not meant, as
+/// [`why_refused`] says.
 #[tactic(auto, unfolding(crate::specs::Calls::typed_call))]
 pub fn typed_call(alloc: Global, words: &[Text]) -> Result<Option<Call>, OutOfMemory>
     ensures { IfOk result (λ call. call ≡ typed_call words.now) }
 {
+    if why_refused(words).is_some() {
+        return Ok(None);
+    }
     if let Some(call) = plain_call(alloc, words)? {
         return Ok(Some(call));
     }

@@ -1,7 +1,6 @@
 //! How a call ended.
-ghost use Rattle.std.specs.Prelude.{◌≡◌, cond};
-ghost use Rattle.kmip_words.specs.Exchange.{loses_link, fails};
-ghost use Rattle.kmip_words.specs.declared.ending.Ending.TheVariants as endings;
+ghost use Rattle.std.specs.Prelude.{◌≡◌};
+ghost use Rattle.kmip_words.specs.Exchange.{error_ending, fails};
 
 use kmip_client::Error;
 
@@ -13,8 +12,8 @@ pub enum Ending {
     /// It returned an error, and its whole response was taken, or nothing was sent: the link is
     /// good for the next call.
     Refused,
-    /// The link failed or ended, or gave bytes that are no message, or an answer about another
-    /// object: no further call is to be made on it.
+    /// The link failed or ended, or gave bytes that are no message, or a response that is none to
+    /// the call: no further call is to be made on it.
     Lost,
 }
 
@@ -32,7 +31,7 @@ impl Ending {
     /// How a call that returned this error ended; of `OutOfMemory`, which leaves the state of the
     /// link unknown, it says `Refused`. It takes no memory.
     pub fn of_error(error: &Error) -> Ending
-        ensures { result ≡ cond (loses_link error.now) endings.Lost endings.Refused }
+        ensures { result ≡ error_ending error.now }
     {
         match error {
             Error::RequestWriteError(_)

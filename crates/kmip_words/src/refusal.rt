@@ -1,18 +1,23 @@
-//! What is shown of a response to which the client returns an `InternalError`.
+//! What is shown of a response to which the client returns an error.
 ghost use Rattle.std.specs.Prelude.{◌≡◌, ◌++◌, codes, Some, option_map, OnOk, IfOk};
 ghost use Rattle.std.specs.Option.{option_and_then};
+ghost use Rattle.std.specs.Fmt.{decimal};
 ghost use Rattle.kmip_wire.specs.Items.{item_tree};
 ghost use Rattle.kmip_wire.specs.Parts.{enumeration_in};
 ghost use Rattle.kmip_shape.specs.Shown.{text_in_style};
 ghost use Rattle.kmip_shape.specs.declared.style.Style.TheVariants.{Json};
 ghost use Rattle.kmip_diag.specs.Diagnostic.{diagnostic};
 ghost use Rattle.kmip_words.specs.Refusal.{item_with, failed_item, reason_of, message_of};
-ghost use Rattle.kmip_words.specs.Refusal.{reason_member, message_member, refusal_members};
-ghost use Rattle.kmip_words.specs.Refusal.{internal_error_line};
+ghost use Rattle.kmip_words.specs.Refusal.{reason_name, reason_member, message_member};
+ghost use Rattle.kmip_words.specs.Refusal.{failure_members, refusal_members};
+ghost use Rattle.kmip_words.specs.Refusal.{internal_error_line, refused_line, failure_line};
 
+use crate::show::push_json_error;
 use itoa::Buffer;
+use kmip_client::Error;
 use kmip_diag::PrettyPrinter;
-use kmip_shape::ShowItem;
+use kmip_enums::ResultReason;
+use kmip_shape::{Enumeration, ShowItem};
 use kmip_tags::tags::{BATCH_ITEM, RESULT_MESSAGE, RESULT_REASON, RESULT_STATUS};
 use kmip_wire::{ItemRef, OutOfMemory, Tag, Text};
 use std::alloc::Global;
@@ -77,15 +82,55 @@ fn skeleton_of(alloc: Global, response: &[u8]) -> Result<Text, OutOfMemory>
     printer.to_diag_string(alloc, response)
 }
 
-/// Adds the number of the server's reason as a member of an object, where there is one.
+/// Adds the name of a reason as a member before another, where it is one of the table.
 #[tactic(auto, using(std::proofs::lemmas::List::append_assoc))]
-fn push_reason(reason: Option<u32>, line: &mut Text) -> Result<(), OutOfMemory>
+fn push_reason_name(
+    alloc: Global,
+    reason: Option<ResultReason>,
+    line: &mut Text,
+) -> Result<(), OutOfMemory>
+    ensures { OnOk result (line.new ≡ line.old ++ reason_name reason) }
+{
+    match reason {
+        Some(reason) => {
+            push_string_after(alloc, "\"name\":", reason.name(), line)?;
+            line.push_str(",")
+        }
+        None => Ok(()),
+    }
+}
+
+/// Adds the front of the server's reason as a member of an object, up to its number.
+fn push_reason_front(
+    alloc: Global,
+    reason: Option<ResultReason>,
+    line: &mut Text,
+) -> Result<(), OutOfMemory>
+    ensures { OnOk result (line.new ≡ line.old ++ (codes ",\"reason\":{" ++ reason_name reason)) }
+{
+    line.push_str(",\"reason\":{")?;
+    push_reason_name(alloc, reason, line)
+}
+
+/// Adds the number of a reason, and the end of its object.
+#[tactic(auto, using(std::proofs::lemmas::List::append_assoc))]
+fn push_number(number: u32, line: &mut Text) -> Result<(), OutOfMemory>
+    ensures { OnOk result (line.new ≡
+        line.old ++ (codes "\"number\":" ++ (decimal number ++ codes "}"))) }
+{
+    line.push_str("\"number\":")?;
+    line.push_str(Buffer::new().format(number))?;
+    line.push_str("}")
+}
+
+/// Adds the server's reason as a member of an object, where there is one.
+fn push_reason(alloc: Global, reason: Option<u32>, line: &mut Text) -> Result<(), OutOfMemory>
     ensures { OnOk result (line.new ≡ line.old ++ reason_member reason) }
 {
     match reason {
         Some(reason) => {
-            line.push_str(",\"reason\":")?;
-            line.push_str(Buffer::new().format(reason))
+            push_reason_front(alloc, ResultReason::from_number(reason), line)?;
+            push_number(reason, line)
         }
         None => Ok(()),
     }
@@ -102,15 +147,25 @@ fn push_message(alloc: Global, message: Option<&str>, line: &mut Text) -> Result
     }
 }
 
+/// Adds what the server says of a failure as members of an object of JSON, after others: its reason,
+/// by name and number, and its text.
+#[tactic(auto, using(std::proofs::lemmas::List::append_assoc))]
+fn push_failure_members(alloc: Global, response: &[u8], line: &mut Text) -> Result<(), OutOfMemory>
+    ensures { OnOk result (line.new ≡ line.old ++ failure_members response.now) }
+{
+    push_reason(alloc, reason_of(response), line)?;
+    push_message(alloc, message_of(response), line)
+}
+
 /// Adds what a response says as members of an object of JSON, after others: the skeleton of its
-/// bytes, and where it reports failure the number of the server's reason and the server's text.
+/// bytes, and where it reports failure what the server says of it.
+#[tactic(auto, using(std::proofs::lemmas::List::append_assoc))]
 fn push_refusal(alloc: Global, response: &[u8], line: &mut Text) -> Result<(), OutOfMemory>
     ensures { OnOk result (line.new ≡ line.old ++ refusal_members response.now) }
 {
     let skeleton = skeleton_of(alloc, response)?;
     push_string_after(alloc, ",\"response\":", skeleton.as_str(), line)?;
-    push_reason(reason_of(response), line)?;
-    push_message(alloc, message_of(response), line)
+    push_failure_members(alloc, response, line)
 }
 
 /// Adds the line of JSON of an `InternalError` with this text, and shows the response in it.
@@ -126,4 +181,49 @@ pub fn push_internal_error(
     push_string_after(alloc, "{\"error\":\"InternalError\",\"text\":", text, line)?;
     push_refusal(alloc, response, line)?;
     line.push_str("}\n")
+}
+
+/// Adds the line of JSON of an error with this front and text, with what the server says of the
+/// failure.
+fn push_refused(
+    alloc: Global,
+    front: &str,
+    text: &str,
+    response: &[u8],
+    line: &mut Text,
+) -> Result<(), OutOfMemory>
+    ensures { OnOk result (line.new ≡ line.old ++ refused_line front.now text.now response.now) }
+{
+    push_string_after(alloc, front, text, line)?;
+    push_failure_members(alloc, response, line)?;
+    line.push_str("}\n")
+}
+
+/// Adds the line of JSON of an error, where this is the response that was read.
+pub fn push_failure(
+    alloc: Global,
+    error: &Error,
+    response: &[u8],
+    line: &mut Text,
+) -> Result<(), OutOfMemory>
+    ensures { OnOk result (line.new ≡ line.old ++ failure_line error.now response.now) }
+{
+    match error {
+        Error::InternalError(text) => push_internal_error(alloc, text.as_str(), response, line),
+        Error::ServerError(text) => {
+            let front = "{\"error\":\"ServerError\",\"text\":";
+            push_refused(alloc, front, text.as_str(), response, line)
+        }
+        Error::ItemNotFound(text) => {
+            let front = "{\"error\":\"ItemNotFound\",\"text\":";
+            push_refused(alloc, front, text.as_str(), response, line)
+        }
+        Error::ConfigurationError(_)
+        | Error::SerializeError(_)
+        | Error::RequestWriteError(_)
+        | Error::ResponseReadError(_)
+        | Error::DeserializeError(_)
+        | Error::Unknown(_)
+        | Error::OutOfMemory => push_json_error(alloc, error, line),
+    }
 }

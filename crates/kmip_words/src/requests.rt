@@ -1,10 +1,11 @@
 //! The requests of calls.
 ghost use Rattle.std.specs.Prelude.{◌≡◌, IfOk};
-ghost use Rattle.kmip_words.specs.Exchange.{IsRequestOf};
+ghost use Rattle.kmip_words.specs.Exchange.{IsRequestOf, operation_asked};
 ghost use Rattle.kmip_words.specs.declared.call.Call.TheVariants.{Raw};
 
 use crate::call::Call;
 use crate::raw::RawRequest;
+use kmip_enums::Operation;
 use kmip_request::{
     RequestPayload, activate_request, destroy_request, get_request, key_pair_request,
     query_request, rename_request, revoke_request, sign_request,
@@ -48,5 +49,24 @@ pub fn request_for(alloc: Global, call: &Call) -> Result<RequestPayload, OutOfMe
         Call::Get { id } => get_request(alloc, id.as_str()),
         Call::Raw { request } => raw_request(alloc, request),
         Call::Request { payload } => payload.get().try_clone(alloc),
+    }
+}
+
+/// The operation of a call's request.
+pub fn operation_for(alloc: Global, call: &Call) -> Result<Operation, OutOfMemory>
+    ensures { IfOk result (λ operation. operation ≡ operation_asked call.now) }
+{
+    match call {
+        Call::Query => Ok(Operation::Query),
+        Call::CreateRsa { .. } => Ok(Operation::CreateKeyPair),
+        Call::Rng { .. } => Ok(Operation::RNGRetrieve),
+        Call::Sign { .. } => Ok(Operation::Sign),
+        Call::Activate { .. } => Ok(Operation::Activate),
+        Call::Revoke { .. } => Ok(Operation::Revoke),
+        Call::Destroy { .. } => Ok(Operation::Destroy),
+        Call::Rename { .. } => Ok(Operation::ModifyAttribute),
+        Call::Get { .. } => Ok(Operation::Get),
+        Call::Raw { request } => request.operation(alloc),
+        Call::Request { payload } => Ok(payload.get().operation()),
     }
 }

@@ -1,10 +1,27 @@
 //! A client with the settings that a program was given.
-ghost use Rattle.std.specs.Prelude.{◌≡◌, None, false};
+ghost use Rattle.std.specs.Prelude.{◌≡◌, None, false, option_map};
+ghost use Rattle.kmip_request.specs.Message.{credential_of};
 ghost use Rattle.kmip_client.specs.Client.{credential_for};
 ghost use Rattle.kmip_words.specs.Exchange.{settings_of};
 
 use kmip_client::{Client, ClientBuilder};
+use kmip_request::Authentication;
+use kmip_types::auth::{CredentialType, UsernameAndPasswordCredential};
 use kmip_wire::{Config, Text};
+
+/// What a request shows of who makes it, where there are both a user name and a password. It takes
+/// no memory.
+pub fn authentication_of(user: Option<Text>, password: Option<Text>) -> Option<Authentication>
+    ensures { option_map credential_of result ≡ credential_for user password }
+{
+    match (user, password) {
+        (Some(user), Some(password)) => {
+            let credential = UsernameAndPasswordCredential::new(user, Some(password));
+            Some(Authentication::build(CredentialType::UsernameAndPassword(credential)))
+        }
+        _ => None,
+    }
+}
 
 /// A builder with these credentials.
 fn with_user<T>(

@@ -61,7 +61,7 @@ fn push_bare_error(error: &Error, line: &mut Text) -> Result<(), OutOfMemory>
 
 /// Adds the error as a line of JSON.
 #[tactic(auto, using(std::proofs::lemmas::List::append_assoc))]
-fn push_json_error(alloc: Global, error: &Error, line: &mut Text) -> Result<(), OutOfMemory>
+pub fn push_json_error(alloc: Global, error: &Error, line: &mut Text) -> Result<(), OutOfMemory>
     ensures { OnOk result (line.new ≡ line.old ++ error_line error.now Json) }
 {
     line.push_str("{\"error\":\"")?;

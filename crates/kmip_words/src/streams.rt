@@ -1,6 +1,7 @@
 //! Reading a whole source, up to a count, and writing a whole text to a sink.
 ghost use Rattle.std.specs.Prelude.{◌≡◌, ◌+◌, ◌-◌, ◌<◌, ◌≤◌, ◌++◌, ℕ, [], length, take, drop, min};
-ghost use Rattle.std.specs.Prelude.{IfOk, IfErr, OnErr, OnOk, IsErrOf, IsTrue, vec_len};
+ghost use Rattle.std.specs.Prelude.{IfOk, IfErr, OnErr, OnOk, IsErrOf, IsTrue, vec_len, max};
+ghost use Rattle.std.specs.Prelude.{vec_capacity};
 ghost use Rattle.kmip_link.specs.State.{SourceKeeps, SinkKeeps, FaultCountRose, source_left};
 ghost use Rattle.kmip_words.specs.Streams.{Gives, GivesPart, WrotePart, WroteProperPart};
 
@@ -30,7 +31,20 @@ pub fn write_out<K: Sink>(sink: &mut K, text: &[u8]) -> Result<(), LinkError>
     Ok(())
 }
 
+/// Adds bytes to the end of `script`, which has room for them.
+fn add_within(script: &mut Vec<u8>, bytes: &[u8])
+    requires { vec_len script.old + length bytes.now ≤ vec_capacity script.old }
+    ensures items { script.new.items ≡ script.old.items ++ bytes.now }
+    ensures len { vec_len script.new ≡ vec_len script.old + length bytes.now }
+    ensures capacity { vec_capacity script.new ≡ vec_capacity script.old }
+{
+    for byte in bytes {
+        script.push_reserved(*byte);
+    }
+}
+
 /// Reads at most `room` bytes into `piece`, adds them to the end of `script`, and returns how many.
+/// No more room is taken than for these.
 fn read_piece<S: Source>(
     source: &mut S,
     piece: &mut [u8],
@@ -42,6 +56,8 @@ fn read_piece<S: Source>(
     ensures keeps { SourceKeeps (S.state source.old) (S.state source.new) }
     ensures bound { IfOk result (λ n. n ≤ room) }
     ensures grown { IfOk result (λ n. vec_len script.new ≡ vec_len script.old + n) }
+    ensures err { OnErr result (vec_len script.new ≡ vec_len script.old) }
+    ensures ahead { vec_capacity script.new ≤ max (vec_capacity script.old) (vec_len script.new) }
     ensures kept { take (length script.old.items) script.new.items ≡ script.old.items }
     ensures part { IsTrue (S.state source.old).tells →
         GivesPart (S.state source.old) (S.state source.new) room }
@@ -53,12 +69,14 @@ fn read_piece<S: Source>(
         FaultCountRose (S.state source.old).faults (S.state source.new).faults }
 {
     let got = source.read(&mut piece[..room])?;
-    script.extend_from_slice(&piece[..got])?;
+    script.reserve_exact(got)?;
+    add_within(script, &piece[..got]);
     Ok(got)
 }
 
 /// Reads the source to its end, but at most `count` bytes, and adds them to the end of `script`.
-/// Where it fails, at most `count` bytes were read.
+/// Where it fails, at most `count` bytes were read. `script` takes no room ahead of the bytes that
+/// were read, and stands beside a piece of at most 65,536 bytes, into which they are read.
 pub fn read_up_to<S: Source>(
     alloc: Global,
     source: &mut S,
@@ -67,6 +85,8 @@ pub fn read_up_to<S: Source>(
 ) -> Result<(), LinkError>
     ensures keeps { SourceKeeps (S.state source.old) (S.state source.new) }
     ensures grown { OnOk result (vec_len script.new ≤ vec_len script.old + count) }
+    ensures longer { vec_len script.old ≤ vec_len script.new }
+    ensures ahead { vec_capacity script.new ≤ max (vec_capacity script.old) (vec_len script.new) }
     ensures kept { take (length script.old.items) script.new.items ≡ script.old.items }
     ensures part { IsTrue (S.state source.old).tells →
         GivesPart (S.state source.old) (S.state source.new) count }

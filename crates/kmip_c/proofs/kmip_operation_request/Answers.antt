@@ -16,10 +16,10 @@ returns-in-Ok-Some-operation_request-clause-request c = λ some.
     rw (to_z-of_z w64 c.copy_out.result told)
     (operation_requested (settings_of c.args.has_credential c.args.user.now c.args.password.now)
     c.in-Ok-Some.settings (request_of c.in-Ok-Some-operation_of.call)
-    c.args.name.now c.args.version.now c.args.payload.now c.args.into.now c.copy_out.new.room c.copy_out.result (Some c.in-Ok-Some-operation_request.request.items) (sym settings) asks made (
-      c.copy_out.ensures.len ∙ ap (λ (x : List ℕ). pos (length x)) c.deref.ensures.value,
+    c.args.name.now c.args.version.now c.args.payload.now c.args.into.now c.copy_out.new.room c.copy_out.result (Some c.in-Ok-Some-operation_request.request) (sym settings) asks made (
+      c.copy_out.ensures.len ∙ ap (λ (x : List ℕ). pos (length x)) c.as_slice.ensures,
       c.copy_out.ensures.room ∙ ap (λ (x : List ℕ). room_with x c.args.into.now)
-          c.deref.ensures.value,
+          c.as_slice.ensures,
     ))
 
 pub returns-in-Ok-None-operation_request-clause-request : goal.returns-in-Ok-None-operation_request-clause-request

@@ -1,7 +1,7 @@
 //! Calls that end with an error, records, words out of the grammar, and sinks and sources that fail.
 use super::{
-    ANSWERED, Failing, LIMIT, NONE, NOT_READ, NOT_RECORDED, NOT_RNG, NOT_SENT, NOT_SIGN, OPTION,
-    RECORD, REFUSED, RNG_BY_ALICE, Row,
+    ANSWERED, Failing, LIMIT, NO_NUMBER, NONE, NOT_READ, NOT_RECORDED, NOT_RNG, NOT_SENT, NOT_SIGN,
+    OPTION, RECORD, REFUSED, RNG_BY_ALICE, Row,
 };
 
 /// Calls that have an error for an answer.
@@ -20,7 +20,7 @@ pub const ERRORS: &[Row] = &[
         words: &["activate", "k1"],
         response: "RES0(5C e12,7F e1,7E e12,7D \"no\")",
         sent: "REQ0(12, 94 \"k1\")",
-        line: "{\"error\":\"InternalError\",\"text\":\"not a response message\",\"response\":\"7B[7A[69[6Ai6Bi]92d0Di]0F[5Ce12:7Fe1:7Ee12:7Dt]]\",\"reason\":18,\"message\":\"no\"}\n",
+        line: "{\"error\":\"InternalError\",\"text\":\"not a response message\",\"response\":\"7B[7A[69[6Ai6Bi]92d0Di]0F[5Ce12:7Fe1:7Ee12:7Dt]]\",\"reason\":{\"number\":18},\"message\":\"no\"}\n",
         status: 1,
         ..ANSWERED
     },
@@ -29,7 +29,7 @@ pub const ERRORS: &[Row] = &[
         words: &["destroy", "k1"],
         response: "RES0(5C e14,7F e1,7E e1,7D \"gone\")",
         sent: "REQ0(14, 94 \"k1\")",
-        line: "{\"error\":\"ItemNotFound\",\"text\":\"Operation Destroy failed: gone\"}\n",
+        line: "{\"error\":\"ItemNotFound\",\"text\":\"Operation Destroy failed: gone\",\"reason\":{\"name\":\"ItemNotFound\",\"number\":1},\"message\":\"gone\"}\n",
         status: 1,
         ..ANSWERED
     },
@@ -38,8 +38,97 @@ pub const ERRORS: &[Row] = &[
         words: &["destroy", "k1"],
         response: "RES0(5C e14,7F e1,7E eC,7D \"a\\\"\\\\\\x1F\")",
         sent: "REQ0(14, 94 \"k1\")",
-        line: "{\"error\":\"ServerError\",\"text\":\"Operation Destroy failed: a\\\"\\\\\\u001F\"}\n",
+        line: "{\"error\":\"ServerError\",\"text\":\"Operation Destroy failed: a\\\"\\\\\\u001F\",\"reason\":{\"name\":\"PermissionDenied\",\"number\":12},\"message\":\"a\\\"\\\\\\u001F\"}\n",
         status: 1,
+        ..ANSWERED
+    },
+    Row {
+        shows: "an answer to another operation",
+        words: &["activate", "k1"],
+        response: "OK0(13, 94 \"k1\")",
+        sent: "REQ0(12, 94 \"k1\")",
+        line: "{\"error\":\"InternalError\",\"text\":\"Response operation Some(Revoke) does not match request operation Activate\",\"response\":\"7B[7A[69[6Ai6Bi]92d0Di]0F[5Ce13:7Fe0:7C[94t]]]\"}\n",
+        status: 3,
+        ..ANSWERED
+    },
+    Row {
+        shows: "a success that names no operation",
+        words: &["activate", "k1"],
+        response: "RES0(7F e0)",
+        sent: "REQ0(12, 94 \"k1\")",
+        line: "{\"error\":\"InternalError\",\"text\":\"Response operation None does not match request operation Activate\",\"response\":\"7B[7A[69[6Ai6Bi]92d0Di]0F[7Fe0:]]\"}\n",
+        status: 3,
+        ..ANSWERED
+    },
+    Row {
+        shows: "two batch items",
+        words: &["activate", "k1"],
+        response: "7B{7A{69{6A i1,6B i0},92 d1,0D i2},0F{5C e12,7F e0,7C{94 \"k1\"}},0F{5C e12,7F e0,7C{94 \"k1\"}}}",
+        sent: "REQ0(12, 94 \"k1\")",
+        line: "{\"error\":\"ServerError\",\"text\":\"Expected one batch item in response but received 2\"}\n",
+        status: 3,
+        ..ANSWERED
+    },
+    Row {
+        shows: "one batch item where the header counts two",
+        words: &["activate", "k1"],
+        response: "7B{7A{69{6A i1,6B i0},92 d1,0D i2},0F{5C e12,7F e0,7C{94 \"k1\"}}}",
+        sent: "REQ0(12, 94 \"k1\")",
+        line: "{\"error\":\"ServerError\",\"text\":\"Expected one batch item in response but received 1\"}\n",
+        status: 3,
+        ..ANSWERED
+    },
+    Row {
+        shows: "a failure of another operation",
+        words: &["get", "k1"],
+        response: "RES0(5C e14,7F e1,7E e1,7D \"gone\")",
+        sent: "REQ0(A, 94 \"k1\")",
+        line: "{\"error\":\"InternalError\",\"text\":\"Response operation Destroy does not match request operation Get\",\"response\":\"7B[7A[69[6Ai6Bi]92d0Di]0F[5Ce14:7Fe1:7Ee1:7Dt]]\",\"reason\":{\"name\":\"ItemNotFound\",\"number\":1},\"message\":\"gone\"}\n",
+        status: 3,
+        ..ANSWERED
+    },
+    Row {
+        shows: "a failure of an operation that is in no table",
+        words: &["get", "k1"],
+        response: "RES0(5C e3E7,7F e1,7E e1,7D \"gone\")",
+        sent: "REQ0(A, 94 \"k1\")",
+        line: "{\"error\":\"InternalError\",\"text\":\"Response operation 999 does not match request operation Get\",\"response\":\"7B[7A[69[6Ai6Bi]92d0Di]0F[5Ce3E7:7Fe1:7Ee1:7Dt]]\",\"reason\":{\"name\":\"ItemNotFound\",\"number\":1},\"message\":\"gone\"}\n",
+        status: 3,
+        ..ANSWERED
+    },
+    Row {
+        shows: "a failure that names no operation",
+        words: &["get", "k1"],
+        response: "RES0(7F e1,7E e1,7D \"gone\")",
+        sent: "REQ0(A, 94 \"k1\")",
+        line: "{\"error\":\"ItemNotFound\",\"text\":\"Operation Get failed: gone\",\"reason\":{\"name\":\"ItemNotFound\",\"number\":1},\"message\":\"gone\"}\n",
+        status: 1,
+        ..ANSWERED
+    },
+    Row {
+        shows: "a failure with no message",
+        words: &["get", "k1"],
+        response: "RES0(5C eA,7F e1,7E e4)",
+        sent: "REQ0(A, 94 \"k1\")",
+        line: "{\"error\":\"ServerError\",\"text\":\"Operation Get failed: \",\"reason\":{\"name\":\"InvalidMessage\",\"number\":4}}\n",
+        status: 1,
+        ..ANSWERED
+    },
+    Row {
+        shows: "no random bytes",
+        words: &["rng", "16"],
+        response: "OK2(25, C2 x)",
+        line: "{\"error\":\"InternalError\",\"text\":\"answer without random bytes\",\"response\":\"7B[7A[69[6Ai6Bi]92d0Di]0F[5Ce25:7Fe0:7C[C2x]]]\"}\n",
+        status: 3,
+        ..ANSWERED
+    },
+    Row {
+        shows: "a key that is not wrapped",
+        words: &["get", "k1", "wrap=2"],
+        response: "OK0(A, 57 e2,94 \"k1\",8F{40{42 e1,45{43 x00},28 e3,2A i8}})",
+        sent: "REQ0(A, 94 \"k1\",47{9E e1,36{94 \"2\",2B{11 eD}}})",
+        line: "{\"error\":\"InternalError\",\"text\":\"answer with an object that is not wrapped\",\"response\":\"7B[7A[69[6Ai6Bi]92d0Di]0F[5CeA:7Fe0:7C[57e2:94t8F[40[42e1:45[43x]28e3:2Ai]]]]]\"}\n",
+        status: 3,
         ..ANSWERED
     },
     Row {
@@ -176,7 +265,7 @@ pub const GRAMMAR: &[Row] = &[
     Row {
         shows: "a number with a zero before it",
         words: &["rng", "016"],
-        line: NOT_RNG,
+        line: NO_NUMBER,
         ..REFUSED
     },
     Row {
@@ -225,6 +314,42 @@ pub const GRAMMAR: &[Row] = &[
         shows: "a name with a space, with a record",
         words: &["record=calls", "rename", "k1", "a b"],
         line: NOT_RECORDED,
+        ..REFUSED
+    },
+    Row {
+        shows: "an empty identifier",
+        words: &["get", ""],
+        line: "{\"error\":\"GrammarError\",\"text\":\"an identifier is empty; a request that means it is sent by message\"}\n",
+        ..REFUSED
+    },
+    Row {
+        shows: "an identifier that stands for the empty text",
+        words: &["destroy", "-"],
+        line: "{\"error\":\"GrammarError\",\"text\":\"an identifier is empty; a request that means it is sent by message\"}\n",
+        ..REFUSED
+    },
+    Row {
+        shows: "an empty identifier of a key that wraps",
+        words: &["get", "k1", "wrap="],
+        line: "{\"error\":\"GrammarError\",\"text\":\"an identifier is empty; a request that means it is sent by message\"}\n",
+        ..REFUSED
+    },
+    Row {
+        shows: "an empty identifier of attributes",
+        words: &["attributes", "", "State"],
+        line: "{\"error\":\"GrammarError\",\"text\":\"an identifier is empty; a request that means it is sent by message\"}\n",
+        ..REFUSED
+    },
+    Row {
+        shows: "a digest with its hash",
+        words: &["sign", "k1", "00", "prehashed", "hash=SHA256"],
+        line: "{\"error\":\"GrammarError\",\"text\":\"prehashed and hash= exclude each other: KMIP 1.2 has no digested data in Sign, so the server would hash the digest again\"}\n",
+        ..REFUSED
+    },
+    Row {
+        shows: "an attribute that is none after where",
+        words: &["locate", "where", "color=red"],
+        line: "{\"error\":\"GrammarError\",\"text\":\"locate: ATTRIBUTE is none of name=, group=, contact=, type=, state=, algorithm=, length=, activation= with its value\"}\n",
         ..REFUSED
     },
     Row {

@@ -14,7 +14,7 @@ pub const CALLS: &[Row] = &[
         shows: "what the server can do",
         words: &["replay"],
         script: b"query <OK2(18, 5C e1,5C e18,57 e2,9D \"x\")>\n",
-        written: "> <REQ2(18, 74 e1,74 e2,74 e3)>\n= {operations=[Create,Query],object_types=[SymmetricKey],vendor_identification=\"x\"}\n",
+        written: "> 42007801000000904200770100000038420069010000002042006A0200000004000000010000000042006B0200000004000000020000000042000D0200000004000000010000000042000F010000004842005C050000000400000018000000004200790100000030420074050000000400000001000000004200740500000004000000020000000042007405000000040000000300000000\n= {operations=[Create,Query],object_types=[SymmetricKey],vendor_identification=\"x\"}\n",
         status: 0,
     },
     Row {

@@ -1,7 +1,7 @@
 use Rattle.std.proofs.Common.{rules, ◌∙◌, ap, SFits, w64, pos, length, List, ℕ}
 use Rattle.std.proofs.lemmas.Int.{to_z-of_z}
-use Rattle.kmip_web.specs.Fault.{fault_text}
-use Rattle.kmip_web.proofs.Faultless.{empty_where}
+use Rattle.kmip_faults.specs.Fault.{fault_text}
+use Rattle.kmip_faults.proofs.Faultless.{empty_where}
 use Rattle.kmip_web.proofs.web_fault.Goals as goal
 
 pub returns-in-Ok-clause-none : goal.returns-in-Ok-clause-none

@@ -37,8 +37,7 @@ returns-in-Ok-None g c =
       wire = c.make_call.ensures.wire none;
       source = c.make_call.ensures.source none;
       kept = refl;
-      told = e.line;
-      told_part = e.part;
+      told = e.told;
     })
 
 pub returns-in-Err : goal.returns-in-Err

@@ -5,4 +5,5 @@ pub returns : goal.returns
 returns c =
     operation_asks c.args.order.now c.args.name.now c.args.version.now c.args.payload.now
     c.in-Some.call _ c.requires.file c.requires.words
-    (rw c.in-Some.is at c.in_ok-call.ensures) c.in_ok-request.ensures
+    (rw c.in-Some.is at c.in_ok-call.ensures)
+    c.in_ok-request.ensures

@@ -53,3 +53,7 @@ returns-in-None-clause-taken g c = λ tells.
 
 pub returns-in-None-clause-part : goal.returns-in-None-clause-part
 returns-in-None-clause-part g c = λ tells. head_part c.args.limit (c.read_up_to.ensures.part tells)
+
+pub returns-in-Some-clause-ahead : goal.returns-in-Some-clause-ahead
+returns-in-Some-clause-ahead g c = omega
+    (arith, c.read_up_to.ensures.ahead, c.read_up_to-in-Some.ensures.ahead, c.read_up_to-in-Some.ensures.longer)

@@ -2,7 +2,7 @@ use Rattle.std.specs.Prelude.{option_map}
 use Rattle.std.proofs.lemmas.Result.{err_from_is_err_and}
 use Rattle.kmip_request.specs.Message.{credential_of}
 use Rattle.kmip_client.specs.Outcome.{seen_by}
-use Rattle.kmip_client.proofs.Exchanges.{serialize_stopped, serialize_not_reading, short_at_start, of_request, caused_by, reading_of, kept_is, kept_exchanged, kept_caused, kept_reading}
+use Rattle.kmip_client.proofs.Exchanges.{serialize_stopped, serialize_not_reading, short_at_start, of_request, caused_by, reading_of, kept_is, kept_exchanged, kept_caused, kept_reading, serialize_not_writing, writing_of, kept_writing}
 use Rattle.kmip_client.proofs.call.call.Goals as goal
 
 pub returns-in-Err-clause-exchange : goal.returns-in-Err-clause-exchange
@@ -17,9 +17,9 @@ returns-in_err-diagnostics-clause-exchange g c = λ tells.
     let p = err_from_is_err_and c.from_residual.result c.from_residual.ensures.1 in
     rw (p.1, p.2) (short_at_start _ _)
 
-pub returns-in_err-reserve-clause-exchange : goal.returns-in_err-reserve-clause-exchange
-returns-in_err-reserve-clause-exchange g c = λ tells.
-    let p = err_from_is_err_and c.from_residual-in_err-reserve.result c.from_residual-in_err-reserve.ensures.1 in
+pub returns-in_err-reserve_exact-clause-exchange : goal.returns-in_err-reserve_exact-clause-exchange
+returns-in_err-reserve_exact-clause-exchange g c = λ tells.
+    let p = err_from_is_err_and c.from_residual-in_err-reserve_exact.result c.from_residual-in_err-reserve_exact.ensures.1 in
     rw (p.1, p.2) (short_at_start _ _)
 
 pub returns-then-not-has_response-clause-exchange : goal.returns-then-not-has_response-clause-exchange
@@ -89,3 +89,27 @@ returns-clause-reading g c = λ tells.
     (option_map credential_of c.args.settings.now.authentication))
     c.serialize.new.out.bytes c.as_slice-2.result.now c.args.settings.now.config.max_bytes _
     c.in-Ok.ensures.ok c.as_slice-2.ensures (c.exchange-answer.ensures.reading tells))
+
+pub returns-in-Err-clause-writing : goal.returns-in-Err-clause-writing
+returns-in-Err-clause-writing g c = λ tells is. absurd (serialize_not_writing c.in-Err.error c.in-Err.ensures.err is)
+
+pub returns-then-not-has_response-clause-writing : goal.returns-then-not-has_response-clause-writing
+returns-then-not-has_response-clause-writing g c = λ tells.
+    writing_of g.L.Link.state c.args.link.now c.exchange-answer.new.link
+    (seen_by (g.R.CallRequest.seen c.args.request.now) c.exchange-answer.result)
+    (g.R.CallRequest.kind.bytes_of (g.R.CallRequest.request c.args.request.now)
+    (option_map credential_of c.args.settings.now.authentication))
+    c.serialize.new.out.bytes c.as_slice-2.result.now
+    c.in-Ok.ensures.ok c.as_slice-2.ensures (c.exchange-answer.ensures.writing tells)
+
+pub returns-clause-writing : goal.returns-clause-writing
+returns-clause-writing g c = λ tells.
+    kept_writing (seen_by (g.R.CallRequest.seen c.args.request.now) c.exchange-answer.result)
+    (seen_by (g.R.CallRequest.seen c.args.request.now) c.keep.result)
+    (kept_is (g.R.CallRequest.seen c.args.request.now) _ _ c.keep.ensures)
+    (writing_of g.L.Link.state c.args.link.now c.exchange-answer.new.link
+    (seen_by (g.R.CallRequest.seen c.args.request.now) c.exchange-answer.result)
+    (g.R.CallRequest.kind.bytes_of (g.R.CallRequest.request c.args.request.now)
+    (option_map credential_of c.args.settings.now.authentication))
+    c.serialize.new.out.bytes c.as_slice-2.result.now
+    c.in-Ok.ensures.ok c.as_slice-2.ensures (c.exchange-answer.ensures.writing tells))

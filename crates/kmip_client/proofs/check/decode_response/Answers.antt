@@ -4,4 +4,4 @@ use Rattle.kmip_client.proofs.check.decode_response.Goals as goal
 
 pub part-requires-clause-own : goal.part-requires-clause-own
 part-requires-clause-own g c =
-    read_has_variant response_payload_val c.args.operation c.args.m.now c.read_response.result c.read_response.ensures
+    read_has_variant response_payload_val c.args.operation c.args.m.now c.payload_in.result c.payload_in.ensures

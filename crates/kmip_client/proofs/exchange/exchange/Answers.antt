@@ -1,5 +1,5 @@
 use Rattle.std.proofs.Common.{arith}
-use Rattle.kmip_client.proofs.Exchanges.{send_stopped, send_not_reading, read_ended, read_caused, fails_reading}
+use Rattle.kmip_client.proofs.Exchanges.{send_stopped, send_not_reading, read_ended, read_caused, fails_reading, error_is, read_not_writing}
 use Rattle.kmip_client.proofs.exchange.exchange.Goals as goal
 
 pub returns-in-Err-clause-exchange : goal.returns-in-Err-clause-exchange
@@ -17,7 +17,7 @@ returns-clause-exchange g c = λ tells.
     c.send.ensures.keeps (c.in-Ok.ensures.ok tells)
     (c.read_message-read.ensures.reads (rw c.send.ensures.keeps.tells tells))
     c.read_message-read.ensures.fault
-    (rw c.deref.ensures.value at c.answer.ensures)
+    (rw c.deref.ensures.value at c.answer_taken.ensures)
 
 pub returns-clause-caused : goal.returns-clause-caused
 returns-clause-caused g c =
@@ -27,7 +27,7 @@ returns-clause-caused g c =
     c.args.config.now.max_bytes c.read_message-read.new.taken.items c.read_message-read.result _
     c.read_message-read.ensures.read
     (λ is. omega (arith, c.send.ensures.keeps.faults, c.read_message-read.ensures.fault is))
-    (rw c.deref.ensures.value at c.answer.ensures)
+    (rw c.deref.ensures.value at c.answer_taken.ensures)
 
 pub returns-in-Err-clause-reading : goal.returns-in-Err-clause-reading
 returns-in-Err-clause-reading g c = λ tells is. absurd (send_not_reading c.in-Err.error c.in-Err.ensures.err is)
@@ -38,4 +38,14 @@ returns-clause-reading g c = λ tells is.
     (c.readings_hold.ensures.never_fails (g.R.CallRequest.request c.args.request.now))
     c.send.ensures.keeps (c.in-Ok.ensures.ok tells) c.read_message-read.ensures.keeps
     (c.read_message-read.ensures.reads (rw c.send.ensures.keeps.tells tells))
-    c.read_message-read.ensures.fault (rw c.deref.ensures.value at c.answer.ensures) is
+    c.read_message-read.ensures.fault (rw c.deref.ensures.value at c.answer_taken.ensures) is
+
+pub returns-in-Err-clause-writing : goal.returns-in-Err-clause-writing
+returns-in-Err-clause-writing g c = λ tells is. c.in-Err.ensures.failing (error_is is) tells
+
+pub returns-clause-writing : goal.returns-clause-writing
+returns-clause-writing g c = λ tells is.
+    absurd (read_not_writing (g.R.CallRequest.kind.reads (g.R.CallRequest.request c.args.request.now))
+    c.read_message-read.new.taken.items c.read_message-read.result _
+    (c.readings_hold.ensures.never_writes (g.R.CallRequest.request c.args.request.now))
+    (rw c.deref.ensures.value at c.answer_taken.ensures) is)

@@ -1,6 +1,6 @@
 use Rattle.std.proofs.Common.{◌≡◌, [], take}
 use Rattle.std.specs.List.{filter}
-use Rattle.kmip_client.specs.Untyped.{has_tag}
+use Rattle.kmip_shape.specs.Shape.{has_tag}
 use Rattle.kmip_client.proofs.untyped.first.Given as goal
 
 abbrev pub invariant-loop-index : goal.invariant-loop-index

@@ -4,7 +4,8 @@ use Rattle.kmip_tags.specs.Tags.{BATCH_ITEM, RESPONSE_MESSAGE}
 use Rattle.kmip_wire.specs.Tree.{Tree}
 use Rattle.kmip_client.specs.declared.error.Error.{Error}
 use Rattle.kmip_client.specs.Outcome.{Gives}
-use Rattle.kmip_client.specs.Untyped.{has_tag, children_of, counts_one, all_under}
+use Rattle.kmip_shape.specs.Shape.{has_tag}
+use Rattle.kmip_client.specs.Untyped.{children_of, counts_one, all_under}
 use Rattle.kmip_client.proofs.Tagged.{one_is, item_answers}
 use Rattle.kmip_client.proofs.untyped.message_answer.Goals as goal
 

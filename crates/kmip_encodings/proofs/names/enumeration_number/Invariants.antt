@@ -1,7 +1,7 @@
-use Rattle.std.proofs.Common.{◌≡◌, ℕ, ◌<◌, Some}
-use Rattle.kmip_encodings.specs.Names.{enumeration_name}
+use Rattle.std.proofs.Common.{◌≡◌, drop}
+use Rattle.kmip_encodings.specs.Lines.{lines}
+use Rattle.kmip_encodings.specs.Names.{number_in, enumeration_number}
 use Rattle.kmip_encodings.proofs.names.enumeration_number.Given as goal
 
-abbrev pub invariant-loop-number : goal.invariant-loop-number
-invariant-loop-number l =
-    (n : ℕ) → n < l.number → enumeration_name l.tag n ≡ Some l.name → ⊥
+abbrev pub invariant-loop-index : goal.invariant-loop-index
+invariant-loop-index l = number_in (drop l.index lines) l.tag l.name ≡ enumeration_number l.tag l.name

@@ -1,5 +1,6 @@
 use Rattle.std.proofs.Common.{◌≡◌, ◌+◌, ◌*◌}
 use Rattle.json.specs.Value.{items_view}
+use Rattle.kmip_tags.specs.Tags.{ATTRIBUTE_VALUE}
 use Rattle.kmip_encodings.specs.Reading.{read_item, items_by}
 use Rattle.kmip_encodings.proofs.Items.{onto, left}
 use Rattle.kmip_encodings.proofs.read_json.+read.Given as goal
@@ -21,5 +22,5 @@ decreases-read_items l = 5 * l.levels + 1
 
 abbrev pub invariant-read_items-loop-index : goal.invariant-read_items-loop-index
 invariant-read_items-loop-index l =
-    items_by (read_item l.levels) 0 (items_view l.items.items)
-    ≡ onto l.trees (left (read_item l.levels) l.items.items l.index)
+    items_by (read_item l.levels) 0 ATTRIBUTE_VALUE (items_view l.items.items)
+    ≡ onto l.trees (left (read_item l.levels) l.named l.items.items l.index)

@@ -1,5 +1,6 @@
 use Rattle.std.proofs.Common.{◌≡◌, ◌+◌, ◌*◌, ◌++◌, drop}
 use Rattle.json.specs.Tree.{items_tokens}
+use Rattle.kmip_tags.specs.Tags.{ATTRIBUTE_VALUE}
 use Rattle.kmip_wire.specs.Tree.{trees_of}
 use Rattle.kmip_wire.specs.Sizes.{tree_size, trees_size}
 use Rattle.kmip_encodings.specs.Sizes.{sizes_of}
@@ -15,8 +16,8 @@ decreases-put_structure l = 2 * trees_size (trees_of l.items.now) + 1
 abbrev pub invariant-put_structure-loop-item : goal.invariant-put_structure-loop-item
 invariant-put_structure-loop-item l = record {
   tokens :
-      l.writer.tokens ++ items_tokens (items_at l.next (trees_of (drop l.item-index l.items)))
-      ≡ l.initial.writer.tokens ++ items_tokens (items_at (after 8 l.fn.at) (trees_of l.items));
+      l.writer.tokens ++ items_tokens (items_at l.next l.named (trees_of (drop l.item-index l.items)))
+      ≡ l.initial.writer.tokens ++ items_tokens (items_at (after 8 l.fn.at) ATTRIBUTE_VALUE (trees_of l.items));
   before : l.writer.before ≡ l.initial.writer.before;
   ends :
       after (sizes_of (trees_of (drop l.item-index l.items))) l.next

@@ -1,4 +1,5 @@
 use Rattle.std.proofs.Common.{◌≡◌, ◌+◌, ◌*◌, ◌++◌, drop}
+use Rattle.kmip_tags.specs.Tags.{ATTRIBUTE_VALUE}
 use Rattle.kmip_wire.specs.Tree.{trees_of}
 use Rattle.kmip_wire.specs.Sizes.{tree_size, trees_size}
 use Rattle.kmip_encodings.specs.Xml.{items_xml}
@@ -12,5 +13,5 @@ decreases-put_structure l = 2 * trees_size (trees_of l.items.now) + 1
 
 abbrev pub invariant-put_structure-loop-item : goal.invariant-put_structure-loop-item
 invariant-put_structure-loop-item l =
-    l.out ++ items_xml (trees_of (drop l.item-index l.items))
-    ≡ l.initial.out ++ items_xml (trees_of l.items)
+    l.out ++ items_xml l.named (trees_of (drop l.item-index l.items))
+    ≡ l.initial.out ++ items_xml ATTRIBUTE_VALUE (trees_of l.items)

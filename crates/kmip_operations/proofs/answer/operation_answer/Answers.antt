@@ -1,24 +1,36 @@
-use Rattle.std.proofs.Common.{take}
-use Rattle.kmip_operations.specs.Answers.{operation_outcome}
-use Rattle.kmip_operations.specs.Calls.{request_of}
-use Rattle.kmip_operations.proofs.Replies.{due_line, due_ending, told_json}
+use Rattle.std.proofs.Common.{Some, take}
+use Rattle.kmip_client.specs.Untyped.{untyped_answer}
+use Rattle.kmip_words.proofs.Replies.{part_within}
+use Rattle.kmip_operations.specs.Answers.{sent_outcome}
+use Rattle.kmip_operations.proofs.Replies.{reply_is, due_line, due_ending, told_json}
 use Rattle.kmip_operations.proofs.answer.operation_answer.Goals as goal
+
+pub told-requires : goal.told-requires
+told-requires c =
+    part_within c.read_operation_response-reading.result.taken c.args.response.now c.args.settings.now.limit
+    (rw c.limit.ensures at c.read_operation_response-reading.ensures.taken)
 
 pub returns-clause-line : goal.returns-clause-line
 returns-clause-line c =
-    let reply = c.in_ok-reply.reply in
-    due_line c.told.result reply.answer (take reply.taken c.args.response.now)
-    (operation_outcome c.args.settings.now (request_of c.args.call.now) c.args.response.now)
-    c.args.response.now c.in_ok-reply.ensures.outcome c.told.ensures
+    let reading = c.read_operation_response-reading.result in
+    due_line c.told.result (Some c.args.call.now.operation) reading.answer (take reading.taken c.args.response.now)
+    (sent_outcome (untyped_answer c.args.call.now.operation) c.args.settings.now c.args.response.now) c.args.response.now
+    (reply_is (untyped_answer c.args.call.now.operation) c.args.settings.now c.args.response.now reading.answer reading.taken
+    (rw c.limit.ensures at c.read_operation_response-reading.ensures.answer)
+    (rw c.limit.ensures at c.read_operation_response-reading.ensures.taken))
+    c.told.ensures
 
 pub returns-clause-ending : goal.returns-clause-ending
 returns-clause-ending c =
-    let reply = c.in_ok-reply.reply in
-    due_ending c.told.result reply.answer (take reply.taken c.args.response.now)
-    (operation_outcome c.args.settings.now (request_of c.args.call.now) c.args.response.now)
-    c.args.response.now c.in_ok-reply.ensures.outcome c.told.ensures
+    let reading = c.read_operation_response-reading.result in
+    due_ending c.told.result (Some c.args.call.now.operation) reading.answer (take reading.taken c.args.response.now)
+    (sent_outcome (untyped_answer c.args.call.now.operation) c.args.settings.now c.args.response.now) c.args.response.now
+    (reply_is (untyped_answer c.args.call.now.operation) c.args.settings.now c.args.response.now reading.answer reading.taken
+    (rw c.limit.ensures at c.read_operation_response-reading.ensures.answer)
+    (rw c.limit.ensures at c.read_operation_response-reading.ensures.taken))
+    c.told.ensures
 
 pub returns-clause-json : goal.returns-clause-json
 returns-clause-json c =
-    let reply = c.in_ok-reply.reply in
-    told_json c.told.result reply.answer (take reply.taken c.args.response.now) c.told.ensures
+    let reading = c.read_operation_response-reading.result in
+    told_json c.told.result (Some c.args.call.now.operation) reading.answer (take reading.taken c.args.response.now) c.told.ensures

@@ -1,7 +1,7 @@
 use Rattle.std.proofs.Common.{◌≡◌, ◌∙◌, ap, sym, map}
 use Rattle.std.specs.Option.{option_and_then}
 use Rattle.kmip_words.specs.Calls.{call_in, call_alone}
-use Rattle.kmip_words.proofs.Calls.{call_alone_utf8, call_alone_other}
+use Rattle.kmip_words.proofs.LineCalls.{call_alone_utf8, call_alone_other}
 use Rattle.kmip_words.proofs.call.call_alone.Goals as goal
 
 pub returns-in_default : goal.returns-in_default

@@ -1,4 +1,4 @@
-use Rattle.kmip_words.proofs.JsonLines.{payload_line_is, failure_line_is, internal_error_line_is}
+use Rattle.kmip_words.proofs.JsonLines.{payload_line_is, failure_line_is, error_told_is}
 use Rattle.kmip_words.proofs.laws.lines_are_json.Goals as goal
 
 pub returns-clause-payload : goal.returns-clause-payload
@@ -7,5 +7,5 @@ returns-clause-payload c = payload_line_is
 pub returns-clause-error : goal.returns-clause-error
 returns-clause-error c = failure_line_is
 
-pub returns-clause-shown : goal.returns-clause-shown
-returns-clause-shown c = internal_error_line_is
+pub returns-clause-failure : goal.returns-clause-failure
+returns-clause-failure c = error_told_is

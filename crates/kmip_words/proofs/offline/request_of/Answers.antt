@@ -1,32 +1,13 @@
-use Rattle.std.proofs.Common.{◌≡◌, ◌∙◌, ap, sym}
-use Rattle.kmip_link.specs.Plan.{MemoryState}
-use Rattle.kmip_words.specs.declared.ending.Ending.TheVariants.{Answered, Refused, Lost}
-use Rattle.kmip_words.proofs.EmptyLink.{sent_is, none_is}
+use Rattle.std.proofs.Common.{subst, List, ℕ, Option}
+use Rattle.kmip_wire.specs.Found.{GivesBytes}
+use Rattle.kmip_words.specs.Exchange.{request_asked}
+use Rattle.kmip_words.proofs.Replies.{message_is}
 use Rattle.kmip_words.proofs.offline.request_of.Goals as goal
-
-not_lost : (Answered ≡ Lost → ⊥) × (Refused ≡ Lost → ⊥)
-not_lost = (λ is. absurd (cc), λ is. absurd (cc))
-
-pub returns-in-Lost : goal.returns-in-Lost
-returns-in-Lost c =
-    sent_is c.in_ok-client.client c.answer.new.client c.args.settings.now c.args.call c.in_ok-answer.field-0 c.new-line.result c.answer.new.line c.in_ok-sent_by-in-Lost.field-0.items
-    c.in_ok-client.ensures.settings
-    (ap (λ (m : MemoryState). m.sent) c.in_ok-client.ensures.link
-    ∙ c.in_ok-link_over.ensures.sent)
-    c.in_ok-answer.ensures c.in-Lost.is c.in_ok-sent_by-in-Lost.ensures
-
-pub returns-in-Answered : goal.returns-in-Answered
-returns-in-Answered c =
-    none_is c.in_ok-client.client c.answer.new.client c.args.settings.now c.args.call c.in_ok-answer.field-0 c.new-line.result c.answer.new.line
-    c.in_ok-client.ensures.settings
-    (ap (λ (m : MemoryState). m.ever) c.in_ok-client.ensures.link ∙ c.in_ok-link_over.ensures.ever)
-    (ap (λ (m : MemoryState). m.pos) c.in_ok-client.ensures.link ∙ c.in_ok-link_over.ensures.pos)
-    c.in_ok-answer.ensures (λ lost. not_lost.0 (sym c.in-Answered.is ∙ lost))
 
 pub returns : goal.returns
 returns c =
-    none_is c.in_ok-client.client c.answer.new.client c.args.settings.now c.args.call c.in_ok-answer.field-0 c.new-line.result c.answer.new.line
-    c.in_ok-client.ensures.settings
-    (ap (λ (m : MemoryState). m.ever) c.in_ok-client.ensures.link ∙ c.in_ok-link_over.ensures.ever)
-    (ap (λ (m : MemoryState). m.pos) c.in_ok-client.ensures.link ∙ c.in_ok-link_over.ensures.pos)
-    c.in_ok-answer.ensures (λ lost. not_lost.1 (sym c.in-Refused.is ∙ lost))
+    let P : Option (List ℕ) → Type 0 = λ bytes. GivesBytes c.write_request.result bytes in
+    c.bytes_if_any.ensures (request_asked c.args.call.now c.args.settings.now.credential).message
+    (subst P
+    (message_is c.in_ok-request.request c.args.call.now _ c.args.settings.now.credential
+    c.in_ok-request.ensures c.authentication.ensures) c.write_request.ensures.bytes)

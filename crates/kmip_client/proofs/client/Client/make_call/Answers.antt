@@ -19,6 +19,7 @@ returns g c =
     record {
       exchange = exchange;
       caused = rw (← c.self.view_is) e.caused;
+      writing = rw (← c.self.view_is) e.writing;
       reading = rw (← c.self.view_is) e.reading;
       headline = λ tells. headline (g.R.CallRequest.kind.bytes_of
           (g.R.CallRequest.request c.args.request.now) c.args.self.now.credential)
