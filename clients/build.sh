@@ -1,7 +1,7 @@
 #!/bin/bash
 # Builds what the clients stand on, into a folder.
 #
-#   clients/build.sh [--unproved] [--program FILE] [--library FILE] FOLDER
+#   clients/build.sh [--unproved] [--encoder] [--provider] [--whole] [--program FILE] [--library FILE] FOLDER
 #
 #   FOLDER/kmip_call         the program: one call over its standard input and output
 #   FOLDER/libmetsuwan.a     the library of metsuwan.h, for C and Rust
@@ -10,15 +10,18 @@
 #
 # Without --unproved the crates kmip_call and kmip_c, and those below them, are proved first: hours from nothing, and
 # minutes where `rt ci` passed on this machine before, in whichever checkout of these files. Each crate is shown, as one of
-# how many, and nothing is written into the checkout.
+# how many, and nothing is written into the checkout. clients/install.sh installs what is in the folder.
 #
 #   --unproved       compiles at once, and checks no contract: to try things out. It takes two to four minutes
+#   --encoder        also makes FOLDER/kmip_ttlv, the program that turns items into JSON and XML, and JSON into items
+#   --provider       also makes FOLDER/metsuwan.so, the provider for OpenSSL 3 (docs/OPENSSL.md)
+#   --whole          makes both, and FOLDER/kmip.html, the page that shows captured messages (clients/web/build.sh)
 #   --program FILE   takes this kmip_call, which was built before
 #   --library FILE   takes this libkmip_c.a, which was built before
 #   --help           prints this
 #
-# It needs the Rattle toolchain's `rt` on the path (README.md says which), python3, gcc, make and binutils. FOLDER/build.log
-# has what they wrote.
+# It needs gcc, make and binutils, and where a part is built also python3 and the Rattle toolchain's `rt` on the path (README.md
+# says which). FOLDER/build.log has what they wrote. A FILE is copied, and `kmip_version()` says whether the library is proved.
 set -eu
 
 give_up() { # TEXT
@@ -31,11 +34,14 @@ usage() {
     exit 2
 }
 
-unproved='' program='' library='' folder=''
+unproved='' encoder='' provider='' page='' program='' library='' folder=''
 while (($#)); do
     case $1 in
     --help) sed -n '2,/^set/{/^set/d;s/^# \{0,1\}//p}' "$0" && exit ;;
     --unproved) unproved=1 ;;
+    --encoder) encoder=1 ;;
+    --provider) provider=1 ;;
+    --whole) encoder=1 provider=1 page=1 ;;
     --program | --library)
         (($# > 1)) || usage
         [[ -f $2 ]] || give_up "there is no file $2"
@@ -58,8 +64,10 @@ missing=()
 needs() { # COMMAND PACKAGE
     type -P "$1" >/dev/null || missing+=("$1 (Debian: apt-get install $2)")
 }
-type -P rt >/dev/null || missing+=('rt (the Rattle toolchain; no package of Debian: README.md says where it is from)')
-needs python3 python3
+if [[ -z $program || -z $library || -n $encoder ]]; then
+    type -P rt >/dev/null || missing+=('rt (the Rattle toolchain; no package of Debian: README.md says where it is from)')
+    needs python3 python3
+fi
 needs gcc gcc
 needs ar binutils
 needs make make
@@ -101,7 +109,7 @@ made() { # KIND CRATE FILE TEXT
     fi
 }
 
-if [[ -z $program || -z $library ]]; then
+if [[ -z $program || -z $library || -n $encoder ]]; then
     if [[ -n $unproved ]]; then
         echo 'Compiled with no proof: two to four minutes in all.'
     else
@@ -113,23 +121,35 @@ if [[ -z $program ]]; then
 elif [[ ! $program -ef $folder/kmip_call ]]; then
     cp "$program" "$folder/kmip_call"
 fi
-if [[ -z $library ]]; then
-    made library kmip_c "$folder/libkmip_c.a" 'the library'
-elif [[ ! $library -ef $folder/libkmip_c.a ]]; then
-    cp "$library" "$folder/libkmip_c.a"
-fi
+if [[ -n $encoder ]]; then made program kmip_ttlv "$folder/kmip_ttlv" 'kmip_ttlv'; fi
 
 # The library, for the two ways of linking. It is made in a folder whose path has no space, which neither make nor ar knows.
+# A library of the caller's is copied there, and stays as it is.
 work=$(mktemp -d -t kmip-build-XXXXXX)
 trap 'rm -rf "$work"' EXIT
-mv "$folder/libkmip_c.a" "$work"
-if ! make -s -C "$top/clients/c" library CORE="$work/libkmip_c.a" OUT="$work" >>"$log" 2>&1; then
+proof='proof unknown'
+if [[ -n $library ]]; then
+    cp "$library" "$work/libkmip_c.a"
+else
+    made library kmip_c "$work/libkmip_c.a" 'the library'
+    if [[ -z $unproved ]]; then proof=proved; fi
+fi
+if ! make -s -C "$top/clients/c" library CORE="$work/libkmip_c.a" OUT="$work" PROOF="$proof" >>"$log" 2>&1; then
     tail -20 "$log" >&2
     give_up 'no library'
 fi
 rm "$work/libkmip_c.a"
+if [[ -n $provider ]]; then
+    step 'the provider for OpenSSL' make -s -C "$top/clients/openssl" BUILT="$work" OUT="$work"
+    rm "$work"/openssl_*.o
+fi
 mv "$work"/* "$folder"
-printf 'made %s: %s\n' "$folder" "$(cd "$folder" && echo kmip_call lib*.a lib*.so *.h)"
+if [[ -n $page ]]; then
+    "$top/clients/web/build.sh" ${unproved:+--unproved} "$work/page"
+    mv "$work"/page/kmip*.html "$folder"
+fi
+printf 'made %s: %s\n' "$folder" \
+    "$(cd "$folder" && echo kmip_call ${encoder:+kmip_ttlv} lib*.a lib*.so ${provider:+metsuwan.so} *.h ${page:+kmip*.html})"
 
 # What the clients themselves stand on.
 missing=()

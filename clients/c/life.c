@@ -114,10 +114,10 @@ int main(int argc, char **argv) {
     settings.key = argv[4];
     settings.authority = argv[5];
     char error[300];
-    client = kmip_open(&settings, error, sizeof error);
-    if (!client) {
+    int status = kmip_connect(&settings, &client, error, sizeof error);
+    if (status != KMIP_ANSWERED) {
         fprintf(stderr, "%s\n", error);
-        return KMIP_LOST;
+        return status;
     }
     live(argv[6], argc > 7 ? strtol(argv[7], NULL, 10) : 0);
     kmip_close(client);

@@ -25,6 +25,7 @@
        get ID                            the object itself
        create-aes BITS NAME              make an AES key under this name
        locate NAME                       which objects have this name?
+       locate where ATTRIBUTE..          which have these attributes, as state=Active?
        attributes ID                     all attributes of an object
        discover                          which versions of KMIP does the server speak?
        raw HEX                           the request of these bytes, of any of the seventeen
@@ -55,15 +56,26 @@
 extern "C" {
 #endif
 
-/* What is returned in place of a length. */
+/* The version of this header. (That of KMIP is another matter.) */
+#define METSUWAN_VERSION "1.0"
+#define METSUWAN_VERSION_MAJOR 1
+#define METSUWAN_VERSION_MINOR 0
+
+/* The version of the library that the program runs with, and whether what it was compiled from was
+   proved: "1.0, proved"; "1.0, not proved", as by `clients/build.sh --unproved`, to try things out;
+   or "1.0, proof unknown". */
+const char *kmip_version(void);
+
+/* What is returned in place of a length. The statuses of calls, below, are other numbers. */
 enum {
-    KMIP_GRAMMAR = -2,       /* the call is not of the grammar, or a text is not UTF-8; or there are
-                                not 8 bytes of head */
-    KMIP_NOT_A_MESSAGE = -3, /* of kmip_contents_len: no head of a structure */
-    KMIP_NO_VALUE = -3,      /* of kmip_value: the answer has no such value */
-    KMIP_TOO_LONG = -4,      /* the response is longer than the limit */
-    KMIP_MEMORY = -5,        /* out of memory */
-    KMIP_NO_FORM = -6        /* the request has no wire form */
+    KMIP_LENGTH_GRAMMAR = -2, /* the call is not of the grammar, or has an empty identifier, or
+                                 both `prehashed` and `hash=`; or a text is not UTF-8; or there are
+                                 not 8 bytes of head */
+    KMIP_LENGTH_ABSENT = -3,  /* the head is none of a structure; or the answer has no such value;
+                                 or there is nothing to refuse */
+    KMIP_LENGTH_LIMIT = -4,   /* the response is longer than the limit */
+    KMIP_LENGTH_MEMORY = -5,  /* out of memory */
+    KMIP_LENGTH_NO_FORM = -6  /* the request has no wire form */
 };
 
 /* What came of a call: the statuses of the program kmip_call. */
@@ -73,9 +85,10 @@ enum {
                               {"error":..,"text":..}; exactly one message was taken, and the
                               connection is good for the next call */
     KMIP_CALL_GRAMMAR = 2, /* the call is not of the grammar; no line */
-    KMIP_LOST = 3,         /* the bytes end early, are no well-formed message, or answer for another
-                              object than the call named: {"error":..,"text":..}; close the
-                              connection */
+    KMIP_LOST = 3,         /* the bytes end early, are no well-formed message, or are none to this
+                              call: of another operation, about another object than it named,
+                              without one batch item, or without what was asked for:
+                              {"error":..,"text":..}; close the connection */
     KMIP_NO_MEMORY = 5     /* out of memory; no line */
 };
 
@@ -85,9 +98,10 @@ enum {
    has_credential           whether the request carries the user name and password that follow, both
                             UTF-8; where it is false the two are not looked at
    into, room               where it is written, if it fits
-   KMIP_GRAMMAR             the call is not of the grammar, or a text of the credential is not UTF-8
-   KMIP_NO_FORM             the request has no wire form, since a text is too long for it
-   KMIP_MEMORY              out of memory
+   KMIP_LENGTH_GRAMMAR      the call is not of the grammar, or has an empty identifier, or both
+                            `prehashed` and `hash=`; or a text of the credential is not UTF-8
+   KMIP_LENGTH_NO_FORM      the request has no wire form, since a text is too long for it
+   KMIP_LENGTH_MEMORY       out of memory
 
    Room for 4096 bytes and twice the call's and the credential's lengths is mostly enough; where it
    is not, call again with as much as was returned. */
@@ -95,13 +109,26 @@ int64_t kmip_request(const uint8_t *call, size_t call_len, bool has_credential, 
                      size_t user_len, const uint8_t *password, size_t password_len, uint8_t *into,
                      size_t room);
 
+/* Why a line is no call, as a text: which word is wrong, and what may stand there, as
+   "sign: hash=sha384 is none of MD2, MD4, MD5, SHA1, ..". Returns its length in bytes.
+
+   call, call_len           the line
+   into, room               where it is written, if it fits
+   KMIP_LENGTH_GRAMMAR      the line is not UTF-8, or has not one space between two words
+   KMIP_LENGTH_ABSENT       the line is a call
+   KMIP_LENGTH_MEMORY       out of memory
+
+   It shows the call's name, and a word that is to be one of several names; no word else, since one
+   may be a secret. */
+int64_t kmip_refusal(const uint8_t *call, size_t call_len, uint8_t *into, size_t room);
+
 /* How many bytes follow the first 8 of a response: 0 to 4294967295.
 
    head, eight              the 8 bytes
    limit                    the most bytes that the response may have, these 8 counted; 0: no limit
-   KMIP_GRAMMAR             there are not 8 bytes
-   KMIP_NOT_A_MESSAGE       they are not the head of a structure
-   KMIP_TOO_LONG            the response is longer than the limit
+   KMIP_LENGTH_GRAMMAR      there are not 8 bytes
+   KMIP_LENGTH_ABSENT       they are not the head of a structure
+   KMIP_LENGTH_LIMIT        the response is longer than the limit
 
    After a negative number close the connection: what follows on it is no message. */
 int64_t kmip_contents_len(const uint8_t *head, size_t eight, uint32_t limit);
@@ -117,8 +144,9 @@ int64_t kmip_contents_len(const uint8_t *head, size_t eight, uint32_t limit);
    Room for 4096 bytes and 8 for each byte of the response is mostly enough; where it is not, call
    again with as much as `length` tells.
 
-   A response belongs to a call by its operation, and where both name an object, by the object's
-   identifier: KMIP has no other tie where there is one batch item. So one call at a time on a
+   A response belongs to a call by its one batch item, by its operation, and where both name an
+   object, by the object's identifier. KMIP's Unique Batch Item ID would tie them closer; these
+   requests have none, so that their bytes follow from the call. So one call at a time on a
    connection. */
 int32_t kmip_answer(const uint8_t *call, size_t call_len, const uint8_t *response,
                     size_t response_len, uint8_t *into, size_t room, int64_t *length);
@@ -139,11 +167,11 @@ int32_t kmip_answer(const uint8_t *call, size_t call_len, const uint8_t *respons
                             true: a string of hex digits is written as the bytes that it stands for;
                             KMIP's Byte Strings and Big Integers are such strings
    into, room               where the value is written, if it fits
-   KMIP_GRAMMAR             the call is not of the grammar, or the path is not UTF-8
-   KMIP_NO_VALUE            there is no such value: the answer is an error; or it has nothing at
+   KMIP_LENGTH_GRAMMAR      the call is not of the grammar, or the path is not UTF-8
+   KMIP_LENGTH_ABSENT       there is no such value: the answer is an error; or it has nothing at
                             this path, or an object or a list; or `hex` is true, and there is no
                             string of hex digits
-   KMIP_MEMORY              out of memory
+   KMIP_LENGTH_MEMORY       out of memory
 
    Each call reads the whole response once more: for a list, parse the line of kmip_answer. */
 int64_t kmip_value(const uint8_t *call, size_t call_len, const uint8_t *response,
@@ -159,11 +187,12 @@ int64_t kmip_value(const uint8_t *call, size_t call_len, const uint8_t *response
                             Encodings: {"tag":"RequestPayload","value":[{"tag":"Data",
                             "type":"ByteString","value":"00FF"}]}
    has_credential .. room   as for kmip_request
-   KMIP_GRAMMAR             the name or the version is none of these, the payload is no JSON of a
-                            structure with the tag RequestPayload, or a text is not UTF-8
-   KMIP_NO_FORM             the request has no wire form: a text is too long for it, or the bytes
+   KMIP_LENGTH_GRAMMAR      the name or the version is none of these, the payload is no JSON of a
+                            structure with the tag RequestPayload or has an empty Unique Identifier,
+                            or a text is not UTF-8
+   KMIP_LENGTH_NO_FORM      the request has no wire form: a text is too long for it, or the bytes
                             of a Big Integer are no multiple of eight
-   KMIP_MEMORY              out of memory */
+   KMIP_LENGTH_MEMORY       out of memory */
 int64_t kmip_operation_request(const uint8_t *name, size_t name_len, const uint8_t *version,
                                size_t version_len, const uint8_t *payload, size_t payload_len,
                                bool has_credential, const uint8_t *user, size_t user_len,
@@ -171,8 +200,8 @@ int64_t kmip_operation_request(const uint8_t *name, size_t name_len, const uint8
                                size_t room);
 
 /* Says what a response answers to such a call, as kmip_answer does. The line is {"answer":TREE}
-   with the response's payload in the same JSON, or {"error":..,"text":..} with the server's
-   message; no unknown item or number makes a response unreadable. Whether the answer is about the
+   with the response's payload in the same JSON, or {"error":..,"text":..,"reason":..,"message":..}
+   with the server's reason and message; no unknown item or number makes a response unreadable. Whether the answer is about the
    object that the payload names is not looked at.
 
    name .. payload_len      the call whose request was sent, as above
@@ -181,6 +210,19 @@ int32_t kmip_operation_answer(const uint8_t *name, size_t name_len, const uint8_
                               size_t version_len, const uint8_t *payload, size_t payload_len,
                               const uint8_t *response, size_t response_len, uint8_t *into,
                               size_t room, int64_t *length);
+
+/* Says why a name, a version and a payload make no such call, as a text in UTF-8 that is not ended
+   by a zero. Of a payload it says the line and the column, the way to the place, as
+   value[1].value[0].type, what was expected, and what stands there; of a string of bytes or text and
+   of a Big Integer, which may be secret, only the length. Returns its length in bytes.
+
+   name .. payload_len      the call, as above
+   into, room               where the text goes; nothing is written where it does not fit
+   KMIP_LENGTH_ABSENT       they make a call
+   KMIP_LENGTH_MEMORY       out of memory */
+int64_t kmip_operation_refusal(const uint8_t *name, size_t name_len, const uint8_t *version,
+                               size_t version_len, const uint8_t *payload, size_t payload_len,
+                               uint8_t *into, size_t room);
 
 #ifdef __cplusplus
 }

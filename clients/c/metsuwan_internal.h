@@ -28,8 +28,10 @@ HIDDEN void kmip_copy_free(char *text);
 /* A TLS connection, of which each use has to end by a deadline. */
 typedef struct kmip_wire kmip_wire;
 
-/* Connects; a null pointer where there is no connection, and `reason` then says why. */
-HIDDEN kmip_wire *kmip_wire_open(const kmip_settings *settings, char *reason, size_t room);
+/* Connects; a null pointer where there is no connection. Then `reason` says why, and `status` is
+   KMIP_LOST or KMIP_NO_MEMORY. */
+HIDDEN kmip_wire *kmip_wire_open(const kmip_settings *settings, int *status, char *reason,
+                                 size_t room);
 
 /* From here on the wire has the time of one call. */
 HIDDEN void kmip_wire_begin(kmip_wire *wire);
@@ -45,6 +47,29 @@ HIDDEN const char *kmip_wire_reason(const kmip_wire *wire);
 
 /* Ends the connection, and waits for nothing. A null pointer is fine. */
 HIDDEN void kmip_wire_close(kmip_wire *wire);
+
+/* Has it be ended without a byte on it. */
+HIDDEN void kmip_wire_abandon(kmip_wire *wire);
+
+/* Whether a byte was handed to the socket in kmip_wire_write since kmip_wire_begin. */
+HIDDEN bool kmip_wire_was_sent(const kmip_wire *wire);
+
+/* The errors that OpenSSL has queued in this thread. Between the two calls the queue is empty but
+   for what is queued there, and after them it is as it was. */
+typedef struct {
+    struct kmip_queued *errors;
+    size_t count;
+    int marks;
+} kmip_queue;
+HIDDEN void kmip_queue_take(kmip_queue *it);
+HIDDEN void kmip_queue_give_back(kmip_queue *it);
+
+/* The kind of the error that a line has, after a call with this status. */
+HIDDEN kmip_kind kmip_kind_of(const char *line, int status);
+
+/* The value of a member of the object of JSON that begins here, which has no white space; or a null
+   pointer. */
+HIDDEN const char *kmip_member(const char *at, const char *name);
 
 /* Writes {"error":..,"text":..}, in which the text is cut to the room. */
 HIDDEN void kmip_error_line(char *into, size_t room, const char *kind, const char *text);
@@ -63,17 +88,30 @@ HIDDEN int64_t kmip_item_value(const char *line, const char *path, bool hex, kmi
 HIDDEN const char *kmip_write_certificate(kmip_room *into, const uint8_t *certificate,
                                           size_t length, const char *name, const char *usage);
 
+/* The same for a key of this kind, PrivateKey or PublicKey, in PEM. */
+HIDDEN const char *kmip_write_key(kmip_room *into, const char *kind, const void *pem, size_t length,
+                                  const char *name, const char *usage);
+
+/* The same for a secret, a Password or a Seed. */
+HIDDEN const char *kmip_write_secret(kmip_room *into, const void *data, size_t length,
+                                     const char *kind, const char *name, const char *usage);
+
+/* Writes the DER of a key whose parts the line of Get tells one by one, in this format, and returns
+   its label in PEM; a null pointer where it has none, or memory ran out. */
+HIDDEN const char *kmip_write_parts(kmip_room *into, size_t *length, const char *line,
+                                    const char *format);
+
 /* Whether a text is UTF-8. */
 HIDDEN bool kmip_is_utf8(const char *text);
 
 /* Writes a call and its words as the grammar has them; false where memory runs out. */
 HIDDEN bool kmip_write_words(kmip_room *into, const char *call, const char *const *words);
 
-/* Whether a call may be asked of the library: its name is one word, and it has an identifier where
-   it is to have one. */
-HIDDEN bool kmip_may_ask(const char *call, const char *const *words);
+/* Whether a call may be asked of the library: its name is one word. */
+HIDDEN bool kmip_may_ask(const char *call);
 
-/* Writes which word of a call is not of the grammar. */
+/* Writes which word of a call is not of the grammar, and what may stand there, as the library says
+   it. */
 HIDDEN void kmip_say_wrong_word(char *into, size_t room, const char *call,
                                 const char *const *words);
 

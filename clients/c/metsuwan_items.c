@@ -1,5 +1,5 @@
-/* Values of the answer to an operation: the line of the library is {"answer":ITEM}, where an item is
-   {"tag":..,"type":..,"value":..}, and of a structure the value is a list of items. It is JSON
+/* Values of the answer to an operation: the line of the library is {"answer":ITEM}, where an item
+   is {"tag":..,"type":..,"value":..}, and of a structure the value is a list of items. It is JSON
    without white space. */
 #define _POSIX_C_SOURCE 200809L
 #include "metsuwan_internal.h"
@@ -29,8 +29,7 @@ static const char *past_value(const char *at) {
     return at;
 }
 
-/* The value of a member of the object that begins here, or a null pointer. */
-static const char *member(const char *at, const char *name) {
+const char *kmip_member(const char *at, const char *name) {
     size_t length = strlen(name);
     while (*at == '{' || *at == ',') {
         const char *own = at + 1;
@@ -51,16 +50,16 @@ static bool is_string(const char *at, const char *text, size_t length) {
 
 /* Of the structure that begins here the item with this tag, after so many others with it. */
 static const char *child(const char *item, const char *tag, size_t length, unsigned long index) {
-    const char *at = member(item, "value");
+    const char *at = kmip_member(item, "value");
     while (at && (*at == '[' || *at == ',') && at[1] == '{') {
         at++;
-        if (is_string(member(at, "tag"), tag, length) && index-- == 0) return at;
+        if (is_string(kmip_member(at, "tag"), tag, length) && index-- == 0) return at;
         at = past_value(at);
     }
     return NULL;
 }
 
-/* The number that a path goes on with, as .1 in Attribute.1.AttributeName; 0 where there is none. */
+/* The number that a path goes on with, as .1 in Attribute.1.AttributeName; 0: there is none. */
 static unsigned long index_in(const char **path) {
     size_t digits = **path == '.' ? strspn(*path + 1, "0123456789") : 0;
     char after = 'x';
@@ -73,7 +72,7 @@ static unsigned long index_in(const char **path) {
 
 /* The item at a path of tags in a line, or a null pointer. */
 static const char *item_at(const char *line, const char *path) {
-    const char *item = member(line, "answer");
+    const char *item = kmip_member(line, "answer");
     while (item) {
         const char *tag = path;
         size_t length = strcspn(path, ".");
@@ -87,7 +86,7 @@ static const char *item_at(const char *line, const char *path) {
 }
 
 /* The value of a hex digit; -1: it is none. */
-static int digit(char it) {
+static int hex_digit(char it) {
     static const char digits[] = "0123456789ABCDEF0123456789abcdef";
     const char *found = it ? strchr(digits, it) : NULL;
     return found ? (int)(found - digits) % 16 : -1;
@@ -97,7 +96,7 @@ static int digit(char it) {
 static long code(const char *at) {
     long number = 0;
     for (int i = 0; i < 4; i++) {
-        int value = digit(at[i]);
+        int value = hex_digit(at[i]);
         if (value < 0) return -1;
         number = 16 * number + value;
     }
@@ -162,7 +161,7 @@ static int64_t put_hex(const char *at, uint8_t *into) {
     size_t done = 0;
     at += at[1] == '0' && at[2] == 'x' ? 3 : 1;
     for (; *at != '"'; at += 2) {
-        int high = digit(at[0]), low = high < 0 ? -1 : digit(at[1]);
+        int high = hex_digit(at[0]), low = high < 0 ? -1 : hex_digit(at[1]);
         if (low < 0) return -1;
         into[done++] = (uint8_t)(high << 4 | low);
     }
@@ -171,12 +170,12 @@ static int64_t put_hex(const char *at, uint8_t *into) {
 
 int64_t kmip_item_value(const char *line, const char *path, bool hex, kmip_room *into) {
     const char *item = item_at(line, path);
-    const char *value = item ? member(item, "value") : NULL;
+    const char *value = item ? kmip_member(item, "value") : NULL;
     if (!value || *value == '[' || *value == '{') return -1;
     size_t length = (size_t)(past_value(value) - value);
     if (!kmip_room_has(into, length + 1)) return -1;
     if (hex) {
-        const char *type = member(item, "type");
+        const char *type = kmip_member(item, "type");
         bool of_bytes = is_string(type, "ByteString", 10) || is_string(type, "BigInteger", 10);
         return of_bytes && *value == '"' ? put_hex(value, into->bytes) : -1;
     }

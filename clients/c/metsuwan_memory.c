@@ -8,8 +8,13 @@
 #include <stdlib.h>
 #include <string.h>
 
-/* In front of a block stands its size, in as many bytes as malloc aligns by. */
+/* In front of a block, in as many bytes as malloc aligns by: how many bytes it has room for, and
+   how many were ever asked for, which are all that hold anything. */
+typedef struct {
+    size_t room, most;
+} front;
 #define FRONT 16
+_Static_assert(sizeof(front) <= FRONT, "it stands in front of a block");
 
 /* Whether there is memory, and where; where there is none, the pointer is never followed. */
 typedef struct {
@@ -21,26 +26,44 @@ tried rattle_alloc(size_t size, size_t align);
 tried rattle_realloc(void *place, size_t kept, size_t size, size_t align);
 void rattle_dealloc(void *place);
 
-static size_t size_of(const void *place) {
-    size_t size;
-    memcpy(&size, (const uint8_t *)place - FRONT, sizeof size);
-    return size;
+static front *front_of(void *place) {
+    return (front *)((uint8_t *)place - FRONT);
+}
+
+/* A new block for so many bytes, with so much room. */
+static tried block_of(size_t size, size_t room) {
+    static uint8_t nothing[FRONT];
+    uint8_t *block = room <= SIZE_MAX - FRONT ? malloc(room + FRONT) : NULL;
+    if (!block) return (tried){.ok = false, .place = nothing};
+    *(front *)block = (front){.room = room, .most = size};
+    return (tried){.ok = true, .place = block + FRONT};
 }
 
 /* A new block; of `align` bytes where none are asked for. No alignment is larger than 16. */
 tried rattle_alloc(size_t size, size_t align) {
-    static uint8_t nothing[FRONT];
     if (size == 0) size = align;
-    uint8_t *block = size <= SIZE_MAX - FRONT ? malloc(size + FRONT) : NULL;
-    if (!block) return (tried){.ok = false, .place = nothing};
-    memcpy(block, &size, sizeof size);
-    return (tried){.ok = true, .place = block + FRONT};
+    return block_of(size, size);
+}
+
+/* The room of a block that grows to so many bytes: at least twice what it had, so that one that
+   grows step by step is copied no more often than its size doubles. */
+static size_t room_for(size_t room, size_t size) {
+    return size > room && size / 2 < room && room <= SIZE_MAX / 2 ? 2 * room : size;
 }
 
 /* A block of another size, whose first bytes are those of the old one; the old one is as it was
-   where there is no memory. */
+   where there is no memory. It is the same one where that has the room, and not far too much. */
 tried rattle_realloc(void *place, size_t kept, size_t size, size_t align) {
-    tried made = rattle_alloc(size, align);
+    enum { LARGE = 65536 };
+    front *own = front_of(place);
+    if (size == 0) size = align;
+    if (size <= own->room && (own->room <= LARGE || size > own->room / 4)) {
+        if (size > own->most) own->most = size;
+        return (tried){.ok = true, .place = place};
+    }
+    size_t room = room_for(own->room, size);
+    tried made = block_of(size, room);
+    if (!made.ok && room > size) made = block_of(size, size);
     if (made.ok) {
         memcpy(made.place, place, kept);
         rattle_dealloc(place);
@@ -49,6 +72,7 @@ tried rattle_realloc(void *place, size_t kept, size_t size, size_t align) {
 }
 
 void rattle_dealloc(void *place) {
-    explicit_bzero(place, size_of(place));
-    free((uint8_t *)place - FRONT);
+    front *own = front_of(place);
+    explicit_bzero(place, own->most);
+    free(own);
 }

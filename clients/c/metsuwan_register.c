@@ -1,7 +1,14 @@
-/* The payload of a request to register a certificate. */
+/* Keys, certificates and secrets: the payloads of requests to register them, and the DER of keys
+   whose parts are told one by one. */
 #define _POSIX_C_SOURCE 200809L
 #include "metsuwan_internal.h"
 
+#include <limits.h>
+#include <openssl/bio.h>
+#include <openssl/crypto.h>
+#include <openssl/evp.h>
+#include <openssl/pem.h>
+#include <openssl/x509.h>
 #include <stdio.h>
 #include <stdlib.h>
 #include <string.h>
@@ -19,8 +26,20 @@ static bool is_whole(const uint8_t *der, size_t count) {
     return length == count - 2 - digits;
 }
 
+/* Whether bytes are an X.509 certificate. A private key is a sequence of DER, too, and servers show
+   certificates to everybody. */
+static bool is_certificate(const uint8_t *der, size_t count) {
+    const unsigned char *at = der;
+    if (count > LONG_MAX) return false;
+    X509 *certificate = d2i_X509(NULL, &at, (long)count);
+    X509_free(certificate);
+    return certificate && at == der + count;
+}
+
+static const char no_certificate[] = "the certificate is none of X.509";
+
 /* The value of a digit of base64 (RFC 4648, 4); -1: it is none. */
-static int digit(char it) {
+static int sextet(char it) {
     static const char digits[] = "ABCDEFGHIJKLMNOPQRSTUVWXYZabcdefghijklmnopqrstuvwxyz0123456789+/";
     const char *found = it ? strchr(digits, it) : NULL;
     return found ? (int)(found - digits) : -1;
@@ -33,7 +52,7 @@ static int64_t decode(uint8_t *text, size_t count) {
     for (size_t i = 0; i < count; i++) {
         char it = (char)text[i];
         if (it == '\n' || it == '\r' || it == '\t' || it == '\f' || it == ' ') continue;
-        int value = it == '=' ? 0 : digit(it);
+        int value = it == '=' ? 0 : sextet(it);
         if (value < 0 || (padding > 0 && it != '=')) return -1;
         padding += it == '=';
         number = number << 6 | (uint32_t)value;
@@ -64,6 +83,7 @@ static const char *decode_pem(char **at, size_t *count) {
     *count = (size_t)decoded;
     if (!is_whole((uint8_t *)own, *count))
         return "the certificate is not one whole structure of DER in its PEM";
+    if (!is_certificate((uint8_t *)own, *count)) return no_certificate;
     return NULL;
 }
 
@@ -114,8 +134,9 @@ typedef struct {
 static void put(writer *it, const char *text, size_t count) {
     size_t wanted = it->length + count + 1;
     if (!it->failed && wanted > it->room.room) it->failed = !kmip_room_has(&it->room, 2 * wanted);
+    if (!it->room.bytes || (!text && count > 0)) it->failed = true;
     if (it->failed) return;
-    memcpy(it->room.bytes + it->length, text, count);
+    if (count > 0) memcpy(it->room.bytes + it->length, text, count);
     it->length += count;
     it->room.bytes[it->length] = 0;
 }
@@ -127,7 +148,7 @@ static void put_json(writer *it, const char *json) {
 }
 
 /* Writes what stands between the quotes of a string of JSON. */
-static void put_text(writer *it, const char *text) {
+static void put_string(writer *it, const char *text) {
     while (*text) {
         char shown[8];
         text += kmip_write_character(text, shown);
@@ -158,7 +179,7 @@ static void put_name(writer *it, const char *name) {
                  "{'tag':'AttributeName','type':'TextString','value':'Name'},"
                  "{'tag':'AttributeValue','value':["
                  "{'tag':'NameValue','type':'TextString','value':'");
-    put_text(it, name);
+    put_string(it, name);
     put_json(it, "'},{'tag':'NameType','type':'Enumeration','value':'UninterpretedTextString'}"
                  "]}]}");
 }
@@ -192,12 +213,14 @@ static char *text_of(const uint8_t *bytes, size_t count) {
 static const char *put_pem(writer *it, const uint8_t *pem, size_t count, const char *name,
                            int32_t uses) {
     char *text = text_of(pem, count), *der = text;
+    size_t room = count + 1;
     if (!text) {
         it->failed = true;
         return NULL;
     }
     const char *wrong = decode_pem(&der, &count);
     if (!wrong) put_payload(it, (const uint8_t *)der, count, name, uses);
+    OPENSSL_cleanse(text, room); /* what is no certificate may be a key */
     free(text);
     return wrong;
 }
@@ -209,11 +232,344 @@ const char *kmip_write_certificate(kmip_room *into, const uint8_t *certificate, 
     const char *wrong = NULL;
     if (usage && uses == 0) return "usage is not names of KMIP";
     if (name && !kmip_is_utf8(name)) return "name is not UTF-8";
-    if (is_whole(certificate, length))
+    bool whole = is_whole(certificate, length);
+    if (whole && !is_certificate(certificate, length)) return no_certificate;
+    if (whole)
         put_payload(&it, certificate, length, name, uses);
     else
         wrong = put_pem(&it, certificate, length, name, uses);
     if (it.failed) kmip_room_free(&it.room);
     *into = it.room;
     return wrong;
+}
+
+/* The payload with an object whose parts `put_parts` writes. */
+static void put_object(writer *it, const char *kind, const char *name, int32_t uses) {
+    put_json(it, "{'tag':'RequestPayload','value':["
+                 "{'tag':'ObjectType','type':'Enumeration','value':'");
+    put_json(it, kind);
+    put_json(it, "'},{'tag':'TemplateAttribute','value':[");
+    if (uses != 0) put_usage(it, uses);
+    if (uses != 0 && name) put_json(it, ",");
+    if (name) put_name(it, name);
+    put_json(it, "]},{'tag':'");
+    put_json(it, kind);
+    put_json(it, "','value':[");
+}
+
+/* Writes a key block with these bytes, but for what closes it. */
+static void put_block(writer *it, const char *format, const uint8_t *bytes, size_t count) {
+    put_json(it, "{'tag':'KeyBlock','value':["
+                 "{'tag':'KeyFormatType','type':'Enumeration','value':'");
+    put_json(it, format);
+    put_json(it, "'},{'tag':'KeyValue','value':["
+                 "{'tag':'KeyMaterial','type':'ByteString','value':'");
+    put_bytes(it, bytes, count);
+    put_json(it, "'}]}");
+}
+
+/* One block of PEM. */
+typedef struct {
+    char *label, *header;
+    uint8_t *der;
+    long length;
+} block;
+
+static void block_free(block *it) {
+    OPENSSL_free(it->label);
+    OPENSSL_free(it->header);
+    if (it->der) OPENSSL_clear_free(it->der, (size_t)it->length);
+    *it = (block){NULL, NULL, NULL, 0};
+}
+
+/* The next block that has no parameters of a curve; false where there is none. */
+static bool block_read(BIO *from, block *it) {
+    static const char parameters[] = "PARAMETERS";
+    while (PEM_read_bio(from, &it->label, &it->header, &it->der, &it->length) == 1) {
+        size_t length = strlen(it->label), count = sizeof parameters - 1;
+        if (length < count || strcmp(it->label + length - count, parameters) != 0) return true;
+        block_free(it);
+    }
+    *it = (block){NULL, NULL, NULL, 0};
+    return false;
+}
+
+/* KMIP's formats of keys, by their labels in PEM. */
+static const struct {
+    const char *label, *kind, *format;
+} formats[] = {
+    {"RSA PUBLIC KEY", "PublicKey", "PKCS1"},         {"PUBLIC KEY", "PublicKey", "X509"},
+    {"RSA PRIVATE KEY", "PrivateKey", "PKCS1"},       {"PRIVATE KEY", "PrivateKey", "PKCS8"},
+    {"EC PRIVATE KEY", "PrivateKey", "ECPrivateKey"},
+};
+enum { FORMATS = sizeof formats / sizeof *formats };
+
+static size_t format_of(const char *label) {
+    size_t at = 0;
+    while (at < FORMATS && strcmp(formats[at].label, label) != 0)
+        at++;
+    return at;
+}
+
+/* The key that a block has, read to its end, or a null pointer. */
+static EVP_PKEY *key_of(const block *it, size_t format) {
+    const unsigned char *at = it->der;
+    EVP_PKEY *key = NULL;
+    switch (format) {
+    case 0: key = d2i_PublicKey(EVP_PKEY_RSA, NULL, &at, it->length); break;
+    case 1: key = d2i_PUBKEY(NULL, &at, it->length); break;
+    case 2: key = d2i_PrivateKey(EVP_PKEY_RSA, NULL, &at, it->length); break;
+    case 3: key = d2i_AutoPrivateKey(NULL, &at, it->length); break;
+    default: key = d2i_PrivateKey(EVP_PKEY_EC, NULL, &at, it->length); break;
+    }
+    if (key && at != it->der + it->length) {
+        EVP_PKEY_free(key);
+        key = NULL;
+    }
+    return key;
+}
+
+static const char *algorithm_of(const EVP_PKEY *key) {
+    switch (EVP_PKEY_base_id(key)) {
+    case EVP_PKEY_RSA: return "RSA";
+    case EVP_PKEY_EC: return "ECDSA";
+    case EVP_PKEY_DSA: return "DSA";
+    default: return NULL;
+    }
+}
+
+/* Writes the payload of a key in PEM, or says what is wrong with it. */
+static const char *put_key(writer *it, const char *kind, const block *own, const char *name,
+                           int32_t uses) {
+    char length[100];
+    size_t format = format_of(own->label);
+    if (strstr(own->label, "ENCRYPTED") || strstr(own->header, "ENCRYPTED"))
+        return "the key is encrypted: decrypt it before, as by openssl pkey";
+    if (format == FORMATS || strcmp(formats[format].kind, kind) != 0)
+        return "the PEM has no key of this kind";
+    EVP_PKEY *key = key_of(own, format);
+    const char *algorithm = key ? algorithm_of(key) : NULL;
+    snprintf(length, sizeof length, "'},{'tag':'CryptographicLength','type':'Integer','value':%d}",
+             key ? EVP_PKEY_bits(key) : 0);
+    EVP_PKEY_free(key);
+    if (!key) return "the key is no DER of its kind";
+    if (!algorithm) return "KMIP 1.2 has no name for the key's algorithm";
+    put_object(it, kind, name, uses);
+    put_block(it, formats[format].format, own->der, (size_t)own->length);
+    put_json(it, ",{'tag':'CryptographicAlgorithm','type':'Enumeration','value':'");
+    put_json(it, algorithm);
+    put_json(it, length);
+    put_json(it, "]}]}]}");
+    return NULL;
+}
+
+/* The only block of a text of PEM, or what is wrong. */
+static const char *only_block(BIO *from, block *into) {
+    block second = {NULL, NULL, NULL, 0};
+    if (!block_read(from, into)) return "the key is no PEM";
+    bool more = block_read(from, &second);
+    block_free(&second);
+    return more ? "the key is several blocks of PEM, and one at a time is registered" : NULL;
+}
+
+const char *kmip_write_key(kmip_room *into, const char *kind, const void *pem, size_t length,
+                           const char *name, const char *usage) {
+    int32_t uses = usage ? bits_of(usage) : 0;
+    writer it = {{NULL, 0}, 0, false};
+    block own = {NULL, NULL, NULL, 0};
+    if (usage && uses == 0) return "usage is not names of KMIP";
+    if (name && !kmip_is_utf8(name)) return "name is not UTF-8";
+    if (length > INT_MAX) return "the key is no PEM";
+    BIO *from = BIO_new_mem_buf(pem, (int)length);
+    const char *wrong = from ? only_block(from, &own) : NULL;
+    it.failed = !from;
+    if (from && !wrong) wrong = put_key(&it, kind, &own, name, uses);
+    block_free(&own);
+    BIO_free(from);
+    if (it.failed || wrong) kmip_room_free(&it.room);
+    *into = it.room;
+    return wrong;
+}
+
+const char *kmip_write_secret(kmip_room *into, const void *data, size_t length, const char *kind,
+                              const char *name, const char *usage) {
+    int32_t uses = usage ? bits_of(usage) : 0;
+    writer it = {{NULL, 0}, 0, false};
+    if (usage && uses == 0) return "usage is not names of KMIP";
+    if (name && !kmip_is_utf8(name)) return "name is not UTF-8";
+    if (strcmp(kind, "Password") != 0 && strcmp(kind, "Seed") != 0)
+        return "a secret is a Password or a Seed";
+    put_object(&it, "SecretData", name, uses);
+    put_json(&it, "{'tag':'SecretDataType','type':'Enumeration','value':'");
+    put_json(&it, kind);
+    put_json(&it, "'},");
+    put_block(&it, "Opaque", data, length);
+    put_json(&it, "]}]}]}");
+    if (it.failed) kmip_room_free(&it.room);
+    *into = it.room;
+    return NULL;
+}
+
+/* Keys whose parts are told one by one. Of a failure the writer knows, also where a part is not
+   there. */
+
+static void put_element(writer *it, uint8_t tag, const writer *contents) {
+    uint8_t head[6] = {tag};
+    size_t count = 2, length = contents->length;
+    head[1] = (uint8_t)length;
+    if (length >= 0x80) {
+        size_t digits = length > 0xFFFF ? 3 : length > 0xFF ? 2 : 1;
+        head[1] = (uint8_t)(0x80 | digits);
+        for (size_t i = digits; i > 0; i--)
+            head[count++] = (uint8_t)(length >> (8 * (i - 1)));
+    }
+    if (contents->failed || length > 0xFFFFFF) it->failed = true;
+    if (it->failed) return;
+    put(it, (const char *)head, count);
+    put(it, (const char *)contents->room.bytes, length);
+}
+
+/* Writes an element of bytes after `zeros` more of 0. */
+static void put_padded(writer *it, uint8_t tag, size_t zeros, const uint8_t *bytes, size_t count) {
+    writer own = {{NULL, 0}, 0, it->failed};
+    for (size_t i = 0; i < zeros; i++)
+        put(&own, "", 1);
+    put(&own, (const char *)bytes, count);
+    put_element(it, tag, &own);
+    kmip_room_free(&own.room);
+}
+
+/* The bytes at a path of the line, without zeros before them: how many, or -1. */
+static int64_t part(const char *line, const char *object, const char *tag, kmip_room *room,
+                    const uint8_t **bytes) {
+    char path[100];
+    snprintf(path, sizeof path, "%s.KeyBlock.KeyValue.KeyMaterial.%s", object, tag);
+    int64_t count = kmip_item_value(line, path, true, room);
+    if (count < 0) return -1;
+    for (*bytes = room->bytes; count > 0 && **bytes == 0; count--)
+        (*bytes)++;
+    return count;
+}
+
+static const char *const rsa_parts[] = {
+    "Modulus", "PublicExponent", "PrivateExponent", "P",
+    "Q",       "PrimeExponentP", "PrimeExponentQ",  "CRTCoefficient"};
+
+static void put_rsa(writer *it, const char *line, const char *object, size_t parts) {
+    writer own = {{NULL, 0}, 0, false};
+    kmip_room room = {NULL, 0};
+    const uint8_t *bytes = NULL;
+    if (parts > 2) put_padded(&own, 0x02, 1, (const uint8_t *)"", 0);
+    for (size_t i = 0; i < parts; i++) {
+        int64_t count = part(line, object, rsa_parts[i], &room, &bytes);
+        if (count < 0)
+            own.failed = true;
+        else
+            put_padded(&own, 0x02, count == 0 || bytes[0] >= 0x80, bytes, (size_t)count);
+    }
+    put_element(it, 0x30, &own);
+    kmip_room_free(&own.room);
+    kmip_room_free(&room);
+}
+
+/* KMIP's curves: the object identifier of each, and its bytes. */
+static const struct {
+    const char *name, *identifier;
+    uint8_t length, bytes;
+} curves[] = {
+    {"P_192", "\x2A\x86\x48\xCE\x3D\x03\x01\x01", 8, 24},
+    {"P_224", "\x2B\x81\x04\x00\x21", 5, 28},
+    {"P_256", "\x2A\x86\x48\xCE\x3D\x03\x01\x07", 8, 32},
+    {"P_384", "\x2B\x81\x04\x00\x22", 5, 48},
+    {"P_521", "\x2B\x81\x04\x00\x23", 5, 66},
+    {"SECP256K1", "\x2B\x81\x04\x00\x0A", 5, 32},
+    {"BRAINPOOLP256R1", "\x2B\x24\x03\x03\x02\x08\x01\x01\x07", 9, 32},
+    {"BRAINPOOLP384R1", "\x2B\x24\x03\x03\x02\x08\x01\x01\x0B", 9, 48},
+    {"BRAINPOOLP512R1", "\x2B\x24\x03\x03\x02\x08\x01\x01\x0D", 9, 64},
+};
+enum { CURVES = sizeof curves / sizeof *curves };
+
+static size_t curve_of(const char *line, const char *object) {
+    char path[100];
+    kmip_room room = {NULL, 0};
+    snprintf(path, sizeof path, "%s.KeyBlock.KeyValue.KeyMaterial.RecommendedCurve", object);
+    int64_t count = kmip_item_value(line, path, false, &room);
+    size_t at = 0;
+    while (at < CURVES && (count != (int64_t)strlen(curves[at].name) ||
+                           memcmp(room.bytes, curves[at].name, (size_t)count) != 0))
+        at++;
+    kmip_room_free(&room);
+    return at;
+}
+
+static void put_curve(writer *it, size_t curve) {
+    put_padded(it, 0x06, 0, (const uint8_t *)curves[curve].identifier, curves[curve].length);
+}
+
+/* A public key in X.509. */
+static void put_point(writer *it, const char *line, size_t curve) {
+    static const uint8_t ec[] = {0x2A, 0x86, 0x48, 0xCE, 0x3D, 0x02, 0x01};
+    writer algorithm = {{NULL, 0}, 0, false}, own = {{NULL, 0}, 0, false};
+    kmip_room room = {NULL, 0};
+    const uint8_t *bytes = NULL;
+    int64_t count = part(line, "PublicKey", "QString", &room, &bytes);
+    put_padded(&algorithm, 0x06, 0, ec, sizeof ec);
+    put_curve(&algorithm, curve);
+    put_element(&own, 0x30, &algorithm);
+    if (count <= 0)
+        own.failed = true;
+    else
+        put_padded(&own, 0x03, 1, bytes, (size_t)count);
+    put_element(it, 0x30, &own);
+    kmip_room_free(&algorithm.room);
+    kmip_room_free(&own.room);
+    kmip_room_free(&room);
+}
+
+/* A private key in ECPrivateKey. */
+static void put_number(writer *it, const char *line, size_t curve) {
+    writer own = {{NULL, 0}, 0, false}, parameters = {{NULL, 0}, 0, false};
+    kmip_room room = {NULL, 0};
+    const uint8_t *bytes = NULL;
+    int64_t count = part(line, "PrivateKey", "D", &room, &bytes);
+    put_padded(&own, 0x02, 0, (const uint8_t *)"\1", 1);
+    if (count < 0 || count > curves[curve].bytes)
+        own.failed = true;
+    else
+        put_padded(&own, 0x04, curves[curve].bytes - (size_t)count, bytes, (size_t)count);
+    put_curve(&parameters, curve);
+    put_element(&own, 0xA0, &parameters);
+    put_element(it, 0x30, &own);
+    kmip_room_free(&own.room);
+    kmip_room_free(&parameters.room);
+    kmip_room_free(&room);
+}
+
+const char *kmip_write_parts(kmip_room *into, size_t *length, const char *line,
+                             const char *format) {
+    static const char ec[] = "TransparentEC", public_key[] = "PublicKey";
+    writer it = {{NULL, 0}, 0, false};
+    const char *label = NULL;
+    bool is_ec = strncmp(format, ec, sizeof ec - 1) == 0;
+    bool is_public = strstr(format, public_key) != NULL;
+    const char *object = is_public ? public_key : "PrivateKey";
+    size_t curve = is_ec ? curve_of(line, object) : CURVES;
+    if (strcmp(format, "TransparentRSAPublicKey") == 0) {
+        label = "RSA PUBLIC KEY";
+        put_rsa(&it, line, object, 2);
+    } else if (strcmp(format, "TransparentRSAPrivateKey") == 0) {
+        label = "RSA PRIVATE KEY";
+        put_rsa(&it, line, object, sizeof rsa_parts / sizeof *rsa_parts);
+    } else if (curve < CURVES && is_public) {
+        label = "PUBLIC KEY";
+        put_point(&it, line, curve);
+    } else if (curve < CURVES) {
+        label = "EC PRIVATE KEY";
+        put_number(&it, line, curve);
+    }
+    if (it.failed) label = NULL;
+    if (!label) kmip_room_free(&it.room);
+    *into = it.room;
+    *length = it.length;
+    return label;
 }

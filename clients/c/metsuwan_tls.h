@@ -15,8 +15,9 @@
        }
        kmip_close(client);
 
-   A client is for one thread at a time. Programs link -lmetsuwan_tls -lmetsuwan -lssl -lcrypto, or
-   what `pkg-config --libs metsuwan_tls` says. */
+   A client is for one thread at a time, and for the process that opened it. The errors that OpenSSL
+   has queued in the caller's thread are the same before and after each call. Programs link
+   -lmetsuwan_tls -lmetsuwan -lssl -lcrypto, or what `pkg-config --libs metsuwan_tls` says. */
 #ifndef METSUWAN_TLS_H
 #define METSUWAN_TLS_H
 #include "metsuwan.h"
@@ -32,21 +33,33 @@ extern "C" {
 
 typedef struct kmip_client kmip_client;
 
-/* What opens a connection. Begin with kmip_defaults; host, port, certificate, key and authority are
-   needed. Nothing of it is looked at after kmip_open.
+/* OSSL_LIB_CTX and SSL_CTX, as OpenSSL's own headers name them. */
+struct ossl_lib_ctx_st;
+struct ssl_ctx_st;
 
-   size           of this structure; kmip_defaults sets it
+/* What opens a connection. Begin with kmip_defaults; host and port are needed, and certificate, key
+   and authority, or context in place of the three. Nothing of it is looked at after kmip_open.
+
+   size           of this structure; kmip_defaults sets it, and by it a program that was compiled
+                  with an older version of this header, and so without the last members, runs too
    host           the name or the address, as "::1", that the server's certificate has to have
    port           as "5696", or the name of a service
    certificate    PEM files: the client's certificate, and after it those of authorities between, ..
    key            .. its private key, ..
-   authority      .. and the authority of the server's certificate; no other is trusted
+   authority      .. and the authority of the server's certificate, which may be the one that made
+                  it or one above; no other is trusted
    passphrase     that of a private key that is encrypted; no terminal is asked
    user, password a credential in each request: both, or neither
    limit          the most bytes of a response, its head counted; 0: no limit. kmip_defaults sets
                   1048576
    seconds        the most time of kmip_open, and of each call, whatever the server does; 0: no
-                  deadline. kmip_defaults sets 30 */
+                  deadline. kmip_defaults sets 30
+   library        an OSSL_LIB_CTX of OpenSSL 3, of which all is fetched; null: the default one. It
+                  has to stay until kmip_close
+   context        an SSL_CTX with a certificate, its key, and the authorities of servers: for keys
+                  in hardware, revocation lists, PEM in memory. Then certificate, key, authority,
+                  passphrase and library are null. Nothing of it is changed; whatever it says, the
+                  server's certificate is verified, has to name the host, and TLS is 1.2 or later */
 typedef struct {
     size_t size;
     const char *host, *port;
@@ -55,12 +68,25 @@ typedef struct {
     const char *user, *password;
     uint32_t limit;
     double seconds;
+    struct ossl_lib_ctx_st *library;
+    struct ssl_ctx_st *context;
 } kmip_settings;
 
 /* What settings begin with: a limit of 1048576 bytes, 30 seconds, and nothing else. */
 static inline kmip_settings kmip_defaults(void) {
-    kmip_settings settings = {
-        sizeof(kmip_settings), NULL, NULL, NULL, NULL, NULL, NULL, NULL, NULL, 1048576, 30.0};
+    kmip_settings settings = {sizeof(kmip_settings),
+                              NULL,
+                              NULL,
+                              NULL,
+                              NULL,
+                              NULL,
+                              NULL,
+                              NULL,
+                              NULL,
+                              1048576,
+                              30.0,
+                              NULL,
+                              NULL};
     return settings;
 }
 
@@ -68,6 +94,11 @@ static inline kmip_settings kmip_defaults(void) {
    of JSON that says why, as {"error":"ConnectError","text":"connect: Connection refused"}, cut to
    its room. 300 bytes are enough for all that OpenSSL says. */
 kmip_client *kmip_open(const kmip_settings *settings, char *error, size_t room);
+
+/* The same, with a status: KMIP_ANSWERED, and the client is written to `client`; KMIP_CALL_GRAMMAR,
+   the settings are wrong; KMIP_LOST, there is no connection; KMIP_NO_MEMORY. Of the last three a
+   null pointer is written. */
+int kmip_connect(const kmip_settings *settings, kmip_client **client, char *error, size_t room);
 
 /* Makes a call, and returns its status: KMIP_ANSWERED, KMIP_REFUSED, KMIP_CALL_GRAMMAR, KMIP_LOST
    or KMIP_NO_MEMORY. After KMIP_LOST and KMIP_NO_MEMORY the connection is closed, and each further
@@ -83,11 +114,26 @@ kmip_client *kmip_open(const kmip_settings *settings, char *error, size_t room);
        kmip_call(client, "sign", "4", "68656C6C6F", "hash=SHA384", "padding=PSS", NULL)
 
    An empty identifier is KMIP_CALL_GRAMMAR: a server may take it for the last object that was made
-   on the connection. So is a call's name with a space. */
+   on the connection. So is a call's name with a space, and `sign` with both `prehashed` and
+   `hash=`: KMIP 1.2 has no digested data, and the server would digest the digest.
+
+   `locate` takes a single word as a name, whatever stands in it. Attributes stand behind `where`,
+   which may be left out before two or more:
+
+       kmip_call(client, "locate", "where", "state=Active", NULL) */
 int kmip_call(kmip_client *client, const char *call, ...) KMIP_ENDS_WITH_NULL;
+
+/* What the words of kmip_call end with: a null pointer, which NULL is where it is one of C's own.
+   So a word that happens to be null ends them too, and those after it are not asked for: where
+   words are chosen as the program runs, kmip_call_array counts them. */
+#define KMIP_END ((const char *)0)
 
 /* The same, with the words in an array that ends with a null pointer. */
 int kmip_call_words(kmip_client *client, const char *call, const char *const *words);
+
+/* The same, with so many words, of which none may be null: that is KMIP_CALL_GRAMMAR. `words` may
+   be null where there are none. */
+int kmip_call_array(kmip_client *client, const char *call, const char *const *words, size_t count);
 
 /* Makes a call of any operation of KMIP 1.0 to 1.2, and returns its status, as kmip_call does. Its
    name, its version and its payload are those of kmip_operation_request, each a text:
@@ -95,8 +141,8 @@ int kmip_call_words(kmip_client *client, const char *call, const char *const *wo
        kmip_operation(client, "Encrypt", "1.2", "{\"tag\":\"RequestPayload\",\"value\":[..]}")
 
    The answer is the line, {"answer":ITEM}, with the response's payload. kmip_text and kmip_bytes
-   have its values, and kmip_pem has none. Whether it is about the object that was asked about is
-   the caller's to look at. */
+   have its values, and kmip_pem that of Get. Whether it is about the object that was asked about is
+   the caller's to look at. A payload with an empty UniqueIdentifier is KMIP_CALL_GRAMMAR. */
 int kmip_operation(kmip_client *client, const char *name, const char *version, const char *payload);
 
 /* Has the server keep an X.509 certificate, and returns the status, as kmip_operation does:
@@ -105,27 +151,96 @@ int kmip_operation(kmip_client *client, const char *name, const char *version, c
 
    certificate, length  DER, or a PEM that holds the certificate and no other
    name                 the object's name, as UTF-8; null: none is told
-   usage                KMIP's names of what it is for, with a comma between two; null: none are told
+   usage                KMIP's names of what it is for, with a comma between two; null: none are
+   told
 
    Its identifier is then kmip_text(client, "UniqueIdentifier", NULL). KMIP_CALL_GRAMMAR: it is
-   neither DER nor PEM, or the name or the usage is none; nothing was sent. */
+   neither DER nor PEM or no certificate, as a private key, or the name or the usage is none;
+   nothing was sent. */
 int kmip_register_certificate(kmip_client *client, const void *certificate, size_t length,
                               const char *name, const char *usage);
+
+/* Has the server keep a key that OpenSSL wrote, a private one or a public one, as that of a
+   certificate:
+
+       kmip_register_private_key(client, pem, length, "issuing", "Sign")
+
+   pem, length          the text, with one block of PEM beside parameters of a curve: a key of RSA, of
+                        DSA or of a curve, in PKCS#8, PKCS#1 or ECPrivateKey, or in X.509
+                        (SubjectPublicKeyInfo) or PKCS#1
+
+   KMIP_CALL_GRAMMAR: it is none, a key of the other kind, or an encrypted one, or KMIP 1.2 has no
+   name for its algorithm; nothing was sent. */
+int kmip_register_private_key(kmip_client *client, const void *pem, size_t length, const char *name,
+                              const char *usage);
+int kmip_register_public_key(kmip_client *client, const void *pem, size_t length, const char *name,
+                             const char *usage);
+
+/* The same with a secret that is no key, whatever its bytes: `kind` is "Password" or "Seed". */
+int kmip_register_secret(kmip_client *client, const void *data, size_t length, const char *kind,
+                         const char *name, const char *usage);
 
 /* The line of JSON of the last call, without its line feed: {"answer":..} after KMIP_ANSWERED, and
    {"error":..,"text":..} after KMIP_REFUSED, KMIP_CALL_GRAMMAR and KMIP_LOST; "" where memory ran
    out, or no call was made. It stays until the next call. */
 const char *kmip_line(const kmip_client *client);
 
+/* What came of the last call, for a program to decide by. The first are KMIP's reasons of a failure
+   that the server tells, by KMIP's own numbers; more may be added. */
+typedef enum {
+    KMIP_KIND_NONE = 0,                  /* it was answered, or no call was made */
+    KMIP_KIND_ITEM_NOT_FOUND = 0x01,     /* the server knows no such object */
+    KMIP_KIND_RESPONSE_TOO_LARGE = 0x02, /* .. */
+    KMIP_KIND_AUTHENTICATION = 0x03,     /* Authentication Not Successful */
+    KMIP_KIND_INVALID_MESSAGE = 0x04,    /* .. */
+    KMIP_KIND_OPERATION_NOT_SUPPORTED = 0x05,
+    KMIP_KIND_MISSING_DATA = 0x06,
+    KMIP_KIND_INVALID_FIELD = 0x07,
+    KMIP_KIND_FEATURE_NOT_SUPPORTED = 0x08,
+    KMIP_KIND_CANCELED = 0x09, /* Operation Canceled By Requester */
+    KMIP_KIND_CRYPTOGRAPHIC_FAILURE = 0x0A,
+    KMIP_KIND_ILLEGAL_OPERATION = 0x0B,
+    KMIP_KIND_PERMISSION_DENIED = 0x0C,
+    KMIP_KIND_OBJECT_ARCHIVED = 0x0D,
+    KMIP_KIND_INDEX_OUT_OF_BOUNDS = 0x0E,
+    KMIP_KIND_APPLICATION_NAMESPACE = 0x0F, /* Application Namespace Not Supported */
+    KMIP_KIND_KEY_FORMAT = 0x10,            /* Key Format Type Not Supported */
+    KMIP_KIND_KEY_COMPRESSION = 0x11,       /* Key Compression Type Not Supported */
+    KMIP_KIND_ENCODING_OPTION = 0x12,       /* Encoding Option Error */
+    KMIP_KIND_KEY_VALUE_NOT_PRESENT = 0x13,
+    KMIP_KIND_ATTESTATION_REQUIRED = 0x14,
+    KMIP_KIND_ATTESTATION_FAILED = 0x15,
+    KMIP_KIND_GENERAL_FAILURE = 0x100,
+    KMIP_KIND_OTHER_REASON = 0x10000, /* the server refused, for another reason or for none; or the
+                                         line does not have it */
+    KMIP_KIND_NO_ANSWER,              /* one whole message came, and it is no answer to this call */
+    KMIP_KIND_GRAMMAR,                /* the call is not of the grammar; nothing was sent */
+    KMIP_KIND_NO_FORM,                /* the request has no wire form; nothing was sent */
+    KMIP_KIND_WRITE,                  /* lost before all of the request was sent: kmip_was_sent */
+    KMIP_KIND_READ,                   /* lost before all of the response was read */
+    KMIP_KIND_NO_MESSAGE,             /* lost: what came is no message, or longer than the limit */
+    KMIP_KIND_OTHER_ANSWER,           /* lost: what came answers for another object or call */
+    KMIP_KIND_MEMORY                  /* out of memory */
+} kmip_kind;
+
+/* A null client is KMIP_KIND_WRITE: its calls are lost, and send nothing. */
+kmip_kind kmip_error_kind(const kmip_client *client);
+
+/* Whether the request of the last call, or a part of it, was handed to the connection. False means
+   that the server has seen nothing of it, so that the call may be made again on another client;
+   after true and KMIP_LOST it is not known whether the server did what was asked. */
+bool kmip_was_sent(const kmip_client *client);
+
 /* A value of the last answer, at a path of kmip_value: as the bytes that a string of hex digits
    stands for, or as text. A byte 0 follows it, which `length` does not count. A null pointer where
    the last call was not answered, its answer has no such value, or memory ran out.
 
-   After kmip_operation the path is one of tags below the response's payload, with a dot between two,
-   as KeyBlock.KeyFormatType. A number after a tag counts, from 0, among the items with this tag:
-   Attribute.1.AttributeName. kmip_bytes has Byte Strings and Big Integers; kmip_text a text without
-   its quotes and escapes, an Enumeration by its name, or as 0x00000001, and numbers, dates and
-   booleans as the line writes them.
+   After kmip_operation, and after a `get` or `attributes` of what the tables of these calls have no
+   words for, as a key of EC or HMAC (the line then begins with {"answer":{"tag":), the path is one
+   of tags below the response's payload, with a dot between two, as KeyBlock.KeyFormatType. A number after a tag counts, from 0, among the items with this
+   tag: Attribute.1.AttributeName. kmip_bytes has Byte Strings and Big Integers; kmip_text a text
+   without its quotes and escapes, an Enumeration by its name, or as 0x00000001, and numbers, dates
+   and booleans as the line writes them.
 
    `length` may be null. Where it is, kmip_text is null for a text that has a byte 0 within, which C
    would take for its end.
@@ -136,8 +251,9 @@ const uint8_t *kmip_bytes(kmip_client *client, const char *path, size_t *length)
 const char *kmip_text(kmip_client *client, const char *path, size_t *length);
 
 /* The key or the certificate of the last answer, which was one to `get`, as PEM: a public key in
-   PKCS#1 or X.509, a private key in PKCS#1, PKCS#8 or ECPrivateKey, or a certificate in X.509. A
-   null pointer where there is none of these, as for a key that is wrapped. */
+   PKCS#1 or X.509, a private key in PKCS#1, PKCS#8 or ECPrivateKey, a key of RSA or of a curve whose
+   parts are told one by one, or a certificate in X.509. A null pointer where there is none of these,
+   as for a key that is wrapped. */
 const char *kmip_pem(kmip_client *client);
 
 /* Writes a text as a word of a call: 0, or -1 where it does not fit. */
@@ -146,6 +262,11 @@ int kmip_word(const char *text, char *into, size_t room);
 /* Ends the connection, at once whatever the server does, and frees what belongs to it; texts, keys
    and the password are overwritten first. A null pointer is fine. */
 void kmip_close(kmip_client *client);
+
+/* The same without a byte on the connection: for the child after a fork, in which the connection is
+   the parent's. There kmip_close does no more than this, and a call is KMIP_LOST and sends
+   nothing. */
+void kmip_abandon(kmip_client *client);
 
 #ifdef __cplusplus
 }

@@ -6,6 +6,7 @@
 #include <arpa/inet.h>
 #include <errno.h>
 #include <fcntl.h>
+#include <float.h>
 #include <netdb.h>
 #include <netinet/in.h>
 #include <netinet/tcp.h>
@@ -22,6 +23,7 @@
 #include <stdlib.h>
 #include <string.h>
 #include <sys/socket.h>
+#include <sys/types.h>
 #include <time.h>
 #include <unistd.h>
 
@@ -33,14 +35,18 @@ struct kmip_wire {
     double seconds; /* the time of one call; 0: no deadline */
     double end;     /* when that of this call is over */
     int error;      /* the errno of a read or a write that failed, or 0 */
+    pid_t owner;    /* the process that opened it */
     bool ended;     /* the other side has ended the connection */
     bool broken;    /* it cannot be ended in order */
+    bool sending;   /* what goes to the socket is a request */
+    bool sent;      /* a byte of it did */
     char reason[256];
 };
 
+/* The time in seconds. Without a clock each deadline is over. */
 static double now(void) {
     struct timespec at;
-    clock_gettime(CLOCK_MONOTONIC, &at);
+    if (clock_gettime(CLOCK_MONOTONIC, &at) != 0) return DBL_MAX;
     return (double)at.tv_sec + (double)at.tv_nsec / 1e9;
 }
 
@@ -55,10 +61,22 @@ static bool fails(kmip_wire *wire, const char *format, ...) {
     return false;
 }
 
+/* What strerror_r gives is a status, or with _GNU_SOURCE the text, which may stand elsewhere. */
+
+static const char *text_by_status(int status, const char *text) {
+    return status == 0 ? text : "an unknown error";
+}
+
+static const char *text_itself(const char *given, const char *text) {
+    (void)text;
+    return given;
+}
+
 static bool fails_by_errno(kmip_wire *wire, const char *what, int error) {
-    char text[160];
-    if (strerror_r(error, text, sizeof text) != 0) snprintf(text, sizeof text, "error %d", error);
-    return fails(wire, "%s%s", what, text);
+    char text[160] = "";
+#define SAID(given) _Generic((given), int : text_by_status, char * : text_itself)((given), text)
+    return fails(wire, "%s%s", what, SAID(strerror_r(error, text, sizeof text)));
+#undef SAID
 }
 
 static bool runs_late(kmip_wire *wire) {
@@ -75,7 +93,7 @@ static bool fails_by_openssl(kmip_wire *wire, const char *what) {
 
 /* Whether this call's time is over. */
 static bool is_late(const kmip_wire *wire) {
-    return wire->seconds > 0 && now() >= wire->end;
+    return wire->end > 0 && now() >= wire->end;
 }
 
 /* Waits until the socket can be read or written; not longer than until then, unless that is 0. */
@@ -90,11 +108,22 @@ static bool wait_for(kmip_wire *wire, short events, double until) {
     }
 }
 
+/* Whether the socket has bytes to read, or its end. */
+static bool is_readable(const kmip_wire *wire) {
+    struct pollfd it = {.fd = wire->socket, .events = POLLIN};
+    return poll(&it, 1, 0) > 0;
+}
+
 /* How OpenSSL reads and writes the socket: with no SIGPIPE, and so that a cause is known. */
 
 static int carrier_read(BIO *bio, char *into, int room) {
     kmip_wire *wire = BIO_get_data(bio);
     BIO_clear_retry_flags(bio);
+    /* OpenSSL comes again and again where a peer sends what is no data, as tickets, without end. */
+    if (is_late(wire)) {
+        BIO_set_retry_read(bio);
+        return -1;
+    }
     ssize_t count = recv(wire->socket, into, (size_t)room, 0);
     if (count == 0) wire->ended = true;
     if (count >= 0) return (int)count;
@@ -108,7 +137,12 @@ static int carrier_read(BIO *bio, char *into, int room) {
 static int carrier_write(BIO *bio, const char *bytes, int length) {
     kmip_wire *wire = BIO_get_data(bio);
     BIO_clear_retry_flags(bio);
+    if (is_late(wire)) {
+        BIO_set_retry_write(bio);
+        return -1;
+    }
     ssize_t count = send(wire->socket, bytes, (size_t)length, MSG_NOSIGNAL);
+    if (count > 0 && wire->sending) wire->sent = true;
     if (count >= 0) return (int)count;
     if (errno == EAGAIN || errno == EWOULDBLOCK || errno == EINTR)
         BIO_set_retry_write(bio);
@@ -155,6 +189,11 @@ static int give_passphrase(char *into, int room, int writes, void *given) {
     return (int)count;
 }
 
+static int give_none(char *into, int room, int writes, void *given) {
+    (void)into, (void)room, (void)writes, (void)given;
+    return -1;
+}
+
 static bool fails_by_file(kmip_wire *wire, const char *what, const char *path) {
     char front[200];
     snprintf(front, sizeof front, "%s %.150s: ", what, path);
@@ -167,12 +206,14 @@ static bool lacks(const char *path, const char *label) {
     char line[80];
     bool found = false;
     if (!file) return false;
-    setvbuf(file, NULL, _IONBF, 0); /* it may be a key, of which no copy is to be left */
-    while (!found && fgets(line, sizeof line, file))
+    /* It may be a key, of which no copy is to be left. */
+    bool found_out = setvbuf(file, NULL, _IONBF, 0) == 0;
+    while (found_out && !found && fgets(line, sizeof line, file))
         found = strncmp(line, "-----BEGIN ", 11) == 0 && strstr(line, label);
-    fclose(file);
+    found_out = found_out && ferror(file) == 0;
+    (void)fclose(file); /* which was read */
     OPENSSL_cleanse(line, sizeof line);
-    return !found;
+    return found_out && !found;
 }
 
 static bool use_key(kmip_wire *wire, const kmip_settings *settings) {
@@ -180,6 +221,7 @@ static bool use_key(kmip_wire *wire, const kmip_settings *settings) {
     SSL_CTX_set_default_passwd_cb(wire->context, give_passphrase);
     SSL_CTX_set_default_passwd_cb_userdata(wire->context, &it);
     int used = SSL_CTX_use_PrivateKey_file(wire->context, settings->key, SSL_FILETYPE_PEM);
+    SSL_CTX_set_default_passwd_cb(wire->context, give_none);
     SSL_CTX_set_default_passwd_cb_userdata(wire->context, NULL);
     if (used == 1) return true;
     if (lacks(settings->key, "PRIVATE KEY-----"))
@@ -189,14 +231,10 @@ static bool use_key(kmip_wire *wire, const kmip_settings *settings) {
                  it.text ? "this is not its passphrase" : "no passphrase is given");
 }
 
-static bool set_up(kmip_wire *wire, const kmip_settings *settings) {
-    wire->context = SSL_CTX_new(TLS_client_method());
-    if (!wire->context) return fails_by_openssl(wire, "TLS: ");
-    SSL_CTX_set_min_proto_version(wire->context, TLS1_2_VERSION);
-    SSL_CTX_set_verify(wire->context, SSL_VERIFY_PEER, NULL);
-#ifdef SSL_OP_CLEANSE_PLAINTEXT
-    SSL_CTX_set_options(wire->context, SSL_OP_CLEANSE_PLAINTEXT);
-#endif
+/* The certificate, its key and the authority, out of their files. */
+static bool use_files(kmip_wire *wire, const kmip_settings *settings) {
+    /* No certificate is encrypted: without this OpenSSL would ask the terminal. */
+    SSL_CTX_set_default_passwd_cb(wire->context, give_none);
     if (SSL_CTX_use_certificate_chain_file(wire->context, settings->certificate) != 1) {
         if (lacks(settings->certificate, "CERTIFICATE-----"))
             return fails(wire, "certificate %.150s: there is no certificate in PEM",
@@ -206,7 +244,28 @@ static bool set_up(kmip_wire *wire, const kmip_settings *settings) {
     if (!use_key(wire, settings)) return false;
     if (SSL_CTX_load_verify_locations(wire->context, settings->authority, NULL) != 1)
         return fails_by_file(wire, "authority", settings->authority);
+    /* The authority may be the one that made the server's certificate, and need be no root. */
+    X509_VERIFY_PARAM *param = SSL_CTX_get0_param(wire->context);
+    if (X509_VERIFY_PARAM_set_flags(param, X509_V_FLAG_PARTIAL_CHAIN) != 1)
+        return fails_by_openssl(wire, "TLS: ");
     return true;
+}
+
+/* The caller's own context, or a new one. */
+static bool set_up(kmip_wire *wire, const kmip_settings *settings) {
+    if (settings->context) {
+        if (SSL_CTX_up_ref(settings->context) != 1) return fails_by_openssl(wire, "TLS: ");
+        wire->context = settings->context;
+        return true;
+    }
+#if OPENSSL_VERSION_NUMBER >= 0x30000000L
+    wire->context = SSL_CTX_new_ex(settings->library, NULL, TLS_client_method());
+#else
+    if (settings->library) return fails(wire, "library: this OpenSSL has no OSSL_LIB_CTX");
+    wire->context = SSL_CTX_new(TLS_client_method());
+#endif
+    if (!wire->context) return fails_by_openssl(wire, "TLS: ");
+    return use_files(wire, settings);
 }
 
 /* A search for the addresses of a host, which knows no deadline, and so has a thread of its own.
@@ -225,27 +284,41 @@ static int find(const char *host, const char *port, int flags, struct addrinfo *
     return getaddrinfo(host, port, &hints, addresses);
 }
 
-static search *search_new(const char *host, const char *port) {
-    search *it = calloc(1, sizeof *it);
-    if (!it) return NULL;
+/* Makes the lock, and the condition, which is waited for by the clock of deadlines. */
+static bool search_init(search *it) {
     pthread_condattr_t clock;
-    pthread_condattr_init(&clock);
-    pthread_condattr_setclock(&clock, CLOCK_MONOTONIC);
-    pthread_mutex_init(&it->lock, NULL);
-    pthread_cond_init(&it->changed, &clock);
-    pthread_condattr_destroy(&clock);
-    it->host = kmip_copy_of(host);
-    it->port = kmip_copy_of(port);
-    return it;
+    if (pthread_condattr_init(&clock) != 0) return false;
+    bool made = pthread_condattr_setclock(&clock, CLOCK_MONOTONIC) == 0 &&
+                pthread_mutex_init(&it->lock, NULL) == 0;
+    if (made && pthread_cond_init(&it->changed, &clock) != 0) {
+        (void)pthread_mutex_destroy(&it->lock);
+        made = false;
+    }
+    (void)pthread_condattr_destroy(&clock);
+    return made;
 }
 
 static void search_free(search *it) {
     if (it->addresses) freeaddrinfo(it->addresses);
-    pthread_cond_destroy(&it->changed);
-    pthread_mutex_destroy(&it->lock);
+    (void)pthread_cond_destroy(&it->changed);
+    (void)pthread_mutex_destroy(&it->lock);
     kmip_copy_free(it->host);
     kmip_copy_free(it->port);
     free(it);
+}
+
+/* A null pointer where there is no memory. */
+static search *search_new(const char *host, const char *port) {
+    search *it = calloc(1, sizeof *it);
+    if (!it || !search_init(it)) {
+        free(it);
+        return NULL;
+    }
+    it->host = kmip_copy_of(host);
+    it->port = kmip_copy_of(port);
+    if (it->host && it->port) return it;
+    search_free(it);
+    return NULL;
 }
 
 static void *search_run(void *given) {
@@ -253,14 +326,14 @@ static void *search_run(void *given) {
     struct addrinfo *addresses = NULL;
     int status = find(it->host, it->port, 0, &addresses);
     int error = errno;
-    pthread_mutex_lock(&it->lock);
+    (void)pthread_mutex_lock(&it->lock); /* it is made, and not this thread's */
     it->status = status;
     it->error = error;
     it->addresses = addresses;
     it->done = true;
     bool alone = it->given_up;
-    pthread_cond_signal(&it->changed);
-    pthread_mutex_unlock(&it->lock);
+    (void)pthread_cond_signal(&it->changed);
+    (void)pthread_mutex_unlock(&it->lock);
     if (alone) search_free(it);
     return NULL;
 }
@@ -269,11 +342,10 @@ static void *search_run(void *given) {
 static bool search_start(search *it) {
     pthread_t thread;
     sigset_t all, before;
-    sigfillset(&all);
-    pthread_sigmask(SIG_SETMASK, &all, &before);
+    if (sigfillset(&all) != 0 || pthread_sigmask(SIG_SETMASK, &all, &before) != 0) return false;
     bool started = pthread_create(&thread, NULL, search_run, it) == 0;
-    pthread_sigmask(SIG_SETMASK, &before, NULL);
-    if (started) pthread_detach(thread);
+    (void)pthread_sigmask(SIG_SETMASK, &before, NULL);
+    if (started) (void)pthread_detach(thread);
     return started;
 }
 
@@ -282,7 +354,7 @@ static int search_end(search *it, double until, struct addrinfo **addresses) {
     struct timespec end = {.tv_sec = (time_t)until};
     end.tv_nsec = (long)((until - (double)end.tv_sec) * 1e9);
     int waited = 0;
-    pthread_mutex_lock(&it->lock);
+    (void)pthread_mutex_lock(&it->lock);
     while (!it->done && waited == 0)
         waited = until > 0 ? pthread_cond_timedwait(&it->changed, &it->lock, &end)
                            : pthread_cond_wait(&it->changed, &it->lock);
@@ -292,7 +364,7 @@ static int search_end(search *it, double until, struct addrinfo **addresses) {
     it->addresses = NULL;
     it->given_up = true;
     int error = it->error;
-    pthread_mutex_unlock(&it->lock);
+    (void)pthread_mutex_unlock(&it->lock);
     if (done) search_free(it);
     errno = error;
     return status;
@@ -304,7 +376,7 @@ static struct addrinfo *addresses_of(kmip_wire *wire, const char *host, const ch
     int status = find(host, port, AI_NUMERICHOST, &addresses);
     if (status == EAI_NONAME) {
         search *it = search_new(host, port);
-        if (!it || !it->host || !it->port || !search_start(it)) {
+        if (!it || !search_start(it)) {
             if (it) search_free(it);
             fails(wire, "connect: no memory or no thread to find the host");
             return NULL;
@@ -328,7 +400,7 @@ static int socket_of(int family) {
     int made = socket(family, SOCK_STREAM | SOCK_NONBLOCK | SOCK_CLOEXEC, 0);
     if (made < 0 || made > STDERR_FILENO) return made;
     int moved = fcntl(made, F_DUPFD_CLOEXEC, STDERR_FILENO + 1), error = errno;
-    close(made);
+    (void)close(made);
     errno = error;
     return moved;
 }
@@ -345,7 +417,8 @@ static bool reach(kmip_wire *wire, const struct addrinfo *at, double until) {
         if (getsockopt(wire->socket, SOL_SOCKET, SO_ERROR, &error, &size) != 0) error = errno;
         if (error != 0) return fails_by_errno(wire, "connect: ", error);
     }
-    setsockopt(wire->socket, IPPROTO_TCP, TCP_NODELAY, &one, sizeof one);
+    /* Without it a request takes longer, and no more. */
+    (void)setsockopt(wire->socket, IPPROTO_TCP, TCP_NODELAY, &one, sizeof one);
     return true;
 }
 
@@ -360,7 +433,7 @@ static bool reach_host(kmip_wire *wire, const char *host, const char *port) {
         double until = wire->seconds > 0 ? now() + (wire->end - now()) / left : 0;
         reached = reach(wire, at, until);
         if (!reached && wire->socket >= 0) {
-            close(wire->socket);
+            (void)close(wire->socket);
             wire->socket = -1;
         }
     }
@@ -387,15 +460,40 @@ static bool goes_on(kmip_wire *wire, int result) {
 static bool expect(kmip_wire *wire, const char *host) {
     unsigned char address[sizeof(struct in6_addr)];
     char plain[256]; /* an address without its zone, as in fe80::1%eth0 */
+    size_t length = strlen(host);
     snprintf(plain, sizeof plain, "%.*s", (int)strcspn(host, "%"), host);
     if (inet_pton(AF_INET, plain, address) == 1 || inet_pton(AF_INET6, plain, address) == 1)
         return X509_VERIFY_PARAM_set1_ip_asc(SSL_get0_param(wire->tls), plain) == 1;
-    return SSL_set_tlsext_host_name(wire->tls, host) == 1 && SSL_set1_host(wire->tls, host) == 1;
+    /* The dot that ends a whole name, as in kms.example., is in no certificate. */
+    if (length > 1 && host[length - 1] == '.') length--;
+    snprintf(plain, sizeof plain, "%.*s", (int)length, host);
+    return SSL_set_tlsext_host_name(wire->tls, plain) == 1 && SSL_set1_host(wire->tls, plain) == 1;
+}
+
+/* What holds of each connection, whatever its context says; OpenSSL's own contexts are changed by
+   its configuration, too. */
+static bool insist(SSL *tls) {
+    uint64_t options = SSL_OP_NO_RENEGOTIATION;
+#ifdef SSL_OP_CLEANSE_PLAINTEXT
+    options |= SSL_OP_CLEANSE_PLAINTEXT;
+#endif
+    SSL_set_options(tls, options);
+    /* It comes back after what was no data, with no more of the socket's bytes than that. */
+    SSL_clear_mode(tls, SSL_MODE_ASYNC | SSL_MODE_AUTO_RETRY);
+    SSL_set_read_ahead(tls, 0);
+    SSL_set_verify(tls, SSL_VERIFY_PEER, SSL_get_verify_callback(tls));
+    /* A name is one of the certificate's alternative names, or one of these with a whole label for
+       its `*`. */
+    SSL_set_hostflags(tls,
+                      X509_CHECK_FLAG_NO_PARTIAL_WILDCARDS | X509_CHECK_FLAG_NEVER_CHECK_SUBJECT);
+    return SSL_get_min_proto_version(tls) >= TLS1_2_VERSION ||
+           SSL_set_min_proto_version(tls, TLS1_2_VERSION) == 1;
 }
 
 static bool shake_hands(kmip_wire *wire, const char *host) {
     wire->tls = SSL_new(wire->context);
-    if (!wire->tls || !expect(wire, host) || !carry(wire)) return fails_by_openssl(wire, "TLS: ");
+    if (!wire->tls || !insist(wire->tls) || !expect(wire, host) || !carry(wire))
+        return fails_by_openssl(wire, "TLS: ");
     for (;;) {
         if (is_late(wire)) return runs_late(wire);
         ERR_clear_error();
@@ -417,12 +515,14 @@ static bool open_wire(kmip_wire *wire, const kmip_settings *settings) {
            shake_hands(wire, host);
 }
 
-kmip_wire *kmip_wire_open(const kmip_settings *settings, char *reason, size_t room) {
+kmip_wire *kmip_wire_open(const kmip_settings *settings, int *status, char *reason, size_t room) {
     kmip_wire *wire = calloc(1, sizeof *wire);
+    *status = wire ? KMIP_LOST : KMIP_NO_MEMORY;
     if (!wire) {
         snprintf(reason, room, "out of memory");
         return NULL;
     }
+    wire->owner = getpid();
     wire->socket = -1;
     wire->seconds = settings->seconds;
     bool open = open_wire(wire, settings);
@@ -436,27 +536,51 @@ kmip_wire *kmip_wire_open(const kmip_settings *settings, char *reason, size_t ro
 
 void kmip_wire_begin(kmip_wire *wire) {
     wire->end = wire->seconds > 0 ? now() + wire->seconds : 0;
+    wire->sent = false;
 }
 
 bool kmip_wire_is_idle(kmip_wire *wire) {
     uint8_t byte;
     size_t count = 0;
-    ERR_clear_error();
-    int result = SSL_read_ex(wire->tls, &byte, 1, &count);
-    if (result == 1) return fails(wire, "the server sent bytes that no call had asked for");
-    int error = SSL_get_error(wire->tls, result);
-    return error == SSL_ERROR_WANT_READ || error == SSL_ERROR_WANT_WRITE || goes_on(wire, result);
+    if (wire->owner != getpid()) return fails(wire, "the connection is another process's");
+    for (;;) {
+        if (is_late(wire)) return runs_late(wire);
+        ERR_clear_error();
+        int result = SSL_read_ex(wire->tls, &byte, 1, &count);
+        if (result == 1) return fails(wire, "the server sent bytes that no call had asked for");
+        int error = SSL_get_error(wire->tls, result);
+        if (error != SSL_ERROR_WANT_READ && error != SSL_ERROR_WANT_WRITE)
+            return goes_on(wire, result);
+        /* Without more in the socket there is nothing to read; else it was no data. */
+        if (!is_readable(wire)) return true;
+    }
+}
+
+/* Writes all of them. */
+static bool write_all(kmip_wire *wire, const uint8_t *bytes, size_t count) {
+    for (size_t done = 0, sent = 0; done < count; done += sent) {
+        sent = 0;
+        if (is_late(wire)) return runs_late(wire);
+        ERR_clear_error();
+        int result = SSL_write_ex(wire->tls, bytes + done, count - done, &sent);
+        if (result != 1 && !goes_on(wire, result)) return false;
+    }
+    return true;
 }
 
 bool kmip_wire_write(kmip_wire *wire, const uint8_t *bytes, size_t count) {
-    for (;;) {
-        size_t sent = 0;
-        if (is_late(wire)) return runs_late(wire);
-        ERR_clear_error();
-        int result = SSL_write_ex(wire->tls, bytes, count, &sent);
-        if (result == 1) return true; /* all of them: partial writes are not enabled */
-        if (!goes_on(wire, result)) return false;
-    }
+    wire->sending = true;
+    bool written = write_all(wire, bytes, count);
+    wire->sending = false;
+    return written;
+}
+
+bool kmip_wire_was_sent(const kmip_wire *wire) {
+    return wire->sent;
+}
+
+void kmip_wire_abandon(kmip_wire *wire) {
+    wire->broken = true;
 }
 
 bool kmip_wire_read(kmip_wire *wire, uint8_t *into, size_t count) {
@@ -476,12 +600,14 @@ const char *kmip_wire_reason(const kmip_wire *wire) {
 
 void kmip_wire_close(kmip_wire *wire) {
     if (!wire) return;
-    /* It says that it ends, and does not wait until the other side says so too. */
-    if (wire->tls && !wire->broken) SSL_shutdown(wire->tls);
+    /* It says that it ends, and does not wait until the other side says so too. What cannot be said
+       at once is left out. */
+    wire->end = 0;
+    if (wire->tls && !wire->broken && wire->owner == getpid()) (void)SSL_shutdown(wire->tls);
     SSL_free(wire->tls);
     BIO_meth_free(wire->carrier);
     SSL_CTX_free(wire->context);
-    if (wire->socket >= 0) close(wire->socket);
+    if (wire->socket >= 0) (void)close(wire->socket);
     ERR_clear_error();
     free(wire);
 }

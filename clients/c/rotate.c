@@ -8,7 +8,6 @@
 #include "metsuwan_tls.h"
 #include <stdio.h>
 #include <stdlib.h>
-#include <string.h>
 
 static kmip_client *client;
 
@@ -73,12 +72,12 @@ int main(int argc, char **argv) {
     settings.key = argv[4];
     settings.authority = argv[5];
     char error[300];
-    client = kmip_open(&settings, error, sizeof error);
-    if (!client) {
+    int status = kmip_connect(&settings, &client, error, sizeof error);
+    if (status != KMIP_ANSWERED) {
         fprintf(stderr, "%s\n", error);
-        return strstr(error, "\"ConfigurationError\"") ? KMIP_CALL_GRAMMAR : KMIP_LOST;
+        return status;
     }
-    int status = rotate(argv[6], argv[7]);
+    status = rotate(argv[6], argv[7]);
     kmip_close(client);
     return status;
 }

@@ -3,6 +3,10 @@
 
     call.py HOST PORT CERTIFICATE KEY AUTHORITY CALL TEXT..
 
+Beside the calls of the grammar there are `pem IDENTIFIER`, and what registers the contents of a
+file: `register-private FILE`, `register-public FILE`, `register-certificate FILE` and
+`register-secret FILE`, each with `usage=..` and `name=..`; a secret also with `kind=Seed`.
+
 The environment may have KMIP_USER and KMIP_PASSWORD, a credential; KMIP_PASSPHRASE, that of an
 encrypted key; KMIP_LIMIT, the most bytes of a response (1048576 where it is not set; 0: no limit);
 KMIP_TIMEOUT, the most seconds of connecting and of the call (30; 0: no deadline). With KMIP_PEM
@@ -17,15 +21,9 @@ import os
 import sys
 from typing import List
 
-from metsuwan import Client, ConnectError, ConnectionLost, GrammarError, KmipError
+from metsuwan import Client, GrammarError, KmipError
 from metsuwan.calls import words_of
-
-
-def fail(error: KmipError) -> int:
-    print(json.dumps(error.line()), file=sys.stderr)
-    if isinstance(error, GrammarError):
-        return 2
-    return 3 if isinstance(error, ConnectionLost) else 1
+from output import NotWritten, are_closed, fail, write
 
 
 def number(name: str, otherwise: float) -> float:
@@ -47,7 +45,33 @@ def client_of(settings: List[str]) -> Client:
         raise GrammarError(str(error)) from error
 
 
+REGISTERS = {'register-private': Client.register_private_key,
+             'register-public': Client.register_public_key,
+             'register-certificate': Client.register_certificate,
+             'register-secret': Client.register_secret}
+
+
+def registered(settings: List[str], name: str, texts: List[str]) -> str:
+    file, *given = texts or ['']
+    options = dict(it.partition('=')[::2] for it in given)
+    if not set(options) <= {'usage', 'name'} | ({'kind'} if name == 'register-secret' else set()):
+        raise GrammarError('%s: there is no such option' % name)
+    try:
+        with open(file, 'rb') as opened:
+            read = opened.read()
+    except OSError as error:
+        raise GrammarError('%s: %s' % (file, error.strerror)) from error
+    with client_of(settings) as kmip:
+        made = REGISTERS[name](kmip, read, **options)
+        return json.dumps({'answer': {'unique_identifier': made}}) + '\n'
+
+
 def answer_of(settings: List[str], name: str, texts: List[str]) -> str:
+    if name in REGISTERS:
+        return registered(settings, name, texts)
+    if name == 'pem':
+        with client_of(settings) as kmip:
+            return kmip.get(*words_of('get', texts)[0]).pem()
     words, options = words_of(name, texts)
     with client_of(settings) as kmip:
         if name == 'get' and os.environ.get('KMIP_PEM'):
@@ -55,33 +79,22 @@ def answer_of(settings: List[str], name: str, texts: List[str]) -> str:
         return json.dumps({'answer': kmip.call(name, *words, **options)}) + '\n'
 
 
-def told(text: str) -> bool:
-    """Writes a text to standard output: whether it was taken."""
-    if sys.stdout is None:  # it is closed
-        return False
-    try:
-        sys.stdout.write(text)
-        sys.stdout.flush()
-    except OSError:
-        # What is left in its buffer would be written at the end, and fail once more.
-        os.dup2(os.open(os.devnull, os.O_WRONLY), sys.stdout.fileno())
-        return False
-    return True
-
-
 def main() -> int:
+    if are_closed():
+        return fail(NotWritten('standard output or standard error is closed; nothing was sent'))
     if len(sys.argv) < 7:
         return fail(GrammarError('usage: call.py HOST PORT CERTIFICATE KEY AUTHORITY CALL TEXT..'))
     try:
         answer = answer_of(sys.argv[1:6], sys.argv[6], sys.argv[7:])
     except KmipError as error:
         return fail(error)
-    except OSError as error:  # there is no library
-        return fail(ConnectError(str(error)))
     except MemoryError:
-        print('{"error":"OutOfMemory","text":"out of memory"}', file=sys.stderr)
+        write(sys.stderr, '{"error":"OutOfMemory","text":"out of memory"}\n')
         return 5
-    return 0 if told(answer) else 4
+    wrong = write(sys.stdout, answer)
+    if wrong is None:
+        return 0
+    return fail(NotWritten('the answer cannot be written: ' + wrong))
 
 
 if __name__ == '__main__':

@@ -7,13 +7,13 @@ It leaves the public key (PKCS#1) in FOLDER as public.der and public.pem, and th
 ``hello`` as signature. With a COUNT it also makes ten times so many queries and so many signatures,
 and says how long each took.
 """
-import json
 import pathlib
 import sys
 import time
 from typing import Callable
 
-from metsuwan import Client, GrammarError, ItemNotFound, Refused, ServerError
+from metsuwan import Client, GrammarError, ItemNotFound, KmipError, Refused, ServerError
+from output import fail
 
 
 def timed(what: str, count: int, step: Callable[[], object]) -> None:
@@ -59,13 +59,15 @@ def live(kmip: Client, folder: pathlib.Path, count: int) -> None:
 
 def main() -> int:
     if len(sys.argv) < 7:
-        usage = GrammarError('usage: life.py HOST PORT CERTIFICATE KEY AUTHORITY FOLDER [COUNT]')
-        print(json.dumps(usage.line()), file=sys.stderr)
-        return 2
+        usage = 'usage: life.py HOST PORT CERTIFICATE KEY AUTHORITY FOLDER [COUNT]'
+        return fail(GrammarError(usage))
     host, port, cert, key, ca, folder = sys.argv[1:7]
     count = int(sys.argv[7]) if len(sys.argv) > 7 else 0
-    with Client(host, port, cert=cert, key=key, ca=ca) as kmip:
-        live(kmip, pathlib.Path(folder), count)
+    try:
+        with Client(host, port, cert=cert, key=key, ca=ca) as kmip:
+            live(kmip, pathlib.Path(folder), count)
+    except KmipError as error:
+        return fail(error)
     return 0
 
 

@@ -7,17 +7,10 @@ private key, which is then revoked and destroyed. It writes the new private key'
 Status: 0 done, 1 refused, 2 not of the grammar, 3 the connection is lost or there is none, 4 the
 identifier could not be written, 5 out of memory.
 """
-import json
-import os
 import sys
 
-from metsuwan import Client, ConnectError, ConnectionLost, GrammarError, KmipError
-
-
-class NotWritten(KmipError):
-    """The key was changed, and its identifier could not be written."""
-
-    kind = 'NotWritten'
+from metsuwan import Client, GrammarError, KmipError
+from output import NotWritten, are_closed, fail, write
 
 
 def rotate(kmip: Client, old: str, name: str) -> str:
@@ -32,29 +25,9 @@ def rotate(kmip: Client, old: str, name: str) -> str:
     return new
 
 
-def fail(error: KmipError) -> int:
-    print(json.dumps(error.line()), file=sys.stderr)
-    for kind, status in ((GrammarError, 2), (ConnectionLost, 3), (NotWritten, 4)):
-        if isinstance(error, kind):
-            return status
-    return 1
-
-
-def told(text: str) -> bool:
-    """Writes a text to standard output: whether it was taken."""
-    if sys.stdout is None:  # it is closed
-        return False
-    try:
-        sys.stdout.write(text)
-        sys.stdout.flush()
-    except OSError:
-        # What is left in its buffer would be written at the end, and fail once more.
-        os.dup2(os.open(os.devnull, os.O_WRONLY), sys.stdout.fileno())
-        return False
-    return True
-
-
 def main() -> int:
+    if are_closed():
+        return fail(NotWritten('standard output or standard error is closed; nothing was sent'))
     if len(sys.argv) != 8:
         return fail(GrammarError('usage: rotate.py HOST PORT CERTIFICATE KEY AUTHORITY '
                                  'OLD-PRIVATE-KEY NAME'))
@@ -66,12 +39,10 @@ def main() -> int:
         return fail(error)
     except ValueError as error:  # a setting is none
         return fail(GrammarError(str(error)))
-    except OSError as error:  # there is no library
-        return fail(ConnectError(str(error)))
     except MemoryError:
-        print('{"error":"OutOfMemory","text":"out of memory"}', file=sys.stderr)
+        write(sys.stderr, '{"error":"OutOfMemory","text":"out of memory"}\n')
         return 5
-    if told(new + '\n'):
+    if write(sys.stdout, new + '\n') is None:
         return 0
     return fail(NotWritten('locate finds the new private key by its name'))
 

@@ -1,12 +1,17 @@
-"""A wheel of this package holds the built library, and so is for one kind of machine.
+"""A wheel of this package holds the built library, and so is for one kind of machine, with a C
+library that is as new as the library wants it.
 
-    LIBMETSUWAN=FOLDER/libmetsuwan.so pip wheel clients/python
+    LIBMETSUWAN=FOLDER/libmetsuwan.so pip wheel clients/python     # or: python3 -m build clients/python
 
-FOLDER is one that clients/build.sh made.
+FOLDER is one that clients/build.sh made. Where its library is not known to be proved, the version
+of the wheel says so, as 1.0+not.proved.
 """
+import ctypes
 import os
 import pathlib
+import re
 import shutil
+import sys
 from typing import Tuple
 
 from setuptools import Distribution, setup
@@ -17,6 +22,44 @@ try:
     from setuptools.command.bdist_wheel import bdist_wheel
 except ImportError:  # setuptools before 70.1
     from wheel.bdist_wheel import bdist_wheel
+
+
+HERE = pathlib.Path(__file__).resolve().parent
+VERSION = re.findall(r"^__version__ = '(.*)'$", (HERE / 'metsuwan/__init__.py').read_text('utf-8'),
+                     re.M)[0]
+# The oldest C library that a wheel can be tagged with.
+OLDEST = 17
+
+
+def library() -> str:
+    """The path of the library, or an empty text where none is given."""
+    given = os.environ.get('LIBMETSUWAN', '')
+    return os.path.abspath(given) if os.path.isfile(given) else ''
+
+
+def version() -> str:
+    """The version, with what the library says of itself where that is not that it is proved."""
+    if not library():
+        return VERSION
+    call = getattr(ctypes.CDLL(library()), 'kmip_version', None)
+    note = 'proof unknown'
+    if call is not None:
+        call.restype = ctypes.c_char_p
+        note = call().decode().partition(', ')[2]
+    if note == 'proved':
+        return VERSION
+    print('metsuwan: the library in this wheel: %s' % note, file=sys.stderr)
+    return '%s+%s' % (VERSION, note.replace(' ', '.'))
+
+
+def platform_of(tag: str) -> str:
+    """The platform of a wheel, as manylinux_2_25_x86_64: that of the newest version of glibc of
+    which the library takes a function (PEP 600). An installer elsewhere does not take it."""
+    read = pathlib.Path(library()).read_bytes() if library() else b''
+    minors = [int(it) for it in re.findall(rb'\0GLIBC_2\.(\d+)(?:\.\d+)?(?=\0)', read)]
+    if not minors or not tag.startswith('linux_'):
+        return tag
+    return 'manylinux_2_%d_%s' % (max([OLDEST, *minors]), tag[len('linux_'):])
 
 
 class WithLibrary(build_py):
@@ -45,7 +88,7 @@ class OfOneMachine(bdist_wheel):
 
     def get_tag(self) -> Tuple[str, str, str]:
         _, _, platform = super().get_tag()
-        return 'py3', 'none', platform
+        return 'py3', 'none', platform_of(platform)
 
 
 class Binary(Distribution):
@@ -55,4 +98,5 @@ class Binary(Distribution):
         return True
 
 
-setup(cmdclass={'build_py': WithLibrary, 'bdist_wheel': OfOneMachine}, distclass=Binary)
+setup(version=version(), cmdclass={'build_py': WithLibrary, 'bdist_wheel': OfOneMachine},
+      distclass=Binary)

@@ -1,23 +1,48 @@
 //! Links libmetsuwan.a, which clients/build.sh makes.
-use std::path::Path;
+use std::path::{Path, PathBuf};
+
+/// Where `clients/install.sh` and the Debian package leave it.
+const INSTALLED: [&str; 3] = ["/usr/local/lib", "/usr/lib/x86_64-linux-gnu", "/usr/lib"];
 
 fn main() {
     println!("cargo:rerun-if-env-changed=LIBMETSUWAN_DIR");
-    let Ok(folder) = std::env::var("LIBMETSUWAN_DIR") else {
-        println!("cargo:warning=set LIBMETSUWAN_DIR to the folder of libmetsuwan.a");
+    // The documents need no library, and docs.rs has none.
+    if std::env::var_os("DOCS_RS").is_some() {
         return;
-    };
-    let library = Path::new(&folder).join("libmetsuwan.a");
-    // cargo runs this in the folder of the crate, and not where it was called.
-    if !library.is_absolute() || !library.is_file() {
-        eprintln!(
-            "LIBMETSUWAN_DIR has to be the absolute path of a folder with libmetsuwan.a, which \
-             clients/build.sh makes: {} is no such file",
-            library.display()
-        );
-        std::process::exit(1);
     }
-    println!("cargo:rerun-if-changed={folder}/libmetsuwan.a");
-    println!("cargo:rustc-link-search=native={folder}");
-    println!("cargo:rustc-link-lib=static=metsuwan");
+    match folder() {
+        Ok(folder) => {
+            println!("cargo:rerun-if-changed={}/libmetsuwan.a", folder.display());
+            println!("cargo:rustc-link-search=native={}", folder.display());
+            println!("cargo:rustc-link-lib=static=metsuwan");
+        }
+        Err(why) => {
+            eprintln!("{why}");
+            std::process::exit(1);
+        }
+    }
+}
+
+/// The folder of the library: the one that the environment names, or one where it is installed.
+fn folder() -> Result<PathBuf, String> {
+    let installed = INSTALLED.map(Path::new);
+    let Some(given) = std::env::var_os("LIBMETSUWAN_DIR") else {
+        let found = installed.into_iter().find(|it| it.join("libmetsuwan.a").is_file());
+        return found.map(Path::to_path_buf).ok_or_else(|| {
+            "there is no libmetsuwan.a: clients/build.sh FOLDER makes it, and LIBMETSUWAN_DIR has \
+             to be the absolute path of that folder"
+                .to_string()
+        });
+    };
+    // cargo runs this in the folder of the crate, and not where it was called.
+    let folder = PathBuf::from(given);
+    let library = folder.join("libmetsuwan.a");
+    if library.is_absolute() && library.is_file() {
+        return Ok(folder);
+    }
+    Err(format!(
+        "LIBMETSUWAN_DIR has to be the absolute path of a folder with libmetsuwan.a, which \
+         clients/build.sh makes: {} is no such file",
+        library.display()
+    ))
 }

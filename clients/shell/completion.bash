@@ -2,8 +2,52 @@
 # Completion in bash for kmip_call and for the functions of kmip.sh: source this file, or copy it as
 # ~/.local/share/bash-completion/completions/kmip_call.
 
+# The calls; how many words stand before the options of one, and which they are; of which kind a word is, by its place, or
+# the value of an option; and the names of a kind.
+# clients/grammar.py: calls
 _kmip_calls=(query discover create-rsa create-aes create register locate attributes attribute-add attribute-modify
-    attribute-delete get activate sign rename revoke destroy rng raw operation message)
+             attribute-delete activate sign rename get revoke destroy rng raw operation message)
+declare -gA _kmip_plain=(
+    [query]=0 [discover]=0 [create-rsa]=3 [create-aes]=2 [create]=3 [register]=2 [locate]=1 [attributes]=1
+    [attribute-add]=1 [attribute-modify]=1 [attribute-delete]=2 [activate]=1 [sign]=2 [rename]=2 [get]=1 [revoke]=1
+    [destroy]=1 [rng]=1 [raw]=1
+)
+declare -gA _kmip_options=(
+    [create-rsa]='private-usage= public-usage='
+    [create]='usage='
+    [register]='format= algorithm= length= usage= name='
+    [locate]='name= group= contact= type= state= algorithm= length= activation='
+    [attribute-add]='name= group= contact= type= state= algorithm= length= activation='
+    [attribute-modify]='name= group= contact= type= state= algorithm= length= activation= index='
+    [attribute-delete]='index='
+    [sign]='hash= padding= algorithm= prehashed'
+    [get]='format= wrap='
+    [revoke]='reason= message= since='
+)
+declare -gA _kmip_kinds=(
+    [create-rsa.private-usage=]=Uses [create-rsa.public-usage=]=Uses
+    [create.1]=Algorithm [create.usage=]=Uses
+    [register.1]=KeyKind [register.format=]=Format [register.algorithm=]=Algorithm [register.usage=]=Uses
+    [locate.type=]=ObjectType [locate.state=]=State [locate.algorithm=]=Algorithm
+    [attribute-add.type=]=ObjectType [attribute-add.state=]=State [attribute-add.algorithm=]=Algorithm
+    [attribute-modify.type=]=ObjectType [attribute-modify.state=]=State [attribute-modify.algorithm=]=Algorithm
+    [sign.hash=]=Hash [sign.padding=]=Padding [sign.algorithm=]=Algorithm
+    [get.format=]=Format
+    [revoke.reason=]=Reason
+)
+declare -gA _kmip_names=(
+    [KeyKind]='public private symmetric'
+    [Algorithm]='DES TRIPLE_DES AES RSA'
+    [Format]='Raw Opaque PKCS1 PKCS8 X509 ECPrivateKey TransparentSymmetricKey TransparentDSAPrivateKey TransparentDSAPublicKey TransparentRSAPrivateKey TransparentRSAPublicKey TransparentDHPrivateKey TransparentDHPublicKey TransparentECDSAPrivateKey TransparentECDSAPublicKey TransparentECHDPrivateKey TransparentECDHPublicKey TransparentECMQVPrivateKey TransparentECMQVPublicKey'
+    [Hash]='MD2 MD4 MD5 SHA1 SHA224 SHA256 SHA384 SHA512 RIPEMD160 Tiger Whirlpool'
+    [Padding]='None OAEP PKCS5 SSL3 Zeros ANSI_X9_23 ISO_10126 PKCS1_v1_5 X9_31 PSS'
+    [Reason]='Unspecified KeyCompromise CACompromise AffiliationChanged Superseded CessationOfOperation PrivilegeWithdrawn'
+    [State]='PreActive Active Deactivated Compromised Destroyed DestroyedCompromised'
+    [ObjectType]='Certificate SymmetricKey PublicKey PrivateKey SplitKey Template SecretData OpaqueObject PGPKey'
+    [Uses]='Sign Verify Encrypt Decrypt WrapKey UnwrapKey Export MacGenerate MacVerify DeriveKey ContentCommitmentNonRepudiation KeyAgreement CertificateSign CrlSign GenerateCryptogram ValidateCryptogram TranslateEncrypt TranslateDecrypt TranslateWrap TranslateUnwrap'
+    [Version]='1.0 1.1 1.2'
+)
+# clients/grammar.py: end
 _kmip_operations=(Create CreateKeyPair Register Rekey DeriveKey Certify Recertify Locate Check Get GetAttributes
     GetAttributeList AddAttribute ModifyAttribute DeleteAttribute ObtainLease GetUsageAllocation Activate Revoke Destroy
     Archive Recover Validate Query Cancel Poll Notify Put RekeyKeyPair DiscoverVersions Encrypt Decrypt Sign SignatureVerify
@@ -35,12 +79,44 @@ _kmip_split() {
     if [[ $line == *[[:space:]] ]]; then words+=(''); fi
 }
 
-# What may follow a call: after `operation` a name, and then a version.
+# Leaves in COMPREPLY names of a kind that a value begins as; of uses the last, after a `,`.
+_kmip_offer_names() { # KIND TYPED
+    local front=''
+    if [[ $1 == Uses && $2 == *,* ]]; then front=${2%,*},; fi
+    # shellcheck disable=SC2086 # several names
+    _kmip_offer "${2#"$front"}" ${_kmip_names[$1]}
+    COMPREPLY=("${COMPREPLY[@]/#/$front}")
+}
+
+# The options of a call that are not given yet; or what the value of one may be.
+_kmip_offer_options() { # CALL WORD.. TYPED
+    local typed=${!#} option left=()
+    if [[ $typed == *=* ]]; then
+        option=${_kmip_kinds[$1.${typed%%=*}=]-}
+        if [[ -n $option ]]; then _kmip_offer_names "$option" "${typed#*=}"; fi
+        return 0
+    fi
+    for option in ${_kmip_options[$1]-}; do
+        if [[ " ${*:2:$#-2}" != *" $option"* ]]; then left+=("$option"); fi
+    done
+    _kmip_offer "$typed" ${left[@]+"${left[@]}"}
+}
+
+# What may follow a call: after `operation` a name, and then a version; after `locate` the word `where`; and the names that a
+# word may be, the options, and what their values may be.
 _kmip_follow() { # CALL WORD.. TYPED
-    [[ $1 == operation ]] || return 0
-    case $# in
-    2) _kmip_offer "$2" "${_kmip_operations[@]}" ;;
-    3) _kmip_offer "$3" version= ;;
+    COMPREPLY=()
+    case $1.$# in
+    operation.2) _kmip_offer "$2" "${_kmip_operations[@]}" ;;
+    operation.3) _kmip_offer "$3" version= ;;
+    locate.2) _kmip_offer "$2" where ;;
+    *)
+        if [[ -n ${_kmip_kinds[$1.$(($# - 1))]-} ]]; then
+            _kmip_offer_names "${_kmip_kinds[$1.$(($# - 1))]}" "${!#}"
+        elif (($# - 1 > ${_kmip_plain[$1]-$#})); then
+            _kmip_offer_options "$@"
+        fi
+        ;;
     esac
     if [[ ${COMPREPLY[0]-} == *= ]]; then compopt -o nospace 2>/dev/null || :; fi
 }
@@ -62,7 +138,7 @@ _kmip_call() {
     case $typed in
     record=*) _kmip_offer_files "${typed#record=}" ;;
     *=*) COMPREPLY=() ;;
-    -*) _kmip_offer "$typed" --help --version ;;
+    -*) _kmip_offer "$typed" --help --version --grammar ;;
     *) _kmip_offer "$typed" "${_kmip_calls[@]}" "${options[@]}" ;;
     esac
     if [[ ${COMPREPLY[0]-} == *= ]]; then compopt -o nospace 2>/dev/null || :; fi
@@ -101,3 +177,4 @@ complete -F _kmip_call kmip_call
 complete -F _kmip kmip
 complete -F _kmip_field kmip_field
 complete -F _kmip_open kmip_open
+complete -c kmip_without

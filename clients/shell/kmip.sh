@@ -17,7 +17,14 @@
 # Arguments are plain texts: `kmip rename 4 'issuing key'`. Those of them that the grammar writes with an escape, as a
 # space, are written so here; the empty argument is the empty text, or no bytes. Options stand after the others, as in
 # `kmip sign 4 00 hash=SHA384 padding=PSS`. An empty identifier is refused (status 2):
-# a server may take it for the last object that was made on the connection.
+# a server may take it for the last object that was made on the connection. `kmip locate NAME` takes its word as a name,
+# whatever stands in it; `kmip locate where state=Active type=PrivateKey` asks for attributes.
+#
+# Each program that the script begins has the connection, too, and could sign by it, or hold it open after the script's end:
+# `kmip_without COMMAND WORD..` runs one that has not.
+#
+# `kmip register-private FILE`, `register-public FILE`, `register-certificate FILE` and `register-secret FILE` register what
+# openssl wrote, with `name=..` and `usage=..`; a secret, any bytes, also with `kind=Seed`.
 #
 # `kmip operation Encrypt '{"tag":"RequestPayload","value":[..]}'` is any operation of KMIP, and `@payload.json` in the place
 # of the payload a file that has it. `version=1.1` stands before the payload, where the request is not to be of KMIP 1.2.
@@ -39,6 +46,10 @@ if ((BASH_VERSINFO[0] < 5)); then
     # shellcheck disable=SC2317 # where the file is run, and not sourced
     return 1 2>/dev/null || exit 1
 fi
+
+# What is registered, and written as PEM, past the plain kinds is in the file beside this one.
+# shellcheck source=clients/shell/kmip_keys.sh
+. "${BASH_SOURCE[0]%"${BASH_SOURCE[0]##*/}"}kmip_keys.sh"
 
 # An open connection is
 #   KMIP_PID               the process of openssl
@@ -80,20 +91,22 @@ kmip_escape_piece() { # TEXT
 # Leaves in KMIP_OPTIONS the options that a call may have, with a space round each, and in KMIP_PLAIN how many words stand
 # before them.
 kmip_options() { # CALL
+    # clients/grammar.py: calls
     local attributes=' name group contact type state algorithm length activation '
     KMIP_PLAIN=1 KMIP_OPTIONS=''
     case $1 in
-    create) KMIP_PLAIN=3 KMIP_OPTIONS=' usage ' ;;
     create-rsa) KMIP_PLAIN=3 KMIP_OPTIONS=' private-usage public-usage ' ;;
+    create) KMIP_PLAIN=3 KMIP_OPTIONS=' usage ' ;;
     register) KMIP_PLAIN=2 KMIP_OPTIONS=' format algorithm length usage name ' ;;
+    locate) KMIP_OPTIONS=$attributes ;;
+    attribute-add) KMIP_OPTIONS=$attributes ;;
+    attribute-modify) KMIP_OPTIONS=$attributes'index ' ;;
+    attribute-delete) KMIP_PLAIN=2 KMIP_OPTIONS=' index ' ;;
     sign) KMIP_PLAIN=2 KMIP_OPTIONS=' hash padding algorithm prehashed ' ;;
     get) KMIP_OPTIONS=' format wrap ' ;;
-    locate) KMIP_PLAIN=0 KMIP_OPTIONS=$attributes ;;
-    attribute-add) KMIP_OPTIONS=$attributes ;;
-    attribute-modify) KMIP_OPTIONS=$attributes' index ' ;;
-    attribute-delete) KMIP_PLAIN=2 KMIP_OPTIONS=' index ' ;;
     revoke) KMIP_OPTIONS=' reason message since ' ;;
     esac
+    # clients/grammar.py: end
 }
 
 # Whether all these words are options, as NAME=TEXT.
@@ -149,7 +162,7 @@ kmip_fit() { # WORD..
     done
 }
 
-# Leaves in KMIP_WORDS the words of a call, as kmip_call is to get them.
+# Leaves in KMIP_WORDS the words of a call, as kmip_call is to get them. Where they are none, it says so, and its status is 2.
 kmip_words() { # CALL WORD..
     local word KMIP_WORD KMIP_OPTIONS KMIP_PLAIN
     case ${1-} in
@@ -160,7 +173,11 @@ kmip_words() { # CALL WORD..
     esac
     KMIP_WORDS=("${1-}")
     kmip_options "${1-}"
-    kmip_are_options "${@:2+KMIP_PLAIN}" || KMIP_PLAIN=$#
+    # One word behind `locate` is a name, also with a `=`; before two attributes or more `where` may be left out.
+    if [[ ${1-} == locate && ${2-} != where ]]; then KMIP_PLAIN=0; fi
+    if [[ ${1-} == locate ]] && (($# < 3)) || ! kmip_are_options "${@:2+KMIP_PLAIN}"; then
+        KMIP_PLAIN=$#
+    fi
     for word in "${@:2:KMIP_PLAIN}"; do
         kmip_escape "$word"
         KMIP_WORDS+=("$KMIP_WORD")
@@ -189,6 +206,10 @@ kmip_can_open() { # CERTIFICATE KEY AUTHORITY
     for file in "$@" ${KMIP_PASSPHRASE_FILE:+"$KMIP_PASSPHRASE_FILE"}; do
         [[ -r $file && ! -d $file ]] || missing+="cannot read $file; "
     done
+    for file in "$1" "$3"; do
+        # openssl would ask the terminal for its passphrase.
+        if [[ -f $file ]] && grep -qs '^Proc-Type:.*ENCRYPTED' "$file"; then missing+="a block of $file is encrypted; "; fi
+    done
     if [[ -z ${KMIP_PASSPHRASE+set}${KMIP_PASSPHRASE_FILE-} ]] && grep -qs ENCRYPTED "$2"; then
         missing+="$2 is encrypted: KMIP_PASSPHRASE or KMIP_PASSPHRASE_FILE has to be set; "
     fi
@@ -209,9 +230,9 @@ kmip_can_open() { # CERTIFICATE KEY AUTHORITY
 # or k is a command, and lost. -pass: without it openssl asks the terminal. Descriptors 8 and 9 are kmip_carry's.
 kmip_client_words() { # HOST:PORT CERTIFICATE KEY AUTHORITY
     local host=${1%:*}
-    host=${host#[} host=${host%]}
+    host=${host#[} host=${host%]} host=${host%.}
     KMIP_WORDS=(s_client -quiet -verify_quiet -no_ign_eof -nocommands -connect "$1" -verify_return_error
-        -cert "$2" -key "$3" -CAfile "$4" -no-CApath -no-CAstore)
+        -cert "$2" -key "$3" -CAfile "$4" -no-CApath -no-CAstore -partial_chain)
     if [[ $host =~ ^[0-9.]+$ || $host == *:* ]]; then
         KMIP_WORDS+=(-verify_ip "$host" -noservername)
     else
@@ -257,8 +278,15 @@ kmip_open() { # HOST:PORT CERTIFICATE KEY AUTHORITY
         return 2
     fi
     kmip_close
+    local KMIP_WORDS=() file
+    # A path that begins with a sign is taken for no option by the tools, and none for an address.
+    for file in "${@:2}"; do
+        if [[ $file != /* ]]; then file=./$file; fi
+        KMIP_WORDS+=("$file")
+    done
+    set -- "$1" "${KMIP_WORDS[@]}"
     kmip_can_open "${@:2}" || return 3
-    local folder from to both log try KMIP_WORDS
+    local folder from to both log try
     if ! { folder=$(mktemp -d) && mkfifo "$folder/in" "$folder/out"; }; then return 3; fi
     # Each pipe is opened at both ends first, so that no opening waits for the other end. Their files are removed: the
     # end of the shell is the end of the connection, and nothing is left.
@@ -295,11 +323,11 @@ kmip_end() {
 
 # Whether the connection is lost. While a call is made on it, it is not.
 kmip_is_lost() {
-    local mine lost=1
+    local mine status=1
     if ! kmip_lives || ! exec {mine}<>"/proc/self/fd/$KMIP_STATE"; then return 0; fi
-    if flock -n "$mine" && [[ -s /proc/self/fd/$mine ]]; then lost=0; fi
+    if flock -n "$mine" && [[ -s /proc/self/fd/$mine ]]; then status=0; fi
     exec {mine}>&-
-    return $lost
+    return $status
 }
 
 # Says on standard error what openssl said: why a certificate is refused, or there is no connection.
@@ -356,7 +384,13 @@ kmip_make() { # WORD..
         kmip_lose RequestWriteError 'the connection was given up; nothing was sent; kmip_open opens a new one'
         return
     fi
-    printf 'a call is made\n' >&"$KMIP_MINE"
+    # What cannot be written is to be an error of what writes it, and not its end.
+    trap '' PIPE XFSZ
+    if ! { printf 'a call is made\n' >&"$KMIP_MINE"; } 2>/dev/null || [[ ! -s /proc/self/fd/$KMIP_MINE ]]; then
+        # A call that is given up after this would not be known to be.
+        kmip_lose RequestWriteError 'it cannot be noted in TMPDIR that a call is made; nothing was sent'
+        return
+    fi
     if ! kmip_lives; then
         kmip_lose RequestWriteError 'there is no connection; nothing was sent; kmip_open opens a new one'
         return
@@ -367,8 +401,6 @@ kmip_make() { # WORD..
         return
     fi
     trap 'kmip_end; trap - INT; kill -INT "$BASHPID"' INT
-    # What cannot be written is to be an error of kmip_call, by which a record is taken back, and not its end.
-    trap '' PIPE XFSZ
     timeout --foreground -k 1 "$KMIP_SECONDS" "$@" 2>&1 <&"$KMIP_IN" >&"$KMIP_OUT"
     status=$?
     case $status in
@@ -390,13 +422,27 @@ kmip_deadline() {
     KMIP_DEADLINE=$((10#${BASH_REMATCH[1]} * 1000000 + 10#${fraction:0:6}))
 }
 
-# Makes a call, and writes its answer. `pem` is a call of this file's own.
+# Makes a call, and writes its answer. `pem` and `register-..` are calls of this file's own.
 kmip() { # CALL WORD..
+    case ${1-} in
+    get | attributes) kmip_or_tree "$@" ;;
+    pem) kmip_pem "${@:2}" ;;
+    register-private | register-public | register-certificate | register-secret) kmip_register "${1#register-}" "${@:2}" ;;
+    register) kmip_not_pem "${@:3}" && kmip_once "$@" ;;
+    *) kmip_once "$@" ;;
+    esac
+}
+
+# Whether no word is the hex digits of PEM, which would be kept as the bytes of a key. Where one is, the status is 2.
+kmip_not_pem() { # WORD..
+    [[ " $* " =~ \ 2[Dd]2[Dd]2[Dd]2[Dd]2[Dd]424547494[Ee]20 ]] || return 0
+    kmip_fails GrammarError 'the key is PEM: kmip register-private and register-public take it'
+    return 2
+}
+
+# The same for a call of kmip_call.
+kmip_once() { # CALL WORD..
     local words=() status=0 KMIP_WORDS KMIP_DEADLINE
-    if [[ ${1-} == pem ]]; then
-        kmip_pem "${@:2}"
-        return
-    fi
     if [[ ! -e /proc/self/fd/1 ]]; then
         echo 'kmip: standard output is closed; nothing was sent' >&2
         return 4
@@ -405,18 +451,12 @@ kmip() { # CALL WORD..
         kmip_fails RequestWriteError 'no connection is open; kmip_open opens one'
         return 3
     fi
-    case ${1-} in
-    '' | query | create | create-rsa | create-aes | register | rng | locate | discover | raw | operation | message) ;;
-    *)
-        # With no word at all it is kmip_call that says which are missing, or that there is no such call.
-        if (($# > 1)) && [[ -z $2 ]]; then
-            kmip_fails GrammarError 'the identifier is empty'
-            return 2
-        fi
-        ;;
-    esac
     if ! kmip_deadline; then
         kmip_fails GrammarError 'KMIP_TIMEOUT is no number of seconds'
+        return 2
+    fi
+    if [[ ${KMIP_USER+set} != "${KMIP_PASSWORD+set}" ]]; then
+        kmip_fails GrammarError 'a credential is a user and a password: KMIP_USER and KMIP_PASSWORD'
         return 2
     fi
     if [[ -n ${KMIP_USER+set} ]]; then words+=("user=$KMIP_USER"); fi
@@ -437,25 +477,82 @@ kmip() { # CALL WORD..
     return $status
 }
 
+# Makes a call whose answer may be of a kind that its tables have no words for, as `get` of a key of EC: then it asks once
+# more, by the operation, whose answer is the payload as a tree.
+kmip_or_tree() { # CALL WORD..
+    local answer status=0
+    if [[ ! -e /proc/self/fd/1 ]]; then
+        kmip_once "$@"
+        return
+    fi
+    answer=$(kmip_once "$@") || status=$?
+    # (What was to be wrapped is not asked for in another way.)
+    if ((status == 1)) && [[ $answer == *'"text":"not a response message"'* && " ${*:3}" != *' wrap='* ]] && type -P jq >/dev/null; then
+        status=0
+        answer=$(kmip_tree "$@") || status=$?
+    fi
+    # What cannot be written is to be an error of what writes it, and not the end of the script.
+    if [[ -n $answer ]] && ! (trap '' PIPE XFSZ && printf '%s\n' "$answer") 2>/dev/null; then
+        kmip_not_written 'the answer cannot be written' || status=$?
+    fi
+    return $status
+}
+
+# The same by its operation. The answer has to be about the object that was asked about.
+kmip_tree() { # CALL IDENTIFIER WORD..
+    local answer status=0 payload name=Get
+    if [[ $1 == attributes ]]; then name=GetAttributes; fi
+    payload=$(jq -nc --arg call "$1" --arg it "$2" '$ARGS.positional as $more |
+        {tag: "RequestPayload", value: ([{tag: "UniqueIdentifier", type: "TextString", value: $it}] +
+            if $call == "attributes" then [$more[] | {tag: "AttributeName", type: "TextString", value: .}]
+            else [$more[] | select(startswith("format=")) | {tag: "KeyFormatType", type: "Enumeration", value: .[7:]}] end)}' \
+        --args "${@:3}") || return 5
+    answer=$(kmip_once operation "$name" version=1.0 "$payload") || status=$?
+    if ((status == 0)) && [[ $(jq -r '.answer.value[] | select(.tag == "UniqueIdentifier").value' <<<"$answer") != "$2" ]]; then
+        kmip_lose InternalError 'the response is about another object'
+        return
+    fi
+    printf '%s\n' "$answer"
+    return $status
+}
+
 # Makes a call, and writes one field of its answer, as unique_identifier or operations[0]. An error goes to standard error.
-# A field that is false is one; one that is null is none. What is said of an answer shows nothing of it, since that may be a
-# key.
+# A field that is false is one; one that is null is none, and so is a number that jq would round. What is said of an answer
+# shows nothing of it, since that may be a key; but the identifiers of what a call has made are not lost. The field is read
+# before the call is made.
 kmip_field() { # FIELD CALL WORD..
-    local field=${1-} answer status=0
+    local field=${1-} answer program status=0
+    program="[.answer.$field] | if any(..; type == \"number\" and (. >= 9007199254740992 or . <= -9007199254740992))
+        then (\"\" | halt_error(8)) elif all(. == null) then (\"\" | halt_error(9)) else .[] end"
+    kmip_has_jq || return
+    if ! jq "$program" </dev/null >/dev/null; then
+        kmip_fails GrammarError 'jq does not read the field, for the reason before; nothing was sent' >&2
+        return 2
+    fi
     answer=$(kmip "${@:2}") || status=$?
     if ((status != 0)); then
         printf '%s\n' "$answer" >&2
         return $status
     fi
-    jq -r "[.answer.$field] | if all(. == null) then (\"\" | halt_error(9)) else .[] end" \
-        < <(printf '%s\n' "$answer") || status=$?
+    jq -r "$program" < <(printf '%s\n' "$answer") || status=$?
     case $status in
     0) return 0 ;;
+    8) kmip_fails MissingValue 'the field has a number that jq cannot keep, 2^53 or past it; kmip shows it' >&2 ;;
     9) jq -nc --arg field "$field" '{error: "MissingValue", text: ("the answer has no " + $field)}' >&2 || : ;;
     3 | 5) kmip_fails MissingValue 'jq does not find the field, for the reason before' >&2 ;;
-    *) kmip_not_written 'the field cannot be written' || return ;;
+    *) kmip_not_written 'the field cannot be written' || status=4 ;;
     esac
-    return 1
+    case ${2-} in
+    create | create-rsa | create-aes | register) printf '%s\n' "$answer" >&2 ;;
+    esac
+    return $((status == 4 ? 4 : 1))
+}
+
+# Whether there is jq. Where there is none, it says so on standard error, and its status is 2.
+kmip_has_jq() {
+    type -P jq >/dev/null && return
+    kmip_fails GrammarError 'there is no jq (Debian: apt-get install jq); nothing was sent' >&2
+    return 2
 }
 
 # What an object of this type and format is called in PEM: the labels of RFC 7468, and OpenSSL's own for PKCS#1 and SEC 1.
@@ -473,15 +570,26 @@ kmip_pem_label() { # TYPE FORMAT
 
 # Gets an object, and writes it as PEM. An error goes to standard error. A key is in no word of a process.
 kmip_pem() { # IDENTIFIER
-    local answer type format bytes label status=0
+    local answer type format bytes label status=0 KMIP_WORD='' KMIP_FORMAT=''
+    kmip_has_jq || return
     answer=$(kmip get "$@") || status=$?
     if ((status != 0)); then
         printf '%s\n' "$answer" >&2
         return $status
     fi
-    IFS=$'\t' read -r type format bytes < <(printf '%s\n' "$answer" | jq -r '.answer | .object_type as $type |
-        .cryptographic_object[$type] | [$type] + if $type == "Certificate" then [.certificate_type, .certificate_value]
-        else [.key_block.key_format_type, (.key_block.key_value.key_material.Bytes? // "")] end | @tsv') || :
+    IFS=$'\t' read -r type format bytes < <(printf '%s\n' "$answer" | jq -r 'def at($t): (.value[]? | select(.tag == $t));
+        .answer | if .tag then at("ObjectType").value as $type | at($type) | [$type] + if $type == "Certificate" then
+            [at("CertificateType").value, at("CertificateValue").value] else at("KeyBlock") |
+            [at("KeyFormatType").value, (at("KeyValue") | at("KeyMaterial").value | if type == "string" then . else "" end)] end
+        else .object_type as $type | .cryptographic_object[$type] | [$type] + if $type == "Certificate" then
+            [.certificate_type, .certificate_value]
+            else [.key_block.key_format_type, (.key_block.key_value.key_material.Bytes? // "")] end end | @tsv') || :
+    # KMIP's encodings put a sign for others, as in PKCS_8.
+    format=${format//_/}
+    if [[ -z $bytes && $format == Transparent* ]]; then
+        kmip_parts "$format" "$answer"
+        bytes=$KMIP_WORD format=${format/#Transparent*/$KMIP_FORMAT}
+    fi
     if [[ -z $bytes ]] || ! label=$(kmip_pem_label "$type" "$format"); then
         kmip_fails MissingValue 'the answer has no PEM form' >&2
         return 1
@@ -493,11 +601,23 @@ kmip_pem() { # IDENTIFIER
     fi
 }
 
+# Runs a command in a shell of its own that has not the connection, and no secret of it in its environment.
+kmip_without() { # COMMAND WORD..
+    (
+        kmip_leave
+        export -n KMIP_PASSWORD KMIP_PASSPHRASE
+        "$@"
+    )
+}
+
+# Closes what this shell has of the connection.
+kmip_leave() {
+    if [[ -n ${KMIP_PID-} ]]; then exec {KMIP_IN}<&- {KMIP_OUT}>&- {KMIP_STATE}>&- {KMIP_LOG}<&-; fi
+    unset KMIP_IN KMIP_OUT KMIP_STATE KMIP_LOG KMIP_PID
+}
+
 # Ends the connection.
 kmip_close() {
-    if [[ -n ${KMIP_PID-} ]]; then
-        kmip_end
-        exec {KMIP_IN}<&- {KMIP_OUT}>&- {KMIP_STATE}>&- {KMIP_LOG}<&-
-    fi
-    unset KMIP_IN KMIP_OUT KMIP_STATE KMIP_LOG KMIP_PID
+    if [[ -n ${KMIP_PID-} ]]; then kmip_end; fi
+    kmip_leave
 }

@@ -10,6 +10,14 @@ static Block *small[16], *large;
 enum { SMALL = 12 };
 static const size_t LIMIT = (size_t)1 << 40;
 
+// Whether the memory grew. The number that memory.grow returns is not looked at: where binaryen lowers 64-bit memory, a
+// refusal is 2^32 - 1 and not -1.
+static int grew(size_t pages) {
+    size_t before = __builtin_wasm_memory_size(0);
+    __builtin_wasm_memory_grow(0, pages);
+    return __builtin_wasm_memory_size(0) == before + pages;
+}
+
 static int room(size_t size) { // whether so many bytes are there after `top`
     if (!top) {
         top = (unsigned char *)(((size_t)&__heap_base + 15) & ~15ul);
@@ -18,8 +26,8 @@ static int room(size_t size) { // whether so many bytes are there after `top`
     if ((size_t)(end - top) >= size) return 1;
     // A quarter more at a time, since a browser may copy all memory when it grows; what is needed, where that is refused.
     size_t pages = (size - (size_t)(end - top) + 65535) / 65536, more = __builtin_wasm_memory_size(0) / 4;
-    if (more > pages && __builtin_wasm_memory_grow(0, more) != (size_t)-1) pages = more;
-    else if (__builtin_wasm_memory_grow(0, pages) == (size_t)-1) return 0;
+    if (more > pages && grew(more)) pages = more;
+    else if (!grew(pages)) return 0;
     end += pages * 65536;
     return 1;
 }

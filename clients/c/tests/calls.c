@@ -1,9 +1,11 @@
 /* A session of calls with a server that makes it hard: calls MODE HOST PORT CERTIFICATE KEY
    AUTHORITY. */
 #define _DEFAULT_SOURCE
+#include "ders.h"
 #include "testing.h"
 
 #include <signal.h>
+#include <sys/resource.h>
 #include <sys/time.h>
 #include <unistd.h>
 
@@ -106,65 +108,73 @@ static void refused(kmip_client *client) {
     static const struct {
         const char *call, *words[6], *text;
     } rows[] = {
-        {"destroy", {"", NULL}, "destroy: word 1 after it is empty, and has to be an identifier"},
+        {"destroy", {"", NULL}, "an identifier is empty; "},
         {"sign -", {"00", NULL}, "the name of a call is one word, and this is none: sign -"},
         {"query\nquery",
          {NULL},
          "the name of a call is one word, and this is none: query\\u000Aquery"},
         {"", {NULL}, "the name of a call is one word, and this is none: "},
         {"sing", {"1", NULL}, "there is no call sing"},
-        {"rename", {"1", NULL}, "rename: word 2 after it is missing"},
-        {"query", {"1", NULL}, "query: word 1 after it is one too many"},
-        {"sign", {"1", "0", NULL}, "sign: word 2 after it is not of hex digits, two for each byte"},
-        {"rng", {"007", NULL}, "rng: word 1 after it is no number of 32 bits"},
-        {"rng", {"2147483648", NULL}, "rng: word 1 after it is no number of 32 bits"},
-        {"get", {"\xED\xA0\x80", NULL}, "get: word 1 after it is not UTF-8"},
-        {"attributes", {"1", "State", "\xFF", NULL}, "attributes: word 3 after it is not UTF-8"},
-        {"attributes", {NULL}, "attributes: word 1 after it is missing"},
+        {"rename", {"1", NULL}, "the words are not those of rename ID NAME"},
+        {"query", {"1", NULL}, "the words are not those of query"},
+        {"sign", {"1", "0", NULL}, "sign: HEX is no even number of hex digits"},
+        {"rng", {"007", NULL}, "rng: N is no number from -2147483648 to "},
+        {"rng", {"2147483648", NULL}, "rng: N is no number from -2147483648 to "},
+        {"get", {"\xED\xA0\x80", NULL}, "get: ID is no text: "},
+        {"attributes", {"1", "State", "\xFF", NULL}, "attributes: NAME is no text: "},
+        {"attributes", {NULL}, "the words are not those of attributes ID [NAME..]"},
         {"sign",
          {"1", "00", "padding=PSS", "hash=SHA3", NULL},
-         "sign: the value of hash= is none that it takes"},
-        {"get", {"1", "format=Raw", "format=Raw", NULL}, "get: format is given twice"},
-        {"get", {"1", "format=PKCS_1", NULL}, "get: the value of format= is none that it takes"},
+         "sign: hash=SHA3 is none of MD2, MD4, MD5, SHA1, "},
+        {"get", {"1", "format=Raw", "format=Raw", NULL}, "get: format= is given twice"},
+        {"get", {"1", "format=PKCS_1", NULL}, "get: format=PKCS_1 is none of Raw, Opaque, PKCS1, "},
         {"revoke",
          {"1", "message=a b", "since=-1", NULL},
-         "revoke: the value of since= is none that it takes"},
+         "revoke: since= is no number from 0 to 4294967295"},
         {"create",
          {"HMAC_SHA256", "8", "n", NULL},
-         "create: word 1 after it is none that it takes"},
+         "create: ALGORITHM is none of DES, TRIPLE_DES, AES, RSA"},
         {"register",
          {"secret", "00", "format=Raw", "algorithm=AES", "length=8", NULL},
-         "register: word 1 after it is none that it takes"},
+         "register: KIND is none of public, private, symmetric"},
         {"register",
          {"public", "00", "format=Raw", "length=8", NULL},
          "register: algorithm= is missing"},
         {"register",
          {"public", "00", "format=Raw", "algorithm=EC", "length=8", NULL},
-         "register: the value of algorithm= is none that it takes"},
+         "register: algorithm=EC is none of DES, TRIPLE_DES, AES, RSA"},
         {"locate",
-         {"name=a", "state=x", NULL},
-         "locate: the value of state= is none that it takes"},
-        {"attribute-add",
-         {"1", NULL},
-         "attribute-add: it takes one attribute, and behind it options"},
+         {"where", "name=a", "state=x", NULL},
+         "locate: state=x is none of PreActive, Active, "},
+        {"locate", {"name=a", "state=x", NULL}, "locate: state=x is none of PreActive, Active, "},
+        {"locate", {"name=a", "b", NULL}, "locate: ATTRIBUTE is none of name=, group=, "},
+        {"locate", {"where", "name=a", "b", NULL}, "locate: ATTRIBUTE is none of name=, group=, "},
+        {"locate", {"\xFF", NULL}, "locate: NAME is no text: "},
+        {"sign",
+         {"1", "00", "hash=SHA384", "prehashed", NULL},
+         "prehashed and hash= exclude each other: KMIP 1.2 has no digested data in Sign, "},
+        {"get", {"1", "wrap=", NULL}, "an identifier is empty; "},
+        {"attribute-add", {"1", NULL}, "the words are not those of attribute-add ID ATTRIBUTE"},
         {"attribute-add",
          {"1", "name=a", "group=b", NULL},
-         "attribute-add: it takes one attribute, and behind it options"},
+         "the words are not those of attribute-add ID ATTRIBUTE"},
         {"attribute-modify",
          {"1", "index=0", "name=a", NULL},
-         "attribute-modify: it takes one attribute, and behind it options"},
+         "the words are not those of attribute-modify ID ATTRIBUTE [index=]"},
         {"attribute-modify",
          {"1", "type=x", "index=0", NULL},
-         "attribute-modify: the value of type= is none that it takes"},
-        {"raw", {"00", NULL}, "raw: word 1 after it is not the one canonical message of a request"},
+         "attribute-modify: type=x is none of Certificate, "},
+        {"raw", {"00", NULL}, "raw: the bytes are not the one canonical message of a request"},
     };
     for (size_t i = 0; i < sizeof rows / sizeof *rows; i++) {
         char line[300];
-        snprintf(line, sizeof line, "{\"error\":\"GrammarError\",\"text\":\"%s\"}", rows[i].text);
+        snprintf(line, sizeof line, "{\"error\":\"GrammarError\",\"text\":\"%s", rows[i].text);
         check(kmip_call_words(client, rows[i].call, rows[i].words) == KMIP_CALL_GRAMMAR,
               "a call that is refused");
-        check_text(kmip_line(client), line, "and why");
+        check(strncmp(kmip_line(client), line, strlen(line)) == 0, rows[i].text);
     }
+    check(kmip_call(client, "sign", "1", "00", "padding=PSS", "prehashed", NULL) == KMIP_ANSWERED,
+          "a digest is signed as it is");
     check(kmip_call(client, "activate", "-", NULL) == KMIP_ANSWERED,
           "the identifier - is none that is empty");
     check(kmip_call(client, "query", NULL) == KMIP_ANSWERED, "the connection is good");
@@ -190,6 +200,76 @@ static void close_waits(kmip_client *client) {
           "kmip_close does not wait for a server that says nothing");
 }
 
+/* A client with the shortest deadline within which there is a connection. */
+static kmip_client *hurried(kmip_settings settings, double *seconds) {
+    static const double choices[] = {1.5, 12, 60};
+    kmip_client *client = NULL;
+    for (size_t i = 0; !client && i < sizeof choices / sizeof *choices; i++) {
+        settings.seconds = *seconds = choices[i];
+        client = kmip_open(&settings, NULL, 0);
+    }
+    if (!client) exit(1);
+    return client;
+}
+
+/* A call ends with its deadline, and says so. */
+static void ends_in_time(kmip_client *client, double seconds) {
+    char reading[200], writing[200];
+    double from = seconds_now();
+    check(kmip_call(client, "query", NULL) == KMIP_LOST,
+          "a call with a server that sends tickets without end");
+    check(seconds_now() - from < seconds + 20, "ends with its deadline");
+    snprintf(reading, sizeof reading,
+             "{\"error\":\"ResponseReadError\",\"text\":\"no answer within %g seconds\"}", seconds);
+    snprintf(writing, sizeof writing,
+             "{\"error\":\"RequestWriteError\",\"text\":\"no answer within %g seconds; nothing was "
+             "sent\"}",
+             seconds);
+    check_text(kmip_line(client), kmip_was_sent(client) ? reading : writing, "and says so");
+    from = seconds_now();
+    kmip_close(client);
+    check(seconds_now() - from < 20, "so does kmip_close");
+}
+
+static void tickets(const kmip_settings *settings) {
+    double seconds;
+    kmip_client *client = hurried(*settings, &seconds);
+    ends_in_time(client, seconds);
+}
+
+/* They come after an answer: in the look before the next call, and at the end. */
+static void tickets_after(const kmip_settings *settings) {
+    double seconds;
+    kmip_client *client = hurried(*settings, &seconds);
+    check(kmip_call(client, "query", NULL) == KMIP_ANSWERED, "a call before the tickets");
+    usleep(300000); /* so that they are there, mostly */
+    ends_in_time(client, seconds);
+    client = hurried(*settings, &seconds);
+    check(kmip_call(client, "query", NULL) == KMIP_ANSWERED, "a call before the tickets");
+    double from = seconds_now();
+    kmip_close(client);
+    check(seconds_now() - from < seconds + 20, "kmip_close takes none of them");
+}
+
+/* The most memory that the process has had, in KiB. */
+static long most_memory(void) {
+    struct rusage usage;
+    return getrusage(RUSAGE_SELF, &usage) == 0 ? usage.ru_maxrss : -1;
+}
+
+/* A response whose head announces nearly 4 GiB, of which a thousand bytes come. */
+static void announced(kmip_settings settings) {
+    double seconds;
+    settings.limit = 0;
+    kmip_client *client = hurried(settings, &seconds);
+    long before = most_memory();
+    check(kmip_call(client, "query", NULL) == KMIP_LOST, "a response that does not come");
+    kmip_close(client);
+    long after = most_memory();
+    check(before > 0 && after - before < 65536, "takes no memory for what was announced");
+    if (after - before >= 65536) printf("        it took %ld KiB\n", after - before);
+}
+
 /* Any operation, by its name and a payload in JSON. */
 static void operation(kmip_client *client) {
     static const char encrypt[] =
@@ -209,10 +289,11 @@ static void operation(kmip_client *client) {
           "another name is no call");
     check(kmip_operation(client, "Encrypt", "1.2", "{}") == KMIP_CALL_GRAMMAR,
           "nor is another payload");
-    check_text(kmip_line(client),
-               "{\"error\":\"GrammarError\",\"text\":\"the payload is not the JSON of a "
-               "RequestPayload\"}",
-               "the reason is said");
+    check_text(
+        kmip_line(client),
+        "{\"error\":\"GrammarError\",\"text\":\"the payload: line 1, column 1, tag: expected the "
+        "name of a tag, or 0x and six hex digits, found nothing\"}",
+        "the reason is said");
     check(kmip_operation(client, "Encrypt", "1.3", encrypt) == KMIP_CALL_GRAMMAR,
           "nor is another version");
     check_text(kmip_line(client),
@@ -229,20 +310,74 @@ static void operation(kmip_client *client) {
     check(kmip_operation(NULL, "Encrypt", "1.2", encrypt) == KMIP_LOST, "a null client is lost");
 }
 
+/* An identifier that is empty, wherever it stands in a payload. */
+static void empty_identifier(kmip_client *client) {
+    static const char *const payloads[] = {
+        "{\"tag\":\"RequestPayload\",\"value\":[{\"tag\":\"UniqueIdentifier\",\"type\":"
+        "\"TextString\",\"value\":\"\"}]}",
+        "{\"tag\": \"RequestPayload\", \"value\": [{\"tag\": \"0x420094\", \"type\": "
+        "\"TextString\", \"value\": \"\"}]}",
+        "{\"tag\":\"RequestPayload\",\"value\":[{\"tag\":\"UniqueIdentifier\",\"type\":"
+        "\"TextString\",\"value\":\"k\"},{\"tag\":\"KeyWrappingSpecification\",\"value\":[{\"tag\":"
+        "\"EncryptionKeyInformation\",\"value\":[{\"tag\":\"UniqueIdentifier\",\"type\":"
+        "\"TextString\",\"value\":\"\"}]}]}]}",
+    };
+    for (size_t i = 0; i < sizeof payloads / sizeof *payloads; i++) {
+        check(kmip_operation(client, "Get", "1.2", payloads[i]) == KMIP_CALL_GRAMMAR &&
+                  !kmip_was_sent(client),
+              "a payload with an empty identifier is not sent");
+        check_text(
+            kmip_line(client),
+            "{\"error\":\"GrammarError\",\"text\":\"the payload: a UniqueIdentifier in it is "
+            "empty\"}",
+            "and why");
+    }
+}
+
+static void refuses_certificate(kmip_client *client, const void *bytes, size_t length,
+                                const char *why) {
+    char line[200];
+    check(kmip_register_certificate(client, bytes, length, NULL, NULL) == KMIP_CALL_GRAMMAR &&
+              !kmip_was_sent(client),
+          "what is no certificate is not sent");
+    snprintf(line, sizeof line, "{\"error\":\"GrammarError\",\"text\":\"the certificate is %s\"}",
+             why);
+    check_text(kmip_line(client), line, "and why");
+}
+
 /* Certificates that are registered, and what is none. */
-static void certificate(kmip_client *client) {
-    check(kmip_register_certificate(client, "\x30\x00", 2, "root", "Verify") == KMIP_ANSWERED,
+static void certificate(kmip_client *client, const kmip_settings *settings) {
+    size_t length;
+    uint8_t *der = der_of_certificate(settings->certificate, &length);
+    check(kmip_register_certificate(client, der, length, "root", "Verify") == KMIP_ANSWERED,
           "a certificate is registered");
     check_text(kmip_text(client, "UniqueIdentifier", NULL), "1", "and its identifier is known");
-    check(kmip_register_certificate(client, "x", 1, NULL, NULL) == KMIP_CALL_GRAMMAR,
-          "what is no certificate is refused");
-    check_text(kmip_line(client),
-               "{\"error\":\"GrammarError\",\"text\":\"the certificate is neither DER nor PEM\"}",
-               "and why");
+    check(kmip_register_certificate(NULL, der, length, NULL, NULL) == KMIP_LOST,
+          "a null client is lost");
+    OPENSSL_free(der);
+    refuses_certificate(client, "x", 1, "neither DER nor PEM");
+    der = der_of_key(settings->key, &length);
+    refuses_certificate(client, der, length, "none of X.509");
+    OPENSSL_free(der);
     check(kmip_text(client, "UniqueIdentifier", NULL) == NULL, "after it there is no value");
     check(kmip_call(client, "query", NULL) == KMIP_ANSWERED, "the connection is good");
-    check(kmip_register_certificate(NULL, "\x30\x00", 2, NULL, NULL) == KMIP_LOST,
-          "a null client is lost");
+}
+
+/* Words that are counted: none is lost where one is null. */
+static void counted(kmip_client *client) {
+    const char *const words[] = {"mine", "00", NULL, "hash=SHA512"};
+    check(kmip_call_array(client, "sign", words, 2) == KMIP_ANSWERED, "words that are counted");
+    check_text(kmip_text(client, "unique_identifier", NULL), "mine", "and their answer");
+    check(kmip_call_array(client, "sign", words, 4) == KMIP_CALL_GRAMMAR && !kmip_was_sent(client),
+          "one of them is null");
+    check_text(kmip_line(client),
+               "{\"error\":\"GrammarError\",\"text\":\"sign: word 3 after it is a null pointer\"}",
+               "which is said");
+    check(kmip_call_array(client, "query", NULL, 0) == KMIP_ANSWERED, "there may be none");
+    check(kmip_call_array(client, "query", words, SIZE_MAX / 4) == KMIP_CALL_GRAMMAR,
+          "they are looked at up to the first that is null");
+    check(kmip_call(client, "sign", "mine", "00", KMIP_END) == KMIP_ANSWERED, "their end, by name");
+    check(kmip_call_array(NULL, "query", NULL, 0) == KMIP_LOST, "a null client is lost");
 }
 
 int main(int argc, char **argv) {
@@ -251,9 +386,12 @@ int main(int argc, char **argv) {
     kmip_settings settings = settings_of(argv + 1);
     if (strcmp(mode, "close") == 0) settings.seconds = 2 * LONG_WAIT;
     if (strcmp(mode, "in_order") == 0) settings.user = "in order", settings.password = "";
+    if (strcmp(mode, "announced") == 0) return announced(settings), outcome();
+    if (strcmp(mode, "tickets") == 0) return tickets(&settings), outcome();
+    if (strcmp(mode, "tickets_after") == 0) return tickets_after(&settings), outcome();
     kmip_client *client = opened(&settings);
-    if (strcmp(mode, "close") == 0) return close_waits(client), 0;
-    if (strcmp(mode, "in_order") == 0) return in_order(client, &settings), 0;
+    if (strcmp(mode, "close") == 0) return close_waits(client), outcome();
+    if (strcmp(mode, "in_order") == 0) return in_order(client, &settings), outcome();
     if (strcmp(mode, "restart") == 0) signals(client, SA_RESTART);
     if (strcmp(mode, "interrupt") == 0) signals(client, 0);
     if (strcmp(mode, "sigpipe") == 0) sigpipe(client);
@@ -261,9 +399,10 @@ int main(int argc, char **argv) {
     if (strcmp(mode, "another_object") == 0) another_object(client);
     if (strcmp(mode, "ended") == 0) ended(client);
     if (strcmp(mode, "values") == 0) values(client);
-    if (strcmp(mode, "operation") == 0) operation(client);
-    if (strcmp(mode, "certificate") == 0) certificate(client);
+    if (strcmp(mode, "operation") == 0) operation(client), empty_identifier(client);
+    if (strcmp(mode, "certificate") == 0) certificate(client, &settings);
+    if (strcmp(mode, "counted") == 0) counted(client);
     if (strcmp(mode, "refused") == 0) refused(client);
     kmip_close(client);
-    return 0;
+    return outcome();
 }

@@ -1,5 +1,7 @@
-/* Values of the answer to an operation, and the payload of a certificate, with no server. */
+/* Values of the answer to an operation, and the payload of a certificate, with no server: items
+   HOST PORT CERTIFICATE KEY AUTHORITY. */
 #define _DEFAULT_SOURCE
+#include "ders.h"
 #include "metsuwan_internal.h"
 #include "testing.h"
 
@@ -108,7 +110,19 @@ static int64_t request_of(const char *payload, uint8_t *into, size_t room) {
                                   (const uint8_t *)"", 0, (const uint8_t *)"", 0, into, room);
 }
 
-/* Each of these is registered with the payload that is written here by hand. */
+/* A certificate, and its bytes as hex digits. */
+static uint8_t *der;
+static size_t der_len;
+static char der_hex[8000];
+
+static void take_certificate(const char *path) {
+    der = der_of_certificate(path, &der_len);
+    if (2 * der_len >= sizeof der_hex) exit(1);
+    for (size_t i = 0; i < der_len; i++)
+        snprintf(der_hex + 2 * i, 3, "%02X", der[i]);
+}
+
+/* It is registered with the payload that is written here by hand. */
 static void registers(const void *certificate, size_t length, const char *name, const char *usage,
                       const char *attributes) {
     static const char front[] =
@@ -118,11 +132,11 @@ static void registers(const void *certificate, size_t length, const char *name, 
     static const char back[] =
         "]},{\"tag\":\"Certificate\",\"value\":["
         "{\"tag\":\"CertificateType\",\"type\":\"Enumeration\",\"value\":\"0x00000001\"},"
-        "{\"tag\":\"CertificateValue\",\"type\":\"ByteString\",\"value\":\"3001AB\"}]}]}";
-    static uint8_t made[4096], wanted[4096];
-    char payload[2000];
+        "{\"tag\":\"CertificateValue\",\"type\":\"ByteString\",\"value\":\"";
+    static uint8_t made[8000], wanted[8000];
+    static char payload[10000];
     kmip_room room = {NULL, 0};
-    snprintf(payload, sizeof payload, "%s%s%s", front, attributes, back);
+    snprintf(payload, sizeof payload, "%s%s%s%s\"}]}]}", front, attributes, back, der_hex);
     int64_t count = request_of(payload, wanted, sizeof wanted);
     const char *wrong = kmip_write_certificate(&room, certificate, length, name, usage);
     bool same = !wrong && room.bytes && count > 0 &&
@@ -133,8 +147,6 @@ static void registers(const void *certificate, size_t length, const char *name, 
 }
 
 static void certificates(void) {
-    static const char pem[] =
-        "0: \xE9\r\n-----BEGIN CERTIFICATE-----\r\nMA\n Gr\t\n-----END CERTIFICATE-----\r\nafter";
     static const char usage[] =
         "{\"tag\":\"Attribute\",\"value\":["
         "{\"tag\":\"AttributeName\",\"type\":\"TextString\",\"value\":\"Cryptographic Usage "
@@ -149,11 +161,13 @@ static void certificates(void) {
     static const char uses[] = "Verify,CertificateSign,TranslateUnwrap";
     char both[1000];
     snprintf(both, sizeof both, "%s,%s", usage, name);
-    registers("\x30\x01\xAB", 3, NULL, NULL, "");
-    registers(pem, sizeof pem - 1, NULL, NULL, "");
-    registers(pem, sizeof pem - 1, NULL, uses, usage);
-    registers(pem, sizeof pem - 1, "the \"root\"\n\xC3\xA9", NULL, name);
-    registers("\x30\x01\xAB", 3, "the \"root\"\n\xC3\xA9", uses, both);
+    char *pem = pem_of(der, der_len);
+    registers(der, der_len, NULL, NULL, "");
+    registers(pem, strlen(pem), NULL, NULL, "");
+    registers(pem, strlen(pem), NULL, uses, usage);
+    registers(pem, strlen(pem), "the \"root\"\n\xC3\xA9", NULL, name);
+    registers(der, der_len, "the \"root\"\n\xC3\xA9", uses, both);
+    free(pem);
 }
 
 static void refuses(const void *certificate, size_t length, const char *name, const char *usage,
@@ -201,13 +215,34 @@ static void no_certificates(void) {
         refuses("\x30\x00", 2, NULL, usages[i], "usage is not names of KMIP");
 }
 
-int main(void) {
+/* What servers would show to everybody, as they do a certificate. */
+static void no_keys(const char *path) {
+    static const char why[] = "the certificate is none of X.509";
+    size_t length;
+    uint8_t *key = der_of_key(path, &length);
+    char *pem = pem_of(key, length);
+    refuses(key, length, NULL, NULL, why);
+    refuses(pem, strlen(pem), NULL, NULL, why);
+    refuses("0\x00", 2, NULL, NULL, why);
+    der[der_len - 1] ^= 1; /* of its signature, which is not looked at */
+    kmip_room room = {NULL, 0};
+    check(!kmip_write_certificate(&room, der, der_len, NULL, NULL), "a signature is not verified");
+    kmip_room_free(&room);
+    free(pem);
+    OPENSSL_free(key);
+}
+
+int main(int argc, char **argv) {
+    if (argc < 6) return 2;
     texts();
     octets();
     missing();
     torn();
+    take_certificate(argv[3]);
     certificates();
     no_certificates();
+    no_keys(argv[4]);
+    OPENSSL_free(der);
     kmip_room_free(&value);
-    return 0;
+    return outcome();
 }

@@ -1,6 +1,6 @@
-/* Operations, keys and certificates past the calls of words, against PyKMIP: operations OBJECTS HOST
-   PORT CERTIFICATE KEY AUTHORITY, where OBJECTS is the folder of certs.sh that has them. What was
-   got of them is left in the folder that it is run in. */
+/* Operations, keys and certificates past the calls of words, against PyKMIP: operations OBJECTS
+   HOST PORT CERTIFICATE KEY AUTHORITY, where OBJECTS is the folder of certs.sh that has them. What
+   was got of them is left in the folder that it is run in. */
 #define _DEFAULT_SOURCE
 #include "testing.h"
 
@@ -10,8 +10,8 @@
 #include <time.h>
 
 #define NAME "operations, c"
-#define HMAC_SHA256 "0x00000009"
-#define ECDSA "0x00000006"
+#define HMAC_SHA256 "HMAC_SHA256"
+#define ECDSA "ECDSA"
 #define IDENTIFIER "{'tag':'UniqueIdentifier','type':'TextString','value':'%s'}"
 #define TEXT(tag, text) "{'tag':'" tag "','type':'TextString','value':'" text "'}"
 #define NAMED(tag, name) "{'tag':'" tag "','type':'Enumeration','value':'" name "'}"
@@ -78,81 +78,18 @@ static bool bytes_are(kmip_client *client, const char *path, const uint8_t *want
 /* Registers a key of an algorithm that calls of words do not have. */
 static char *registered(kmip_client *client, const char *tag, const char *format,
                         const char *algorithm, int use, const uint8_t *material, size_t length) {
+    static const char items[] =
+        "{'tag':'ObjectType','type':'Enumeration','value':'%s'},"
+        "{'tag':'TemplateAttribute','value':[{'tag':'Attribute','value':["
+        "{'tag':'AttributeName','type':'TextString','value':'Cryptographic Usage Mask'},"
+        "{'tag':'AttributeValue','type':'Integer','value':%d}]}]},"
+        "{'tag':'%s','value':[{'tag':'KeyBlock','value':["
+        "{'tag':'KeyFormatType','type':'Enumeration','value':'%s'},"
+        "{'tag':'KeyValue','value':[{'tag':'KeyMaterial','type':'ByteString','value':'%s'}]},"
+        "{'tag':'CryptographicAlgorithm','type':'Enumeration','value':'%s'},"
+        "{'tag':'CryptographicLength','type':'Integer','value':256}]}]}";
     char *hex = hex_of(material, length);
-    int status =
-        ask(client, "Register",
-            NAMED("ObjectType", "%s") "," ITEMS(
-                "TemplateAttribute",
-                ATTRIBUTE("Cryptographic Usage Mask",
-                          "{'tag':'AttributeValue','type':'Integer','value':%"
-                          "d}")) "," ITEMS("%s",
-                                           ITEMS("KeyBlock",
-                                                 NAMED("KeyFormatType", "%s") "," ITEMS(
-                                                     "KeyValue", BYTES("KeyMaterial",
-                                                                       "%s")) "," NAMED("Cryptog"
-                                                                                        "raphicA"
-                                                                                        "lgorith"
-                                                                                        "m",
-                                                                                        "%s") ","
-                                                                                              "{"
-                                                                                              "'"
-                                                                                              "t"
-                                                                                              "a"
-                                                                                              "g"
-                                                                                              "'"
-                                                                                              ":"
-                                                                                              "'"
-                                                                                              "C"
-                                                                                              "r"
-                                                                                              "y"
-                                                                                              "p"
-                                                                                              "t"
-                                                                                              "o"
-                                                                                              "g"
-                                                                                              "r"
-                                                                                              "a"
-                                                                                              "p"
-                                                                                              "h"
-                                                                                              "i"
-                                                                                              "c"
-                                                                                              "L"
-                                                                                              "e"
-                                                                                              "n"
-                                                                                              "g"
-                                                                                              "t"
-                                                                                              "h"
-                                                                                              "'"
-                                                                                              ","
-                                                                                              "'"
-                                                                                              "t"
-                                                                                              "y"
-                                                                                              "p"
-                                                                                              "e"
-                                                                                              "'"
-                                                                                              ":"
-                                                                                              "'"
-                                                                                              "I"
-                                                                                              "n"
-                                                                                              "t"
-                                                                                              "e"
-                                                                                              "g"
-                                                                                              "e"
-                                                                                              "r"
-                                                                                              "'"
-                                                                                              ","
-                                                                                              "'"
-                                                                                              "v"
-                                                                                              "a"
-                                                                                              "l"
-                                                                                              "u"
-                                                                                              "e"
-                                                                                              "'"
-                                                                                              ":"
-                                                                                              "2"
-                                                                                              "5"
-                                                                                              "6"
-                                                                                              "}")),
-            tag, use, tag, format, hex, algorithm);
+    int status = ask(client, "Register", items, tag, use, tag, format, hex, algorithm);
     free(hex);
     check(status == KMIP_ANSWERED, "a key of another algorithm is registered");
     return copy_at(client, "UniqueIdentifier");
@@ -161,7 +98,7 @@ static char *registered(kmip_client *client, const char *tag, const char *format
 /* The attributes and the bytes of a key are those that were registered. */
 static void is_kept(kmip_client *client, const char *key, const char *tag, const char *algorithm,
                     const uint8_t *material, size_t length) {
-    char path[100], number[20];
+    char path[100];
     check(ask(client, "GetAttributes",
               IDENTIFIER "," TEXT("AttributeName", "Cryptographic Algorithm"),
               key) == KMIP_ANSWERED,
@@ -173,14 +110,11 @@ static void is_kept(kmip_client *client, const char *key, const char *tag, const
     check_text(kmip_text(client, "ObjectType", NULL), tag, "by its type");
     snprintf(path, sizeof path, "%s.KeyBlock.KeyValue.KeyMaterial", tag);
     check(bytes_are(client, path, material, length), "as it was");
-    snprintf(number, sizeof number, "e%lX:", strtoul(algorithm, NULL, 16));
-    const char *const calls[] = {"attributes", "get"};
-    for (size_t i = 0; i < 2; i++) {
-        check(kmip_call(client, calls[i], key, NULL) == KMIP_REFUSED,
-              "it is out of reach of words");
-        check(strstr(kmip_line(client), "InternalError") && strstr(kmip_line(client), number),
-              "and what came is told");
-    }
+    check(kmip_call(client, "attributes", key, NULL) == KMIP_ANSWERED &&
+              kmip_text(client, "Attribute.AttributeName", NULL),
+          "its attributes are read by words, too");
+    check(kmip_call(client, "get", key, NULL) == KMIP_ANSWERED, "it is got by words, too");
+    check(bytes_are(client, path, material, length), "as it was");
 }
 
 static void keys(kmip_client *client, const char *objects) {
@@ -210,7 +144,7 @@ static void keys(kmip_client *client, const char *objects) {
 static void signatures(kmip_client *client) {
     static const struct {
         const char *data, *validity;
-    } rows[] = {{"68656C6C6F", "0x00000001"}, {"48656C6C6F", "0x00000002"}};
+    } rows[] = {{"68656C6C6F", "Valid"}, {"48656C6C6F", "Invalid"}};
     size_t length;
     check(kmip_call(client, "create-rsa", "2048", NAME, NAME ", public", NULL) == KMIP_ANSWERED,
           "a pair is made");
@@ -347,5 +281,5 @@ int main(int argc, char **argv) {
     dates(client);
     certificates(client, argv[1]);
     kmip_close(client);
-    return 0;
+    return outcome();
 }

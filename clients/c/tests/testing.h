@@ -37,7 +37,16 @@ static inline double seconds_now(void) {
     return (double)at.tv_sec + (double)at.tv_nsec / 1e9;
 }
 
+/* How many checks have failed. */
+static int failed;
+
+/* What main returns. */
+static inline int outcome(void) {
+    return fflush(stdout) != 0 || failed != 0;
+}
+
 static inline void check(bool holds, const char *what) {
+    failed += !holds;
     printf("%s c: %s\n", holds ? "ok     " : "FAILED ", what);
 }
 

@@ -7,15 +7,20 @@
         kmip.activate(pair.private_key)
         signature = kmip.sign(pair.private_key, b'to be signed').signature_data
 """
+from .batch import Batch
 from .client import Client
 from .errors import (ConnectError, ConnectionLost, DeserializeError, GrammarError, InternalError,
-                     ItemNotFound, KmipError, MissingValue, OtherObject, Refused, RequestWriteError,
-                     ResponseReadError, SerializeError, ServerError)
+                     ItemNotFound, KmipError, LibraryError, MissingValue, NotDone, OtherObject,
+                     Reason, Refused, RequestWriteError, ResponseReadError, SerializeError, ServerError)
 from .items import Item
 from .objects import KeyPair, ManagedObject, Signed
+from .pool import Pool
+
+__version__ = '1.0'
 
 __all__ = [
-    'Client', 'ConnectError', 'ConnectionLost', 'DeserializeError', 'GrammarError', 'InternalError',
-    'Item', 'ItemNotFound', 'KeyPair', 'KmipError', 'ManagedObject', 'MissingValue', 'OtherObject',
-    'Refused', 'RequestWriteError', 'ResponseReadError', 'SerializeError', 'ServerError', 'Signed',
+    'Batch', 'Client', 'ConnectError', 'ConnectionLost', 'DeserializeError', 'GrammarError', 'InternalError',
+    'Item', 'ItemNotFound', 'KeyPair', 'KmipError', 'LibraryError', 'ManagedObject',
+    'MissingValue', 'NotDone', 'OtherObject', 'Pool', 'Reason', 'Refused', 'RequestWriteError', 'ResponseReadError',
+    'SerializeError', 'ServerError', 'Signed',
 ]

@@ -6,11 +6,12 @@ bytes are not taken for a text, or a number for bytes.
 from __future__ import annotations
 
 import re
-from typing import (Any, Callable, Dict, Iterator, List, Mapping, NamedTuple, Optional, Sequence,
-                    Tuple, Union)
+from typing import (Any, Callable, Dict, Iterator, List, Mapping, NamedTuple, Sequence, Tuple,
+                    Union)
 from urllib.parse import quote
 
 from .errors import GrammarError
+from .library import Library
 
 Bytes = Union[bytes, bytearray, memoryview]
 Word = Union[str, Bytes, int]
@@ -28,8 +29,8 @@ class Kind(NamedTuple):
     read: Callable[[str], Any]
 
 
-def _write_text(text: str) -> str:
-    return '%2D' if text == EMPTY else quote(text, safe='') or EMPTY
+def _write_text(text: str, errors: str = 'strict') -> str:
+    return '%2D' if text == EMPTY else quote(text, safe='', errors=errors) or EMPTY
 
 
 def _write_bytes(value: Bytes) -> str:
@@ -91,115 +92,56 @@ NAMES = Kind('names of KMIP', (str, list, tuple), _write_names, str)
 DATE = Kind('a date', (int,), _write_date, _read_number)
 FLAG = Kind('True', (bool,), _write_flag, _read_flag)
 
+# The words of each call, and its options, each a word `NAME=VALUE` after the others; `prehashed` is
+# a word alone.
+# clients/grammar.py: calls
 CALLS: Dict[str, Tuple[Kind, ...]] = {
     'query': (),
-    'create': (NAME, NUMBER, TEXT),
+    'discover': (),
     'create-rsa': (NUMBER, TEXT, TEXT),
     'create-aes': (NUMBER, TEXT),
+    'create': (NAME, NUMBER, TEXT),
     'register': (NAME, BYTES),
-    'rng': (NUMBER,),
-    'activate': (IDENTIFIER,),
-    'sign': (IDENTIFIER, BYTES),
-    'rename': (IDENTIFIER, TEXT),
-    'get': (IDENTIFIER,),
     'locate': (TEXT,),
     'attributes': (IDENTIFIER,),
     'attribute-add': (IDENTIFIER,),
     'attribute-modify': (IDENTIFIER,),
     'attribute-delete': (IDENTIFIER, TEXT),
+    'activate': (IDENTIFIER,),
+    'sign': (IDENTIFIER, BYTES),
+    'rename': (IDENTIFIER, TEXT),
+    'get': (IDENTIFIER,),
     'revoke': (IDENTIFIER,),
     'destroy': (IDENTIFIER,),
-    'discover': (),
+    'rng': (NUMBER,),
     'raw': (BYTES,),
 }
 
 ATTRIBUTES = {'name': TEXT, 'group': TEXT, 'contact': TEXT, 'type': NAME, 'state': NAME,
               'algorithm': NAME, 'length': NUMBER, 'activation': DATE}
-# The options of a call, each a word `NAME=VALUE` after the others; `prehashed` is a word alone.
 OPTIONS: Dict[str, Dict[str, Kind]] = {
-    'create': {'usage': NAMES},
     'create-rsa': {'private-usage': NAMES, 'public-usage': NAMES},
+    'create': {'usage': NAMES},
     'register': {'format': NAME, 'algorithm': NAME, 'length': NUMBER, 'usage': NAMES, 'name': TEXT},
-    'sign': {'hash': NAME, 'padding': NAME, 'algorithm': NAME, 'prehashed': FLAG},
-    'get': {'format': NAME, 'wrap': TEXT},
     'locate': ATTRIBUTES,
     'attribute-add': ATTRIBUTES,
     'attribute-modify': {**ATTRIBUTES, 'index': NUMBER},
     'attribute-delete': {'index': NUMBER},
+    'sign': {'hash': NAME, 'padding': NAME, 'algorithm': NAME, 'prehashed': FLAG},
+    'get': {'format': NAME, 'wrap': IDENTIFIER},
     'revoke': {'reason': NAME, 'message': TEXT, 'since': DATE},
 }
-
-
-# Calls that the library takes, one of each name that has options, with those that it needs.
-SAMPLES = {
-    'create': 'AES 8 x',
-    'create-rsa': '8 x y',
-    'register': 'symmetric 00 format=Raw algorithm=AES length=8',
-    'sign': 'x 00',
-    'get': 'x',
-    'locate': '',
-    'attribute-add': 'x',
-    'attribute-modify': 'x',
-    'attribute-delete': 'x y',
-    'revoke': 'x',
-}
-
-
-def _option_name(word: str) -> str:
-    name, equals, _ = word.partition('=')
-    return name + equals
-
-
-def _sample_with(name: str, option: str) -> bytes:
-    """A call that has this option, and nothing else that may be wrong."""
-    if option.startswith('index='):
-        name = 'attribute-delete'
-    others = [it for it in SAMPLES[name].split() if _option_name(it) != _option_name(option)]
-    return ' '.join([name, *others, option]).encode()
-
-
-def _wrong_options(name: str, options: List[str], takes: Callable[[bytes], bool]) -> Optional[str]:
-    """What is wrong with the options of a call."""
-    names = list(map(_option_name, options))
-    for option in names:
-        if names.count(option) > 1:
-            return '%s is given twice' % option
-    for option in map(_option_name, SAMPLES.get(name, '').split()):
-        if '=' in option and option not in names:
-            return '%s is missing' % option
-    for option in options:
-        if not takes(_sample_with(name, option)):
-            return 'the value of %s is none that it takes' % _option_name(option)
-    if name in ('attribute-add', 'attribute-modify') and len(set(names) - {'index='}) != 1:
-        return 'it takes one attribute'
-    return None
-
-
-def wrong_with(line: bytes, takes: Callable[[bytes], bool]) -> str:
-    """What is wrong with a line that the library does not take as a call. ``takes`` says whether it
-    takes another one."""
-    name, *words = line.decode().split(' ')
-    least = len(CALLS[name]) if name != 'locate' else 0
-    # (no word but that of an option has a `=`)
-    options = [it for it in words[least:] if '=' in it or OPTIONS.get(name, {}).get(it) is FLAG]
-    wrong = _wrong_options(name, options, takes)
-    if wrong is None and name in ('create', 'register'):
-        first = ' '.join([name, words[0], *SAMPLES[name].split()[1:]]).encode()
-        if not takes(first):
-            wrong = 'word 1 after it is none that it takes'
-    if wrong is None and name == 'locate' and options and len(options) < len(words):
-        wrong = 'it takes a name, or attributes'
-    if wrong is None and name == 'raw':
-        wrong = 'word 1 after it is not the one canonical message of a request'
-    return '%s: %s' % (name, wrong) if wrong else '%s and its words are not of the grammar' % name
+# clients/grammar.py: end
 
 
 # KMIP's names of what an object is for, each with its bit (1.0, 9.1.3.3.1).
+# clients/grammar.py: uses
 USES = {name: 1 << at for at, name in enumerate((
     'Sign', 'Verify', 'Encrypt', 'Decrypt', 'WrapKey', 'UnwrapKey', 'Export', 'MacGenerate',
     'MacVerify', 'DeriveKey', 'ContentCommitmentNonRepudiation', 'KeyAgreement', 'CertificateSign',
     'CrlSign', 'GenerateCryptogram', 'ValidateCryptogram', 'TranslateEncrypt', 'TranslateDecrypt',
     'TranslateWrap', 'TranslateUnwrap'))}
+# clients/grammar.py: end
 
 
 def uses_of(names: Union[str, Sequence[str]]) -> int:
@@ -254,6 +196,9 @@ def _options_of(name: str, options: Mapping[str, Option]) -> Iterator[str]:
         kind = OPTIONS.get(name, {}).get(option)
         if kind is None:
             raise GrammarError('%s: there is no option %s' % (name, option))
+        if value is None and name == 'locate':
+            # One attribute less would be asked for, and more objects found than were meant.
+            raise TypeError('locate: %s is %s, and None was given' % (option, kind.name))
         if value is None or value is False:
             continue
         word = _write('%s: %s' % (name, option), kind, value)
@@ -267,21 +212,47 @@ def line_of(name: str, words: Sequence[Word], options: Mapping[str, Option] = {}
     :raises TypeError: a word is of another type
     """
     written: List[str] = [name]
+    given = list(_options_of(name, options))
+    if name == 'locate' and given and not words:
+        written.append('where')
     for at, (kind, value) in enumerate(zip(_kinds_of(name, len(words)), words), 1):
         written.append(_write('%s: word %d after it' % (name, at), kind, value))
-    return ' '.join([*written, *_options_of(name, options)]).encode()
+    return ' '.join([*written, *given]).encode()
 
 
 def words_of(name: str, texts: Sequence[str]) -> Tuple[List[Word], Dict[str, Option]]:
     """The words and the options of a call whose arguments were typed: numbers in decimal, bytes
-    in hex, options as ``NAME=VALUE``.
+    in hex, options as ``NAME=VALUE``. One word behind ``locate`` is a name, also with a ``=``.
 
-    :raises GrammarError: there is no such call, or a text is none of its words
+    :raises GrammarError: there is no such call, or a text is none of its words; the library says
+        which
     """
+    try:
+        return _read_texts(name, texts)
+    except GrammarError as error:
+        said = Library().refusal(_typed_line(name, texts)) if name in CALLS else None
+        raise GrammarError(said or str(error)) from None
+
+
+def _typed_line(name: str, texts: Sequence[str]) -> bytes:
+    """A call as it was typed, also where it is none."""
+    written = [name]
+    for text in texts:
+        option, equals, value = text.partition('=')
+        start = option + equals if equals and option in OPTIONS.get(name, {}) else ''
+        written.append(start + _write_text(value if start else text, 'replace'))
+    return ' '.join(written).encode()
+
+
+def _read_texts(name: str, texts: Sequence[str]) -> Tuple[List[Word], Dict[str, Option]]:
     known, least = OPTIONS.get(name, {}), len(CALLS.get(name, ())) if name != 'locate' else 0
     texts, rest = list(texts), list(texts[least:])
     given: Dict[str, Option] = {}
-    if all('=' in it and it.partition('=')[0] in known or known.get(it) is FLAG for it in rest):
+    if name == 'locate' and len(texts) > 1 and texts[0] == 'where':
+        rest = rest[1:]
+    is_option = ['=' in it and it.partition('=')[0] in known or known.get(it) is FLAG
+                 for it in rest]
+    if all(is_option) and (name != 'locate' or len(texts) > 1):
         texts = texts[:least]
         for it in rest:
             option, _, value = it.partition('=')
@@ -295,6 +266,9 @@ def words_of(name: str, texts: Sequence[str]) -> Tuple[List[Word], Dict[str, Opt
 
 def _read(where: str, kind: Kind, text: str) -> Any:
     try:
-        return kind.read(text)
+        value = kind.read(text)
     except ValueError as error:
         raise GrammarError('%s is not %s: %s' % (where, kind.name, error)) from None
+    if kind is IDENTIFIER and not value:
+        raise GrammarError('%s is empty, and has to be an identifier' % where)
+    return value

@@ -1,23 +1,40 @@
 """Calls of a KMIP server over TLS."""
 from __future__ import annotations
 
+import contextlib
 import json
+import logging
+import ssl
 import threading
-from typing import Any, Dict, List, Mapping, Optional, Sequence, Tuple, Union
+import time
+from typing import (Any, Callable, Dict, Iterator, List, Mapping, Optional, Sequence, Tuple,
+                    Union)
+from urllib.parse import unquote_to_bytes
 
-from .calls import Bytes, Option, Word, line_of, uses_of, wrong_with
+from .batch import Answer, Batch, message_of, not_done, responses_of
+from .calls import Bytes, Option, Word, line_of
 from .errors import (ConnectError, ConnectionLost, DeserializeError, GrammarError, MissingValue,
-                     RequestWriteError, ResponseReadError, SerializeError, error_of)
-from .items import Item, attribute
+                     KmipError, OtherObject, RequestWriteError, ResponseReadError, SerializeError,
+                     error_of)
+from .items import Item
+from .keys import Text, block_of, key_of_pem, registration
 from .library import (ANSWERED, CALL_GRAMMAR, GRAMMAR, LOST, NO_FORM, NO_MEMORY, TOO_LONG,
-                      Call, Credential, Library, Operation)
+                      REFUSED, Call, Credential, Library, Operation)
 from .objects import KeyPair, ManagedObject, Signed, bytes_at, text_at, value_at
-from .pem import certificate_der
+from .operations import Names, Operations, attributes_of
+from .pem import certificate_der, is_pem
 from .wire import Passphrase, Port, Wire, context_of, is_port
 
 HEAD = 8
-Names = Union[str, Sequence[str], None]
+LOG = logging.getLogger('metsuwan')
+# The calls that change nothing on the server: they may be made twice.
+CHANGELESS = frozenset(
+    b'query discover locate get attributes sign Query DiscoverVersions Locate Get GetAttributes '
+    b'GetAttributeList Sign SignatureVerify Encrypt Decrypt MAC MACVerify Hash Check'.split())
 Payload = Union[str, Mapping[str, Any], Sequence[Mapping[str, Any]]]
+# The calls whose answer may be of a kind that their tables have not, and the operation of each.
+TREES = {b'get': b'Get', b'attributes': b'GetAttributes'}
+NO_ITEMS = b'{"tag":"RequestPayload","value":[]}'
 
 
 def _credential(user: Optional[str], password: Optional[str]) -> Credential:
@@ -31,7 +48,14 @@ def _credential(user: Optional[str], password: Optional[str]) -> Credential:
         raise ValueError('the user or the password is not UTF-8') from None
 
 
-class Client:
+def _files(*files: Optional[str]) -> Tuple[str, str, str]:
+    cert, key, ca = files
+    if cert is None or key is None or ca is None:
+        raise TypeError('cert, key and ca have to be given, or a context')
+    return cert, key, ca
+
+
+class Client(Operations):
     """One connection to a KMIP server, as a context manager. Threads may share it: one call at a
     time is made on it.
 
@@ -41,21 +65,32 @@ class Client:
     :param key: PEM file of its private key
     :param ca: PEM file of the authority of the server's certificate; no other is trusted
     :param passphrase: that of a private key that is encrypted; no terminal is asked
+    :param context: in the place of these four a context of ``ssl``, as for a key in hardware or
+        for lists of revoked certificates; whom it trusts, and whether by name, is the caller's
     :param user: with ``password`` a credential in each request
     :param limit: the most bytes of a response, its head counted; 0: no limit
     :param timeout: the most seconds of the opening, and of each call, whatever the server does;
         None or 0: no deadline
+    :param reconnect: a connection that is lost is opened again for the next call. A call itself is
+        made again, once, where nothing of it was sent, or where it changes nothing, as ``get`` and
+        ``sign``; the logger ``metsuwan`` tells of it
     :param library: the path of ``libmetsuwan.so``; if it is left out, the environment's
         ``LIBMETSUWAN``, that of this package, or the system's
     :raises ConnectError: there is no connection; its ``__cause__`` is the error of ``ssl`` or
         ``socket``
+    :raises LibraryError: there is no library
     :raises ValueError: a setting is none
+    :raises TypeError: a setting is of another type, or missing
     """
 
-    def __init__(self, host: str, port: Port = 5696, *, cert: str, key: str, ca: str,
-                 passphrase: Passphrase = None, user: Optional[str] = None,
-                 password: Optional[str] = None, limit: int = 1 << 20,
-                 timeout: Optional[float] = 30.0, library: Optional[str] = None) -> None:
+    def __init__(self, host: str, port: Port = 5696, *, cert: Optional[str] = None,
+                 key: Optional[str] = None, ca: Optional[str] = None,
+                 passphrase: Passphrase = None, context: Optional[ssl.SSLContext] = None,
+                 user: Optional[str] = None, password: Optional[str] = None,
+                 limit: int = 1 << 20, timeout: Optional[float] = 30.0, reconnect: bool = False,
+                 library: Optional[str] = None) -> None:
+        if isinstance(limit, bool) or not isinstance(limit, int):
+            raise TypeError('a limit is an int, and %s was given' % type(limit).__name__)
         if not 0 <= limit < 1 << 32:
             raise ValueError('a limit is 0 to 4294967295')
         if timeout is not None and not 0 <= timeout < 1e9:
@@ -65,12 +100,25 @@ class Client:
         self._credential = _credential(user, password)
         self._library = Library(library)
         self._limit = limit
-        self._lock = threading.Lock()
+        # Only one thread at a time is within a call, and it only once.
+        self._lock, self._is_busy = threading.RLock(), False
         self._server = '%s:%s' % (host, port)
         self._wire: Optional[Wire] = None
-        context = context_of(cert, key, ca, passphrase)
+        self._sent = 0
+        if context is None:
+            context = context_of(*_files(cert, key, ca), passphrase)
+        elif (cert, key, ca, passphrase) != (None,) * 4:
+            raise TypeError('a context stands in the place of cert, key, ca and passphrase')
+        # What opens a connection; None once the client is closed by its owner.
+        self._open: Optional[Callable[[], Wire]] = lambda: Wire(host, port, context, timeout or None)
+        self._reconnects = reconnect
+        self._wire = self._opened()
+
+    def _opened(self) -> Wire:
+        if self._open is None:
+            raise RequestWriteError('the connection is closed; nothing was sent')
         try:
-            self._wire = Wire(host, port, context, timeout or None)
+            return self._open()
         except OSError as error:
             raise ConnectError(str(error)) from error
 
@@ -85,9 +133,33 @@ class Client:
 
     def close(self) -> None:
         """Ends the connection, once a call that another thread makes has ended. A client that is
-        closed makes no more calls."""
-        with self._lock:
+        closed makes no more calls.
+
+        :raises RuntimeError: this thread is within a call, and this is a handler of a signal. An
+            exception that the handler raises ends the call, and closes the client.
+        """
+        with self._alone():
+            self._open = None
             self._end(True)
+
+    @property
+    def is_open(self) -> bool:
+        """Whether calls can be made: no call has lost the connection, or it may be opened again."""
+        return self._wire is not None or (self._reconnects and self._open is not None)
+
+    @contextlib.contextmanager
+    def _alone(self) -> Iterator[None]:
+        """Within it no other thread makes a call. A handler of a signal that comes within it would
+        wait for itself."""
+        with self._lock:
+            if self._is_busy:
+                raise RuntimeError('a handler of a signal used a client within a call of it; '
+                                   'an exception that it raises ends the call')
+            try:
+                self._is_busy = True
+                yield
+            finally:
+                self._is_busy = False
 
     def call(self, name: str, /, *words: Word, **options: Option) -> Dict[str, Any]:
         """Makes a call, and returns its answer as JSON has it.
@@ -99,6 +171,10 @@ class Client:
         :raises KmipError: by kind, as ``ItemNotFound``
         :raises TypeError: a word is of another type than the call wants
         """
+        if name == 'register' and any(is_pem(bytes(it)) for it in words
+                                      if isinstance(it, (bytes, bytearray, memoryview))):
+            raise GrammarError('register: the key is PEM, which would be kept as its bytes: '
+                               'register_private_key and register_public_key take it')
         return self._answer_to(line_of(name, words, options))
 
     def operation(self, name: str, payload: Payload, *, version: str = '1.2') -> Item:
@@ -120,35 +196,127 @@ class Client:
             call = Operation(name.encode(), version.encode(), text.encode())
         except UnicodeEncodeError:
             raise GrammarError('the operation, the version or the payload is not UTF-8') from None
-        return Item.of_json(self._answer_to(call))
+        answer = self._answer_to(call)
+        return answer if isinstance(answer, Item) else Item.of_json(answer)
 
     def _takes(self, call: Call) -> bool:
         return self._library.request(call) != GRAMMAR
 
     def _wrong_with(self, call: Call) -> str:
         """What is wrong with a call that the library does not take."""
-        if not isinstance(call, Operation):
-            return wrong_with(call, self._takes)
-        if call.version not in (b'1.0', b'1.1', b'1.2'):
-            return 'the version is none of 1.0, 1.1 and 1.2'
-        if not self._takes(call._replace(payload=b'{"tag":"RequestPayload","value":[]}')):
-            return 'KMIP 1.2 has no operation of this name'
-        return 'the payload is not the JSON of a RequestPayload'
+        return self._library.refusal(call) or 'the call is none'
 
     def _answer_to(self, call: Call) -> Dict[str, Any]:
-        with self._lock:
-            status, told = self._exchange(call)
+        with self._alone():
+            status, line, response = self._exchange(call)
+            if status == REFUSED:
+                status, line = self._tree_of(call, response) or (status, line)
+        return self._read(call, status, line)
+
+    def _read(self, call: Call, status: int, line: str) -> Dict[str, Any]:
+        """The answer in a line of JSON, or the error that it is."""
         if status == NO_MEMORY:
             raise MemoryError
         if status == CALL_GRAMMAR:
             raise GrammarError(self._wrong_with(call))
-        answer = json.loads(told)
+        answer = json.loads(line)
         if status != ANSWERED:
             raise error_of(status, answer)
         payload = answer['answer']
         if not isinstance(payload, dict):
             raise MissingValue('the answer is no object')
-        return payload
+        # What the tables of a call have no words for is the response's payload.
+        return Item.of_json(payload) if payload.get('tag') == 'ResponsePayload' else payload
+
+    def batch(self, *, on_error: str = 'Continue') -> Batch:
+        """A batch, to which calls are added, and which is then sent as one message. After a call
+        that failed the server goes on (``Continue``), ends (``Stop``), or takes back what it did
+        (``Undo``), so far as it can: that is KMIP's Batch Error Continuation Option."""
+        return Batch(self, on_error)
+
+    def _check(self, call: Call) -> None:
+        """Nothing, where it is a call.
+
+        :raises GrammarError: it is none
+        """
+        request = self._library.request(call)
+        if request == GRAMMAR:
+            raise GrammarError(self._wrong_with(call))
+        if request == NO_FORM:
+            raise SerializeError('request has no wire form')
+
+    def _send(self, calls: List[Call], on_error: int) -> List[Answer]:
+        """Makes these calls in one message, and gives the answer or the error of each."""
+        requests = [self._library.request(it, self._credential) for it in calls]
+        made = [it for it in requests if isinstance(it, bytes)]
+        if len(made) < len(calls):
+            raise MemoryError
+        message = message_of(made, on_error)
+        with self._alone(), self._logged('a batch of %d' % len(calls)) as log:
+            try:
+                response = self._response(self._ready(), message)
+                responses = responses_of(response, len(calls))
+            except BaseException:
+                self._end(False)
+                raise
+            log.append('done')
+            answers = [self._answer_of(*it) for it in zip(calls, responses)]
+            if any(isinstance(it, ConnectionLost) for it in answers):
+                self._end(False)
+        return answers
+
+    def _answer_of(self, call: Call, response: bytes) -> Answer:
+        if not response:
+            return not_done()
+        try:
+            return self._read(call, *self._library.answer(call, response))
+        except KmipError as error:
+            return error
+
+    def _ready(self) -> Wire:
+        """The connection, which is opened again where it was lost and that is wanted."""
+        if self._wire is None:
+            if not self._reconnects:
+                raise RequestWriteError('the connection is closed; nothing was sent')
+            self._wire = self._opened()
+            LOG.warning('%s: the connection was lost, and is opened again', self._server)
+        return self._wire
+
+    @contextlib.contextmanager
+    def _logged(self, what: str) -> Iterator[List[str]]:
+        """Tells the logger what came of a call, with no value of it."""
+        said: List[str] = []
+        begin = time.monotonic()
+        try:
+            yield said
+        except BaseException as error:
+            said.append(getattr(error, 'kind', type(error).__name__))
+            raise
+        finally:
+            LOG.debug('%s: %s: %s, %.1f ms', self._server, what, ', '.join(said),
+                      (time.monotonic() - begin) * 1000)
+
+    def _tree_of(self, call: Call, response: bytes) -> Optional[Tuple[int, str]]:
+        """What the same bytes answer to the operation of this call, where they are a success of it
+        that its tables have no words for, as a key of EC."""
+        if isinstance(call, Operation):
+            return None
+        name, _, rest = call.partition(b' ')
+        # What was to be wrapped is not given as anything else.
+        if name not in TREES or b' wrap=' in rest:
+            return None
+        operation = Operation(TREES[name], b'1.2', NO_ITEMS)
+        status, line = self._library.answer(operation, response)
+        if status != ANSWERED:
+            return None
+        try:
+            found = Item.of_json(json.loads(line)['answer']).text_at('UniqueIdentifier')
+        except MissingValue:
+            return None
+        if found.encode() != unquote_to_bytes(rest.split(b' ')[0]):
+            self._end(False)
+            raise OtherObject('the response is about another object')
+        return status, line
 
     def query(self) -> Dict[str, Any]:
         """What the server can do: ``operations`` and more."""
@@ -175,7 +343,11 @@ class Client:
         """Has the server keep a key that was made elsewhere. ``kind`` is ``public``, ``private``
         or ``symmetric``, ``format`` as ``PKCS8`` says what the bytes are, and
         ``algorithm`` is ``DES``, ``TRIPLE_DES``, ``AES`` or ``RSA``: a key of another, as an HMAC
-        key, is registered by ``operation``."""
+        key, is registered by ``operation``, and PEM by ``register_private_key`` and
+        ``register_public_key``.
+
+        :raises GrammarError: the bytes are PEM, which is no format of KMIP
+        """
         answer = self.call('register', kind, material, format=format, algorithm=algorithm,
                            length=length, usage=usage, name=name)
         return text_at(answer, 'unique_identifier')
@@ -184,24 +356,55 @@ class Client:
                              name: Optional[str] = None) -> str:
         """Has the server keep an X.509 certificate, and returns its identifier. It is given as DER
         or as a PEM that holds it and no other. Where ``usage`` or ``name`` is not given, the server
-        is told nothing of it.
+        gets nothing of it.
 
         :raises GrammarError: it is neither DER nor PEM, or ``usage`` is no names of KMIP
         """
         parts = [Item('CertificateType', 'X509', 'Enumeration'),
                  Item('CertificateValue', certificate_der(certificate))]
-        attributes = []
-        if usage is not None:
-            attributes.append(attribute('Cryptographic Usage Mask', uses_of(usage)))
-        if name is not None:
-            if not isinstance(name, str):
-                raise TypeError('name is a text, and %s was given' % type(name).__name__)
-            attributes.append(attribute('Name', [
-                Item('NameValue', name),
-                Item('NameType', 'UninterpretedTextString', 'Enumeration')]))
-        answer = self.operation('Register', [
-            Item('ObjectType', 'Certificate', 'Enumeration'),
-            Item('TemplateAttribute', attributes), Item('Certificate', parts)], version='1.0')
+        return self._register('Certificate', parts, usage, name)
+
+    def register_private_key(self, pem: Text, *, usage: Names = None,
+                             name: Optional[str] = None) -> str:
+        """Has the server keep the private key of RSA, of a curve, or of DSA that a text of PEM
+        holds, as OpenSSL writes it (PKCS#1, PKCS#8, ECPrivateKey), and returns its identifier.
+
+        :raises GrammarError: it has none, another block too, or an encrypted one; or KMIP 1.2 has
+            no name for its algorithm or its curve. Nothing was sent
+        """
+        return self._register_key('PrivateKey', pem, usage, name)
+
+    def register_public_key(self, pem: Text, *, usage: Names = None,
+                            name: Optional[str] = None) -> str:
+        """The same with a public key (X.509's SubjectPublicKeyInfo, or PKCS#1).
+
+        :raises GrammarError: as ``register_private_key``
+        """
+        return self._register_key('PublicKey', pem, usage, name)
+
+    def _register_key(self, kind: str, pem: Text, usage: Names, name: Optional[str]) -> str:
+        key = key_of_pem(pem, kind)
+        block = block_of(key.format, key.der,
+                         Item('CryptographicAlgorithm', key.algorithm, 'Enumeration'),
+                         Item('CryptographicLength', key.length))
+        return self._register(kind, [block], usage, name)
+
+    def register_secret(self, data: Bytes, *, kind: str = 'Password', usage: Names = None,
+                        name: Optional[str] = None) -> str:
+        """Has the server keep a secret that is no key: a ``Password``, or the ``Seed`` of one.
+
+        :raises GrammarError: ``kind`` is neither
+        """
+        if not isinstance(data, (bytes, bytearray, memoryview)):
+            raise TypeError('a secret is bytes, and %s was given' % type(data).__name__)
+        if kind not in ('Password', 'Seed'):
+            raise GrammarError('a secret is a Password or a Seed')
+        parts = [Item('SecretDataType', kind, 'Enumeration'), block_of('Opaque', bytes(data))]
+        return self._register('SecretData', parts, usage, name)
+
+    def _register(self, kind: str, parts: List[Item], usage: Names, name: Optional[str]) -> str:
+        attributes = attributes_of(usage, name)
+        answer = self.operation('Register', registration(kind, attributes, parts), version='1.0')
         return answer.text_at('UniqueIdentifier')
 
     def rng_retrieve(self, count: int) -> bytes:
@@ -216,7 +419,8 @@ class Client:
              padding: Optional[str] = None, algorithm: Optional[str] = None,
              prehashed: bool = False) -> Signed:
         """Signs these bytes with this private key: where no option is given, by RSA with SHA256
-        and the padding PKCS1_v1_5. With ``prehashed`` they are a digest."""
+        and the padding PKCS1_v1_5. With ``prehashed`` they are a digest: the request names no
+        hash, and ``hash`` may not be given."""
         answer = self.call('sign', identifier, message, hash=hash, padding=padding,
                            algorithm=algorithm, prehashed=prehashed)
         return Signed(text_at(answer, 'unique_identifier'), bytes_at(answer, 'signature_data'))
@@ -241,19 +445,28 @@ class Client:
     def get(self, identifier: str, *, format: Optional[str] = None,
             wrap: Optional[str] = None) -> ManagedObject:
         """An object itself: in the format that it has or in this one, and wrapped under the key
-        with the identifier ``wrap``."""
+        with the identifier ``wrap``. One that the tables of this call have no words for, as a key
+        of EC or HMAC, has its payload in ``tree``."""
         answer = self.call('get', identifier, format=format, wrap=wrap)
+        if isinstance(answer, Item):
+            return ManagedObject(answer.text_at('UniqueIdentifier'), answer.name_at('ObjectType'),
+                                 answer, answer)
         return ManagedObject(text_at(answer, 'unique_identifier'), text_at(answer, 'object_type'),
                              answer)
 
     def attributes(self, identifier: str, *names: str) -> List[Dict[str, Any]]:
         """The attributes of an object, each with its name and its value: all, or those with these
-        names."""
-        return list(value_at(self.call('attributes', identifier, *names), 'attributes'))
+        names. Where one of them is none of this call's tables, each is an item of the response:
+        ``it.text_at('AttributeName')``."""
+        answer = self.call('attributes', identifier, *names)
+        if isinstance(answer, Item):
+            return [Item.of_json(it) for it in answer['value'] if it['tag'] == 'Attribute']
+        return list(value_at(answer, 'attributes'))
 
     def locate(self, *name: str, **attributes: Option) -> List[str]:
         """The identifiers of the objects with this name, or with all of these attributes, as
-        ``locate(name='issuing', state='Active')``; none, where there are no such objects."""
+        ``locate(name='issuing', state='Active')``; of all objects, where nothing is given. There
+        may be none. An attribute that is None is an error, since more objects would be found."""
         return list(value_at(self.call('locate', *name, **attributes), 'unique_identifiers'))
 
     def discover(self) -> List[Dict[str, int]]:
@@ -270,40 +483,69 @@ class Client:
         """Destroys a key that is not active."""
         self.call('destroy', identifier)
 
+    def _is_other(self) -> None:
+        with self._alone():
+            self._end(False)
+        raise OtherObject('the response is about another object')
+
     def _end(self, in_order: bool) -> None:
         wire, self._wire = self._wire, None
         if wire is not None:
             wire.close(in_order)
 
-    def _exchange(self, call: Call) -> Tuple[int, str]:
-        """The status of a call and its line of JSON. Whatever goes wrong, a connection of which it
-        is not known what comes next is closed."""
-        if self._wire is None:
+    def _exchange(self, call: Call) -> Tuple[int, str, bytes]:
+        """The status of a call, its line of JSON, and the response. Whatever goes wrong, a
+        connection of which it is not known what comes next is closed."""
+        if self._wire is None and not self._reconnects:
             raise RequestWriteError('the connection is closed; nothing was sent')
         request = self._library.request(call, self._credential)
         if request == GRAMMAR:
-            return CALL_GRAMMAR, ''
+            return CALL_GRAMMAR, '', b''
         if request == NO_FORM:
             raise SerializeError('request has no wire form')
-        status, told = NO_MEMORY, ''
-        try:
-            if isinstance(request, bytes):
-                status, told = self._library.answer(call, self._response(self._wire, request))
-        except BaseException:
+        if not isinstance(request, bytes):
             self._end(False)
-            raise
+            return NO_MEMORY, '', b''
+        name = call.name if isinstance(call, Operation) else call.partition(b' ')[0]
+        with self._logged(name.decode()) as log:
+            try:
+                response = self._response_again(request, name in CHANGELESS)
+                status, line = self._library.answer(call, response)
+            except BaseException:
+                self._end(False)
+                raise
+            log += ['status %d' % status, '%d bytes sent, %d read' % (len(request), len(response))]
         if status in (LOST, NO_MEMORY):
             self._end(False)
-        return status, told
+        return status, line, response
+
+    def _response_again(self, request: bytes, is_changeless: bool) -> bytes:
+        """The response to a request, which where that is wanted, and harmless, is sent once more on
+        a new connection."""
+        was_open = self._wire is not None
+        try:
+            return self._response(self._ready(), request)
+        except (RequestWriteError, ResponseReadError) as error:
+            # Where the connection is new, or what was sent may have been done, that is all.
+            nothing_sent = isinstance(error, RequestWriteError) and self._sent == 0
+            if not self._reconnects or not was_open or not (nothing_sent or is_changeless):
+                raise
+            if isinstance(error.__cause__, TimeoutError):
+                raise
+            self._end(False)
+            LOG.warning('%s: %s: the call is made again', self._server, error)
+            return self._response(self._ready(), request)
 
     def _response(self, wire: Wire, request: bytes) -> bytes:
         """The three steps that nothing checks: these bytes are sent, 8 are read, and then so
         many."""
         wire.begin()
+        self._sent = 0
         try:
             wire.check_idle()
         except OSError as error:
             raise RequestWriteError('%s; nothing was sent' % error) from error
+        self._sent = len(request)
         try:
             wire.send(request)
         except OSError as error:

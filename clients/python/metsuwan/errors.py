@@ -1,18 +1,54 @@
 """What a call raises when it is not answered. The names are KMIP clients' kinds of errors."""
 from __future__ import annotations
 
-from typing import Any, Dict, Mapping, Optional, Type
+from typing import Any, Dict, Mapping, Optional, Tuple, Type
 
 LOST = 3
+
+
+class Reason(int):
+    """A Result Reason of a server: its number, and KMIP's name of it, as ``PermissionDenied``, or
+    None where KMIP 1.2 has none.
+
+        if error.reason is not None and error.reason.name == 'PermissionDenied':
+    """
+
+    name: Optional[str]
+
+    def __new__(cls, number: int, name: Optional[str] = None) -> 'Reason':
+        made = super().__new__(cls, number)
+        made.name = name
+        return made
+
+    def __getnewargs__(self) -> Tuple[int, Optional[str]]:  # type: ignore[override]
+        return int(self), self.name
+
+    def __repr__(self) -> str:
+        return 'Reason(%d, %r)' % (self, self.name)
+
+    @classmethod
+    def of_json(cls, json: Any) -> Optional['Reason']:
+        """The reason that an error's line of JSON has: an object with a name and a number, or a
+        number alone."""
+        if isinstance(json, int):
+            return cls(json)
+        if not isinstance(json, dict) or not isinstance(json.get('number'), int):
+            return None
+        return cls(json['number'], json.get('name'))
+
+    def json(self) -> Dict[str, Any]:
+        """The same, as JSON has it."""
+        name = {} if self.name is None else {'name': self.name}
+        return {**name, 'number': int(self)}
 
 
 class KmipError(Exception):
     """A call that was not answered.
 
-    ``kind`` is the name of the error, ``text`` what is said of it. Where a response came that is
-    no answer, ``response`` is its skeleton, the tags, types and numbers of enumerations that it
-    has; and where it reports a failure, ``reason`` is the number of the server's Result Reason, and
-    ``message`` its Result Message. Otherwise they are None.
+    ``kind`` is the name of the error, ``text`` what is said of it. Where the server reports a
+    failure, ``reason`` is its Result Reason, a number with a ``name``, and ``message`` its Result
+    Message. Where a response came that is no answer, ``response`` is its skeleton, the tags, types
+    and numbers of enumerations that it has. Otherwise they are None.
     """
 
     kind = 'Unknown'
@@ -20,13 +56,14 @@ class KmipError(Exception):
     def __init__(self, text: str) -> None:
         super().__init__(text)
         self.text = text
-        self.reason: Optional[int] = None
+        self.reason: Optional[Reason] = None
         self.message: Optional[str] = None
         self.response: Optional[str] = None
 
     def line(self) -> Dict[str, Any]:
         """The error as a line of JSON has it: ``error``, ``text`` and what else is known."""
-        known = {'error': self.kind, 'text': self.text, 'reason': self.reason,
+        reason = None if self.reason is None else self.reason.json()
+        known = {'error': self.kind, 'text': self.text, 'reason': reason,
                  'message': self.message, 'response': self.response}
         return {name: value for name, value in known.items() if value is not None}
 
@@ -35,6 +72,12 @@ class GrammarError(KmipError, ValueError):
     """The call is not of the grammar. Nothing was sent."""
 
     kind = 'GrammarError'
+
+
+class LibraryError(KmipError, OSError):
+    """There is no library that can be loaded, or it is not this package's. Nothing was sent."""
+
+    kind = 'LibraryError'
 
 
 class MissingValue(KmipError, LookupError):
@@ -71,6 +114,12 @@ class InternalError(Refused):
     kind = 'InternalError'
 
 
+class NotDone(Refused):
+    """The server has not done this call of a batch, as after another one that failed."""
+
+    kind = 'NotDone'
+
+
 class ConnectionLost(KmipError, ConnectionError):
     """An error after which the connection is closed, and the client with it. Whether the server
     did what was asked is not known, but where nothing was sent."""
@@ -101,7 +150,8 @@ class DeserializeError(ConnectionLost):
 
 
 class OtherObject(ConnectionLost):
-    """The answer is about another object than the call named: it was meant for another call."""
+    """The response is none to this call: it is about another object or of another operation, or is
+    none of one operation. It was meant for another call."""
 
     kind = 'InternalError'
 
@@ -112,6 +162,7 @@ def _by_kind(*errors: Type[KmipError]) -> Dict[str, Type[KmipError]]:
 
 REFUSALS = _by_kind(SerializeError, ServerError, ItemNotFound, InternalError)
 LOSSES = _by_kind(RequestWriteError, ResponseReadError, DeserializeError, OtherObject)
+LOSSES['ServerError'] = LOSSES['ItemNotFound'] = OtherObject
 
 
 def error_of(status: int, line: Mapping[str, Any]) -> KmipError:
@@ -119,7 +170,7 @@ def error_of(status: int, line: Mapping[str, Any]) -> KmipError:
     known, other = (LOSSES, ConnectionLost) if status == LOST else (REFUSALS, Refused)
     error = known.get(line['error'], other)(line['text'])
     error.kind = line['error']
-    error.reason = line.get('reason')
+    error.reason = Reason.of_json(line.get('reason'))
     error.message = line.get('message')
     error.response = line.get('response')
     return error

@@ -4,7 +4,7 @@ from __future__ import annotations
 import datetime
 from typing import Any, Dict, Iterable, Mapping, Optional, Sequence, Union
 
-from .errors import MissingValue
+from .errors import GrammarError, MissingValue
 
 Value = Union[str, bytes, bytearray, memoryview, bool, int, datetime.datetime,
               Sequence[Mapping[str, Any]]]
@@ -37,12 +37,24 @@ def _json_of(kind: str, value: Value) -> Any:
         value = (value - EPOCH) // datetime.timedelta(seconds=1)
     # A number past 2^52 has to be in hex, and any may be.
     if kind in ('LongInteger', 'DateTime') and isinstance(value, int):
+        if not -1 << 63 <= value < 1 << 63:
+            raise GrammarError('a %s has 64 bits, and this value has more' % kind)
         return '0x%016X' % (value & (1 << 64) - 1)
     if isinstance(value, (str, int)):
         return value
     if not isinstance(value, Iterable):
         raise TypeError('an item has no value of the type %s' % type(value).__name__)
     return list(value)
+
+
+def _shown(item: Any) -> str:
+    """An item, or a dict that is one, with no value: tags and types alone."""
+    if not isinstance(item, Mapping):
+        return type(item).__name__
+    value, kind = item.get('value'), item.get('type', 'Structure')
+    if kind == 'Structure' and isinstance(value, (list, tuple)):
+        kind = '[%s]' % ', '.join(map(_shown, value))
+    return '%s: %s' % (item.get('tag'), kind)
 
 
 class Item(Dict[str, Any]):
@@ -74,16 +86,15 @@ class Item(Dict[str, Any]):
         self['value'] = _json_of(kind, value)
 
     @classmethod
-    def of_json(cls, json: Mapping[str, Any]) -> 'Item':
+    def of_json(cls, made: Mapping[str, Any]) -> 'Item':
         """The item that a dict is."""
-        value = json['value']
-        kind = json.get('type', 'Structure')
-        return cls(json['tag'], list(map(cls.of_json, value)) if kind == 'Structure' else value,
+        value = made['value']
+        kind = made.get('type', 'Structure')
+        return cls(made['tag'], list(map(cls.of_json, value)) if kind == 'Structure' else value,
                    kind)
 
     def __repr__(self) -> str:
-        value, kind = self.get('value'), self.get('type', 'Structure')
-        return '%s: %s' % (self.get('tag'), value if kind == 'Structure' else kind)
+        return _shown(self)
 
     def at(self, path: str) -> 'Item':
         """The item at a path of tags below this one, with a dot between two, as

@@ -5,6 +5,8 @@ import ctypes
 import os
 from typing import List, NamedTuple, Optional, Tuple, Union
 
+from .errors import LibraryError
+
 Credential = Optional[Tuple[bytes, bytes]]
 
 
@@ -43,11 +45,29 @@ def _with_lengths(parts: List[bytes]) -> List[Union[bytes, int]]:
     return made
 
 
+def _loaded(path: str) -> ctypes.CDLL:
+    try:
+        return ctypes.CDLL(path)
+    except OSError as error:
+        raise LibraryError('%s; clients/build.sh makes it, and LIBMETSUWAN may name it'
+                           % error) from error
+
+
 class Library:
-    """The calls of ``libmetsuwan.so``."""
+    """The calls of ``libmetsuwan.so``.
+
+    :raises LibraryError: there is none, or it has not these calls
+    """
 
     def __init__(self, path: Optional[str] = None) -> None:
-        library = ctypes.CDLL(path or _path())
+        where = path or _path()
+        try:
+            self._bind(_loaded(where))
+        except AttributeError as error:
+            raise LibraryError('%s is another library, or another version of it: %s'
+                               % (where, error)) from error
+
+    def _bind(self, library: ctypes.CDLL) -> None:
         text, size, signed = ctypes.c_char_p, ctypes.c_size_t, ctypes.c_int64
         self._request = library.kmip_request
         self._request.restype = signed
@@ -55,6 +75,9 @@ class Library:
         self._operation_request = library.kmip_operation_request
         self._operation_request.restype = signed
         self._operation_request.argtypes = [text, size, text, size, *self._request.argtypes]
+        self._refusal = library.kmip_refusal
+        self._refusal.restype = signed
+        self._refusal.argtypes = [text, size, text, size]
         self._contents_len = library.kmip_contents_len
         self._contents_len.restype = signed
         self._contents_len.argtypes = [text, size, ctypes.c_uint32]
@@ -64,6 +87,17 @@ class Library:
         self._operation_answer = library.kmip_operation_answer
         self._operation_answer.restype = ctypes.c_int32
         self._operation_answer.argtypes = [text, size, text, size, *self._answer.argtypes]
+        self._operation_refusal = library.kmip_operation_refusal
+        self._operation_refusal.restype = signed
+        self._operation_refusal.argtypes = [text, size, text, size, text, size, text, size]
+        self._version = getattr(library, 'kmip_version', None)
+        if self._version is not None:
+            self._version.restype = text
+
+    def version(self) -> str:
+        """Which library it is: ``1.0, proved``, ``1.0, not proved`` or ``1.0, proof unknown``."""
+        said: bytes = self._version() if self._version else b'proof unknown'
+        return said.decode()
 
     def request(self, call: Call, credential: Credential = None) -> Union[bytes, int]:
         """The request of a call, or a negative number."""
@@ -79,6 +113,27 @@ class Library:
                 return length
             if length <= room:
                 return into.raw[:length]
+            room = length
+
+    def refusal(self, call: Call) -> Optional[str]:
+        """Why a call is none: which word of its line, or which place of its payload, is wrong, and
+        what may stand there. None where it is one.
+
+        :raises MemoryError:
+        """
+        read = self._operation_refusal if isinstance(call, Operation) else self._refusal
+        room = 1024
+        while True:
+            into = ctypes.create_string_buffer(room)
+            length: int = read(*_with_lengths(_parts(call)), into, room)
+            if length == MEMORY:
+                raise MemoryError
+            if length == GRAMMAR:
+                return 'the line is not UTF-8, or has not one space between two words'
+            if length < 0:
+                return None
+            if length <= room:
+                return into.raw[:length].decode()
             room = length
 
     def contents_len(self, head: bytes, limit: int) -> int:

@@ -2,10 +2,11 @@
 from __future__ import annotations
 
 from dataclasses import dataclass, field
-from typing import Any, Dict, NamedTuple
+from typing import Any, Dict, NamedTuple, Optional
 
-from . import pem
+from . import keys, pem
 from .errors import MissingValue
+from .items import Item
 
 
 def value_at(answer: Any, path: str) -> Any:
@@ -58,12 +59,15 @@ class ManagedObject:
     """An object of the server: a key, a certificate, secret data or other.
 
     ``object_type`` is KMIP's name of its type, as ``PublicKey``, and ``answer`` the whole answer as
-    JSON has it, with what it keeps secret: ``repr`` shows nothing of it.
+    JSON has it, with what it keeps secret: ``repr`` shows nothing of it. Where the tables of `get`
+    have no words for it, as for a key of EC or HMAC or for secret data, ``tree`` is the response's
+    payload; otherwise it is None.
     """
 
     unique_identifier: str
     object_type: str
     answer: Dict[str, Any] = field(repr=False)
+    tree: Optional[Item] = field(default=None, repr=False)
 
     @property
     def _key_block(self) -> str:
@@ -75,6 +79,8 @@ class ManagedObject:
 
         :raises MissingValue: it is no key
         """
+        if self.tree is not None:
+            return self.tree.name_at(self.object_type + '.KeyBlock.KeyFormatType')
         return text_at(self.answer, self._key_block + 'key_format_type')
 
     @property
@@ -83,6 +89,8 @@ class ManagedObject:
 
         :raises MissingValue: it is no key, has another format, or is wrapped
         """
+        if self.tree is not None:
+            return self.tree.bytes_at(self.object_type + '.KeyBlock.KeyValue.KeyMaterial')
         return bytes_at(self.answer, self._key_block + 'key_value.key_material.Bytes')
 
     @property
@@ -102,13 +110,18 @@ class ManagedObject:
         return bytes_at(self.answer, 'cryptographic_object.Certificate.certificate_value')
 
     def pem(self) -> str:
-        """A public key in PKCS#1 or X.509, a private key in PKCS#1, PKCS#8 or ECPrivateKey, or a
-        certificate in X.509, as PEM.
+        """A key in X.509, PKCS#1, PKCS#8 or ECPrivateKey, one of RSA or of a curve whose parts are
+        told one by one (Transparent), or a certificate in X.509, as PEM.
 
         :raises MissingValue: it is none of these, or is wrapped
         """
+        if self.tree is not None:
+            return keys.pem_of_payload(self.tree)
         certificate = self.object_type == 'Certificate'
         format_name = self.certificate_type if certificate else self.key_format_type
+        if format_name.startswith('TransparentRSA'):
+            return keys.pem_of_parts(format_name, value_at(
+                self.answer, self._key_block + 'key_value.key_material.' + format_name))
         label = pem.label_of(self.object_type, format_name)
         if label is None:
             raise MissingValue('%s in %s has no PEM form' % (self.object_type, format_name))

@@ -4,6 +4,7 @@ from __future__ import annotations
 import base64
 import binascii
 import re
+import ssl
 from typing import Optional, Union
 
 from .errors import GrammarError
@@ -30,6 +31,11 @@ def write(label: str, der: bytes) -> str:
     text = base64.b64encode(der).decode()
     lines = [text[at:at + 64] for at in range(0, len(text), 64)]
     return '\n'.join(['-----BEGIN %s-----' % label, *lines, '-----END %s-----' % label, ''])
+
+
+def is_pem(material: bytes) -> bool:
+    """Whether bytes begin as a text of PEM does."""
+    return material.lstrip().startswith(b'-----BEGIN ')
 
 
 def _is_whole(der: bytes) -> bool:
@@ -66,15 +72,26 @@ def _no(why: str) -> GrammarError:
     return GrammarError('the certificate ' + why)
 
 
+def _checked(der: bytes) -> bytes:
+    """The same bytes, where OpenSSL reads an X.509 certificate in them: so no private key is
+    registered as a certificate, which servers show to everybody."""
+    context = ssl.SSLContext(ssl.PROTOCOL_TLS_CLIENT)
+    try:
+        context.load_verify_locations(cadata=der)
+    except ssl.SSLError:
+        raise _no('is none of X.509') from None
+    return der
+
+
 def certificate_der(certificate: Union[str, bytes, bytearray, memoryview]) -> bytes:
     """The DER of an X.509 certificate, which is given as DER or as the one in a PEM.
 
-    :raises GrammarError: it is neither
+    :raises GrammarError: it is neither, or no certificate
     """
     if isinstance(certificate, str):
-        return _der_in(certificate.encode(errors='replace'))
+        return _checked(_der_in(certificate.encode(errors='replace')))
     if not isinstance(certificate, (bytes, bytearray, memoryview)):
         raise TypeError('a certificate is bytes or a text, and %s was given'
                         % type(certificate).__name__)
     given = bytes(certificate)
-    return given if _is_whole(given) else _der_in(given)
+    return _checked(given if _is_whole(given) else _der_in(given))

@@ -3,19 +3,23 @@ from __future__ import annotations
 
 import contextlib
 import fcntl
+import os
 import re
 import socket
 import ssl
 import threading
 import time
-from typing import Any, Iterator, List, Optional, Union
+from typing import Any, Callable, Iterator, List, Optional, TypeVar, Union
 
 from .errors import ConnectError
 
 Passphrase = Union[str, bytes, None]
 Port = Union[int, str]
-# The state of a TCP connection that was reset, as Linux has it in TCP_INFO.
-TCP_CLOSE = 7
+Done = TypeVar('Done')
+# OpenSSL's X509_V_FLAG_PARTIAL_CHAIN, which ssl has a name for since Python 3.10.
+PARTIAL_CHAIN = ssl.VerifyFlags(0x80000)
+# The most bytes that TLS is given before the clock is looked at: a record has as many.
+PIECE = 1 << 14
 
 
 def is_port(port: Port) -> bool:
@@ -34,12 +38,19 @@ def context_of(cert: str, key: str, ca: str, passphrase: Passphrase) -> ssl.SSLC
     """
     context = ssl.SSLContext(ssl.PROTOCOL_TLS_CLIENT)
     context.minimum_version = ssl.TLSVersion.TLSv1_2
+    # A name is one of the certificate's alternative names, and no common name.
+    context.hostname_checks_common_name = False
+    # The authority is that of the server's certificate, which may be of another one itself.
+    context.verify_flags |= PARTIAL_CHAIN
     for what, path in (('certificate', cert), ('key', key), ('authority', ca)):
         try:
             with open(path, 'rb'):
                 pass
         except OSError as error:
             raise ConnectError('%s %s: %s' % (what, path, error.strerror)) from error
+    if _has(ca, b'^Proc-Type:.*ENCRYPTED'):
+        # OpenSSL would ask the terminal for its passphrase.
+        raise ConnectError('authority %s: a block of it is encrypted' % ca)
     try:
         context.load_verify_locations(ca)
     except ssl.SSLError as error:
@@ -48,12 +59,20 @@ def context_of(cert: str, key: str, ca: str, passphrase: Passphrase) -> ssl.SSLC
     return context
 
 
+def _has(path: str, pattern: bytes) -> Optional[bool]:
+    """Whether a file has a line like this; None where it is none that can be read twice."""
+    with contextlib.suppress(OSError):
+        if os.path.isfile(path):
+            with open(path, 'rb') as file:
+                return re.search(pattern, file.read(), re.M) is not None
+    return None
+
+
 def _lacking(cert: str, key: str) -> Optional[str]:
     """Which of the two files has no certificate, or no private key."""
     for what, path, wanted in (('certificate', cert, 'certificate'), ('key', key, 'private key')):
-        with contextlib.suppress(OSError), open(path, 'rb') as file:
-            if not re.search(b'^-----BEGIN .*%s-----' % wanted.upper().encode(), file.read(), re.M):
-                return '%s %s: there is no %s in PEM' % (what, path, wanted)
+        if _has(path, b'^-----BEGIN .*%s-----' % wanted.upper().encode()) is False:
+            return '%s %s: there is no %s in PEM' % (what, path, wanted)
     return None
 
 
@@ -75,8 +94,16 @@ def _load_key(context: ssl.SSLContext, cert: str, key: str, passphrase: Passphra
         raise ConnectError(text) from error
 
 
+def _name_of(host: str) -> str:
+    """What the server's certificate has to have: a host without its zone, and without the dot that
+    ends a name that is complete."""
+    name = host.split('%')[0]
+    return name[:-1] if name.endswith('.') else name
+
+
 class Wire:
-    """A connection to a server.
+    """A connection to a server. TLS is given what comes in pieces, between which the clock is
+    looked at and handlers of signals run: so it ends in time, whatever a server sends within TLS.
 
     :param timeout: seconds for the opening, and from each ``begin`` on; None: no deadline
     :raises OSError: there is no connection
@@ -85,18 +112,19 @@ class Wire:
     def __init__(self, host: str, port: Port, context: ssl.SSLContext,
                  timeout: Optional[float]) -> None:
         self._timeout = timeout
+        self._came, self._goes = ssl.MemoryBIO(), ssl.MemoryBIO()
         self.begin()
         if host.startswith('[') and host.endswith(']'):
             host = host[1:-1]
         with self._in_time():
-            plain = self._reach(host, port)
+            self._plain = self._reach(host, port)
             try:
-                plain.setsockopt(socket.IPPROTO_TCP, socket.TCP_NODELAY, 1)
-                plain.settimeout(self._left())
-                name = host.split('%')[0]
-                self._tls = context.wrap_socket(plain, server_hostname=name)
+                self._plain.setsockopt(socket.IPPROTO_TCP, socket.TCP_NODELAY, 1)
+                self._tls = context.wrap_bio(self._came, self._goes, server_hostname=_name_of(host))
+                self._in_steps(self._tls.do_handshake)
             except BaseException:
-                plain.close()
+                self._send_rest()
+                self._plain.close()
                 raise
 
     def begin(self) -> None:
@@ -172,52 +200,90 @@ class Wire:
                     raise
         raise OSError('the host has no address')
 
-    def _ended(self) -> OSError:
-        """Why there is nothing to read: of a reset, Python's ssl makes an end."""
-        with contextlib.suppress(OSError, AttributeError):
-            state = self._tls.getsockopt(socket.IPPROTO_TCP, socket.TCP_INFO, 1)
-            if state[0] == TCP_CLOSE:
-                return ConnectionResetError('Connection reset by peer')
-        return OSError('end of input')
+    def _flush(self) -> None:
+        """Sends what TLS has written."""
+        rest = memoryview(self._goes.read())
+        while rest:
+            self._plain.settimeout(self._left())
+            rest = rest[self._plain.send(rest):]
+
+    def _send_rest(self) -> None:
+        """Sends what the system takes at once of what TLS has written, as why it gave up."""
+        with contextlib.suppress(OSError):
+            self._plain.settimeout(0)
+            self._plain.send(self._goes.read())
+
+    def _take(self, timeout: Optional[float]) -> None:
+        """Gives TLS what comes next, within this time."""
+        self._plain.settimeout(timeout)
+        piece = self._plain.recv(PIECE)
+        if piece:
+            self._came.write(piece)
+        else:
+            self._came.write_eof()
+
+    def _in_steps(self, step: Callable[[], Done]) -> Done:
+        """Has TLS do this, which wants bytes from the server until it is done."""
+        while True:
+            try:
+                done = step()
+            except ssl.SSLWantReadError:
+                self._flush()
+                self._take(self._left())
+            except ssl.SSLEOFError:
+                raise OSError('end of input') from None
+            else:
+                self._flush()
+                return done
+
+    def _read(self, count: int) -> bytes:
+        """So many bytes, or fewer, but some.
+
+        :raises ssl.SSLWantReadError: there are none yet
+        """
+        try:
+            piece = self._tls.read(count)
+        except ssl.SSLEOFError:
+            piece = b''
+        if not piece:
+            raise OSError('end of input')
+        return piece
 
     def check_idle(self) -> None:
         """Nothing, where the connection is open and has no bytes to read.
 
         :raises OSError: it has ended, or has bytes that nobody asked for
         """
-        self._tls.settimeout(0)
-        try:
-            early = self._tls.recv(1)
-        except (ssl.SSLWantReadError, ssl.SSLWantWriteError):
-            return
-        if early:
-            raise OSError('the server sent bytes that no call had asked for')
-        raise self._ended()
+        with self._in_time():
+            while True:
+                with contextlib.suppress(ssl.SSLWantReadError):
+                    self._read(1)
+                    raise OSError('the server sent bytes that no call had asked for')
+                self._left()
+                try:
+                    self._take(0)
+                except BlockingIOError:
+                    return
 
     def send(self, request: bytes) -> None:
         """Sends all of these bytes."""
         rest = memoryview(request)
         with self._in_time():
             while rest:
-                self._tls.settimeout(self._left())
-                rest = rest[self._tls.send(rest):]
+                rest = rest[self._in_steps(lambda: self._tls.write(rest)):]
 
     def read(self, count: int) -> bytes:
         """So many bytes."""
         got = bytearray()
         with self._in_time():
             while len(got) < count:
-                self._tls.settimeout(self._left())
-                piece = self._tls.recv(min(count - len(got), 65536))
-                if not piece:
-                    raise self._ended()
-                got += piece
+                got += self._in_steps(lambda: self._read(min(count - len(got), 65536)))
         return bytes(got)
 
     def close(self, in_order: bool) -> None:
         """Ends the connection. In order, it says so to the server, and waits for nothing."""
-        with contextlib.suppress(OSError, ValueError):
-            if in_order:
-                self._tls.settimeout(0)
+        if in_order:
+            with contextlib.suppress(OSError, ValueError):
                 self._tls.unwrap()
-        self._tls.close()
+            self._send_rest()
+        self._plain.close()

@@ -1,29 +1,16 @@
 """The fake servers, and a client of one of them."""
 import atexit
-import importlib.util
 import os
 import pathlib
 import subprocess
 import sys
 import tempfile
-from types import ModuleType
 from typing import Any, Dict, Iterator, Optional, Tuple
 
 from metsuwan import Client
 from metsuwan.wire import Port
 
 LIVE = pathlib.Path(__file__).resolve().parents[3] / 'tools' / 'live'
-
-
-def _module(name: str) -> ModuleType:
-    spec = importlib.util.spec_from_file_location(name, LIVE / (name + '.py'))
-    assert spec is not None and spec.loader is not None
-    module = importlib.util.module_from_spec(spec)
-    spec.loader.exec_module(module)
-    return module
-
-
-fakes: Any = _module('fakes')
 
 
 def _ports(lines: Iterator[str]) -> Dict[str, int]:
@@ -45,7 +32,7 @@ def _started() -> Tuple[str, Dict[str, int]]:
     atexit.register(folder.cleanup)
     certs = folder.name + '/certs'
     subprocess.run([str(LIVE / 'certs.sh'), certs], check=True)
-    process = subprocess.Popen([sys.executable, str(LIVE / 'fakes.py'), certs],
+    process = subprocess.Popen([sys.executable, '-B', str(LIVE / 'fakes.py'), certs],
                                stdout=subprocess.PIPE, text=True)
     assert process.stdout is not None
 

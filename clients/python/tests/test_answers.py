@@ -89,7 +89,8 @@ class Errors(unittest.TestCase):
                 (1, 'InternalError', InternalError), (1, 'SerializeError', SerializeError),
                 (1, 'Newer', Refused), (3, 'RequestWriteError', RequestWriteError),
                 (3, 'ResponseReadError', ResponseReadError), (3, 'Newer', ConnectionLost),
-                (3, 'DeserializeError', DeserializeError), (3, 'InternalError', OtherObject)):
+                (3, 'DeserializeError', DeserializeError), (3, 'InternalError', OtherObject),
+                (3, 'ServerError', OtherObject), (3, 'ItemNotFound', OtherObject)):
             with self.subTest((status, kind)):
                 error = error_of(status, {'error': kind, 'text': 'why'})
                 self.assertIs(type(error), wanted)
@@ -98,13 +99,31 @@ class Errors(unittest.TestCase):
                 self.assertEqual(isinstance(error, Refused), status == 1)
 
     def test_an_error_has_what_the_server_said(self) -> None:
-        line = {'error': 'InternalError', 'text': 'why', 'reason': 18, 'message': 'not today',
-                'response': '7B[7A[..]]'}
+        line = {'error': 'InternalError', 'text': 'why', 'reason': {'number': 18},
+                'message': 'not today', 'response': '7B[7A[..]]'}
         error = error_of(1, line)
         self.assertEqual((error.reason, error.message, error.response),
                          (18, 'not today', '7B[7A[..]]'))
         self.assertEqual(error.line(), line)
         self.assertIsNone(error_of(1, {'error': 'ServerError', 'text': 'why'}).reason)
+
+    def test_a_reason_has_a_number_and_a_name(self) -> None:
+        line = {'error': 'ServerError', 'text': 'why', 'message': 'no',
+                'reason': {'name': 'PermissionDenied', 'number': 12}}
+        error = error_of(1, line)
+        assert error.reason is not None
+        self.assertEqual((error.reason, error.reason.name, error.message),
+                         (12, 'PermissionDenied', 'no'))
+        self.assertEqual(error.line(), line)
+        copy = pickle.loads(pickle.dumps(error)).reason
+        self.assertEqual((copy, copy.name), (12, 'PermissionDenied'))
+        self.assertEqual(repr(copy), "Reason(12, 'PermissionDenied')")
+        error = error_of(1, {**line, 'reason': 18})
+        assert error.reason is not None
+        self.assertEqual((error.reason, error.reason.name), (18, None))
+        self.assertEqual(error.line()['reason'], {'number': 18})
+        for odd in ('PermissionDenied', {}, {'number': 'x'}, [12]):
+            self.assertIsNone(error_of(1, {**line, 'reason': odd}).reason)
 
     def test_errors_are_errors_of_python_too(self) -> None:
         self.assertTrue(issubclass(GrammarError, ValueError))
@@ -116,7 +135,7 @@ class Errors(unittest.TestCase):
                 self.assertTrue(issubclass(it, KmipError), name)
 
     def test_errors_can_be_sent_to_another_process(self) -> None:
-        error = error_of(3, {'error': 'InternalError', 'text': 'why', 'reason': 1})
+        error = error_of(3, {'error': 'InternalError', 'text': 'why', 'reason': {'number': 1}})
         copy = pickle.loads(pickle.dumps(error))
         self.assertEqual((type(copy), copy.line()), (OtherObject, error.line()))
 

@@ -11,25 +11,44 @@ from metsuwan.pem import certificate_der, write
 
 from .servers import CERTS, client_of
 
-DER = b'\x30\x01\xab'
+
+def object_of(name: str) -> bytes:
+    """One of the objects that certs.sh makes, in DER."""
+    with open('%s/objects/%s.der' % (CERTS, name), 'rb') as file:
+        return file.read()
+
+
+DER = object_of('Certificate.X509')
 
 
 class Given(unittest.TestCase):
     def test_der_and_pem(self) -> None:
-        long = bytes.fromhex('30820100') + bytes(256)
-        for der in (b'\x30\x00', DER, long):
-            pem = write('CERTIFICATE', der)
-            around = '0: \u00e9\r\n' + pem.replace('\n', '\r\n') + 'after'
-            givens: List[Union[str, bytes, bytearray, memoryview]] = [
-                der, bytearray(der), memoryview(der), pem, pem.encode(), around, around.encode()]
-            for given in givens:
-                with self.subTest(given):
-                    self.assertEqual(certificate_der(given), der)
+        pem = write('CERTIFICATE', DER)
+        around = '0: \u00e9\r\n' + pem.replace('\n', '\r\n') + 'after'
+        givens: List[Union[str, bytes, bytearray, memoryview]] = [
+            DER, bytearray(DER), memoryview(DER), pem, pem.encode(), around, around.encode()]
+        for given in givens:
+            with self.subTest(given):
+                self.assertEqual(certificate_der(given), DER)
 
     def test_a_real_one(self) -> None:
         with open(CERTS + '/client.pem', encoding='ascii') as file:
             pem = file.read()
         self.assertEqual(certificate_der(pem), ssl.PEM_cert_to_DER_cert(pem))
+
+    def test_what_is_whole_and_none(self) -> None:
+        # Servers show a certificate to everybody.
+        ders = [b'\x30\x00', b'\x30\x01\xab', DER[:-1] + bytes([DER[-1] ^ 1]) + b'\0']
+        ders += map(object_of, ('PrivateKey.PKCS1', 'PrivateKey.PKCS8', 'PrivateKey.ECPrivateKey',
+                                'PublicKey.PKCS1', 'PublicKey.X509'))
+        with client_of('good') as kmip:
+            for der in ders:
+                givens: List[Union[str, bytes]] = [der, write('CERTIFICATE', der)]
+                for given in givens:
+                    with self.subTest(given), self.assertRaises(GrammarError) as raised:
+                        kmip.register_certificate(given)
+                    self.assertIn('DER' if der[-1] == 0 and len(der) > 2 else 'none of X.509',
+                                  str(raised.exception))
 
     def test_what_is_none(self) -> None:
         one = write('CERTIFICATE', b'\x30\x00')
@@ -66,7 +85,7 @@ class Registered(unittest.TestCase):
         kind = {'tag': 'ObjectType', 'type': 'Enumeration', 'value': 'Certificate'}
         certificate = {'tag': 'Certificate', 'value': [
             {'tag': 'CertificateType', 'type': 'Enumeration', 'value': 'X509'},
-            {'tag': 'CertificateValue', 'type': 'ByteString', 'value': '3001AB'}]}
+            {'tag': 'CertificateValue', 'type': 'ByteString', 'value': DER.hex().upper()}]}
         usage = {'tag': 'Attribute', 'value': [
             {'tag': 'AttributeName', 'type': 'TextString', 'value': 'Cryptographic Usage Mask'},
             {'tag': 'AttributeValue', 'type': 'Integer', 'value': 4098}]}
@@ -102,8 +121,8 @@ class Registered(unittest.TestCase):
     def test_values_of_another_type(self) -> None:
         # bytes(2) would be two bytes of zero, and a number as a name an Integer.
         rows: List[Tuple[Any, Any]] = [
-            (2, {}), ([0x30, 0], {}), (None, {}), (b'\x30\0', {'name': 5}),
-            (b'\x30\0', {'name': b'x'}), (b'\x30\0', {'usage': 5}), (b'\x30\0', {'usage': {}})]
+            (2, {}), ([0x30, 0], {}), (None, {}), (DER, {'name': 5}),
+            (DER, {'name': b'x'}), (DER, {'usage': 5}), (DER, {'usage': {}})]
         with client_of('good') as kmip:
             for certificate, options in rows:
                 with self.subTest((certificate, options)), self.assertRaises(TypeError):

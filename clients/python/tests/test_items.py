@@ -5,7 +5,7 @@ import json
 import unittest
 from typing import Any, Dict, List, Tuple
 
-from metsuwan import Item, MissingValue
+from metsuwan import GrammarError, Item, MissingValue
 from metsuwan.library import Library, Operation
 
 UTC = datetime.timezone.utc
@@ -60,6 +60,15 @@ class Written(unittest.TestCase):
             with self.subTest(value), self.assertRaisesRegex(TypeError, 'no value of the type'):
                 Item('Data', value)
 
+    def test_numbers_of_more_than_64_bits(self) -> None:
+        for kind in ('LongInteger', 'DateTime'):
+            for number in (1 << 63, -1 - (1 << 63), 1 << 64):
+                with self.subTest((kind, number)), self.assertRaisesRegex(GrammarError, '64 bits'):
+                    Item('Data', number, kind)
+            for number in ((1 << 63) - 1, -1 << 63):
+                self.assertEqual(Item.of_json(Item('Data', number, kind))['value'],
+                                 '0x%016X' % (number % (1 << 64)))
+
     def test_a_date_without_a_time_zone(self) -> None:
         with self.assertRaises(ValueError):
             Item('ActivationDate', datetime.datetime(2008, 3, 14))
@@ -104,6 +113,17 @@ class Read(unittest.TestCase):
     def test_repr_shows_no_value(self) -> None:
         shown = repr(Item('Attribute', [Item('Data', b'Geheim'), Item('D', 'geheim')]))
         self.assertEqual(shown, 'Attribute: [Data: ByteString, D: TextString]')
+
+    def test_nor_that_of_a_dict_within(self) -> None:
+        key: Dict[str, Any] = {'tag': 'KeyMaterial', 'type': 'ByteString', 'value': '476568'}
+        block: Dict[str, Any] = {'tag': 'KeyBlock', 'value': [key, 'Geheim']}
+        odd: Any = {'value': 'Geheim'}
+        for item in (Item('SymmetricKey', [block]), Item('SymmetricKey', [Item('K', [block])])):
+            shown = repr(item) + str(item) + '%r' % [item]
+            self.assertIn('KeyBlock: [KeyMaterial: ByteString, str]', shown)
+            self.assertNotIn('476568', shown)
+            self.assertNotIn('Geheim', shown)
+        self.assertEqual(repr(Item('Data', [odd])), 'Data: [None: Structure]')
 
 
 if __name__ == '__main__':

@@ -39,15 +39,20 @@ class Operations(unittest.TestCase):
             rows: List[Tuple[str, str, Payload]] = [
                 ('encrypt', '1.2', payload()), ('Encrypt', '1.3', payload()),
                 ('Encrypt', '1.2', payload(tag='ResponsePayload')), ('Encrypt', '1.2', ''),
-                ('Encrypt', '1.2', payload({'tag': 'Data'})), ('\ud800', '1.2', payload()),
+                ('Encrypt', '1.2', payload({'tag': 'Dat'})), ('\ud800', '1.2', payload()),
                 ('Encrypt', '1.2', [Item('Count', 1 << 31)]), ('Encrypt', '1.2', [{}])]
             for name, version, given in rows:
                 with self.subTest(name=name, version=version), self.assertRaises(GrammarError):
                     kmip.operation(name, given, version=version)
-            for name, version, given, wrong in (
-                    ('encrypt', '1.2', payload(), 'no operation of this name'),
-                    ('Encrypt', '1.3', payload(), 'version is none of'),
-                    ('Encrypt', '1.2', payload({'tag': 'Data'}), 'payload is not the JSON')):
+            reasons: List[Tuple[str, str, Payload, str]] = [
+                ('encrypt', '1.2', payload(), 'no operation of this name'),
+                ('Encrypt', '1.3', payload(), 'version is none of'),
+                ('Encrypt', '1.2', payload({'tag': 'Dat'}),
+                 r'the payload: line 1, column \d+, value\[0\]\.tag: expected the name of a tag, '
+                 'or 0x and six hex digits, found "Dat"$'),
+                ('Get', '1.2', [Item('UniqueIdentifier', '')], 'Identifier in it is empty'),
+                ('Get', '1.2', [Item('0x420094', '')], 'Identifier in it is empty')]
+            for name, version, given, wrong in reasons:
                 with self.assertRaisesRegex(GrammarError, wrong):
                     kmip.operation(name, given, version=version)
             with self.assertRaises(SerializeError):

@@ -1,5 +1,6 @@
 """Sessions with servers that make it hard."""
 import contextlib
+import ctypes.util
 import os
 import signal
 import socket
@@ -7,12 +8,12 @@ import ssl
 import threading
 import time
 import unittest
-from typing import Any, Iterator, List, Tuple
+from typing import Any, Dict, Iterator, List, Tuple
 from unittest import mock
 
 from metsuwan import (Client, ConnectError, ConnectionLost, DeserializeError, ItemNotFound,
-                      KmipError, MissingValue, OtherObject, Refused, RequestWriteError,
-                      ResponseReadError)
+                      KmipError, LibraryError, MissingValue, OtherObject, Refused,
+                      RequestWriteError, ResponseReadError)
 from metsuwan.wire import Wire
 
 from .servers import CERTS, PORTS, client_of
@@ -37,8 +38,8 @@ def client_in_time(fake: str) -> Tuple[Client, float]:
         try:
             return client_of(fake, timeout=timeout), timeout
         except ConnectError as error:
-            told = error
-    raise told
+            last = error
+    raise last
 
 
 class Answers(unittest.TestCase):
@@ -150,6 +151,37 @@ class OutOfStep(unittest.TestCase):
             signal.signal(signal.SIGALRM, before)
         self.lost(kmip, RequestWriteError, 'closed')
 
+    def test_a_handler_of_a_signal_makes_no_call_within_one(self) -> None:
+        def close(*_: object) -> None:
+            kmip.close()
+
+        def query(*_: object) -> None:
+            kmip.query()
+
+        def again(*_: object) -> None:
+            with contextlib.suppress(RuntimeError):
+                kmip.close()
+            calls.append('refused')
+
+        calls: List[str] = []
+        before = signal.getsignal(signal.SIGALRM)
+        try:
+            for handler in (close, query):
+                kmip = client_of('slow')
+                signal.signal(signal.SIGALRM, handler)
+                signal.setitimer(signal.ITIMER_REAL, 0.3)
+                with self.subTest(handler), not_for_ever():
+                    with self.assertRaisesRegex(RuntimeError, 'within a call'):
+                        kmip.sign('never', b'x')
+                    self.lost(kmip, RequestWriteError, 'closed')
+            with client_of('slow') as kmip:
+                signal.signal(signal.SIGALRM, again)
+                signal.setitimer(signal.ITIMER_REAL, 0.3)
+                self.assertEqual(kmip.sign('slow', b'x').unique_identifier, 'slow')
+        finally:
+            signal.signal(signal.SIGALRM, before)
+        self.assertEqual(calls, ['refused'])
+
     def test_a_handler_of_a_signal_does_not_end_a_call(self) -> None:
         ticks: List[int] = []
         before = signal.signal(signal.SIGALRM, lambda *_: ticks.append(1))
@@ -171,6 +203,31 @@ class Time(unittest.TestCase):
                 text = 'no answer within %g seconds' % timeout
                 with self.assertRaisesRegex(ResponseReadError, text):
                     kmip.query()
+
+    def test_a_flood_of_session_tickets_ends_with_it_too(self) -> None:
+        kmip, timeout = client_in_time('tickets')
+        text = 'no answer within %g seconds' % timeout
+        with not_for_ever(), self.assertRaisesRegex(ResponseReadError, text):
+            kmip.query()
+        kmip, _ = client_in_time('tickets_after')
+        kmip.query()
+        with not_for_ever(), self.assertRaisesRegex(ConnectionLost, text):
+            kmip.query()
+        with client_of('tickets_after') as kmip, not_for_ever():
+            kmip.query()
+
+    def test_a_signal_ends_a_flood(self) -> None:
+        def give_up(*_: object) -> None:
+            raise KeyboardInterrupt
+
+        before = signal.signal(signal.SIGALRM, give_up)
+        try:
+            kmip = client_of('tickets', timeout=None)
+            signal.setitimer(signal.ITIMER_REAL, 0.5)
+            with not_for_ever(), self.assertRaises(KeyboardInterrupt):
+                kmip.query()
+        finally:
+            signal.signal(signal.SIGALRM, before)
 
     def test_a_reset_is_no_end(self) -> None:
         for fake, text in (('reset', 'reset by peer'), ('end', 'end of input')):
@@ -211,8 +268,8 @@ class Time(unittest.TestCase):
     def test_closing_tells_the_server(self) -> None:
         for _ in range(2):
             with client_of('ends', user='python', password='x') as kmip:
-                told = kmip.query()['vendor_identification']
-        self.assertEqual(told, 'in order')
+                how = kmip.query()['vendor_identification']
+        self.assertEqual(how, 'in order')
 
     def test_the_limit(self) -> None:
         with self.assertRaisesRegex(DeserializeError, 'limit of 1048576 bytes'):
@@ -257,6 +314,56 @@ class Opening(unittest.TestCase):
         for setting in settings:
             with self.subTest(setting), self.assertRaises(ValueError):
                 client_of('good', **setting)
+
+    def test_settings_of_another_type(self) -> None:
+        settings: List[Any] = [
+            {'limit': 1e6}, {'limit': True}, {'limit': '1'}, {'cert': None}, {'ca': None},
+            {'context': ssl.create_default_context()}]
+        for setting in settings:
+            with self.subTest(setting), self.assertRaises(TypeError):
+                given: Dict[str, Any] = {'cert': CERTS + '/client.pem', 'ca': CERTS + '/ca.pem',
+                                         'key': CERTS + '/client.key', **setting}
+                Client('localhost', PORTS['good'], **given)
+
+    def test_a_context_of_the_callers(self) -> None:
+        with open(CERTS + '/ca.pem', encoding='ascii') as file:
+            context = ssl.create_default_context(cadata=file.read())
+        context.load_cert_chain(CERTS + '/client.pem', CERTS + '/client.key')
+        with Client('localhost', PORTS['certificate'], context=context) as kmip:
+            self.assertEqual(kmip.query()['vendor_identification'], 'alice')
+        with self.assertRaisesRegex(ConnectError, 'issuer'):
+            Client('localhost', PORTS['other/server'], context=context)
+
+    def test_no_library(self) -> None:
+        other = ctypes.util.find_library('c')
+        for path, text in ((CERTS + '/none.so', 'none.so.*LIBMETSUWAN'), (other, 'another')):
+            with self.subTest(path), self.assertRaisesRegex(LibraryError, text) as raised:
+                client_of('good', library=path)
+            self.assertIsInstance(raised.exception, KmipError)
+
+    def test_names_are_whole_and_alternative(self) -> None:
+        here = socket.getaddrinfo('127.0.0.1', PORTS['wildcard'], type=socket.SOCK_STREAM)
+        with self.assertRaisesRegex(ConnectError, 'mismatch'):
+            client_of('cn_only')
+        with mock.patch('socket.getaddrinfo', return_value=here):
+            with self.assertRaisesRegex(ConnectError, 'mismatch'):
+                client_of('wildcard', host='kms.example.test')
+
+    def test_a_name_with_its_last_dot(self) -> None:
+        here = socket.getaddrinfo('127.0.0.1', PORTS['good'], type=socket.SOCK_STREAM)
+        with mock.patch('socket.getaddrinfo', return_value=here):
+            with client_of('good', host='localhost.') as kmip:
+                kmip.query()
+
+    def test_an_authority_that_is_encrypted(self) -> None:
+        path = os.path.join(CERTS, 'encrypted_authority.pem')
+        with open(path, 'w', encoding='ascii') as file:
+            file.write('-----BEGIN CERTIFICATE-----\nProc-Type: 4,ENCRYPTED\n'
+                       'DEK-Info: AES-256-CBC,00112233445566778899AABBCCDDEEFF\n\nAAAA\n'
+                       '-----END CERTIFICATE-----\n')
+        cert, key = CERTS + '/client.pem', CERTS + '/client.key'
+        with self.assertRaisesRegex(ConnectError, 'encrypted'):
+            Client('localhost', PORTS['good'], cert=cert, key=key, ca=path)
 
     def test_a_port_that_is_none(self) -> None:
         # getaddrinfo would take the first three for that of the server

@@ -2,10 +2,10 @@
 import unittest
 from typing import Any, Dict, List, Tuple
 
-from metsuwan import GrammarError, calls
-from metsuwan.calls import (BYTES, CALLS, IDENTIFIER, NAME, NUMBER, TEXT, Option, Word, line_of,
-                            words_of, wrong_with)
-from metsuwan.library import GRAMMAR, Library
+from metsuwan import GrammarError
+from metsuwan.calls import (BYTES, CALLS, IDENTIFIER, NAME, NUMBER, OPTIONS, TEXT, Option, Word,
+                            line_of, words_of)
+from metsuwan.library import GRAMMAR, Library, Operation
 
 SAMPLES: Dict[Any, Word] = {IDENTIFIER: '1', TEXT: 'a name', BYTES: b'\x01', NUMBER: 16,
                             NAME: 'AES'}
@@ -46,7 +46,11 @@ class Written(unittest.TestCase):
             ('create-rsa', ['2048', 'usage=1', 'hash=2'], ([2048, 'usage=1', 'hash=2'], {})),
             ('locate', ['a=b'], (['a=b'], {})),
             ('locate', ['name'], (['name'], {})),
+            ('locate', ['state=Active'], (['state=Active'], {})), ('locate', [], ([], {})),
+            ('locate', ['where'], (['where'], {})),
+            ('locate', ['where', 'state=Active'], ([], {'state': 'Active'})),
             ('locate', ['name=a=b', 'length=256'], ([], {'name': 'a=b', 'length': 256})),
+            ('locate', ['where', 'name=a=b', 'length=256'], ([], {'name': 'a=b', 'length': 256})),
             ('attributes', ['1', 'State', 'x-y z'], (['1', 'State', 'x-y z'], {})),
             ('get', ['format=1'], (['format=1'], {})),
         ]
@@ -62,7 +66,10 @@ class Written(unittest.TestCase):
             ('sign', ['k', b''], {'prehashed': False}, b'sign k -'),
             ('revoke', ['k'], {'reason': 'KeyCompromise', 'message': 'a b, c', 'since': 5},
              b'revoke k reason=KeyCompromise message=a%20b%2C%20c since=5'),
-            ('locate', [], {'name': 'a=b', 'state': 'Active'}, b'locate name=a%3Db state=Active'),
+            ('locate', [], {'name': 'a=b', 'state': 'Active'},
+             b'locate where name=a%3Db state=Active'),
+            ('locate', [], {'state': 'Active'}, b'locate where state=Active'),
+            ('locate', ['state=Active'], {}, b'locate state%3DActive'),
             ('create', ['AES', 256, 'n'], {'usage': 'Encrypt,Decrypt'},
              b'create AES 256 n usage=Encrypt,Decrypt'),
             ('create-rsa', [2048, 'a', 'b'], {'private_usage': ['Sign', 'Decrypt']},
@@ -93,6 +100,12 @@ class Written(unittest.TestCase):
         for options in wrong:
             with self.subTest(options), self.assertRaises(TypeError):
                 line_of('sign', ['k', b''], options)
+
+    def test_a_missing_value_asks_for_no_more(self) -> None:
+        wrong: List[Dict[str, Any]] = [{'name': None}, {'name': 'n', 'state': None}]
+        for options in wrong:
+            with self.subTest(options), self.assertRaisesRegex(TypeError, 'None was given'):
+                line_of('locate', [], options)
 
     def test_typed_texts_that_are_none(self) -> None:
         rows: List[Tuple[str, List[str]]] = [
@@ -128,47 +141,87 @@ class Written(unittest.TestCase):
 class Said(unittest.TestCase):
     """What is said of a line that the library does not take."""
 
-    def wrong_with(self, name: str, words: List[Word], options: Dict[str, Option]) -> str:
+    def refusal(self, name: str, words: List[Word], options: Dict[str, Option]) -> str:
         library = Library()
         line = line_of(name, words, options)
         self.assertEqual(library.request(line), GRAMMAR)
-        return wrong_with(line, lambda it: library.request(it) != GRAMMAR)
+        said = library.refusal(line)
+        assert said is not None
+        return said
 
     def test_which_word_is_wrong(self) -> None:
         key: Dict[str, Option] = {'format': 'Raw', 'algorithm': 'AES', 'length': 8}
+        algorithms = 'is none of DES, TRIPLE_DES, AES, RSA'
         rows: List[Tuple[str, List[Word], Dict[str, Option], str]] = [
-            ('sign', ['k', b''], {'hash': 'SHA3'}, 'the value of hash='),
-            ('sign', ['k', b''], {'padding': 'PSS', 'hash': 'x'}, 'the value of hash='),
-            ('get', ['k'], {'format': 'PKCS_1'}, 'the value of format='),
-            ('revoke', ['k'], {'message': 'm', 'reason': 'x'}, 'the value of reason='),
-            ('create', ['HMAC_SHA256', 8, 'n'], {}, 'word 1 after it is none'),
-            ('create', ['AES', 8, 'n'], {'usage': 'Sing'}, 'the value of usage='),
-            ('create-rsa', [8, 'n', 'm'], {'public-usage': 'x'}, 'the value of public-usage='),
-            ('register', ['secret', b''], key, 'word 1 after it is none'),
-            ('register', ['public', b''], {'format': 'Raw', 'length': 8}, 'algorithm= is missing'),
-            ('register', ['public', b''], {**key, 'algorithm': 'EC'}, 'the value of algorithm='),
-            ('register', ['public', b''], {**key, 'usage': 'x'}, 'the value of usage='),
-            ('locate', [], {'name': 'a', 'state': 'x'}, 'the value of state='),
-            ('locate', ['a'], {'name': 'a'}, 'a name, or attributes'),
-            ('attribute-add', ['k'], {}, 'one attribute'),
-            ('attribute-add', ['k'], {'name': 'a', 'group': 'b'}, 'one attribute'),
-            ('attribute-modify', ['k'], {'index': 0}, 'one attribute'),
-            ('attribute-modify', ['k'], {'index': -1, 'type': 'x'}, 'the value of type='),
-            ('raw', [b''], {}, 'canonical message'),
+            ('sign', ['k', b''], {'hash': 'SHA3'}, 'sign: hash=SHA3 is none of MD2, MD4, MD5, '),
+            ('sign', ['k', b''], {'padding': 'PSS', 'hash': 'x'}, 'sign: hash=x is none of MD2, '),
+            ('sign', ['k', b''], {'prehashed': True, 'hash': 'SHA256'},
+             'prehashed and hash= exclude each other: KMIP 1.2 has no digested data'),
+            ('get', ['k'], {'format': 'PKCS_1'}, 'get: format=PKCS_1 is none of Raw, Opaque, '),
+            ('revoke', ['k'], {'message': 'm', 'reason': 'x'}, 'revoke: reason=x is none of '),
+            ('create', ['HMAC_SHA256', 8, 'n'], {}, 'create: ALGORITHM ' + algorithms),
+            ('create', ['AES', 8, 'n'], {'usage': 'Sing'}, 'create: usage=Sing is none of Sign, '),
+            ('create-rsa', [8, 'n', 'm'], {'public-usage': 'x'}, 'create-rsa: public-usage=x is '),
+            ('register', ['secret', b''], key,
+             'register: KIND is none of public, private, symmetric'),
+            ('register', ['public', b''], {'format': 'Raw', 'length': 8},
+             'register: algorithm= is missing'),
+            ('register', ['public', b''], {**key, 'algorithm': 'EC'},
+             'register: algorithm=EC ' + algorithms),
+            ('locate', [], {'name': 'a', 'state': 'x'}, 'locate: state=x is none of PreActive, '),
+            ('locate', ['a'], {'name': 'a'}, 'locate: ATTRIBUTE is none of name=, group=, '),
+            ('attribute-add', ['k'], {}, 'the words are not those of attribute-add ID ATTRIBUTE'),
+            ('attribute-modify', ['k'], {'index': -1, 'type': 'x'},
+             'attribute-modify: type=x is none of Certificate, '),
+            ('raw', [b''], {}, 'raw: the bytes are not the one canonical message of a request'),
         ]
         for name, words, options, wanted in rows:
             with self.subTest((name, words, options)):
-                said = self.wrong_with(name, words, options)
-                self.assertTrue(said.startswith(name + ': ') and wanted in said, said)
+                said = self.refusal(name, words, options)
+                self.assertTrue(said.startswith(wanted), said)
 
-    def test_each_sample_is_taken(self) -> None:
+    def test_each_option_of_the_table_is_one(self) -> None:
         library = Library()
-        self.assertEqual(set(calls.SAMPLES), set(calls.OPTIONS))
-        for name, sample in calls.SAMPLES.items():
-            if name not in ('locate', 'attribute-add', 'attribute-modify'):
-                with self.subTest(name):
-                    line = ('%s %s' % (name, sample)).encode()
-                    self.assertIsInstance(library.request(line), bytes)
+        for name, options in OPTIONS.items():
+            for option in options:
+                word = option if option == 'prehashed' else option + '='
+                line = ' '.join([name, *['x'] * len(CALLS[name]), 'no=', word + 'x']).encode()
+                with self.subTest((name, option)):
+                    said = library.refusal(line)
+                    assert said is not None
+                    if name != 'locate' and not name.startswith('attribute'):
+                        self.assertIn('the words are not those of %s ' % name, said)
+                        self.assertTrue(' %s' % word in said or '[%s]' % word in said, said)
+
+    def test_typed_texts_are_refused_by_the_library(self) -> None:
+        digits = 'is no number from -2147483648 to 2147483647 in decimal digits'
+        rows: List[Tuple[str, List[str], str]] = [
+            ('sing', ['1'], 'there is no call sing'),
+            ('rename', ['1'], 'the words are not those of rename ID NAME'),
+            ('get', ['\udcff', 'x'], 'the words are not those of get ID [format=] [wrap=]'),
+            ('sign', ['k', 'XY'],
+             'sign: HEX is no even number of hex digits, and not - for no bytes'),
+            ('sign', ['k', '00', 'prehashed=1'],
+             'sign: prehashed stands alone, with nothing after it'),
+            ('get', ['1', 'format=Raw', 'format=Raw'], 'get: format= is given twice'),
+            ('create-rsa', ['0x8', 'a b', ''], 'create-rsa: BITS ' + digits),
+            ('rng', ['007'], 'rng: N ' + digits),
+            ('get', [''], 'an identifier is empty; a request that means it is sent by message'),
+        ]
+        for name, texts, wanted in rows:
+            with self.subTest((name, texts)), self.assertRaises(GrammarError) as raised:
+                words_of(name, texts)
+            self.assertEqual(str(raised.exception), wanted)
+
+    def test_a_line_that_is_none(self) -> None:
+        wanted = 'the line is not UTF-8, or has not one space between two words'
+        for line in (b'', b'get  k', b'query ', b'get \xff'):
+            self.assertEqual(Library().refusal(line), wanted, line)
+
+    def test_a_call_is_not_refused(self) -> None:
+        self.assertIsNone(Library().refusal(b'query'))
+        self.assertIsNone(Library().refusal(Operation(
+            b'Archive', b'1.2', b'{"tag":"RequestPayload","value":[]}')))
 
 
 class Refused(unittest.TestCase):
@@ -192,6 +245,8 @@ class Refused(unittest.TestCase):
             with self.subTest(name), self.assertRaises(GrammarError) as raised:
                 line_of(name, words)
             self.assertIn('word 1', str(raised.exception))
+        with self.assertRaisesRegex(GrammarError, 'get: wrap is empty'):
+            line_of('get', ['k'], {'wrap': ''})
 
     def test_a_name_that_is_no_call(self) -> None:
         for name in ('sign -', 'sign', 'sing', '', 'query ', 'query\n', 'get 1', '-', 'Query'):

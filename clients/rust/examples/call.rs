@@ -2,6 +2,10 @@
 //!
 //! call HOST PORT CERTIFICATE KEY AUTHORITY CALL TEXT..
 //!
+//! Beside the calls of the grammar there are `pem IDENTIFIER`, and what registers the contents of a
+//! file: `register-private FILE`, `register-public FILE`, `register-certificate FILE` and
+//! `register-secret FILE`, each with `usage=..` and `name=..`; a secret also with `kind=Seed`.
+//!
 //! The environment may have KMIP_USER and KMIP_PASSWORD, a credential; KMIP_PASSPHRASE, that of an
 //! encrypted key; KMIP_LIMIT, the most bytes of a response (1048576 where it is not set; 0: no
 //! limit); KMIP_TIMEOUT, the most seconds of connecting and of the call (30; 0: no deadline). With
@@ -12,7 +16,7 @@
 //! standard error.
 mod settings;
 
-use metsuwan::{ClientBuilder, Error, TlsClient, TlsConnector};
+use metsuwan::{ClientBuilder, Error, Json, Register, SecretDataType, TlsClient, TlsConnector};
 use settings::Failure;
 use std::env::{self, VarError};
 use std::io::Write;
@@ -61,8 +65,43 @@ fn client_of(mut server: TlsConnector) -> Result<TlsClient, Failure> {
     Ok(limit.into_iter().fold(builder, ClientBuilder::with_max_bytes).build())
 }
 
+/// What a file is registered with: `usage=..`, `name=..` and `kind=..`.
+fn options_of<'a>(texts: &[&'a str]) -> Result<(Register<'a>, SecretDataType), Failure> {
+    let mut found = (Register::default(), SecretDataType::Password);
+    for text in texts {
+        found = match text.split_once('=') {
+            Some(("name", name)) => (found.0.with_name(name), found.1),
+            Some(("usage", names)) => {
+                let usage = names.parse().map_err(|_| settings::wrong("usage is no names of KMIP"));
+                (found.0.with_usage(usage?), found.1)
+            }
+            Some(("kind", "Password")) => found,
+            Some(("kind", "Seed")) => (found.0, SecretDataType::Seed),
+            _ => return Err(settings::wrong("there is no such option")),
+        };
+    }
+    Ok(found)
+}
+
+/// Registers the contents of a file.
+fn register(client: &TlsClient, what: &str, texts: &[&str]) -> Result<String, Failure> {
+    let [file, options @ ..] = texts else { return Err(settings::wrong("there is no file")) };
+    let bytes = std::fs::read(file).map_err(|it| settings::wrong(&format!("{file}: {it}")))?;
+    let (options, kind) = options_of(options)?;
+    let made = match what {
+        "private" => client.register_private_key(&bytes, options),
+        "public" => client.register_public_key(&bytes, options),
+        "certificate" => client.register_certificate_with(&bytes, options),
+        "secret" => client.register_secret(kind, &bytes, options),
+        _ => return Err(settings::wrong("there is no such call")),
+    };
+    let made = Json::text(made?);
+    Ok(format!("{{\"answer\":{{\"unique_identifier\":{made}}}}}\n"))
+}
+
 fn call(client: &TlsClient, name: &str, texts: &[&str]) -> Result<String, Error> {
     match texts {
+        [identifier] if name == "pem" => client.get_key(identifier)?.pem(),
         [identifier] if name == "get" && env::var_os("KMIP_PEM").is_some() => {
             client.get_key(identifier)?.pem()
         }
@@ -76,18 +115,25 @@ fn answer() -> Result<String, Failure> {
         return Err(settings::wrong("usage: call HOST PORT CERTIFICATE KEY AUTHORITY CALL TEXT.."));
     };
     let texts: Vec<&str> = texts.iter().map(String::as_str).collect();
-    Ok(call(&client_of(server)?, name, &texts)?)
+    match name.strip_prefix("register-") {
+        Some(what) => register(&client_of(server)?, what, &texts),
+        None => Ok(call(&client_of(server)?, name, &texts)?),
+    }
 }
 
 fn main() -> ExitCode {
     match answer() {
         Ok(answer) => {
             let mut out = std::io::stdout();
-            let written = out.write_all(answer.as_bytes()).and_then(|()| out.flush());
-            written.map_or(ExitCode::from(4), |()| ExitCode::SUCCESS)
+            let Err(error) = out.write_all(answer.as_bytes()).and_then(|()| out.flush()) else {
+                return ExitCode::SUCCESS;
+            };
+            let why = format!("the answer cannot be written: {error}");
+            settings::say(&settings::line("NotWritten", &why));
+            ExitCode::from(4)
         }
         Err(Failure(line, status)) => {
-            eprintln!("{line}");
+            settings::say(&line);
             ExitCode::from(status)
         }
     }

@@ -78,7 +78,7 @@ fn main() -> ExitCode {
     match run() {
         Ok(()) => ExitCode::SUCCESS,
         Err(error) => {
-            eprintln!("{error}");
+            settings::say(&error);
             ExitCode::from(error.downcast_ref().map_or(1, |it: &Failure| it.1))
         }
     }

@@ -43,11 +43,11 @@ fn main() -> ExitCode {
                 return ExitCode::SUCCESS;
             }
             let why = "locate finds the new private key by its name";
-            eprintln!("{}", settings::line("NotWritten", why));
+            settings::say(&settings::line("NotWritten", why));
             ExitCode::from(4)
         }
         Err(Failure(line, status)) => {
-            eprintln!("{line}");
+            settings::say(&line);
             ExitCode::from(status)
         }
     }

@@ -1,5 +1,6 @@
 //! What a response answers.
 use crate::error::{Error, Result};
+use crate::item::Item;
 use crate::json::Json;
 use std::fmt::{self, Debug, Formatter};
 
@@ -13,10 +14,10 @@ pub struct Answer {
 
 impl Answer {
     /// The answer of a line `{"answer":..}`.
-    pub(crate) fn of_line(line: &str, response: Vec<u8>) -> Option<Answer> {
-        match Json::parse(line)? {
+    pub(crate) fn of_line(line: String, response: Vec<u8>) -> Option<Answer> {
+        match Json::of_line(line)? {
             Json::Object(members) => match <[_; 1]>::try_from(members) {
-                Ok([(name, json)]) if name == "answer" => Some(Answer { response, json }),
+                Ok([(name, json)]) if &*name == "answer" => Some(Answer { response, json }),
                 _ => None,
             },
             _ => None,
@@ -31,6 +32,12 @@ impl Answer {
     /// The whole answer, as the library's line has it after `"answer":`.
     pub fn json(&self) -> &Json {
         &self.json
+    }
+
+    /// The response's payload, where this is an answer to an operation, or to a call whose tables
+    /// have no words for it.
+    pub fn tree(&self) -> Option<Item> {
+        self.json.member("tag").and_then(|_| Item::of_json(&self.json))
     }
 
     /// The value at a path of names, with a dot between two; an item of a list is named by its

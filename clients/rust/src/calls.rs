@@ -3,6 +3,7 @@ use crate::client::Client;
 use crate::error::{Error, Result};
 use crate::item::Item;
 use crate::json::Json;
+use crate::keys::SecretDataType;
 use crate::names::CryptographicAlgorithm;
 use crate::options::{
     AttributeValue, Create, CreateRsa, Get, NewKey, Pair, Register, Revoke, Sign,
@@ -11,8 +12,8 @@ use crate::payload::{
     Attribute, GetResponsePayload, ModifyAttributeResponsePayload, ProtocolVersion,
     QueryResponsePayload, RNGRetrieveResponsePayload, SignResponsePayload,
 };
-use crate::pem;
 use crate::word::Word;
+use crate::{keys, pem};
 use std::io::{Read, Write};
 
 /// The identifiers of the private and the public key of a new pair.
@@ -114,10 +115,48 @@ impl<T: Read + Write> Client<T> {
             Item::enumeration("CertificateType", "X509"),
             Item::new("CertificateValue", der.as_ref()),
         ];
+        self.register_object("Certificate", object, options)
+    }
+
+    /// Has the server keep the private key of RSA, of DSA or of a curve that a text of PEM holds, as
+    /// OpenSSL writes it (PKCS#8, PKCS#1, ECPrivateKey), and gives its identifier.
+    ///
+    /// # Errors
+    /// `GrammarError`: it has none, another block too, or an encrypted one; or KMIP 1.2 has no name
+    /// for its algorithm or its curve, and nothing was sent; and those of every call.
+    pub fn register_private_key(&self, pem: &[u8], options: Register<'_>) -> Result<String> {
+        let block = keys::block_of_pem(pem, "PrivateKey")?;
+        self.register_object("PrivateKey", vec![block], options)
+    }
+
+    /// The same with a public key (X.509's SubjectPublicKeyInfo, or PKCS#1).
+    pub fn register_public_key(&self, pem: &[u8], options: Register<'_>) -> Result<String> {
+        let block = keys::block_of_pem(pem, "PublicKey")?;
+        self.register_object("PublicKey", vec![block], options)
+    }
+
+    /// Has the server keep a secret that is no key, whatever its bytes, and gives its identifier.
+    pub fn register_secret(
+        &self,
+        kind: SecretDataType,
+        data: &[u8],
+        options: Register<'_>,
+    ) -> Result<String> {
+        let kind = Item::enumeration("SecretDataType", kind.name());
+        let block = keys::block("Opaque", data.to_vec(), Vec::new());
+        self.register_object("SecretData", vec![kind, block], options)
+    }
+
+    fn register_object(
+        &self,
+        kind: &str,
+        parts: Vec<Item>,
+        options: Register<'_>,
+    ) -> Result<String> {
         let items = vec![
-            Item::enumeration("ObjectType", "Certificate"),
+            Item::enumeration("ObjectType", kind),
             Item::new("TemplateAttribute", options.attributes()),
-            Item::new("Certificate", object),
+            Item::new(kind, parts),
         ];
         let answer = self.do_operation("Register", "1.0", items)?;
         Ok(answer.text_at("UniqueIdentifier")?.into())
@@ -240,7 +279,8 @@ impl<T: Read + Write> Client<T> {
         self.call_given("locate", &[], &given)?.texts_at("unique_identifiers")
     }
 
-    /// All attributes of an object.
+    /// All attributes of an object. Where one of them is none of this call's tables, the value of each
+    /// is an item in the JSON of KMIP's Additional Message Encodings.
     pub fn attributes(&self, object_id: &str) -> Result<Vec<Attribute>> {
         self.attributes_with(object_id, &[])
     }
@@ -251,6 +291,10 @@ impl<T: Read + Write> Client<T> {
         let names = names.iter().map(|name| Word::Text(name));
         let words: Vec<_> = [Word::Text(object_id)].into_iter().chain(names).collect();
         let answer = self.call("attributes", &words)?;
+        if let Some(tree) = answer.tree() {
+            let items = tree.items().iter().filter(|it| it.tag == "Attribute");
+            return items.map(Attribute::of_item).collect();
+        }
         let count = answer.list_at("attributes")?.len();
         (0..count).map(|at| Attribute::at(&answer, &format!("attributes.{at}"))).collect()
     }

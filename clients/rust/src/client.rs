@@ -2,7 +2,8 @@
 use crate::answer::Answer;
 use crate::error::{Error, Result};
 use crate::item::Item;
-use crate::library::{self, BadHead, NoRequest, Operation, Status};
+use crate::keys;
+use crate::library::{self, BadHead, NoRequest, Operation, Status, NO_ITEMS};
 use crate::options::Given;
 use crate::word::{self, Word};
 use std::fmt::{self, Debug, Formatter};
@@ -15,7 +16,7 @@ pub const DEFAULT_LIMIT: u32 = 1 << 20;
 /// The most room that one read is offered.
 const PIECE: usize = 65536;
 
-type BeforeCall<T> = fn(&mut T) -> io::Result<()>;
+type BeforeCall<T> = Box<dyn FnMut(&mut T) -> io::Result<()> + Send>;
 
 /// A user and a password.
 #[derive(Clone)]
@@ -40,7 +41,7 @@ impl<T: Read + Write> ClientBuilder<T> {
             stream,
             credential: None,
             limit: DEFAULT_LIMIT,
-            before_call: |_: &mut T| Ok(()),
+            before_call: Box::new(|_: &mut T| Ok(())),
         }
     }
 
@@ -59,14 +60,17 @@ impl<T: Read + Write> ClientBuilder<T> {
     /// Before each call this is called with the stream: it may begin a deadline, or look whether
     /// the connection is open. Where it gives an error, nothing is sent, and the call is a
     /// `RequestWriteError`.
-    pub fn with_before_call(self, before_call: fn(&mut T) -> io::Result<()>) -> Self {
-        ClientBuilder { before_call, ..self }
+    pub fn with_before_call(
+        self,
+        before_call: impl FnMut(&mut T) -> io::Result<()> + Send + 'static,
+    ) -> Self {
+        ClientBuilder { before_call: Box::new(before_call), ..self }
     }
 
     /// The client.
     pub fn build(self) -> Client<T> {
         let ClientBuilder { stream, credential, limit, before_call } = self;
-        Client { stream: Mutex::new(Some(stream)), credential, limit, before_call }
+        Client { wire: Mutex::new(Some(Wire { stream, before_call })), credential, limit }
     }
 }
 
@@ -91,9 +95,14 @@ impl<T> Debug for ClientBuilder<T> {
 /// `RequestWriteError`. `Debug` shows no password.
 pub struct Client<T> {
     /// None where a call lost it.
-    stream: Mutex<Option<T>>,
+    wire: Mutex<Option<Wire<T>>>,
     credential: Option<Credential>,
     limit: u32,
+}
+
+/// A stream, and what is called with it before each call.
+struct Wire<T> {
+    stream: T,
     before_call: BeforeCall<T>,
 }
 
@@ -161,21 +170,26 @@ impl<T: Read + Write> Client<T> {
     /// answer is the response's payload in the same JSON:
     /// `{"tag":"RequestPayload","value":[{"tag":"Data","type":"ByteString","value":"00FF"}]}`.
     pub fn operation(&self, name: &str, version: &str, payload: &str) -> Result<Answer> {
-        self.make(Asked::Operation(Operation { name, version, payload }))
+        self.make(Asked::Operation(Operation::new(name, version, payload)))
     }
 
     /// The stream, where no call has lost it.
     pub fn into_inner(self) -> Option<T> {
-        self.stream.into_inner().ok().flatten()
+        self.wire.into_inner().ok().flatten().map(|it| it.stream)
     }
 
     fn call_line(&self, line: &str) -> Result<Answer> {
+        if line.starts_with("register ") && line.split(' ').any(keys::is_pem) {
+            let text = "register: the key is PEM, which would be kept as its bytes: \
+                        register_private_key and register_public_key take it";
+            return Err(Error::grammar(text));
+        }
         self.make(Asked::Line(line))
     }
 
     fn make(&self, asked: Asked<'_>) -> Result<Answer> {
-        let mut guard = self.stream();
-        let stream = guard.as_mut().ok_or_else(Error::closed)?;
+        let mut guard = self.wire();
+        let wire = guard.as_mut().ok_or_else(Error::closed)?;
         let credential = self.credential.as_ref();
         let request = asked
             .request(credential.map(|it| (it.user.as_str(), it.password.as_str())))
@@ -185,8 +199,8 @@ impl<T: Read + Write> Client<T> {
                 NoRequest::Memory => Error::memory(),
             });
         let answer = request.and_then(|request| {
-            (self.before_call)(stream).map_err(|error| Error::not_sent(&error))?;
-            exchange(stream, asked, &request, self.limit)
+            (wire.before_call)(&mut wire.stream).map_err(Error::not_sent)?;
+            exchange(&mut wire.stream, asked, &request, self.limit)
         });
         if matches!(&answer, Err(error) if error.is_lost()) {
             *guard = None;
@@ -196,8 +210,8 @@ impl<T: Read + Write> Client<T> {
 
     /// A call that panicked in the middle of a message has lost the connection, for all who come
     /// after it.
-    fn stream(&self) -> MutexGuard<'_, Option<T>> {
-        self.stream.lock().unwrap_or_else(|poisoned: PoisonError<_>| {
+    fn wire(&self) -> MutexGuard<'_, Option<Wire<T>>> {
+        self.wire.lock().unwrap_or_else(|poisoned: PoisonError<_>| {
             let mut guard = poisoned.into_inner();
             *guard = None;
             guard
@@ -229,28 +243,13 @@ impl Asked<'_> {
         }
     }
 
-    /// Whether the library takes it as a call.
-    fn is_taken(&self) -> bool {
-        self.request(None) != Err(NoRequest::Grammar)
-    }
-
     /// The error of a call that is none.
     fn grammar(&self) -> Error {
-        Error::grammar(match self {
-            Asked::Line(line) => word::wrong_with(line, |it| Asked::Line(it).is_taken()),
-            Asked::Operation(Operation { name, version, .. }) => {
-                let payload = r#"{"tag":"RequestPayload","value":[]}"#;
-                let other = Asked::Operation(Operation { name, version, payload });
-                let why = match *version {
-                    "1.0" | "1.1" | "1.2" if other.is_taken() => {
-                        "the payload is not the JSON of a RequestPayload"
-                    }
-                    "1.0" | "1.1" | "1.2" => "KMIP 1.2 has no operation of this name",
-                    _ => "the version is none of 1.0, 1.1 and 1.2",
-                };
-                why.to_string()
-            }
-        })
+        let said = match self {
+            Asked::Line(line) => library::refusal(line),
+            Asked::Operation(call) => library::operation_refusal(call),
+        };
+        Error::grammar(said.unwrap_or_else(|| "the call is none".into()))
     }
 }
 
@@ -262,7 +261,7 @@ fn exchange<T: Read + Write>(
     limit: u32,
 ) -> Result<Answer> {
     let sent = stream.write_all(request).and_then(|()| stream.flush());
-    sent.map_err(|error| Error::write(&error))?;
+    sent.map_err(Error::write)?;
     let mut head = [0; 8];
     read(stream, &mut head)?;
     let more = library::contents_len(&head, limit).map_err(|bad| match bad {
@@ -276,21 +275,62 @@ fn exchange<T: Read + Write>(
     while left > 0 {
         let piece = left.min(PIECE);
         let from = response.len();
-        response.try_reserve(piece).map_err(|_| Error::memory())?;
+        if response.capacity() - from < piece {
+            // It grows as bytes come, whatever was announced, and no further than that.
+            let more = left.min(piece.max(from / 2));
+            response.try_reserve_exact(more).map_err(|_| Error::memory())?;
+        }
         response.resize(from + piece, 0);
         read(stream, &mut response[from..])?;
         left -= piece;
     }
-    let (status, told) = asked.answer(&response);
+    let (status, line) = asked.answer(&response);
     match status {
-        Status::Answered => {
-            Answer::of_line(&told, response).ok_or_else(|| Error::of_line(&told, true))
-        }
-        Status::Refused => Err(Error::of_line(&told, false)),
-        Status::Lost => Err(Error::of_line(&told, true)),
+        Status::Answered => Answer::of_line(line, response).ok_or_else(|| Error::of_line("", true)),
+        Status::Refused => as_tree(asked, response, Error::of_line(&line, false)),
+        Status::Lost => Err(Error::of_line(&line, true)),
         Status::Grammar => Err(asked.grammar()),
         Status::Memory => Err(Error::memory()),
     }
+}
+
+/// After a refusal: what the tables of a call have no words for, as a key of EC, is answered as the
+/// operation of the call has it, where the same bytes are a success of that.
+fn as_tree(asked: Asked<'_>, response: Vec<u8>, refusal: Error) -> Result<Answer> {
+    let Asked::Line(line) = asked else { return Err(refusal) };
+    // What was to be wrapped is not given as anything else.
+    if line.contains(" wrap=") {
+        return Err(refusal);
+    }
+    let mut words = line.split(' ');
+    let name = match words.next() {
+        Some("get") => "Get",
+        Some("attributes") => "GetAttributes",
+        _ => return Err(refusal),
+    };
+    let call = Operation::new(name, "1.2", NO_ITEMS);
+    let (Status::Answered, line) = library::operation_answer(&call, &response) else {
+        return Err(refusal);
+    };
+    let Some(answer) = Answer::of_line(line, response) else { return Err(refusal) };
+    let Some(tree) = answer.tree() else { return Err(refusal) };
+    match tree.text_at("UniqueIdentifier") {
+        Ok(found) if found.as_bytes() == text_of(words.next().unwrap_or("")) => Ok(answer),
+        Ok(_) => Err(Error::other_object("the response is about another object")),
+        Err(_) => Err(refusal),
+    }
+}
+
+/// The text that a word of a call stands for: of a byte that is special it has `%` and two digits.
+fn text_of(word: &str) -> Vec<u8> {
+    let mut parts = word.split('%');
+    let mut made = parts.next().unwrap_or("").as_bytes().to_vec();
+    for part in parts {
+        let byte = part.get(..2).and_then(|digits| u8::from_str_radix(digits, 16).ok());
+        made.extend(byte);
+        made.extend(part.get(2..).unwrap_or("").bytes());
+    }
+    made
 }
 
 /// Reads as many bytes as there is room for.
@@ -299,11 +339,11 @@ fn read(stream: &mut impl Read, into: &mut [u8]) -> Result<()> {
     while done < into.len() {
         match stream.read(&mut into[done..]) {
             Ok(0) => {
-                return Err(Error::read(&io::Error::new(ErrorKind::UnexpectedEof, "end of input")))
+                return Err(Error::read(io::Error::new(ErrorKind::UnexpectedEof, "end of input")))
             }
             Ok(count) => done += count,
             Err(error) if error.kind() == ErrorKind::Interrupted => {}
-            Err(error) => return Err(Error::read(&error)),
+            Err(error) => return Err(Error::read(error)),
         }
     }
     Ok(())

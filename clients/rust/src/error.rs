@@ -2,25 +2,50 @@
 use crate::json::Json;
 use std::fmt::{self, Display, Formatter};
 use std::io;
+use std::sync::Arc;
 
-/// What a client's call gives.
-pub type Result<T> = std::result::Result<T, Error>;
+/// What a client's call gives. With a second type it is the standard library's, so that
+/// `use metsuwan::*` changes no `Result<T, E>`.
+pub type Result<T, E = Error> = std::result::Result<T, E>;
 
 /// What is said of an error. `Display` writes its text.
-#[derive(Clone, Debug, PartialEq, Eq)]
+#[derive(Clone, Debug)]
 pub struct Details {
     text: String,
+    lost: bool,
+    source: Option<Arc<io::Error>>,
+    said: Option<Box<Said>>,
+}
+
+/// What a server said.
+#[derive(Clone, Debug, PartialEq, Eq)]
+struct Said {
+    /// The error by the name that a line of JSON has for it.
+    kind: String,
     reason: Option<u32>,
+    reason_name: Option<String>,
     message: Option<String>,
     response: Option<String>,
-    io_kind: Option<io::ErrorKind>,
-    lost: bool,
 }
+
+/// Two are equal where all that is said is the same, and the stream's errors are of one kind.
+impl PartialEq for Details {
+    fn eq(&self, other: &Details) -> bool {
+        let all = |it: &Details| (it.lost, it.io_kind());
+        all(self) == all(other) && self.text == other.text && self.said == other.said
+    }
+}
+
+impl Eq for Details {}
 
 impl Details {
     fn new(text: impl Into<String>, lost: bool) -> Details {
-        let text = text.into();
-        Details { text, reason: None, message: None, response: None, io_kind: None, lost }
+        Details { text: text.into(), lost, source: None, said: None }
+    }
+
+    /// Those of an error of the stream, which is kept.
+    fn of_stream(text: impl Into<String>, error: io::Error) -> Details {
+        Details { source: Some(Arc::new(error)), ..Details::new(text, true) }
     }
 
     /// The error, in words.
@@ -28,27 +53,36 @@ impl Details {
         &self.text
     }
 
-    /// The number of the server's Result Reason, where its response reports failure and the kind of
-    /// the error does not say so, as for a reason that is in no table of KMIP 1.2.
+    /// The number of the server's Result Reason, where its response reports failure.
     pub fn reason(&self) -> Option<u32> {
-        self.reason
+        self.said.as_ref()?.reason
     }
 
-    /// The server's Result Message, under the same condition.
+    /// KMIP's name of that reason, as `PermissionDenied`, where KMIP 1.2 has one.
+    pub fn reason_name(&self) -> Option<&str> {
+        self.said.as_ref()?.reason_name.as_deref()
+    }
+
+    /// The server's Result Message, where its response reports failure and has one.
     pub fn message(&self) -> Option<&str> {
-        self.message.as_deref()
+        self.said.as_ref()?.message.as_deref()
     }
 
     /// What came, where it was no answer: the tags, types and nesting of its items, and the numbers
     /// of its enumerations; no other value.
     pub fn response(&self) -> Option<&str> {
-        self.response.as_deref()
+        self.said.as_ref()?.response.as_deref()
     }
 
     /// The kind of the stream's error, as `TimedOut` past the deadline and `UnexpectedEof` where
     /// the server ended the connection.
     pub fn io_kind(&self) -> Option<io::ErrorKind> {
-        self.io_kind
+        self.io_error().map(io::Error::kind)
+    }
+
+    /// The stream's error itself. It is the [`source`](std::error::Error::source), too.
+    pub fn io_error(&self) -> Option<&io::Error> {
+        self.source.as_deref()
     }
 }
 
@@ -82,8 +116,9 @@ pub enum Error {
     ServerError(Details),
     /// The response is well formed and is no answer to the request.
     InternalError(Details),
-    /// The answer is about another object than the call named: it was meant for another call. The
-    /// connection is closed. Its [`kind`](Error::kind) is `InternalError`.
+    /// The response is none to this call: it is about another object or of another operation, or is
+    /// none of one operation. It was meant for another call. The connection is closed. In a line of
+    /// JSON it is an `InternalError` or a `ServerError`.
     OtherObject(Details),
     /// The server refused the request, since it has no such object.
     ItemNotFound(Details),
@@ -104,8 +139,17 @@ impl Error {
     }
 
     #[cfg(feature = "openssl")]
-    pub(crate) fn connect(text: impl Into<String>, io_kind: Option<io::ErrorKind>) -> Error {
-        Error::ConnectError(Details { io_kind, ..Details::new(text, true) })
+    pub(crate) fn connect(text: impl Into<String>) -> Error {
+        Error::ConnectError(Details::new(text, true))
+    }
+
+    #[cfg(feature = "openssl")]
+    pub(crate) fn connect_of(text: impl Into<String>, error: io::Error) -> Error {
+        Error::ConnectError(Details::of_stream(text, error))
+    }
+
+    pub(crate) fn other_object(text: impl Into<String>) -> Error {
+        Error::OtherObject(Details::new(text, true))
     }
 
     pub(crate) fn missing(text: impl Into<String>) -> Error {
@@ -120,20 +164,17 @@ impl Error {
         Error::RequestWriteError(Details::new("the connection is closed; nothing was sent", true))
     }
 
-    pub(crate) fn not_sent(error: &io::Error) -> Error {
+    pub(crate) fn not_sent(error: io::Error) -> Error {
         let text = format!("{error}; nothing was sent");
-        let io_kind = Some(error.kind());
-        Error::RequestWriteError(Details { io_kind, ..Details::new(text, true) })
+        Error::RequestWriteError(Details::of_stream(text, error))
     }
 
-    pub(crate) fn write(error: &io::Error) -> Error {
-        let io_kind = Some(error.kind());
-        Error::RequestWriteError(Details { io_kind, ..Details::new(error.to_string(), true) })
+    pub(crate) fn write(error: io::Error) -> Error {
+        Error::RequestWriteError(Details::of_stream(error.to_string(), error))
     }
 
-    pub(crate) fn read(error: &io::Error) -> Error {
-        let io_kind = Some(error.kind());
-        Error::ResponseReadError(Details { io_kind, ..Details::new(error.to_string(), true) })
+    pub(crate) fn read(error: io::Error) -> Error {
+        Error::ResponseReadError(Details::of_stream(error.to_string(), error))
     }
 
     pub(crate) fn bad_head(text: impl Into<String>) -> Error {
@@ -149,21 +190,29 @@ impl Error {
         let json = Json::parse(line);
         let member = |name: &str| json.as_ref().and_then(|it| it.member(name));
         let text = |name: &str| member(name).and_then(Json::as_text);
-        let (Some(kind), Some(told)) = (text("error"), text("text")) else {
+        let (Some(kind), Some(said)) = (text("error"), text("text")) else {
             return Error::Unknown(Details::new("the library's line cannot be read", true));
         };
+        // An object with a number and a name, or a number alone.
+        let reason = member("reason");
+        let number = reason.and_then(|it| it.member("number").or(Some(it)));
+        let name = reason.and_then(|it| it.member("name")).and_then(Json::as_text);
         let details = Details {
-            reason: member("reason").and_then(Json::as_number).and_then(|it| it.try_into().ok()),
-            message: text("message").map(str::to_string),
-            response: text("response").map(str::to_string),
-            ..Details::new(told, lost)
+            said: Some(Box::new(Said {
+                kind: kind.to_string(),
+                reason: number.and_then(Json::as_number).and_then(|it| it.try_into().ok()),
+                reason_name: name.map(str::to_string),
+                message: text("message").map(str::to_string),
+                response: text("response").map(str::to_string),
+            })),
+            ..Details::new(said, lost)
         };
         match (kind, lost) {
             ("SerializeError", false) => Error::SerializeError(details),
             ("ServerError", false) => Error::ServerError(details),
             ("ItemNotFound", false) => Error::ItemNotFound(details),
             ("InternalError", false) => Error::InternalError(details),
-            ("InternalError", true) => Error::OtherObject(details),
+            ("InternalError" | "ServerError" | "ItemNotFound", true) => Error::OtherObject(details),
             ("RequestWriteError", true) => Error::RequestWriteError(details),
             ("ResponseReadError", true) => Error::ResponseReadError(details),
             ("DeserializeError", true) => Error::DeserializeError(details),
@@ -182,14 +231,15 @@ impl Error {
             Error::ResponseReadError(it) => ("ResponseReadError", it),
             Error::DeserializeError(it) => ("DeserializeError", it),
             Error::ServerError(it) => ("ServerError", it),
-            Error::InternalError(it) | Error::OtherObject(it) => ("InternalError", it),
+            Error::InternalError(it) => ("InternalError", it),
+            Error::OtherObject(it) => ("OtherObject", it),
             Error::ItemNotFound(it) => ("ItemNotFound", it),
             Error::OutOfMemory(it) => ("OutOfMemory", it),
             Error::Unknown(it) => ("Unknown", it),
         }
     }
 
-    /// The name of the error, as lines of JSON have it.
+    /// The name of its variant.
     pub fn kind(&self) -> &'static str {
         self.parts().0
     }
@@ -217,17 +267,24 @@ impl Error {
     /// The error as a line of JSON has it: `error`, `text`, and what else is known.
     pub fn json(&self) -> Json {
         let (kind, details) = self.parts();
-        let text = |text: &str| Json::Text(text.to_string());
-        let members = [
-            ("error", Some(text(kind))),
-            ("text", Some(text(details.text()))),
-            ("response", details.response().map(text)),
-            ("reason", details.reason.map(|it| Json::Number(it.to_string()))),
-            ("message", details.message().map(text)),
-        ];
-        let known = |(name, value): (&str, Option<Json>)| value.map(|it| (name.to_string(), it));
-        Json::Object(members.into_iter().filter_map(known).collect())
+        let kind = details.said.as_ref().map_or(kind, |it| it.kind.as_str());
+        let name = details.reason_name().map(Json::text);
+        let number = details.reason().map(|it| Json::Number(it.to_string()));
+        let reason = number.map(|it| object([("name", name), ("number", Some(it))]));
+        object([
+            ("error", Some(Json::text(kind))),
+            ("text", Some(Json::text(details.text()))),
+            ("response", details.response().map(Json::text)),
+            ("reason", reason),
+            ("message", details.message().map(Json::text)),
+        ])
     }
+}
+
+/// An object of those members that there are.
+fn object<const N: usize>(members: [(&str, Option<Json>); N]) -> Json {
+    let known = members.into_iter().filter_map(|(name, value)| Some((name.into(), value?)));
+    Json::Object(known.collect())
 }
 
 impl Display for Error {
@@ -237,7 +294,11 @@ impl Display for Error {
     }
 }
 
-impl std::error::Error for Error {}
+impl std::error::Error for Error {
+    fn source(&self) -> Option<&(dyn std::error::Error + 'static)> {
+        self.details().io_error().map(|it| it as _)
+    }
+}
 
 #[cfg(test)]
 mod tests {
@@ -260,16 +321,50 @@ mod tests {
         assert!(matches!(of("Newer", true), Error::Unknown(_)));
         for lost in [false, true] {
             let error = of("InternalError", lost);
-            assert_eq!((error.kind(), error.details().text()), ("InternalError", "why"));
+            let kind = if lost { "OtherObject" } else { "InternalError" };
+            assert_eq!((error.kind(), error.details().text()), (kind, "why"));
             assert_eq!(error.is_lost(), lost);
-            assert_eq!(error.to_string(), "InternalError: why");
+            assert_eq!(error.to_string(), format!("{kind}: why"));
+            assert_eq!(error.json().to_string(), r#"{"error":"InternalError","text":"why"}"#);
+        }
+        for kind in ["ServerError", "ItemNotFound"] {
+            let error = of(kind, true);
+            assert!(matches!(error, Error::OtherObject(_)) && error.is_lost());
+            assert!(error.json().to_string().contains(kind));
+        }
+    }
+
+    #[test]
+    fn an_error_of_the_stream_is_kept() {
+        use std::error::Error as _;
+        let error = Error::read(io::Error::from_raw_os_error(104));
+        let source = error.source().and_then(|it| it.downcast_ref::<io::Error>()).unwrap();
+        assert_eq!(source.raw_os_error(), Some(104));
+        assert_eq!(error.details().io_kind(), Some(io::ErrorKind::ConnectionReset));
+        assert_eq!(error, error.clone());
+        let other = Error::ResponseReadError(Details::new(error.details().text(), true));
+        assert!(error != other && other.source().is_none());
+    }
+
+    #[test]
+    fn a_reason_has_a_number_and_a_name() {
+        let line = "{\"error\":\"ServerError\",\"text\":\"why\",\"reason\":{\"name\":\
+                    \"PermissionDenied\",\"number\":12},\"message\":\"no\"}";
+        let error = Error::of_line(line, false);
+        let details = error.details();
+        assert_eq!((details.reason(), details.reason_name()), (Some(12), Some("PermissionDenied")));
+        assert_eq!(details.message(), Some("no"));
+        assert_eq!(error.json().to_string(), line);
+        for odd in ["{}", "\"x\"", "{\"number\":\"x\"}", "[12]", "-1"] {
+            let line = format!(r#"{{"error":"ServerError","text":"why","reason":{odd}}}"#);
+            assert_eq!(Error::of_line(&line, false).details().reason(), None, "{odd}");
         }
     }
 
     #[test]
     fn an_error_has_what_the_server_said() {
         let line = "{\"error\":\"InternalError\",\"text\":\"why\",\"response\":\"7B[]\",\
-                    \"reason\":18,\"message\":\"not \\\"today\\\" \\u001F\"}";
+                    \"reason\":{\"number\":18},\"message\":\"not \\\"today\\\" \\u001F\"}";
         let error = Error::of_line(line, false);
         let details = error.details();
         assert_eq!(details.reason(), Some(18));

@@ -1,7 +1,10 @@
 //! Items of messages: what requests and responses of any operation are made of.
 use crate::error::{Error, Result};
-use crate::json::Json;
+use crate::json::{bytes_of, Json};
 use std::fmt::{self, Debug, Formatter};
+
+/// The most levels of items within each other that are read. Messages have at most 64.
+const LEVELS: usize = 128;
 
 /// An item of a message (KMIP 1.2, 9.1): a tag and a value. `Debug` shows tags and types alone,
 /// since a value may be of a key.
@@ -17,6 +20,7 @@ use std::fmt::{self, Debug, Formatter};
 /// # Ok::<(), metsuwan::Error>(())
 /// ```
 #[derive(Clone, PartialEq, Eq)]
+#[non_exhaustive]
 pub struct Item {
     /// The name of KMIP's table without spaces, as `UniqueIdentifier`; or a number, as `0x420094`.
     pub tag: String,
@@ -26,6 +30,7 @@ pub struct Item {
 
 /// The value of an item, by its type.
 #[derive(Clone, PartialEq, Eq)]
+#[non_exhaustive]
 pub enum Value {
     /// Items, in order.
     Structure(Vec<Item>),
@@ -207,20 +212,25 @@ impl Item {
 
     /// The item in the JSON of KMIP's Additional Message Encodings, as the library reads it.
     pub fn to_json(&self) -> Json {
-        let member = |name: &str, value| (name.to_string(), value);
         let (kind, value) = self.value.to_json();
         Json::Object(vec![
-            member("tag", Json::Text(self.tag.clone())),
-            member("type", Json::Text(kind.into())),
-            member("value", value),
+            ("tag".into(), Json::text(self.tag.as_str())),
+            ("type".into(), Json::text(kind)),
+            ("value".into(), value),
         ])
     }
 
-    /// The item that JSON is, as the library writes it; `None` where it is none.
+    /// The item that JSON is, as the library writes it; `None` where it is none, or has more than
+    /// 128 levels.
     pub fn of_json(json: &Json) -> Option<Item> {
+        Item::of_levels(json, LEVELS)
+    }
+
+    fn of_levels(json: &Json, levels: usize) -> Option<Item> {
+        let levels = levels.checked_sub(1)?;
         let tag = json.member("tag")?.as_text()?.to_string();
         let kind = json.member("type").map_or(Some("Structure"), Json::as_text)?;
-        Some(Item { tag, value: Value::of_json(kind, json.member("value")?)? })
+        Some(Item { tag, value: Value::of_json(kind, json.member("value")?, levels)? })
     }
 }
 
@@ -247,30 +257,27 @@ impl Value {
             Value::Integer(number) => Json::Number(number.to_string()),
             // A number past 2^52 has to be in hex, and any may be.
             Value::LongInteger(number) | Value::DateTime(number) => {
-                Json::Text(format!("0x{number:016X}"))
+                Json::text(format!("0x{number:016X}"))
             }
-            Value::BigInteger(bytes) => Json::Text(format!("0x{}", hex_of(bytes))),
-            Value::Enumeration(text) | Value::TextString(text) => Json::Text(text.clone()),
+            Value::BigInteger(bytes) => Json::text(format!("0x{}", hex_of(bytes))),
+            Value::Enumeration(text) | Value::TextString(text) => Json::text(text.as_str()),
             Value::Boolean(is_so) => Json::Bool(*is_so),
-            Value::ByteString(bytes) => Json::Text(hex_of(bytes)),
+            Value::ByteString(bytes) => Json::text(hex_of(bytes)),
             Value::Interval(number) => Json::Number(number.to_string()),
         };
         (self.kind(), json)
     }
 
-    fn of_json(kind: &str, json: &Json) -> Option<Value> {
+    fn of_json(kind: &str, json: &Json, levels: usize) -> Option<Value> {
         let text = || json.as_text().map(str::to_string);
         Some(match kind {
             "Structure" => {
-                let items = json.as_list()?.iter().map(Item::of_json);
+                let items = json.as_list()?.iter().map(|it| Item::of_levels(it, levels));
                 Value::Structure(items.collect::<Option<_>>()?)
             }
             "Integer" => Value::Integer(i32::try_from(json.as_number()?).ok()?),
             "LongInteger" => Value::LongInteger(json.as_number().or_else(|| hex_number(json))?),
-            "BigInteger" => {
-                let digits = json.as_text()?.strip_prefix("0x")?;
-                Value::BigInteger(Json::Text(digits.to_string()).as_bytes()?)
-            }
+            "BigInteger" => Value::BigInteger(bytes_of(json.as_text()?.strip_prefix("0x")?)?),
             "Enumeration" => Value::Enumeration(text()?),
             "Boolean" => match json {
                 Json::Bool(is_so) => Value::Boolean(*is_so),
@@ -297,16 +304,39 @@ fn hex_number(json: &Json) -> Option<i64> {
     u64::from_str_radix(digits, 16).ok().map(|bits| i64::from_be_bytes(bits.to_be_bytes()))
 }
 
-/// The seconds since 1970-01-01 UTC of a date as `2008-03-14T11:56:40+00:00`.
+/// The seconds since 1970-01-01 UTC of a date as `2008-03-14T11:56:40+00:00`, of the years 1 to
+/// 9999.
 fn seconds_of(date: &str) -> Option<i64> {
     let (date, time) = date.strip_suffix("+00:00")?.split_once('T')?;
-    let numbers = |text: &str, sign| {
-        let numbers = text.split(sign).map(|it| it.parse::<i64>().ok());
-        numbers.collect::<Option<Vec<_>>>()
-    };
-    let [year, month, day] = <[i64; 3]>::try_from(numbers(date, '-')?).ok()?;
-    let [hour, minute, second] = <[i64; 3]>::try_from(numbers(time, ':')?).ok()?;
+    let [year, month, day] = numbers_of(date, '-', [4, 2, 2])?;
+    let [hour, minute, second] = numbers_of(time, ':', [2, 2, 2])?;
+    let is_day = year > 0 && (1..=12).contains(&month) && (1..=days_in(year, month)).contains(&day);
+    if !is_day || hour > 23 || minute > 59 || second > 59 {
+        return None;
+    }
     Some(days_of(year, month, day) * 86_400 + hour * 3600 + minute * 60 + second)
+}
+
+/// Three numbers of so many decimal digits, with a sign between two.
+fn numbers_of(text: &str, sign: char, lengths: [usize; 3]) -> Option<[i64; 3]> {
+    let parts: [&str; 3] = text.split(sign).collect::<Vec<_>>().try_into().ok()?;
+    let mut numbers = [0; 3];
+    for ((number, part), length) in numbers.iter_mut().zip(parts).zip(lengths) {
+        let is_one = part.len() == length && part.bytes().all(|byte| byte.is_ascii_digit());
+        *number = is_one.then(|| part.parse().ok())??;
+    }
+    Some(numbers)
+}
+
+/// How many days a month has.
+fn days_in(year: i64, month: i64) -> i64 {
+    let is_leap = year % 4 == 0 && (year % 100 != 0 || year % 400 == 0);
+    match month {
+        2 if is_leap => 29,
+        2 => 28,
+        4 | 6 | 9 | 11 => 30,
+        _ => 31,
+    }
 }
 
 /// The days since 1970-01-01 of a day in the years 1 to 9999 of the Gregorian calendar.
@@ -378,6 +408,53 @@ mod tests {
             let text = format!(r#"{{"tag":"TimeStamp","type":"DateTime","value":"{date}"}}"#);
             assert!(of_text(&text) == Some(Item::date("TimeStamp", seconds)), "{date}");
         }
+    }
+
+    #[test]
+    fn what_is_no_date_is_none() {
+        for date in [
+            "9223372036854775807-01-01T00:00:00+00:00",
+            "2008-99-99T99:99:99+00:00",
+            "0000-01-01T00:00:00+00:00",
+            "10000-01-01T00:00:00+00:00",
+            "2008-00-01T00:00:00+00:00",
+            "2008-13-01T00:00:00+00:00",
+            "2008-01-00T00:00:00+00:00",
+            "2007-02-29T00:00:00+00:00",
+            "1900-02-29T00:00:00+00:00",
+            "2008-04-31T00:00:00+00:00",
+            "2008-01-01T24:00:00+00:00",
+            "2008-01-01T00:60:00+00:00",
+            "2008-01-01T00:00:60+00:00",
+            "2008-1-01T00:00:00+00:00",
+            "2008-+1-01T00:00:00+00:00",
+            "2008-01-01T00:00+00:00",
+            "2008-01-01T00:00:00:00+00:00",
+            "2008-01-01T00:00:00Z",
+            "-001-01-01T00:00:00+00:00",
+            "T+00:00",
+            "",
+        ] {
+            let text = format!(r#"{{"tag":"TimeStamp","type":"DateTime","value":"{date}"}}"#);
+            assert!(of_text(&text).is_none(), "{date}");
+        }
+    }
+
+    #[test]
+    fn levels_have_an_end() {
+        let nested = |levels: usize| {
+            let mut json = Item::new("Data", Vec::<Item>::new()).to_json();
+            for _ in 1..levels {
+                json = Json::Object(vec![
+                    ("tag".into(), Json::text("Data")),
+                    ("value".into(), Json::List(vec![json])),
+                ]);
+            }
+            json
+        };
+        assert!(Item::of_json(&nested(LEVELS)).is_some());
+        assert!(Item::of_json(&nested(LEVELS + 1)).is_none());
+        assert!(Item::of_json(&nested(5000)).is_none());
     }
 
     #[test]

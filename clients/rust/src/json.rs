@@ -1,12 +1,85 @@
 //! JSON (RFC 8259), as answers have it.
 use std::fmt::{self, Debug, Display, Formatter, Write};
+use std::ops::Deref;
+use std::sync::Arc;
 
 /// The most levels of lists and objects within each other. Messages have at most 64 levels.
 const LEVELS: usize = 512;
 
+/// A text of JSON: a part of the line that it was read from, so that a long one is kept once. It is
+/// used as a `str`. `Debug` shows nothing of it.
+#[derive(Clone)]
+pub struct Text(Part);
+
+#[derive(Clone)]
+enum Part {
+    Own(String),
+    /// From one byte of a line to before another.
+    Of(Arc<String>, u32, u32),
+}
+
+impl Text {
+    /// The part of a line from one byte to before another.
+    fn of(line: &Arc<String>, from: usize, to: usize) -> Text {
+        Text(match (u32::try_from(from), u32::try_from(to)) {
+            (Ok(from), Ok(to)) => Part::Of(Arc::clone(line), from, to),
+            _ => Part::Own(line[from..to].to_string()),
+        })
+    }
+
+    /// The text.
+    pub fn as_str(&self) -> &str {
+        match &self.0 {
+            Part::Own(text) => text,
+            Part::Of(line, from, to) => &line[*from as usize..*to as usize],
+        }
+    }
+}
+
+impl Deref for Text {
+    type Target = str;
+
+    fn deref(&self) -> &str {
+        self.as_str()
+    }
+}
+
+impl From<String> for Text {
+    fn from(text: String) -> Text {
+        Text(Part::Own(text))
+    }
+}
+
+impl From<&str> for Text {
+    fn from(text: &str) -> Text {
+        Text(Part::Own(text.to_string()))
+    }
+}
+
+impl PartialEq for Text {
+    fn eq(&self, other: &Text) -> bool {
+        self.as_str() == other.as_str()
+    }
+}
+
+impl Eq for Text {}
+
+impl Display for Text {
+    fn fmt(&self, f: &mut Formatter<'_>) -> fmt::Result {
+        f.write_str(self)
+    }
+}
+
+impl Debug for Text {
+    fn fmt(&self, f: &mut Formatter<'_>) -> fmt::Result {
+        f.write_str("text")
+    }
+}
+
 /// A value of JSON. `Display` writes it as JSON. `Debug` shows the names of its members and no
 /// value, since that may be of a key.
 #[derive(Clone, PartialEq, Eq)]
+#[non_exhaustive]
 pub enum Json {
     /// `null`
     Null,
@@ -15,27 +88,38 @@ pub enum Json {
     /// A number, as it is written: some have more digits than a float keeps.
     Number(String),
     /// A string. Bytes are strings of upper-case hex digits.
-    Text(String),
+    Text(Text),
     /// A list
     List(Vec<Json>),
     /// An object: its members in order, no two of the same name
-    Object(Vec<(String, Json)>),
+    Object(Vec<(Text, Json)>),
 }
 
 impl Json {
     /// The value that a text is, with nothing but spaces around it.
     pub fn parse(text: &str) -> Option<Json> {
-        let mut reader = Reader { text, at: 0 };
+        Json::of_line(text.to_string())
+    }
+
+    /// The same of a text that its value keeps.
+    pub(crate) fn of_line(line: String) -> Option<Json> {
+        let line = Arc::new(line);
+        let mut reader = Reader { text: &line, line: &line, at: 0 };
         let value = reader.value(LEVELS)?;
         reader.skip_spaces();
-        (reader.at == text.len()).then_some(value)
+        (reader.at == line.len()).then_some(value)
+    }
+
+    /// A text.
+    pub fn text(text: impl Into<Text>) -> Json {
+        Json::Text(text.into())
     }
 
     /// The member of an object with this name.
     pub fn member(&self, name: &str) -> Option<&Json> {
         match self {
             Json::Object(members) => {
-                members.iter().find(|(it, _)| it == name).map(|(_, value)| value)
+                members.iter().find(|(it, _)| it.as_str() == name).map(|(_, value)| value)
             }
             _ => None,
         }
@@ -55,7 +139,7 @@ impl Json {
     /// The text that it is.
     pub fn as_text(&self) -> Option<&str> {
         match self {
-            Json::Text(text) => Some(text),
+            Json::Text(text) => Some(text.as_str()),
             _ => None,
         }
     }
@@ -78,12 +162,16 @@ impl Json {
 
     /// The bytes that stand there in hex.
     pub fn as_bytes(&self) -> Option<Vec<u8>> {
-        let digits = self.as_text()?.as_bytes();
-        let digit = |it: u8| char::from(it).to_digit(16).and_then(|it| u8::try_from(it).ok());
-        (digits.len() % 2 == 0).then(|| {
-            digits.chunks(2).map(|it| Some(digit(it[0])? << 4 | digit(it[1])?)).collect()
-        })?
+        bytes_of(self.as_text()?)
     }
+}
+
+/// The bytes that hex digits stand for.
+pub(crate) fn bytes_of(hex: &str) -> Option<Vec<u8>> {
+    let digit = |it: u8| char::from(it).to_digit(16).and_then(|it| u8::try_from(it).ok());
+    let digits = hex.as_bytes();
+    (digits.len() % 2 == 0)
+        .then(|| digits.chunks(2).map(|it| Some(digit(it[0])? << 4 | digit(it[1])?)).collect())?
 }
 
 impl Debug for Json {
@@ -95,7 +183,7 @@ impl Debug for Json {
             Json::Text(_) => f.write_str("text"),
             Json::List(items) => f.debug_list().entries(items).finish(),
             Json::Object(members) => {
-                f.debug_map().entries(members.iter().map(|(name, value)| (name, value))).finish()
+                f.debug_map().entries(members.iter().map(|(name, value)| (&**name, value))).finish()
             }
         }
     }
@@ -142,6 +230,7 @@ fn write_text(f: &mut Formatter<'_>, text: &str) -> fmt::Result {
 
 struct Reader<'a> {
     text: &'a str,
+    line: &'a Arc<String>,
     at: usize,
 }
 
@@ -223,6 +312,7 @@ impl<'a> Reader<'a> {
         loop {
             items.push(self.value(levels)?);
             if self.is_next(b']') {
+                items.shrink_to_fit();
                 return Some(Json::List(items));
             }
             self.sign(b',')?;
@@ -231,7 +321,7 @@ impl<'a> Reader<'a> {
 
     fn object(&mut self, levels: usize) -> Option<Json> {
         self.sign(b'{')?;
-        let mut members: Vec<(String, Json)> = Vec::new();
+        let mut members: Vec<(Text, Json)> = Vec::new();
         if self.is_next(b'}') {
             return Some(Json::Object(members));
         }
@@ -249,7 +339,7 @@ impl<'a> Reader<'a> {
         }
     }
 
-    fn string(&mut self) -> Option<String> {
+    fn string(&mut self) -> Option<Text> {
         self.sign(b'"')?;
         let mut made = String::new();
         loop {
@@ -257,9 +347,12 @@ impl<'a> Reader<'a> {
             while !matches!(self.peek()?, b'"' | b'\\' | 0..=0x1F) {
                 self.at += 1;
             }
+            if made.is_empty() && self.sign(b'"').is_some() {
+                return Some(Text::of(self.line, from, self.at - 1));
+            }
             made.push_str(&self.text[from..self.at]);
             if self.sign(b'"').is_some() {
-                return Some(made);
+                return Some(made.into());
             }
             self.sign(b'\\')?;
             made.push(self.escaped()?);

@@ -28,6 +28,7 @@ mod client;
 mod error;
 mod item;
 mod json;
+mod keys;
 pub mod library;
 mod names;
 mod options;
@@ -41,10 +42,11 @@ pub use answer::Answer;
 pub use client::{Client, ClientBuilder, Options, DEFAULT_LIMIT};
 pub use error::{Details, Error, Result};
 pub use item::{Item, Value};
-pub use json::Json;
+pub use json::{Json, Text};
+pub use keys::SecretDataType;
 pub use names::{
-    CryptographicAlgorithm, CryptographicUsageMask, HashingAlgorithm, KeyFormatType, ObjectType,
-    PaddingMethod, RevocationReasonCode, State,
+    CryptographicAlgorithm, CryptographicUsageMask, HashingAlgorithm, KeyFormatType, NotInTable,
+    ObjectType, PaddingMethod, RevocationReasonCode, State,
 };
 pub use options::{
     AttributeValue, Create, CreateRsa, Get, KeyKind, NewKey, Register, Revoke, Sign,
@@ -56,3 +58,8 @@ pub use payload::{
 #[cfg(feature = "openssl")]
 pub use tls::{TlsClient, TlsConnector, TlsStream, DEFAULT_TIMEOUT};
 pub use word::Word;
+
+/// The examples of README.md.
+#[cfg(all(doctest, feature = "openssl"))]
+#[doc = include_str!("../README.md")]
+struct Readme;

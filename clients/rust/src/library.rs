@@ -1,5 +1,6 @@
 //! The proved library: requests and answers as bytes. `metsuwan.h` says what each of its calls
 //! does.
+use std::fmt::{self, Debug, Formatter};
 
 extern "C" {
     fn kmip_request(
@@ -13,6 +14,7 @@ extern "C" {
         into: *mut u8,
         room: usize,
     ) -> i64;
+    fn kmip_refusal(call: *const u8, call_len: usize, into: *mut u8, room: usize) -> i64;
     fn kmip_contents_len(head: *const u8, eight: usize, limit: u32) -> i64;
     fn kmip_answer(
         call: *const u8,
@@ -51,6 +53,16 @@ extern "C" {
         room: usize,
         length: *mut i64,
     ) -> i32;
+    fn kmip_operation_refusal(
+        name: *const u8,
+        name_len: usize,
+        version: *const u8,
+        version_len: usize,
+        payload: *const u8,
+        payload_len: usize,
+        into: *mut u8,
+        room: usize,
+    ) -> i64;
     fn kmip_value(
         call: *const u8,
         call_len: usize,
@@ -66,6 +78,7 @@ extern "C" {
 
 /// Why there is no request.
 #[derive(Clone, Copy, Debug, PartialEq, Eq)]
+#[non_exhaustive]
 pub enum NoRequest {
     /// The call is not of the grammar.
     Grammar,
@@ -77,6 +90,7 @@ pub enum NoRequest {
 
 /// Why no contents follow a head.
 #[derive(Clone, Copy, Debug, PartialEq, Eq)]
+#[non_exhaustive]
 pub enum BadHead {
     /// It is not the head of a structure.
     NotAStructure,
@@ -86,6 +100,7 @@ pub enum BadHead {
 
 /// Why there is no value.
 #[derive(Clone, Copy, Debug, PartialEq, Eq)]
+#[non_exhaustive]
 pub enum NoValue {
     /// The call is not of the grammar.
     Grammar,
@@ -97,6 +112,7 @@ pub enum NoValue {
 
 /// What came of a call: the statuses of the program `kmip_call`.
 #[derive(Clone, Copy, Debug, PartialEq, Eq)]
+#[non_exhaustive]
 pub enum Status {
     /// A valid response of success; its line is `{"answer":..}`.
     Answered,
@@ -112,7 +128,8 @@ pub enum Status {
     Memory,
 }
 
-/// What the library returns where memory ran out.
+/// What the library returns where a call is not of the grammar, and where memory ran out.
+const GRAMMAR: i64 = -2;
 const MEMORY: i64 = -5;
 
 /// Calls with more and more room until what is written fits. `write` is given the room, and returns
@@ -129,6 +146,19 @@ fn with_room(mut room: usize, mut write: impl FnMut(&mut [u8]) -> i64) -> Result
             return Ok(into);
         }
         room = length;
+    }
+}
+
+/// Why a line is no call: which word is wrong, and what may stand there; `None` where it is one, or
+/// memory ran out.
+pub(crate) fn refusal(line: &str) -> Option<String> {
+    let said = with_room(1024, |into| {
+        // SAFETY: the two are slices, and their lengths are theirs.
+        unsafe { kmip_refusal(line.as_ptr(), line.len(), into.as_mut_ptr(), into.len()) }
+    });
+    match said {
+        Err(GRAMMAR) => Some("the line has not one space between two words".into()),
+        _ => String::from_utf8(said.ok()?).ok(),
     }
 }
 
@@ -155,14 +185,15 @@ pub fn request(call: &str, credential: Option<(&str, &str)>) -> Result<Vec<u8>, 
 
 fn no_request(code: i64) -> NoRequest {
     match code {
-        -2 => NoRequest::Grammar,
+        GRAMMAR => NoRequest::Grammar,
         -6 => NoRequest::NoForm,
         _ => NoRequest::Memory,
     }
 }
 
-/// A call of any operation.
-#[derive(Clone, Copy, Debug, PartialEq, Eq)]
+/// A call of any operation. `Debug` shows how many bytes its payload has.
+#[derive(Clone, Copy, PartialEq, Eq)]
+#[non_exhaustive]
 pub struct Operation<'a> {
     /// Its name, as `Encrypt`.
     pub name: &'a str,
@@ -171,6 +202,26 @@ pub struct Operation<'a> {
     /// The request's payload, as JSON.
     pub payload: &'a str,
 }
+
+impl<'a> Operation<'a> {
+    /// A call by these texts.
+    pub fn new(name: &'a str, version: &'a str, payload: &'a str) -> Self {
+        Operation { name, version, payload }
+    }
+}
+
+impl Debug for Operation<'_> {
+    fn fmt(&self, f: &mut Formatter<'_>) -> fmt::Result {
+        f.debug_struct("Operation")
+            .field("name", &self.name)
+            .field("version", &self.version)
+            .field("payload", &format_args!("of length {}", self.payload.len()))
+            .finish()
+    }
+}
+
+/// A payload with no items.
+pub(crate) const NO_ITEMS: &str = r#"{"tag":"RequestPayload","value":[]}"#;
 
 /// The request of a call of any operation, with a user and a password as its credential.
 pub fn operation_request(
@@ -198,6 +249,25 @@ pub fn operation_request(
         )
     });
     made.map_err(no_request)
+}
+
+/// Why an operation is none, with the place in its payload; `None` where it is one, or memory ran
+/// out.
+pub fn operation_refusal(call: &Operation<'_>) -> Option<String> {
+    // SAFETY: each pointer is of a slice of the length beside it, and none is null.
+    let text = with_room(1024, |into| unsafe {
+        kmip_operation_refusal(
+            call.name.as_ptr(),
+            call.name.len(),
+            call.version.as_ptr(),
+            call.version.len(),
+            call.payload.as_ptr(),
+            call.payload.len(),
+            into.as_mut_ptr(),
+            into.len(),
+        )
+    });
+    String::from_utf8(text.ok()?).ok()
 }
 
 /// How many bytes follow a head. The response may have at most `limit` bytes, the head counted; 0
@@ -249,7 +319,8 @@ pub fn operation_answer(call: &Operation<'_>, response: &[u8]) -> (Status, Strin
 /// The status that `read` returns, and the line that it writes.
 fn line_of(response: &[u8], mut read: impl FnMut(&mut [u8], &mut i64) -> i32) -> (Status, String) {
     let mut status = 5;
-    let room = response.len().saturating_mul(8).saturating_add(4096);
+    // Bytes have two hex digits each; a line that is longer is written a second time.
+    let room = response.len().saturating_mul(2).saturating_add(4096);
     let line = with_room(room, |into| {
         let mut length = 0;
         status = read(into, &mut length);
@@ -265,7 +336,8 @@ fn line_of(response: &[u8], mut read: impl FnMut(&mut [u8], &mut i64) -> i32) ->
         3 => Status::Lost,
         _ => Status::Memory,
     };
-    (status, String::from_utf8_lossy(&line).into_owned())
+    let line = String::from_utf8(line);
+    (status, line.unwrap_or_else(|it| String::from_utf8_lossy(it.as_bytes()).into_owned()))
 }
 
 /// A value of the answer that a response is to a call, at a path as `attributes.0.name`: as text,
@@ -286,7 +358,7 @@ pub fn value(call: &str, response: &[u8], path: &str, hex: bool) -> Result<Vec<u
         )
     });
     made.map_err(|code| match code {
-        -2 => NoValue::Grammar,
+        GRAMMAR => NoValue::Grammar,
         -3 => NoValue::Missing,
         _ => NoValue::Memory,
     })

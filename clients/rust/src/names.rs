@@ -1,6 +1,22 @@
 //! The names of KMIP's tables, as options of calls take them.
 use std::fmt::{self, Debug, Display, Formatter};
 use std::ops::BitOr;
+use std::str::FromStr;
+
+/// That a name or a number is in no table of this crate.
+#[derive(Clone, Debug, PartialEq, Eq)]
+pub struct NotInTable {
+    table: &'static str,
+    value: String,
+}
+
+impl Display for NotInTable {
+    fn fmt(&self, f: &mut Formatter<'_>) -> fmt::Result {
+        write!(f, "{} has no {}", self.table, self.value)
+    }
+}
+
+impl std::error::Error for NotInTable {}
 
 /// An enumeration, whose variants are spelled as KMIP's table spells them.
 macro_rules! enumeration {
@@ -8,6 +24,7 @@ macro_rules! enumeration {
         $(#[$about])*
         #[allow(non_camel_case_types)]
         #[derive(Clone, Copy, Debug, PartialEq, Eq, Hash)]
+        #[non_exhaustive]
         pub enum $name {
             $(#[doc = concat!("KMIP's `", stringify!($variant), "`")] $variant,)+
         }
@@ -21,6 +38,32 @@ macro_rules! enumeration {
                 match self {
                     $($name::$variant => stringify!($variant),)+
                 }
+            }
+
+            /// Its number, as the table has it.
+            pub fn number(self) -> u32 {
+                self as u32 + 1
+            }
+        }
+
+        /// By the name, as the table has it.
+        impl FromStr for $name {
+            type Err = NotInTable;
+
+            fn from_str(name: &str) -> Result<$name, NotInTable> {
+                let found = $name::ALL.iter().find(|it| it.name() == name).copied();
+                found.ok_or_else(|| NotInTable { table: stringify!($name), value: name.into() })
+            }
+        }
+
+        /// By the number, as the table has it.
+        impl TryFrom<u32> for $name {
+            type Error = NotInTable;
+
+            fn try_from(number: u32) -> Result<$name, NotInTable> {
+                let found = $name::ALL.iter().find(|it| it.number() == number).copied();
+                let value = format!("0x{number:08X}");
+                found.ok_or(NotInTable { table: stringify!($name), value })
             }
         }
 
@@ -136,6 +179,40 @@ impl CryptographicUsageMask {
     pub fn bits(self) -> i32 {
         self.0
     }
+
+    /// Whether all these uses are among them.
+    pub fn contains(self, uses: CryptographicUsageMask) -> bool {
+        self.0 & uses.0 == uses.0
+    }
+}
+
+/// By the bits, of which each has to be in the table, and one set.
+impl TryFrom<u32> for CryptographicUsageMask {
+    type Error = NotInTable;
+
+    fn try_from(bits: u32) -> Result<CryptographicUsageMask, NotInTable> {
+        let all = CryptographicUsageMask::ALL.iter().fold(0, |bits, it| bits | it.0);
+        let value = format!("0x{bits:08X}");
+        let known = i32::try_from(bits).ok().filter(|it| *it != 0 && it & !all == 0);
+        let none = NotInTable { table: "CryptographicUsageMask", value };
+        known.map(CryptographicUsageMask).ok_or(none)
+    }
+}
+
+/// By names with `,` between two, as [`Display`] writes them.
+impl FromStr for CryptographicUsageMask {
+    type Err = NotInTable;
+
+    fn from_str(names: &str) -> Result<CryptographicUsageMask, NotInTable> {
+        let of_name = |name: &str| {
+            let all = CryptographicUsageMask::ALL.iter();
+            let found = all.copied().find(|it| it.names() == [name]);
+            let table = "CryptographicUsageMask";
+            found.ok_or_else(|| NotInTable { table, value: name.into() })
+        };
+        let bits = names.split(',').try_fold(0, |bits, name| Ok(bits | of_name(name)?.0));
+        bits.map(CryptographicUsageMask)
+    }
 }
 
 impl BitOr for CryptographicUsageMask {
@@ -157,5 +234,56 @@ impl Display for CryptographicUsageMask {
 impl Debug for CryptographicUsageMask {
     fn fmt(&self, f: &mut Formatter<'_>) -> fmt::Result {
         write!(f, "CryptographicUsageMask({self})")
+    }
+}
+
+#[cfg(test)]
+mod tests {
+    use super::*;
+
+    #[test]
+    fn values_have_the_names_and_numbers_of_kmip() {
+        // Rows of the tables of KMIP 1.2, 9.1.3.2.
+        assert_eq!((HashingAlgorithm::Whirlpool.number(), HashingAlgorithm::ALL.len()), (11, 11));
+        assert_eq!(HashingAlgorithm::SHA256.number(), 6);
+        assert_eq!((PaddingMethod::PKCS1_v1_5.number(), PaddingMethod::PSS.number()), (8, 10));
+        assert_eq!(CryptographicAlgorithm::RSA.number(), 4);
+        assert_eq!((KeyFormatType::PKCS1.number(), KeyFormatType::ALL.len()), (3, 19));
+        assert_eq!(KeyFormatType::TransparentECMQVPublicKey.number(), 0x13);
+        assert_eq!((ObjectType::SymmetricKey.number(), ObjectType::PGPKey.number()), (2, 9));
+        assert_eq!(State::DestroyedCompromised.number(), 6);
+        assert_eq!(RevocationReasonCode::PrivilegeWithdrawn.number(), 7);
+    }
+
+    #[test]
+    fn values_are_found_by_name_and_number() {
+        for it in HashingAlgorithm::ALL {
+            assert_eq!(it.name().parse(), Ok(*it));
+            assert_eq!(HashingAlgorithm::try_from(it.number()), Ok(*it));
+        }
+        for (wrong, text) in [("SHA3", "SHA3"), ("", ""), ("sha256", "sha256")] {
+            let error = wrong.parse::<HashingAlgorithm>().unwrap_err();
+            assert_eq!(error.to_string(), format!("HashingAlgorithm has no {text}"));
+        }
+        for wrong in [0, 12, u32::MAX] {
+            let error = HashingAlgorithm::try_from(wrong).unwrap_err().to_string();
+            assert_eq!(error, format!("HashingAlgorithm has no 0x{wrong:08X}"));
+        }
+    }
+
+    #[test]
+    fn uses_are_a_mask() {
+        use CryptographicUsageMask as Usage;
+        let both = Usage::Sign | Usage::TranslateUnwrap;
+        assert!(both.contains(Usage::Sign) && both.contains(both));
+        assert!(!both.contains(Usage::Verify) && !Usage::Sign.contains(both));
+        assert_eq!(both.to_string().parse(), Ok(both));
+        assert_eq!(Usage::try_from(0x8_0001), Ok(both));
+        for wrong in ["", "Sign,", "sign", "Sign, Verify", "Sign|Verify"] {
+            assert!(wrong.parse::<Usage>().is_err(), "{wrong}");
+        }
+        for wrong in [0, 0x10_0000, 0x8000_0000] {
+            assert!(Usage::try_from(wrong).is_err(), "{wrong}");
+        }
     }
 }

@@ -38,7 +38,7 @@ pub struct Sign {
 
 impl Sign {
     /// With this digest: `SHA256` where none is given, and none where the bytes are
-    /// [`prehashed`](Self::prehashed).
+    /// [`prehashed`](Self::prehashed). The two together are a `GrammarError`.
     pub fn with_hash(self, hash: HashingAlgorithm) -> Self {
         Sign { hash: Some(hash), ..self }
     }
@@ -53,7 +53,8 @@ impl Sign {
         Sign { algorithm: Some(algorithm), ..self }
     }
 
-    /// The bytes are a digest already: the request names none where none is given.
+    /// The bytes are a digest already, and the request names none: KMIP 1.2 has no digested data
+    /// in Sign, so the server would hash the digest again.
     pub fn prehashed(self) -> Self {
         Sign { prehashed: true, ..self }
     }
@@ -74,7 +75,7 @@ impl Sign {
 pub struct Revoke<'a> {
     reason: Option<RevocationReasonCode>,
     message: Option<&'a str>,
-    since: Option<u32>,
+    since: Option<i64>,
 }
 
 impl<'a> Revoke<'a> {
@@ -88,9 +89,10 @@ impl<'a> Revoke<'a> {
         Revoke { message: Some(message), ..self }
     }
 
-    /// When the object was compromised, in seconds since 1970-01-01 UTC: no date where none is
-    /// given. For `KeyCompromise` and `CACompromise` KMIP says that one should be (1.0, 4.19).
-    pub fn with_since(self, seconds: u32) -> Self {
+    /// When the object was compromised, in seconds since 1970-01-01 UTC, from 0 to 4294967295: no
+    /// date where none is given. For `KeyCompromise` and `CACompromise` KMIP says that one should
+    /// be (1.0, 4.19).
+    pub fn with_since(self, seconds: i64) -> Self {
         Revoke { since: Some(seconds), ..self }
     }
 
@@ -223,6 +225,7 @@ fn attribute(name: &str, value: impl Into<Value>) -> Item {
 
 /// What kind of key is registered.
 #[derive(Clone, Copy, Debug, PartialEq, Eq, Hash)]
+#[non_exhaustive]
 pub enum KeyKind {
     /// KMIP's `PublicKey`
     PublicKey,
@@ -245,19 +248,26 @@ impl KeyKind {
 /// A key that was made elsewhere. `Debug` shows how many bytes it has.
 #[derive(Clone, Copy, PartialEq, Eq)]
 pub struct NewKey<'a> {
-    /// What kind of key it is.
-    pub kind: KeyKind,
-    /// What its bytes are, as `Raw` or `PKCS8`.
-    pub format: KeyFormatType,
-    /// Its algorithm.
-    pub algorithm: CryptographicAlgorithm,
-    /// Its length in bits.
-    pub length: i32,
-    /// Its bytes, in this format.
-    pub material: &'a [u8],
+    pub(crate) kind: KeyKind,
+    format: KeyFormatType,
+    algorithm: CryptographicAlgorithm,
+    length: i32,
+    pub(crate) material: &'a [u8],
 }
 
-impl NewKey<'_> {
+impl<'a> NewKey<'a> {
+    /// A key of this kind and this algorithm, of so many bits. What its bytes are says the format,
+    /// as `Raw` or `PKCS8`.
+    pub fn new(
+        kind: KeyKind,
+        format: KeyFormatType,
+        algorithm: CryptographicAlgorithm,
+        length: i32,
+        material: &'a [u8],
+    ) -> Self {
+        NewKey { kind, format, algorithm, length, material }
+    }
+
     pub(crate) fn given(&self) -> Given<'static> {
         given_of([
             Some(("format", self.format.name().into())),
@@ -298,8 +308,8 @@ pub enum AttributeValue<'a> {
     CryptographicAlgorithm(CryptographicAlgorithm),
     /// Its length in bits.
     CryptographicLength(i32),
-    /// When it becomes active, in seconds since 1970-01-01 UTC.
-    ActivationDate(u32),
+    /// When it becomes active, in seconds since 1970-01-01 UTC, from 0 to 4294967295.
+    ActivationDate(i64),
 }
 
 impl<'a> AttributeValue<'a> {

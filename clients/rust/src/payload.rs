@@ -1,12 +1,15 @@
 //! What calls give. The names are those of kmip-protocol.
 use crate::answer::Answer;
 use crate::error::{Error, Result};
+use crate::item::Item;
 use crate::json::Json;
-use crate::pem;
+use crate::library::{self, Operation, Status};
+use crate::{keys, pem};
 use std::fmt::{self, Debug, Formatter};
 
 /// What the server can do (KMIP 1.2, 4.25). What it does not say is `None`.
 #[derive(Clone, Debug, PartialEq, Eq)]
+#[non_exhaustive]
 pub struct QueryResponsePayload {
     /// The names of its operations, as `CreateKeyPair`.
     pub operations: Option<Vec<String>>,
@@ -36,6 +39,7 @@ impl QueryResponsePayload {
 
 /// Random bytes. `Debug` shows how many.
 #[derive(Clone, PartialEq, Eq)]
+#[non_exhaustive]
 pub struct RNGRetrieveResponsePayload {
     /// The bytes.
     pub data: Vec<u8>,
@@ -49,6 +53,7 @@ impl Debug for RNGRetrieveResponsePayload {
 
 /// A signature, and the key that made it.
 #[derive(Clone, Debug, PartialEq, Eq)]
+#[non_exhaustive]
 pub struct SignResponsePayload {
     /// The identifier of the key.
     pub unique_identifier: String,
@@ -58,6 +63,7 @@ pub struct SignResponsePayload {
 
 /// An attribute of an object (KMIP 1.2, 2.1.1).
 #[derive(Clone, Debug, PartialEq, Eq)]
+#[non_exhaustive]
 pub struct Attribute {
     /// Its name, as `Cryptographic Length`.
     pub name: String,
@@ -68,6 +74,16 @@ pub struct Attribute {
 }
 
 impl Attribute {
+    /// The attribute that an item of a response is; its value is then in the JSON of KMIP's
+    /// Additional Message Encodings.
+    pub(crate) fn of_item(item: &Item) -> Result<Attribute> {
+        Ok(Attribute {
+            name: item.text_at("AttributeName")?.to_string(),
+            index: item.number_at("AttributeIndex").ok(),
+            value: item.item_at("AttributeValue")?.to_json(),
+        })
+    }
+
     /// The attribute that stands at a path.
     pub(crate) fn at(answer: &Answer, path: &str) -> Result<Attribute> {
         let none = |what| Error::missing(format!("the answer has no {what} of {path}"));
@@ -89,6 +105,7 @@ impl Attribute {
 
 /// An object that has another name now.
 #[derive(Clone, Debug, PartialEq, Eq)]
+#[non_exhaustive]
 pub struct ModifyAttributeResponsePayload {
     /// The identifier of the object.
     pub unique_identifier: String,
@@ -98,6 +115,7 @@ pub struct ModifyAttributeResponsePayload {
 
 /// A version of KMIP.
 #[derive(Clone, Copy, Debug, PartialEq, Eq)]
+#[non_exhaustive]
 pub struct ProtocolVersion {
     /// 1, as in 1.2
     pub major: i64,
@@ -108,6 +126,7 @@ pub struct ProtocolVersion {
 /// An object of the server: a key, a certificate, secret data or other. `Debug` shows its
 /// identifier and its type alone.
 #[derive(Clone, PartialEq, Eq)]
+#[non_exhaustive]
 pub struct GetResponsePayload {
     /// Its identifier.
     pub unique_identifier: String,
@@ -115,6 +134,9 @@ pub struct GetResponsePayload {
     pub object_type: String,
     /// The whole answer, with what the object keeps secret.
     pub answer: Answer,
+    /// The response's payload, where the tables of this call have no words for the object, as for a
+    /// key of EC or HMAC, or for secret data.
+    pub tree: Option<Item>,
 }
 
 impl Debug for GetResponsePayload {
@@ -128,11 +150,32 @@ impl Debug for GetResponsePayload {
 
 impl GetResponsePayload {
     pub(crate) fn of(answer: Answer) -> Result<Self> {
+        if let Some(tree) = answer.tree() {
+            return Ok(GetResponsePayload {
+                unique_identifier: tree.text_at("UniqueIdentifier")?.to_string(),
+                object_type: tree.name_at("ObjectType")?.to_string(),
+                answer,
+                tree: Some(tree),
+            });
+        }
         Ok(GetResponsePayload {
             unique_identifier: answer.text_at("unique_identifier")?.to_string(),
             object_type: answer.text_at("object_type")?.to_string(),
             answer,
+            tree: None,
         })
+    }
+
+    /// The response's payload, whichever of the two the answer is.
+    fn payload(&self) -> Result<Item> {
+        if let Some(tree) = &self.tree {
+            return Ok(tree.clone());
+        }
+        let call = Operation::new("Get", "1.2", library::NO_ITEMS);
+        let (status, line) = library::operation_answer(&call, self.answer.response());
+        let answer = (status == Status::Answered).then(|| Answer::of_line(line, Vec::new()));
+        let tree = answer.flatten().and_then(|it| it.tree());
+        tree.ok_or_else(|| Error::missing("the answer has no PEM form"))
     }
 
     fn in_key_block(&self, path: &str) -> String {
@@ -144,6 +187,9 @@ impl GetResponsePayload {
     /// # Errors
     /// `MissingValue`: it is no key.
     pub fn key_format_type(&self) -> Result<&str> {
+        if let Some(tree) = &self.tree {
+            return tree.name_at(&format!("{}.KeyBlock.KeyFormatType", self.object_type));
+        }
         self.answer.text_at(&self.in_key_block("key_format_type"))
     }
 
@@ -152,6 +198,10 @@ impl GetResponsePayload {
     /// # Errors
     /// `MissingValue`: it is no key, has another format, or is wrapped.
     pub fn key_material(&self) -> Result<Vec<u8>> {
+        if let Some(tree) = &self.tree {
+            let path = format!("{}.KeyBlock.KeyValue.KeyMaterial", self.object_type);
+            return Ok(tree.bytes_at(&path)?.to_vec());
+        }
         self.answer.bytes_at(&self.in_key_block("key_value.key_material.Bytes"))
     }
 
@@ -171,18 +221,21 @@ impl GetResponsePayload {
         self.answer.bytes_at("cryptographic_object.Certificate.certificate_value")
     }
 
-    /// A public key in PKCS#1 or X.509, a private key in PKCS#1, PKCS#8 or ECPrivateKey, or a
-    /// certificate in X.509, as PEM.
+    /// A key in X.509, PKCS#1, PKCS#8 or ECPrivateKey, one of RSA or of a curve whose parts are told
+    /// one by one (Transparent), or a certificate in X.509, as PEM.
     ///
     /// # Errors
     /// `MissingValue`: it is none of these, or is wrapped.
     pub fn pem(&self) -> Result<String> {
+        if self.tree.is_some() {
+            return keys::pem_of_payload(&self.payload()?);
+        }
         let is_certificate = self.object_type == "Certificate";
         let format =
             if is_certificate { self.certificate_type()? } else { self.key_format_type()? };
-        let label = pem::label_of(&self.object_type, format).ok_or_else(|| {
-            Error::missing(format!("{} in {format} has no PEM form", self.object_type))
-        })?;
+        let Some(label) = pem::label_of(&self.object_type, format) else {
+            return keys::pem_of_payload(&self.payload()?);
+        };
         let der = if is_certificate { self.certificate_value()? } else { self.key_material()? };
         Ok(pem::write(label, &der))
     }

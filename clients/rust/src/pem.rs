@@ -48,7 +48,19 @@ const END: &str = "-----END CERTIFICATE-----";
 /// The DER of a certificate: the bytes themselves, or those of the one certificate in a text, with
 /// whatever else stands around it.
 pub(crate) fn certificate_der(given: &[u8]) -> Result<Cow<'_, [u8]>> {
-    let no = |why| Error::grammar(format!("the certificate {why}"));
+    let der = whole_der(given)?;
+    if !is_certificate(&der) {
+        return Err(no("is none of X.509"));
+    }
+    Ok(der)
+}
+
+fn no(why: &str) -> Error {
+    Error::grammar(format!("the certificate {why}"))
+}
+
+/// The bytes themselves, or those of the one certificate in a text.
+fn whole_der(given: &[u8]) -> Result<Cow<'_, [u8]>> {
     if is_whole(given) {
         return Ok(Cow::Borrowed(given));
     }
@@ -70,21 +82,70 @@ pub(crate) fn certificate_der(given: &[u8]) -> Result<Cow<'_, [u8]>> {
     Ok(Cow::Owned(der))
 }
 
-/// Whether bytes are a sequence of DER (X.690, 8.1) and nothing after it.
-fn is_whole(der: &[u8]) -> bool {
-    let [0x30, first, rest @ ..] = der else { return false };
-    let count = match *first {
-        length @ 0..=0x7F => return rest.len() == usize::from(length),
-        count @ 0x81..=0x84 => usize::from(count - 0x80),
-        _ => return false,
+/// The first element of DER (X.690, 8.1): its tag, its contents, and what stands after it.
+pub(crate) fn element(der: &[u8]) -> Option<(u8, &[u8], &[u8])> {
+    let [tag, first, rest @ ..] = der else { return None };
+    let (length, rest) = match *first {
+        length @ 0..=0x7F => (usize::from(length), rest),
+        count @ 0x81..=0x84 => {
+            let count = usize::from(count - 0x80);
+            let bytes = rest.get(..count)?;
+            let length = bytes.iter().fold(0, |length: u64, byte| length << 8 | u64::from(*byte));
+            (usize::try_from(length).ok()?, &rest[count..])
+        }
+        _ => return None,
     };
-    let Some(length) = rest.get(..count) else { return false };
-    let length = length.iter().fold(0, |length: u64, byte| length << 8 | u64::from(*byte));
-    u64::try_from(rest.len() - count) == Ok(length)
+    Some((*tag, rest.get(..length)?, &rest[length..]))
+}
+
+/// Whether bytes are a sequence of DER and nothing after it.
+fn is_whole(der: &[u8]) -> bool {
+    matches!(element(der), Some((SEQUENCE, _, [])))
+}
+
+const INTEGER: u8 = 0x02;
+const BIT_STRING: u8 = 0x03;
+const SEQUENCE: u8 = 0x30;
+const VERSION: u8 = 0xA0;
+
+/// The tags of the elements of a sequence, and the contents of the first.
+fn elements(contents: &[u8]) -> Option<(Vec<u8>, &[u8])> {
+    let (mut tags, mut left) = (Vec::new(), contents);
+    while !left.is_empty() {
+        let (tag, _, rest) = element(left)?;
+        tags.push(tag);
+        left = rest;
+    }
+    Some((tags, element(contents)?.1))
+}
+
+/// Whether bytes have the outline of an X.509 certificate (RFC 5280, 4.1), and where the crate has
+/// OpenSSL, whether that reads one in them. No private key has, which servers would show to
+/// everybody.
+fn is_certificate(der: &[u8]) -> bool {
+    let Some((SEQUENCE, contents, [])) = element(der) else { return false };
+    let Some((parts, signed)) = elements(contents) else { return false };
+    let Some((mut tags, _)) = elements(signed) else { return false };
+    if tags.first() == Some(&VERSION) {
+        tags.remove(0);
+    }
+    // The serial number, the signature's algorithm, issuer, validity, subject, and its key.
+    let first = [INTEGER, SEQUENCE, SEQUENCE, SEQUENCE, SEQUENCE, SEQUENCE];
+    parts == [SEQUENCE, SEQUENCE, BIT_STRING] && tags.starts_with(&first) && is_read(der)
+}
+
+#[cfg(feature = "openssl")]
+fn is_read(der: &[u8]) -> bool {
+    openssl::x509::X509::from_der(der).is_ok()
+}
+
+#[cfg(not(feature = "openssl"))]
+fn is_read(_: &[u8]) -> bool {
+    true
 }
 
 /// The bytes of base64 (RFC 4648, 4) with white space anywhere.
-fn bytes_of(base64: &str) -> Option<Vec<u8>> {
+pub(crate) fn bytes_of(base64: &str) -> Option<Vec<u8>> {
     let digits: Vec<u8> = base64.bytes().filter(|byte| !byte.is_ascii_whitespace()).collect();
     let padding = digits.iter().rev().take_while(|byte| **byte == b'=').count();
     if digits.len() % 4 != 0 || padding > 2 {
@@ -128,15 +189,43 @@ mod tests {
         }
     }
 
+    /// A certificate that openssl made, with a key of Ed25519.
+    const CERTIFICATE: &str = include_str!("../tests/certificate.pem");
+    /// Private keys that openssl made: in PKCS#8, by Ed25519; and in SEC 1, of P-256.
+    const KEYS: [&str; 2] = [
+        "MC4CAQAwBQYDK2VwBCIEIJXOj6NUcaEtYRf/6EpuOo8pCsrY8fhSUgG53kMGD9vb",
+        "\
+         MHcCAQEEIBBiL3yCFq1G3+54JpribToEEiWT/MKbxY/GzOyaMyPLoAoGCCqGSM49AwEHoUQDQgAEtnl/U9cM\
+         3oDNWIXZg/0ASLXkhgPAA7aBo+ukeeuoW+eX5Z7ie+EDCCOyRCIxPpciNjOekkVX5VaPa00BC2tNww==",
+    ];
+
     #[test]
     fn certificates_are_der_or_pem() {
-        let long = [vec![0x30, 0x82, 0x01, 0x00], vec![7; 256]].concat();
-        for der in [vec![0x30, 0x00], vec![0x30, 0x01, 0xFF], long] {
-            assert_eq!(certificate_der(&der).unwrap(), der);
-            let pem = write("CERTIFICATE", &der);
-            assert_eq!(certificate_der(pem.as_bytes()).unwrap(), der);
-            let pem = format!("0: \u{e9}\r\n{}after", pem.replace('\n', "\r\n"));
-            assert_eq!(certificate_der(pem.as_bytes()).unwrap(), der);
+        let der = certificate_der(CERTIFICATE.as_bytes()).unwrap().into_owned();
+        assert_eq!(certificate_der(&der).unwrap(), der);
+        let pem = write("CERTIFICATE", &der);
+        assert_eq!(pem, CERTIFICATE);
+        let pem = format!("0: \u{e9}\r\n{}after", pem.replace('\n', "\r\n"));
+        assert_eq!(certificate_der(pem.as_bytes()).unwrap(), der);
+    }
+
+    #[test]
+    fn no_other_structure_is_a_certificate() {
+        let mut ders: Vec<_> = KEYS.iter().map(|it| bytes_of(it).unwrap()).collect();
+        ders.extend([vec![0x30, 0x00], vec![0x30, 0x01, 0xFF], vec![0x30, 0x02, 0x30, 0x00]]);
+        ders.push([vec![0x30, 0x82, 0x01, 0x00], vec![7; 256]].concat());
+        for der in ders {
+            refused(&der, "is none of X.509");
+            refused(write("CERTIFICATE", &der).as_bytes(), "is none of X.509");
+            refused(write("PRIVATE KEY", &der).as_bytes(), "is neither DER nor PEM");
+        }
+        let der = certificate_der(CERTIFICATE.as_bytes()).unwrap().into_owned();
+        for at in 0..der.len() {
+            // Nothing that is cut or changed makes it panic.
+            let _ = certificate_der(&der[..at]);
+            let mut changed = der.clone();
+            changed[at] ^= 0xFF;
+            let _ = certificate_der(&changed);
         }
     }
 

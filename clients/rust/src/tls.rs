@@ -7,7 +7,7 @@ use openssl::ssl::{
     self, ErrorCode, Ssl, SslContext, SslContextBuilder, SslMethod, SslMode, SslOptions, SslRef,
     SslStream, SslVerifyMode, SslVersion,
 };
-use openssl::x509::verify::X509CheckFlags;
+use openssl::x509::verify::{X509CheckFlags, X509VerifyFlags};
 use openssl::x509::X509VerifyResult;
 use std::fmt::{self, Debug, Formatter};
 use std::io::{self, ErrorKind, Read, Write};
@@ -97,8 +97,8 @@ impl TlsConnector {
         let name = self.name()?;
         let context = self.context()?;
         let stream = self.open(&context, name);
-        let stream = stream.map_err(|it| Error::connect(it.to_string(), Some(it.kind())))?;
-        Ok(ClientBuilder::new(stream).with_before_call(TlsStream::begin))
+        let stream = stream.map_err(|it| Error::connect_of(it.to_string(), it))?;
+        Ok(stream.into_builder())
     }
 
     /// The host without the brackets of an address, and without the zone of one.
@@ -107,10 +107,12 @@ impl TlsConnector {
         inner.unwrap_or(&self.host)
     }
 
-    /// What the server's certificate has to have. OpenSSL takes an empty name for none, and one
-    /// that begins with a dot for any below it.
+    /// What the server's certificate has to have: the host without the dot that ends a name that is
+    /// complete. OpenSSL takes an empty name for none, and one that begins with a dot for any below
+    /// it.
     fn name(&self) -> Result<&str> {
         let name = self.host().split('%').next().unwrap_or("");
+        let name = name.strip_suffix('.').unwrap_or(name);
         if name.is_empty() || name.starts_with('.') || name.contains('\0') {
             return Err(Error::configuration(format!("{:?} is no host", self.host)));
         }
@@ -123,7 +125,12 @@ impl TlsConnector {
         let authority = self.authority.as_ref().ok_or_else(|| missing("authority"))?;
         let chain = file("certificate", certificate)?;
         let pem = file("key", key)?;
-        file("authority", authority)?;
+        let trusted = file("authority", authority)?;
+        for (what, path, pem) in
+            [("certificate", certificate, &chain), ("authority", authority, &trusted)]
+        {
+            is_plain(what, path, pem)?;
+        }
         holds("certificate", certificate, &chain, "certificate")?;
         holds("key", key, &pem, "private key")?;
         let private_key = private_key(key, &pem, self.passphrase.as_deref())?;
@@ -151,20 +158,14 @@ impl TlsConnector {
         stream.set_nodelay(true)?;
         let mut ssl = Ssl::new(context)?;
         check_name(&mut ssl, name)?;
-        let timed = Timed { stream, time, is_waiting: true, has_ended: false };
-        let mut stream = TlsStream { tls: SslStream::new(ssl, timed)? };
-        match stream.tls.connect() {
-            Ok(()) => Ok(stream),
-            Err(error) => Err(stream.io_error(error)),
-        }
+        TlsStream::connect(ssl, stream, time)
     }
 }
 
 /// The bytes of a file.
 fn file(what: &str, path: &Path) -> Result<Vec<u8>> {
-    std::fs::read(path).map_err(|error| {
-        Error::connect(format!("{what} {}: {error}", path.display()), Some(error.kind()))
-    })
+    std::fs::read(path)
+        .map_err(|error| Error::connect_of(format!("{what} {}: {error}", path.display()), error))
 }
 
 /// A file of PEM has a block whose label ends so.
@@ -174,11 +175,24 @@ fn holds(what: &str, path: &Path, pem: &[u8], label: &str) -> Result<()> {
     if String::from_utf8_lossy(pem).lines().any(is_begin) {
         return Ok(());
     }
-    Err(Error::connect(format!("{what} {}: there is no {label} in PEM", path.display()), None))
+    Err(Error::connect(format!("{what} {}: there is no {label} in PEM", path.display())))
+}
+
+/// No block of a file of PEM is encrypted: OpenSSL would ask the terminal for its passphrase.
+fn is_plain(what: &str, path: &Path, pem: &[u8]) -> Result<()> {
+    let is_encrypted = |line: &str| line.starts_with("Proc-Type:") && line.contains("ENCRYPTED");
+    // The key may stand in the file of the certificate, and is read from its own.
+    let text = String::from_utf8_lossy(pem);
+    let certificates = text.split("-----BEGIN ").filter(|it| it.contains("CERTIFICATE-----"));
+    if certificates.flat_map(str::lines).any(is_encrypted) {
+        let path = path.display();
+        return Err(Error::connect(format!("{what} {path}: a block of it is encrypted")));
+    }
+    Ok(())
 }
 
 fn failed(what: &str, errors: &ErrorStack) -> Error {
-    Error::connect(format!("{what}: {}", reasons(errors)), None)
+    Error::connect(format!("{what}: {}", reasons(errors)))
 }
 
 /// What OpenSSL says, without the places in its sources.
@@ -207,7 +221,7 @@ fn private_key(path: &Path, pem: &[u8], passphrase: Option<&str>) -> Result<PKey
             None => "no passphrase is given",
             Some(_) => "this is not its passphrase",
         };
-        Error::connect(format!("key {path}: it is encrypted, and {why}"), None)
+        Error::connect(format!("key {path}: it is encrypted, and {why}"))
     })
 }
 
@@ -216,18 +230,22 @@ fn strict_context() -> std::result::Result<SslContextBuilder, ErrorStack> {
     let mut context = SslContext::builder(SslMethod::tls_client())?;
     context.set_min_proto_version(Some(SslVersion::TLS1_2))?;
     context.set_verify(SslVerifyMode::PEER);
+    // The authority is that of the server's certificate, which may be of another one itself.
+    context.verify_param_mut().set_flags(X509VerifyFlags::PARTIAL_CHAIN)?;
     context.set_mode(SslMode::AUTO_RETRY);
     context.set_options(SslOptions::NO_COMPRESSION);
     Ok(context)
 }
 
-/// The server's certificate has to have this name or address.
+/// The server's certificate has to have this name or address among its alternative names: a common
+/// name is none, and `*` stands for a whole label.
 fn check_name(ssl: &mut SslRef, name: &str) -> std::result::Result<(), ErrorStack> {
     match name.parse::<IpAddr>() {
         Ok(address) => ssl.param_mut().set_ip(address),
         Err(_) => {
             ssl.set_hostname(name)?;
-            ssl.param_mut().set_hostflags(X509CheckFlags::NO_PARTIAL_WILDCARDS);
+            let flags = X509CheckFlags::NO_PARTIAL_WILDCARDS | X509CheckFlags::NEVER_CHECK_SUBJECT;
+            ssl.param_mut().set_hostflags(flags);
             ssl.param_mut().set_host(name)
         }
     }
@@ -329,8 +347,10 @@ impl Timed {
         mut step: impl FnMut(&mut TcpStream) -> io::Result<R>,
     ) -> io::Result<R> {
         loop {
+            // Whatever comes within TLS, each piece of it is asked for in time.
+            let left = self.time.left()?;
             if self.is_waiting {
-                limit(&self.stream, self.time.left()?)?;
+                limit(&self.stream, left)?;
             }
             match step(&mut self.stream) {
                 Err(error) if error.kind() == ErrorKind::Interrupted => {}
@@ -362,12 +382,38 @@ impl Write for Timed {
 }
 
 /// A TLS connection, each use of which ends by the deadline of its call. When it is dropped, its end
-/// is told to the server, and nothing is waited for.
+/// is said to the server, and nothing is waited for.
 pub struct TlsStream {
     tls: SslStream<Timed>,
 }
 
 impl TlsStream {
+    /// TLS over this connection as the caller has set it up, as for a key in hardware or lists of
+    /// revoked certificates: whom it trusts, and whether by name, is the caller's. The handshake and
+    /// each call of a client have this time; `None` or zero is no deadline.
+    ///
+    /// # Errors
+    /// `ConnectError`: the handshake failed.
+    pub fn from_ssl(ssl: Ssl, stream: TcpStream, timeout: Option<Duration>) -> Result<TlsStream> {
+        let time = Time::new(timeout.filter(|it| !it.is_zero()));
+        let stream = TlsStream::connect(ssl, stream, time);
+        stream.map_err(|it| Error::connect_of(it.to_string(), it))
+    }
+
+    /// The builder of a client on this connection, which is looked at before each call.
+    pub fn into_builder(self) -> ClientBuilder<TlsStream> {
+        ClientBuilder::new(self).with_before_call(TlsStream::begin)
+    }
+
+    fn connect(ssl: Ssl, stream: TcpStream, time: Time) -> io::Result<TlsStream> {
+        let timed = Timed { stream, time, is_waiting: true, has_ended: false };
+        let mut stream = TlsStream { tls: SslStream::new(ssl, timed)? };
+        match stream.tls.connect() {
+            Ok(()) => Ok(stream),
+            Err(error) => Err(stream.io_error(error)),
+        }
+    }
+
     /// From here on the connection has the time of one call. It is looked at first: nothing may
     /// have come that no call had asked for.
     fn begin(&mut self) -> io::Result<()> {
@@ -454,7 +500,9 @@ impl Write for TlsStream {
 impl Drop for TlsStream {
     fn drop(&mut self) {
         // The connection ends, whether the server gets to know it or not.
-        if self.tls.get_mut().wait(false).is_ok() {
+        let timed = self.tls.get_mut();
+        timed.time = Time::new(Some(Duration::from_secs(1)));
+        if timed.wait(false).is_ok() {
             let _ = self.tls.shutdown();
         }
     }

@@ -3,10 +3,12 @@
 //! The library alone says what is of the grammar. The table here says which words a call takes, so
 //! that bytes are not taken for a text, or a number for bytes.
 use crate::error::{Error, Result};
+use crate::library;
 use std::fmt::{self, Debug, Formatter, Write};
 
 /// A word of a call. `Debug` shows no bytes, since they may be of a key.
 #[derive(Clone, Copy, PartialEq, Eq)]
+#[non_exhaustive]
 pub enum Word<'a> {
     /// A text, as an identifier or a name.
     Text(&'a str),
@@ -33,6 +35,9 @@ impl Debug for Word<'_> {
 /// The word of the empty text, and of no bytes.
 const EMPTY: &str = "-";
 
+/// What stands behind `locate` where attributes follow.
+const WHERE: &str = " where";
+
 #[derive(Clone, Copy, PartialEq, Eq)]
 enum Kind {
     Identifier,
@@ -41,34 +46,35 @@ enum Kind {
     Number,
 }
 
+/// Each call, the kinds of its words, and the names of its options.
+type Call = (&'static str, &'static [Kind], &'static [&'static str]);
+// clients/grammar.py: calls
 const ATTRIBUTES: &[&str] =
     &["name", "group", "contact", "type", "state", "algorithm", "length", "activation"];
 const CHANGES: &[&str] =
     &["name", "group", "contact", "type", "state", "algorithm", "length", "activation", "index"];
-
-/// Each call, the kinds of its words, and the names of its options.
-type Call = (&'static str, &'static [Kind], &'static [&'static str]);
 const CALLS: [Call; 19] = [
     ("query", &[], &[]),
-    ("create", &[Kind::Text, Kind::Number, Kind::Text], &["usage"]),
+    ("discover", &[], &[]),
     ("create-rsa", &[Kind::Number, Kind::Text, Kind::Text], &["private-usage", "public-usage"]),
     ("create-aes", &[Kind::Number, Kind::Text], &[]),
+    ("create", &[Kind::Text, Kind::Number, Kind::Text], &["usage"]),
     ("register", &[Kind::Text, Kind::Bytes], &["format", "algorithm", "length", "usage", "name"]),
-    ("rng", &[Kind::Number], &[]),
-    ("activate", &[Kind::Identifier], &[]),
-    ("sign", &[Kind::Identifier, Kind::Bytes], &["hash", "padding", "algorithm", "prehashed"]),
-    ("rename", &[Kind::Identifier, Kind::Text], &[]),
-    ("get", &[Kind::Identifier], &["format", "wrap"]),
     ("locate", &[Kind::Text], ATTRIBUTES),
     ("attributes", &[Kind::Identifier], &[]),
     ("attribute-add", &[Kind::Identifier], ATTRIBUTES),
     ("attribute-modify", &[Kind::Identifier], CHANGES),
     ("attribute-delete", &[Kind::Identifier, Kind::Text], &["index"]),
+    ("activate", &[Kind::Identifier], &[]),
+    ("sign", &[Kind::Identifier, Kind::Bytes], &["hash", "padding", "algorithm", "prehashed"]),
+    ("rename", &[Kind::Identifier, Kind::Text], &[]),
+    ("get", &[Kind::Identifier], &["format", "wrap"]),
     ("revoke", &[Kind::Identifier], &["reason", "message", "since"]),
     ("destroy", &[Kind::Identifier], &[]),
-    ("discover", &[], &[]),
+    ("rng", &[Kind::Number], &[]),
     ("raw", &[Kind::Bytes], &[]),
 ];
+// clients/grammar.py: end
 
 /// An option as a word: its name, `=`, and its value, in which the names of several uses are kept
 /// apart by `,`.
@@ -93,17 +99,24 @@ fn option_of<'a>(name: &str, text: &'a str) -> Option<(&'a str, &'a str)> {
     options.contains(&option).then_some((option, value))
 }
 
-/// How many of a call's typed words stand before its options.
-fn plain_count(name: &str, texts: &[&str]) -> usize {
-    let own = match CALLS.iter().find(|(it, _, _)| *it == name) {
-        Some((_, kinds, _)) if name != "locate" => kinds.len(),
-        _ => 0,
+/// The typed words of a call that stand before its options, and its options. One word behind
+/// `locate` is a name, also with a `=`; attributes stand behind `where`, which may be left out
+/// before two.
+fn parted<'a, 'b>(name: &str, texts: &'a [&'b str]) -> (&'a [&'b str], &'a [&'b str]) {
+    let (plain, options) = match (name, texts) {
+        ("locate", ["where", options @ ..]) if !options.is_empty() => (&texts[..0], options),
+        ("locate", options) if options.len() > 1 => (&texts[..0], options),
+        ("locate", _) => return (texts, &[]),
+        _ => {
+            let found = CALLS.iter().find(|(it, _, _)| *it == name);
+            let own = found.map_or(0, |(_, kinds, _)| kinds.len());
+            texts.split_at(own.min(texts.len()))
+        }
     };
-    let rest = texts.get(own..).unwrap_or(&[]);
-    if rest.iter().all(|text| option_of(name, text).is_some()) {
-        own.min(texts.len())
+    if options.iter().all(|text| option_of(name, text).is_some()) {
+        (plain, options)
     } else {
-        texts.len()
+        (texts, &[])
     }
 }
 
@@ -230,6 +243,9 @@ pub(crate) fn line(name: &str, words: &[Word<'_>]) -> Result<String> {
     let is_option = |word: &Word<'_>| matches!(word, Word::Option(..));
     let plain = words.iter().position(is_option).unwrap_or(words.len());
     let mut line = line_by(name, &words[..plain], Kind::write)?;
+    if name == "locate" && plain == 0 && !words.is_empty() {
+        line.push_str(WHERE);
+    }
     for (at, word) in words.iter().enumerate().skip(plain) {
         let Word::Option(option, value) = word else {
             let place = at + 1;
@@ -244,10 +260,31 @@ pub(crate) fn line(name: &str, words: &[Word<'_>]) -> Result<String> {
     Ok(line)
 }
 
-/// The line of a call whose words were typed.
+/// The line of a call whose words were typed. Of those that are none the library says which.
 pub(crate) fn line_of_texts(name: &str, texts: &[&str]) -> Result<String> {
-    let (plain, options) = texts.split_at(plain_count(name, texts));
+    read_texts(name, texts).map_err(|error| refusal_of(name, texts).map_or(error, Error::grammar))
+}
+
+/// What the library says of a call as it was typed, where its name is that of a call.
+fn refusal_of(name: &str, texts: &[&str]) -> Option<String> {
+    CALLS.iter().find(|(it, _, _)| *it == name)?;
+    let mut line = name.to_string();
+    for text in texts {
+        line.push(' ');
+        line.push_str(&match option_of(name, text) {
+            Some((option, value)) => option_word(option, value),
+            None => text_word(text),
+        });
+    }
+    library::refusal(&line)
+}
+
+fn read_texts(name: &str, texts: &[&str]) -> Result<String> {
+    let (plain, options) = parted(name, texts);
     let mut line = line_by(name, plain, Kind::read)?;
+    if name == "locate" && !options.is_empty() {
+        line.push_str(WHERE);
+    }
     for (option, value) in options.iter().filter_map(|text| option_of(name, text)) {
         line.push(' ');
         line.push_str(&option_word(option, value));
@@ -255,149 +292,60 @@ pub(crate) fn line_of_texts(name: &str, texts: &[&str]) -> Result<String> {
     Ok(line)
 }
 
-/// Calls that the library takes, one of each name that has options, with those that it needs.
-const SAMPLES: [(&str, &str); 10] = [
-    ("create", "AES 8 x"),
-    ("create-rsa", "8 x y"),
-    ("register", "symmetric 00 format=Raw algorithm=AES length=8"),
-    ("sign", "x 00"),
-    ("get", "x"),
-    ("locate", ""),
-    ("attribute-add", "x"),
-    ("attribute-modify", "x"),
-    ("attribute-delete", "x y"),
-    ("revoke", "x"),
-];
-
-/// The words of the sample of a call.
-fn sample_of(name: &str) -> Vec<&'static str> {
-    let found = SAMPLES.iter().find(|(it, _)| *it == name);
-    found.map_or("", |(_, words)| *words).split_whitespace().collect()
-}
-
-/// The name of an option, with its `=`.
-fn option_name(option: &str) -> &str {
-    option.find('=').map_or(option, |at| &option[..=at])
-}
-
-/// A call that has this option, and nothing else that may be wrong.
-fn sample_with(name: &str, option: &str) -> String {
-    let name = if option.starts_with("index=") { "attribute-delete" } else { name };
-    let mut words = sample_of(name);
-    words.retain(|it| option_name(it) != option_name(option));
-    [&[name], &words[..], &[option]].concat().join(" ")
-}
-
-/// What is wrong with the options of a call.
-fn wrong_options(name: &str, options: &[&str], takes: impl Fn(&str) -> bool) -> Option<String> {
-    let names: Vec<&str> = options.iter().map(|it| option_name(it)).collect();
-    let twice = names.iter().enumerate().find(|(at, it)| names[..*at].contains(it));
-    if let Some((_, option)) = twice {
-        return Some(format!("{option} is given twice"));
-    }
-    let needed: Vec<&str> = sample_of(name).into_iter().map(option_name).collect();
-    if let Some(option) = needed.iter().find(|it| it.ends_with('=') && !names.contains(it)) {
-        return Some(format!("{option} is missing"));
-    }
-    if let Some(option) = options.iter().find(|it| !takes(&sample_with(name, it))) {
-        return Some(format!("the value of {} is none that it takes", option_name(option)));
-    }
-    let is_index = |it: &str| it == "index=";
-    let is_one = match &names[..] {
-        [first] => !is_index(first),
-        [first, second] => !is_index(first) && is_index(second),
-        _ => false,
-    };
-    (matches!(name, "attribute-add" | "attribute-modify") && !is_one)
-        .then(|| "it takes one attribute, and behind it options".into())
-}
-
-/// What is wrong with a line that the library does not take as a call. `takes` says whether it takes
-/// another one.
-pub(crate) fn wrong_with(line: &str, takes: impl Fn(&str) -> bool) -> String {
-    let (name, rest) = line.split_once(' ').unwrap_or((line, ""));
-    let words: Vec<&str> = rest.split_whitespace().collect();
-    let kinds = CALLS.iter().find(|(it, _, _)| *it == name).map_or(0, |(_, kinds, _)| kinds.len());
-    let plain = if name == "locate" { 0 } else { kinds.min(words.len()) };
-    // No word but that of an option has a `=`.
-    let is_option = |it: &&str| it.contains('=') || (name == "sign" && *it == "prehashed");
-    let options: Vec<&str> = words[plain..].iter().copied().filter(is_option).collect();
-    let first = || {
-        let sample = sample_of(name);
-        let others = sample.get(1..).unwrap_or(&[]);
-        [&[name], &words[..1.min(words.len())], others].concat().join(" ")
-    };
-    let wrong = wrong_options(name, &options, &takes).or_else(|| match name {
-        "create" | "register" if !takes(&first()) => {
-            Some("word 1 after it is none that it takes".into())
-        }
-        "locate" if !options.is_empty() && options.len() < words.len() => {
-            Some("it takes a name, or attributes".into())
-        }
-        "raw" => Some("word 1 after it is not the one canonical message of a request".into()),
-        _ => None,
-    });
-    wrong.map_or_else(
-        || format!("{name} and its words are not of the grammar"),
-        |wrong| format!("{name}: {wrong}"),
-    )
-}
-
 #[cfg(test)]
 mod tests {
     use super::*;
-    use crate::library::{request, NoRequest};
 
-    fn is_taken(line: &str) -> bool {
-        request(line, None) != Err(NoRequest::Grammar)
+    fn refusal(line: &str) -> String {
+        library::refusal(line).unwrap_or_else(|| panic!("{line} is a call"))
+    }
+
+    #[test]
+    fn each_call_of_the_table_is_explained_by_its_words() {
+        for (name, kinds, options) in CALLS {
+            let said = refusal(&format!("{name} - - - - - -"));
+            assert!(said.contains(name) || said.contains("identifier"), "{said}");
+            if name == "locate" || name.starts_with("attribute") {
+                continue;
+            }
+            for option in options {
+                let word = if *option == "prehashed" { "prehashed" } else { &format!("{option}=") };
+                let said = refusal(&format!("{name}{} no= {word}x", " x".repeat(kinds.len())));
+                assert!(said.starts_with(&format!("the words are not those of {name} ")), "{said}");
+                assert!(
+                    said.contains(&format!(" {word}")) || said.contains(&format!("[{word}]")),
+                    "{said}"
+                );
+            }
+        }
     }
 
     #[test]
     fn which_word_is_wrong_is_said() {
+        let algorithms = "is none of DES, TRIPLE_DES, AES, RSA";
         let rows = [
-            ("sign k - padding=PSS hash=SHA3", "the value of hash= is none that it takes"),
-            ("get k format=Raw format=Raw", "format= is given twice"),
-            ("get k format=PKCS_1", "the value of format= is none that it takes"),
-            ("revoke k message=m reason=x", "the value of reason= is none that it takes"),
-            ("create HMAC_SHA256 8 n", "word 1 after it is none that it takes"),
-            ("create AES 8 n usage=Sing", "the value of usage= is none that it takes"),
+            ("sign k - padding=PSS hash=SHA3", "sign: hash=SHA3 is none of MD2, MD4, MD5, SHA1, "),
+            ("get k format=Raw format=Raw", "get: format= is given twice"),
+            ("create HMAC_SHA256 8 n", "create: ALGORITHM is none of DES, TRIPLE_DES, AES, RSA"),
+            ("create AES 8 n usage=Sing", "create: usage=Sing is none of Sign, Verify, "),
             (
                 "register secret - format=Raw algorithm=AES length=8",
-                "word 1 after it is none that it takes",
+                "register: KIND is none of public",
             ),
-            ("register public - format=Raw length=8", "algorithm= is missing"),
-            (
-                "register public - format=Raw algorithm=EC length=8",
-                "the value of algorithm= is none that it takes",
-            ),
-            ("locate name=a state=x", "the value of state= is none that it takes"),
-            ("locate a name=a", "it takes a name, or attributes"),
-            ("attribute-add k", "it takes one attribute, and behind it options"),
-            ("attribute-add k name=a group=b", "it takes one attribute, and behind it options"),
-            ("attribute-modify k index=0 name=a", "it takes one attribute, and behind it options"),
-            ("attribute-modify k type=x index=0", "the value of type= is none that it takes"),
-            ("raw 00", "word 1 after it is not the one canonical message of a request"),
+            ("register public - format=Raw length=8", "register: algorithm= is missing"),
+            ("locate name=a state=x", "locate: state=x is none of PreActive, Active, "),
+            ("locate a name=a", "locate: ATTRIBUTE is none of name=, group=, "),
+            ("attribute-add k", "the words are not those of attribute-add ID ATTRIBUTE"),
+            ("raw 00", "raw: the bytes are not the one canonical message of a request"),
+            ("sign k 00 prehashed hash=SHA256", "prehashed and hash= exclude each other: "),
+            ("get k wrap=-", "an identifier is empty; "),
         ];
         for (line, wanted) in rows {
-            assert!(!is_taken(line), "{line}");
-            let name = line.split(' ').next().unwrap();
-            assert_eq!(wrong_with(line, is_taken), format!("{name}: {wanted}"), "{line}");
+            let said = refusal(line);
+            assert!(said.starts_with(wanted), "{line}: {said}");
         }
-    }
-
-    #[test]
-    fn each_sample_is_taken() {
-        for (name, _, options) in CALLS {
-            assert!(options.is_empty() || SAMPLES.iter().any(|(it, _)| *it == name), "{name}");
-        }
-        for (name, words) in SAMPLES {
-            let option = if name.starts_with("attribute-") { "name=x" } else { "" };
-            let line = match name {
-                "attribute-delete" | "locate" => format!("{name} {words}"),
-                _ => format!("{name} {words} {option}"),
-            };
-            assert!(is_taken(line.trim_end()), "{line}");
-        }
+        let line = "register public - format=Raw algorithm=EC length=8";
+        assert_eq!(refusal(line), format!("register: algorithm=EC {algorithms}"));
     }
 
     fn refused(made: Result<String>, wanted: &str) {
@@ -435,7 +383,8 @@ mod tests {
         for name in identifiers {
             let wanted = format!("{name}: word 1 after it is empty, and has to be an identifier");
             refused(line(name, &[Word::Text("")]), &wanted);
-            refused(line_of_texts(name, &[""]), &wanted);
+            let said = "an identifier is empty; a request that means it is sent by message";
+            refused(line_of_texts(name, &[""]), said);
             let wanted = format!("{name}: word 1 after it is not an identifier: bytes were given");
             refused(line(name, &[Word::Bytes(&[])]), &wanted);
             refused(line(name, &[Word::Bytes(b"8")]), &wanted);
@@ -471,17 +420,23 @@ mod tests {
         assert_eq!(line_of_texts("sign", &["1", ""]).unwrap(), "sign 1 -");
         assert_eq!(line_of_texts("rng", &["16"]).unwrap(), "rng 16");
         for wrong in ["XY", "0", "0 ", "-", "é"] {
-            assert!(line_of_texts("sign", &["1", wrong]).is_err(), "{wrong}");
+            let said = "sign: HEX is no even number of hex digits, and not - for no bytes";
+            refused(line_of_texts("sign", &["1", wrong]), said);
         }
         for wrong in ["", "+1", "01", "-0", "1 ", "0x1", "2147483648", "1.0"] {
-            assert!(line_of_texts("rng", &[wrong]).is_err(), "{wrong}");
+            let said = "rng: N is no number from -2147483648 to 2147483647 in decimal digits";
+            refused(line_of_texts("rng", &[wrong]), said);
         }
+        refused(line_of_texts("rename", &["1"]), "the words are not those of rename ID NAME");
+        let twice = ["1", "format=Raw", "format=Raw"];
+        assert_eq!(line_of_texts("get", &twice).unwrap(), "get 1 format=Raw format=Raw");
+        refused(line_of_texts("sing", &["1"]), "there is no call sing");
     }
 
     #[test]
     fn options_are_words_of_their_own() {
-        let rows: [(&str, &[&str], &str); 7] = [
-            ("sign", &["k", "00", "hash=SHA384", "prehashed"], "sign k 00 hash=SHA384 prehashed"),
+        let rows: [(&str, &[&str], &str); 11] = [
+            ("sign", &["k", "00", "padding=PSS", "prehashed"], "sign k 00 padding=PSS prehashed"),
             (
                 "revoke",
                 &["k", "message=a b, c", "since=5"],
@@ -492,7 +447,15 @@ mod tests {
                 &["AES", "256", "n", "usage=Encrypt,Decrypt"],
                 "create AES 256 n usage=Encrypt,Decrypt",
             ),
-            ("locate", &["name=a=b", "state=Active"], "locate name=a%3Db state=Active"),
+            (
+                "locate",
+                &["where", "name=a=b", "state=Active"],
+                "locate where name=a%3Db state=Active",
+            ),
+            ("locate", &["where", "state=Active"], "locate where state=Active"),
+            ("locate", &["type=PrivateKey", "state=x"], "locate where type=PrivateKey state=x"),
+            ("locate", &["state=Active"], "locate state%3DActive"),
+            ("locate", &["where"], "locate where"),
             ("locate", &["a=b"], "locate a%3Db"),
             ("locate", &["name"], "locate name"),
             ("attributes", &["1", "State", "x-y z"], "attributes 1 State x-y%20z"),

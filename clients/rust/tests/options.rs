@@ -1,7 +1,7 @@
 //! Calls with options by their types send what the same words send.
 mod ttlv;
 
-use metsuwan::{library, Client, ClientBuilder, Error, Item, Json};
+use metsuwan::{library, Client, ClientBuilder, Error, Item};
 use metsuwan::{AttributeValue, Create, CreateRsa, Get, KeyKind, NewKey, Register, Revoke, Sign};
 use metsuwan::{
     CryptographicAlgorithm, CryptographicUsageMask, HashingAlgorithm, KeyFormatType, ObjectType,
@@ -12,7 +12,6 @@ use std::io::{self, Cursor, Read, Write};
 use std::sync::{Arc, Mutex};
 use ttlv::{bytes, enumeration, response, structure, text};
 
-const LOCATE: u32 = 0x08;
 const GET_ATTRIBUTES: u32 = 0x0B;
 const ENCRYPT: u32 = 0x1F;
 
@@ -67,13 +66,14 @@ fn options_of_sign() {
         it.sign_with("k", b"\0", how)
     });
     is_line("sign k 00 prehashed", |it| it.sign_with("k", b"\0", Sign::default().prehashed()));
-    is_line("sign k 00 prehashed hash=MD5", |it| {
-        it.sign_with("k", b"\0", Sign::default().prehashed().with_hash(HashingAlgorithm::MD5))
-    });
+    let (client, sent) = client(vec![]);
+    let both = Sign::default().prehashed().with_hash(HashingAlgorithm::MD5);
+    let error = client.sign_with("k", b"\0", both).unwrap_err();
+    assert!(matches!(error, Error::GrammarError(_)) && sent.lock().unwrap().is_empty(), "{error}");
 }
 
 #[test]
-fn defaults_are_those_that_are_told() {
+fn defaults_are_those_that_are_documented() {
     use CryptographicUsageMask as Usage;
     is_line("sign k 00", |it| {
         let how = Sign::default().with_hash(HashingAlgorithm::SHA256);
@@ -123,7 +123,7 @@ fn options_of_other_calls() {
 fn keys_are_registered() {
     let (kind, format) = (KeyKind::SymmetricKey, KeyFormatType::Raw);
     let algorithm = CryptographicAlgorithm::AES;
-    let aes = NewKey { kind, format, algorithm, length: 8, material: &[0xAB] };
+    let aes = NewKey::new(kind, format, algorithm, 8, &[0xAB]);
     is_line("register symmetric AB format=Raw algorithm=AES length=8", |it| it.register(&aes));
     let words = "format=Raw algorithm=AES length=8 usage=Encrypt,Decrypt name=a%20b";
     is_line(&format!("register symmetric AB {words}"), |it| {
@@ -132,7 +132,7 @@ fn keys_are_registered() {
     });
     for (kind, word) in [(KeyKind::PublicKey, "public"), (KeyKind::PrivateKey, "private")] {
         let (format, algorithm) = (KeyFormatType::PKCS1, CryptographicAlgorithm::RSA);
-        let key = NewKey { kind, format, algorithm, length: 2048, material: b"key" };
+        let key = NewKey::new(kind, format, algorithm, 2048, b"key");
         let line = format!("register {word} 6B6579 format=PKCS1 algorithm=RSA length=2048");
         is_line(&line, |it| it.register(&key));
         assert!(format!("{key:?}").ends_with("length: 2048, material: of length 3 }"));
@@ -159,7 +159,7 @@ fn attributes_have_types() {
         });
     }
     let words = all.map(|(_, word)| word).join(" ");
-    is_line(&format!("locate {words}"), |it| it.locate_with(&all.map(|(value, _)| value)));
+    is_line(&format!("locate where {words}"), |it| it.locate_with(&all.map(|(value, _)| value)));
     is_line("locate", |it| it.locate_with(&[]));
     is_line("attribute-delete k Object%20Group", |it| {
         it.delete_attribute("k", "Object Group", None)
@@ -167,39 +167,44 @@ fn attributes_have_types() {
     is_line("attribute-delete k x-a index=1", |it| it.delete_attribute("k", "x-a", Some(1)));
 }
 
-/// The names that the library has for the numbers of the enumeration with this tag, in order.
-fn names_of(tag: u32) -> Vec<String> {
-    let numbers: Vec<_> = (1..=64).map(|number| enumeration(tag, number)).collect();
-    let payload = r#"{"tag":"RequestPayload","value":[]}"#;
-    let call = library::Operation { name: "Locate", version: "1.2", payload };
-    let (_, line) = library::operation_answer(&call, &response(LOCATE, &numbers));
-    let line = Json::parse(&line).unwrap();
-    let items = line.at("answer.value").unwrap().as_list().unwrap();
-    let names = items.iter().map(|it| it.member("value").unwrap().as_text().unwrap());
-    names.filter(|name| !name.starts_with("0x")).map(str::to_string).collect()
-}
-
+/// The names of the client are those of the library, and none is left out: the request by each name
+/// has the name's number, and of the requests with another number in this place, which differ in
+/// nothing else, the library takes those alone whose numbers have names.
 #[test]
 fn names_are_those_of_the_library() {
     macro_rules! are_named {
         ($($kind:ident $tag:literal $call:literal)+) => {$(
-            let names = $kind::ALL.iter().map(|it| it.name().to_string()).collect::<Vec<_>>();
-            let all = names_of($tag);
-            // The library knows more algorithms by their numbers than calls of words take.
-            let all: Vec<_> = all.into_iter().filter(|it| takes(&format!($call, it))).collect();
-            assert_eq!(names, all);
+            let by_name = |it: &$kind| {
+                library::request(&format!($call, it.name()), None).expect(it.name())
+            };
+            let request = by_name(&$kind::ALL[0]);
+            for it in $kind::ALL {
+                assert!(by_name(it) == with_number(&request, $tag, it.number()), "{}", it.name());
+            }
+            let is_taken = |number: &u32| takes(&with_number(&request, $tag, *number));
+            let taken: Vec<u32> = (0..0x100).chain(0x8000_0000..0x8000_0010).filter(is_taken).collect();
+            assert_eq!(taken, $kind::ALL.iter().map(|it| it.number()).collect::<Vec<_>>());
         )+};
     }
-    fn takes(line: &str) -> bool {
-        library::request(line, None).is_ok()
+    /// The request with this number in its first enumeration with this tag.
+    fn with_number(request: &[u8], tag: u32, number: u32) -> Vec<u8> {
+        let head = &enumeration(tag, 0)[..8];
+        let at = request.windows(8).position(|it| it == head).unwrap() + 8;
+        let mut made = request.to_vec();
+        made[at..at + 4].copy_from_slice(&number.to_be_bytes());
+        made
+    }
+    fn takes(request: &[u8]) -> bool {
+        let hex: String = request.iter().map(|byte| format!("{byte:02X}")).collect();
+        library::request(&format!("raw {hex}"), None).is_ok()
     }
     are_named! {
         HashingAlgorithm 0x42_0038 "sign k 00 hash={}"
         PaddingMethod 0x42_005F "sign k 00 padding={}"
         CryptographicAlgorithm 0x42_0028 "sign k 00 algorithm={}"
         KeyFormatType 0x42_0042 "get k format={}"
-        ObjectType 0x42_0057 "locate type={}"
-        State 0x42_008D "locate state={}"
+        ObjectType 0x42_000B "locate where type={}"
+        State 0x42_000B "locate where state={}"
         RevocationReasonCode 0x42_0082 "revoke k reason={}"
     }
 }
@@ -218,13 +223,14 @@ fn uses_have_the_bits_of_the_library() {
 
 /// What the operation with this payload sends.
 fn operation_request(name: &str, version: &str, payload: &str) -> Vec<u8> {
-    let call = library::Operation { name, version, payload };
+    let call = library::Operation::new(name, version, payload);
     library::operation_request(&call, None).unwrap()
 }
 
 #[test]
 fn certificates_are_registered() {
-    let der = [0x30, 0x01, 0xAB];
+    let (pem, der) = (include_str!("certificate.pem"), include_bytes!("certificate.der"));
+    let hex: String = der.iter().map(|byte| format!("{byte:02X}")).collect();
     let payload = |attributes: &str| {
         format!(
             r#"{{"tag":"RequestPayload","value":[
@@ -232,12 +238,11 @@ fn certificates_are_registered() {
             {{"tag":"TemplateAttribute","value":[{attributes}]}},
             {{"tag":"Certificate","value":[
                 {{"tag":"CertificateType","type":"Enumeration","value":"0x00000001"}},
-                {{"tag":"CertificateValue","type":"ByteString","value":"3001AB"}}]}}]}}"#
+                {{"tag":"CertificateValue","type":"ByteString","value":"{hex}"}}]}}]}}"#
         )
     };
     let plain = operation_request("Register", "1.0", &payload(""));
-    let pem = "-----BEGIN CERTIFICATE-----\nMAGr\n-----END CERTIFICATE-----\n";
-    assert!(sent_by(|it| it.register_certificate(&der)) == plain);
+    assert!(sent_by(|it| it.register_certificate(der)) == plain);
     assert!(sent_by(|it| it.register_certificate(pem.as_bytes())) == plain);
     let attributes = r#"
         {"tag":"Attribute","value":[
@@ -251,7 +256,7 @@ fn certificates_are_registered() {
     let uses = CryptographicUsageMask::Verify | CryptographicUsageMask::CertificateSign;
     let options = Register::default().with_usage(uses).with_name("the \"root\"");
     let request = operation_request("Register", "1.0", &payload(attributes));
-    assert!(sent_by(|it| it.register_certificate_with(&der, options)) == request);
+    assert!(sent_by(|it| it.register_certificate_with(der, options)) == request);
     let (client, sent) = client(vec![]);
     let error = client.register_certificate(b"none").unwrap_err();
     assert_eq!(error.to_string(), "GrammarError: the certificate is neither DER nor PEM");

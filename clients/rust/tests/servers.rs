@@ -1,8 +1,10 @@
 //! Sessions over TLS with servers that make it hard. tools/live/rust/unit.sh starts them, and says
 //! where they are: METSUWAN_FAKES is the file of their ports, METSUWAN_CERTS the folder of their
 //! certificates.
-use metsuwan::{Error, TlsClient, TlsConnector};
+use metsuwan::{Error, TlsClient, TlsConnector, TlsStream};
+use openssl::ssl::{Ssl, SslContext, SslFiletype, SslMethod, SslVerifyMode};
 use std::io::ErrorKind;
+use std::net::TcpStream;
 use std::path::PathBuf;
 use std::thread;
 use std::time::{Duration, Instant};
@@ -46,7 +48,7 @@ fn is_lost(client: &TlsClient, wanted: &str) {
 #[test]
 #[ignore = "it needs the fake servers"]
 fn an_answer_about_another_object() {
-    is_lost(&client("other_object"), "InternalError: answer for another object");
+    is_lost(&client("other_object"), "OtherObject: answer for another object");
 }
 
 #[test]
@@ -54,13 +56,21 @@ fn an_answer_about_another_object() {
 fn any_operation() {
     let client = client("good");
     let payload = r#"{"tag":"RequestPayload","value":[{"tag":"UniqueIdentifier","type":"TextString","value":"k1"}]}"#;
+    let nothing = payload.replace("k1", "");
     let answer = client.operation("Encrypt", "1.2", payload).unwrap();
     assert_eq!(answer.text_at("tag").unwrap(), "ResponsePayload");
     assert_eq!(answer.text_at("value.0.value").unwrap(), "k1");
     for (name, version, payload, wanted) in [
         ("encrypt", "1.2", payload, "KMIP 1.2 has no operation of this name"),
         ("Encrypt", "1.3", payload, "the version is none of 1.0, 1.1 and 1.2"),
-        ("Encrypt", "1.2", "{}", "the payload is not the JSON of a RequestPayload"),
+        (
+            "Encrypt",
+            "1.2",
+            "{}",
+            "the payload: line 1, column 1, tag: expected the name of a tag, or 0x and six hex \
+             digits, found nothing",
+        ),
+        ("Get", "1.2", &nothing, "the payload: a UniqueIdentifier in it is empty"),
     ] {
         let error = client.operation(name, version, payload).unwrap_err();
         assert_eq!(error.to_string(), format!("GrammarError: {wanted}"));
@@ -112,6 +122,82 @@ fn each_call_has_its_own_deadline() {
     assert!(started.elapsed() >= Duration::from_secs(seconds) * 9 / 10, "{:?}", started.elapsed());
     assert!(started.elapsed() < LONG, "{:?}", started.elapsed());
     assert!(matches!(client.query(), Err(Error::RequestWriteError(_))));
+}
+
+#[test]
+#[ignore = "it needs the fake servers"]
+fn a_flood_of_session_tickets_ends_with_the_deadline() {
+    let started = Instant::now();
+    let in_time = |fake: &str, seconds: u64| {
+        let connector = connector(fake, "localhost", "client");
+        let client = connector.with_timeout(Some(Duration::from_secs(seconds))).connect();
+        client.ok().map(|it| it.build())
+    };
+    let open = |fake: &str| [2, 10, 40].into_iter().find_map(|it| in_time(fake, it)).unwrap();
+    let error = open("tickets").query().unwrap_err();
+    assert_eq!(error.details().io_kind(), Some(ErrorKind::TimedOut), "{error}");
+    let client = open("tickets_after");
+    client.query().unwrap();
+    // It comes in the look before the call, or while its answer is waited for.
+    let error = client.query().unwrap_err();
+    assert!(error.is_lost() && error.details().io_kind() == Some(ErrorKind::TimedOut), "{error}");
+    let client = open("tickets_after");
+    client.query().unwrap();
+    drop(client);
+    assert!(started.elapsed() < LONG, "{:?}", started.elapsed());
+}
+
+#[test]
+#[ignore = "it needs the fake servers"]
+fn tls_that_the_caller_has_set_up() {
+    let file = |name: &str| folder().join(name);
+    let mut context = SslContext::builder(SslMethod::tls_client()).unwrap();
+    context.set_verify(SslVerifyMode::PEER);
+    context.set_ca_file(file("ca.pem")).unwrap();
+    context.set_certificate_chain_file(file("client.pem")).unwrap();
+    context.set_private_key_file(file("client.key"), SslFiletype::PEM).unwrap();
+    let context = context.build();
+    let open = |fake: &str, timeout| {
+        let mut ssl = Ssl::new(&context).unwrap();
+        ssl.param_mut().set_host("localhost").unwrap();
+        let stream = TcpStream::connect(("127.0.0.1", port_of(fake))).unwrap();
+        TlsStream::from_ssl(ssl, stream, timeout)
+    };
+    let client = open("certificate", None).unwrap().into_builder().build();
+    assert_eq!(client.query().unwrap().vendor_identification.as_deref(), Some("alice"));
+    let error = open("other/server", None).unwrap_err();
+    assert!(matches!(&error, Error::ConnectError(it) if it.text().contains("issuer")), "{error}");
+    let error = open("unanswered", Some(Duration::from_secs(1))).unwrap_err();
+    assert_eq!(error.details().io_kind(), Some(ErrorKind::TimedOut));
+    let client = open("two", Some(LONG)).unwrap().into_builder().build();
+    client.query().unwrap();
+    let text = "the server sent bytes that no call had asked for; nothing was sent";
+    is_lost(&client, &format!("RequestWriteError: {text}"));
+}
+
+#[test]
+#[ignore = "it needs the fake servers"]
+fn names_are_alternative_ones() {
+    let error = connector("cn_only", "localhost", "client").connect().map(drop).unwrap_err();
+    let text = error.to_string().to_lowercase();
+    assert_eq!(text, "connecterror: certificate verify failed: hostname mismatch");
+}
+
+#[test]
+#[ignore = "it needs the fake servers"]
+fn a_certificate_that_is_encrypted() {
+    let block = "-----BEGIN CERTIFICATE-----\nProc-Type: 4,ENCRYPTED\n                 DEK-Info: AES-256-CBC,00112233445566778899AABBCCDDEEFF\n\nAAAA\n                 -----END CERTIFICATE-----\n";
+    let path = std::env::temp_dir().join(format!("metsuwan-{}.pem", std::process::id()));
+    std::fs::write(&path, block).unwrap();
+    for connector in [
+        connector("good", "localhost", "client").with_authority(&path),
+        connector("good", "localhost", "client")
+            .with_certificate(&path, folder().join("client.key")),
+    ] {
+        let error = connector.connect().map(drop).unwrap_err().to_string();
+        assert!(error.ends_with("a block of it is encrypted"), "{error}");
+    }
+    std::fs::remove_file(&path).unwrap();
 }
 
 #[test]

@@ -2,6 +2,7 @@
 use metsuwan::{Error, Json, TlsConnector};
 use std::env;
 use std::fmt::{self, Display, Formatter};
+use std::io::{self, Write};
 
 /// Why there is no answer: a line of JSON, and the status.
 #[derive(Debug)]
@@ -30,8 +31,12 @@ impl std::error::Error for Failure {}
 /// The line of an error.
 pub fn line(kind: &str, text: &str) -> Json {
     let members = [("error", kind), ("text", text)];
-    let members = members.map(|(name, it)| (name.to_string(), Json::Text(it.to_string())));
-    Json::Object(members.into())
+    Json::Object(members.map(|(name, it)| (name.into(), Json::text(it))).into())
+}
+
+/// Writes a line to standard error, where that can be written: the status tells of it, too.
+pub fn say(line: &impl Display) {
+    let _ = writeln!(io::stderr(), "{line}");
 }
 
 /// The failure of words that are none.

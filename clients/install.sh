@@ -1,0 +1,126 @@
+#!/bin/bash
+# Installs what clients/build.sh made, and takes it away again.
+#
+#   clients/install.sh [uninstall] [--prefix P] [--destdir D] [--libdir L] [--modulesdir M] [--built FOLDER]
+#
+#   P/bin/kmip_call, kmip_ttlv              the program, and the encoder of JSON and XML
+#   P/bin/kmip.sh, kmip_keys.sh             the functions of bash: `. kmip.sh` finds them on the path
+#   L/libmetsuwan.*, libmetsuwan_tls.*      the libraries, static and shared, and L/pkgconfig for pkg-config
+#   P/include/metsuwan.h, metsuwan_tls.h    their headers
+#   M/metsuwan.so                           the provider for OpenSSL 3
+#   P/share/man/man1                        manual pages of the first three
+#   P/share/bash-completion/completions     completion in bash
+#   P/share/metsuwan/kmip.html              the page that shows captured messages
+#   P/share/doc/metsuwan/LICENSE
+#
+#   uninstall          takes away all of this, and nothing else
+#   --prefix P         an absolute path; /usr/local where it is not given
+#   --destdir D        all is put below this folder, as for a package
+#   --libdir L         P/lib where it is not given
+#   --modulesdir M     L/ossl-modules where it is not given; OpenSSL looks there where L is that of its own libraries, and
+#                      elsewhere by OPENSSL_MODULES
+#   --built FOLDER     the folder that clients/build.sh made; `built` at the top of the repository where it is not given
+#   --help             prints this
+#
+# What the folder has not is left out, which is said: `clients/build.sh --whole FOLDER` makes all. It needs gcc, make,
+# binutils and OpenSSL's headers for the client in C. A system that has not seen the libraries before wants `ldconfig`.
+set -eu
+
+give_up() { # TEXT
+    printf 'install.sh: %s\n' "$*" >&2
+    exit 1
+}
+
+usage() {
+    sed -n '4s/^# */usage: /p' "$0" >&2
+    exit 2
+}
+
+uninstall='' prefix=/usr/local destdir='' libdir='' modules='' built=''
+while (($#)); do
+    case $1 in
+    --help) sed -n '2,/^set/{/^set/d;s/^# \{0,1\}//p}' "$0" && exit ;;
+    uninstall) uninstall=1 ;;
+    --prefix | --destdir | --libdir | --modulesdir | --built)
+        [[ -n ${2-} ]] || usage
+        case $1 in
+        --prefix) prefix=${2%/} ;;
+        --destdir) destdir=$2 ;;
+        --libdir) libdir=$2 ;;
+        --modulesdir) modules=$2 ;;
+        --built) built=$2 ;;
+        esac
+        shift
+        ;;
+    *) usage ;;
+    esac
+    shift
+done
+libdir=${libdir:-$prefix/lib}
+modules=${modules:-$libdir/ossl-modules}
+for it in "${prefix:-/}" "$libdir" "$modules"; do
+    # make and ld know no such path.
+    [[ $it == /* && $it != *[[:space:]]* ]] || give_up "$it is no absolute path without spaces"
+done
+top=$(cd "$(dirname "$0")/.." && pwd)
+if [[ -n $destdir ]]; then
+    mkdir -p "$destdir"
+    destdir=$(cd "$destdir" && pwd)
+fi
+share=$destdir$prefix/share
+pages=(kmip_call.1 kmip.sh.1 kmip_ttlv.1)
+# The completion is found by the name of the command that is completed.
+completed=(kmip_call kmip kmip_field kmip_open kmip_without)
+
+work=$(mktemp -d -t kmip-install-XXXXXX)
+trap 'rm -rf "$work"' EXIT
+
+# The libraries, by their own rules, in a folder without a space.
+libraries() { # TARGET
+    cp -r "$top/clients/c" "$work/c"
+    make -s -C "$work/c" "$1" BUILT="$work" OUT="$work" PREFIX="$prefix" LIBDIR="$libdir" DESTDIR="$destdir" \
+        CFLAGS="${CFLAGS:--O2 -g} -ffile-prefix-map=$work=."
+}
+
+put() { # MODE FILE TARGET: the file, where it is there
+    if [[ ! -f $2 ]]; then
+        printf 'install.sh: %s is left out: there is no %s\n' "${3##*/}" "$2" >&2
+        return
+    fi
+    install -d "$(dirname "$3")"
+    install -m "$1" "$2" "$3"
+}
+
+install_all() {
+    local it
+    built=${built:-$top/built}
+    for it in kmip_call libmetsuwan.a libmetsuwan.so; do
+        [[ -f $built/$it ]] || give_up "there is no $built/$it: clients/build.sh makes it"
+    done
+    cp "$built"/libmetsuwan.{a,so} "$work"
+    libraries install
+    put 755 "$built/kmip_call" "$destdir$prefix/bin/kmip_call"
+    put 755 "$built/kmip_ttlv" "$destdir$prefix/bin/kmip_ttlv"
+    for it in kmip.sh kmip_keys.sh; do put 755 "$top/clients/shell/$it" "$destdir$prefix/bin/$it"; done
+    for it in "${pages[@]}"; do put 644 "$top/clients/man/$it" "$share/man/man1/$it"; done
+    for it in "${completed[@]}"; do
+        put 644 "$top/clients/shell/completion.bash" "$share/bash-completion/completions/$it"
+    done
+    put 644 "$built/kmip.html" "$share/metsuwan/kmip.html"
+    if [[ -f $built/kmip32.html ]]; then put 644 "$built/kmip32.html" "$share/metsuwan/kmip32.html"; fi
+    put 644 "$top/LICENSE" "$share/doc/metsuwan/LICENSE"
+    put 755 "$built/metsuwan.so" "$destdir$modules/metsuwan.so"
+}
+
+uninstall_all() {
+    libraries uninstall
+    rm -f "$destdir$prefix/bin"/{kmip_call,kmip_ttlv,kmip.sh,kmip_keys.sh} "${pages[@]/#/$share/man/man1/}" \
+        "${completed[@]/#/$share/bash-completion/completions/}" "$share/metsuwan"/kmip{,32}.html \
+        "$share/doc/metsuwan/LICENSE" "$destdir$modules/metsuwan.so"
+    # Folders that nothing else is in.
+    for it in "$share/metsuwan" "$share/doc/metsuwan"; do
+        if [[ -d $it ]]; then rmdir --ignore-fail-on-non-empty "$it"; fi
+    done
+}
+
+if [[ -n $uninstall ]]; then uninstall_all; else install_all; fi

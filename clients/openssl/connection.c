@@ -1,0 +1,215 @@
+/* The connections: each is opened by the first call on it, and is for one thread at a time. One
+   that a thread gives back is for the next call of any thread. */
+#define _POSIX_C_SOURCE 200809L
+#include "provider.h"
+
+#include <errno.h>
+#include <openssl/crypto.h>
+#include <pthread.h>
+#include <time.h>
+
+struct connection {
+    provider *provider;
+    kmip_client *client; /* null: it is not open */
+    unsigned process;    /* the process that opened it, counted by forks */
+    connection *next;    /* of those that no thread has */
+};
+
+/* One lock for all, and never held while a server is waited for, so that a fork waits for little. */
+static pthread_mutex_t lock = PTHREAD_MUTEX_INITIALIZER;
+static pthread_once_t once = PTHREAD_ONCE_INIT;
+static pthread_cond_t given_back;
+static bool prepared;
+static atomic_uint forks;
+static provider *all;
+
+/* (A lock of this kind, which only its holder opens, cannot fail.) */
+static void lock_all(void) {
+    (void)pthread_mutex_lock(&lock);
+}
+
+static void unlock_all(void) {
+    (void)pthread_mutex_unlock(&lock);
+}
+
+/* Threads wait by a clock that nobody sets. */
+static bool make_condition(void) {
+    pthread_condattr_t how;
+    if (pthread_condattr_init(&how)) return false;
+    bool made =
+        !pthread_condattr_setclock(&how, CLOCK_MONOTONIC) && !pthread_cond_init(&given_back, &how);
+    return !pthread_condattr_destroy(&how) && made;
+}
+
+/* In the child no thread has a connection or waits for one, whatever threads the parent has. */
+static void in_child(void) {
+    atomic_fetch_add(&forks, 1);
+    for (provider *it = all; it; it = it->next)
+        it->in_use = 0;
+    prepared = make_condition();
+    unlock_all();
+}
+
+/* Ends a connection of this process. One of the parent's is given up without a byte on it. */
+static void disconnect(connection *it) {
+    if (it->process == atomic_load(&forks))
+        kmip_close(it->client);
+    else
+        kmip_abandon(it->client);
+    it->client = NULL;
+}
+
+static void end_idle(provider *it) {
+    while (it->idle) {
+        connection *first = it->idle;
+        it->idle = first->next;
+        disconnect(first);
+        OPENSSL_free(first);
+    }
+}
+
+/* Before OpenSSL itself is taken down, after which no TLS can be ended. */
+static void at_exit(void) {
+    lock_all();
+    for (provider *it = all; it; it = it->next)
+        end_idle(it);
+    unlock_all();
+}
+
+static void prepare(void) {
+    prepared = make_condition() && !pthread_atfork(lock_all, unlock_all, in_child) &&
+               OPENSSL_atexit(at_exit);
+}
+
+bool connections_start(provider *it) {
+    if (pthread_once(&once, prepare) || !prepared)
+        return RAISE(it, REASON_MEMORY, "no handlers of forks and of the end");
+    lock_all();
+    it->next = all;
+    all = it;
+    it->is_listed = true;
+    unlock_all();
+    return true;
+}
+
+void connections_end(provider *it) {
+    if (!it->is_listed) return;
+    lock_all();
+    end_idle(it);
+    provider **at = &all;
+    while (*at && *at != it)
+        at = &(*at)->next;
+    if (*at) *at = it->next;
+    unlock_all();
+}
+
+static struct timespec deadline_of(const provider *it) {
+    struct timespec at = {0};
+    (void)clock_gettime(CLOCK_MONOTONIC, &at);
+    double seconds = it->settings.seconds;
+    at.tv_sec += (time_t)seconds;
+    at.tv_nsec += (long)((seconds - (double)(time_t)seconds) * 1e9);
+    if (at.tv_nsec >= 1000000000) {
+        at.tv_sec++;
+        at.tv_nsec -= 1000000000;
+    }
+    return at;
+}
+
+/* Waits, with the lock, until a connection may be taken; false where the time is over. */
+static bool wait_for_one(const provider *it) {
+    struct timespec until = deadline_of(it);
+    int status = 0;
+    while (it->in_use >= it->settings.connections && !status)
+        status = it->settings.seconds > 0 ? pthread_cond_timedwait(&given_back, &lock, &until)
+                                          : pthread_cond_wait(&given_back, &lock);
+    return it->in_use < it->settings.connections;
+}
+
+connection *connection_take(provider *it) {
+    lock_all();
+    bool free = wait_for_one(it);
+    connection *taken = free ? it->idle : NULL;
+    if (taken) it->idle = taken->next;
+    if (free && !taken) taken = OPENSSL_zalloc(sizeof *taken);
+    if (taken) it->in_use++;
+    unlock_all();
+    if (taken)
+        taken->provider = it;
+    else if (free)
+        RAISE(it, REASON_MEMORY, "a connection");
+    else
+        RAISE(it, REASON_CONNECTION, "other threads had all %u connections for %g s",
+              it->settings.connections, it->settings.seconds);
+    return taken;
+}
+
+void connection_give_back(connection *it) {
+    provider *of = it->provider;
+    lock_all();
+    it->next = of->idle;
+    of->idle = it;
+    of->in_use--;
+    (void)pthread_cond_signal(&given_back);
+    unlock_all();
+}
+
+static const char *missing(const settings *given) {
+    return !given->host          ? "server"
+           : !given->certificate ? "certificate"
+           : !given->key         ? "key"
+           : !given->authority   ? "authority"
+                                 : NULL;
+}
+
+static bool connect_it(connection *it) {
+    const provider *of = it->provider;
+    const settings *given = &of->settings;
+    if (missing(given))
+        return RAISE(of, REASON_SETTINGS,
+                     "%s is set neither in the section of openssl.cnf nor in the environment",
+                     missing(given));
+    char error[300];
+    kmip_settings how = kmip_defaults();
+    how.host = given->host;
+    how.port = given->port;
+    how.certificate = given->certificate;
+    how.key = given->key;
+    how.authority = given->authority;
+    how.passphrase = given->passphrase;
+    how.user = given->user;
+    how.password = given->password;
+    how.seconds = given->seconds;
+    how.library = of->own;
+    it->client = kmip_open(&how, error, sizeof error);
+    it->process = atomic_load(&forks);
+    return it->client ||
+           RAISE(of, REASON_CONNECTION, "%s port %s: %s", given->host, given->port, error);
+}
+
+/* Makes the call, on a connection that is opened for it where none is: the client where that was
+   answered. `again`: nothing of it was sent on a connection that had been open before. */
+static kmip_client *call_once(connection *it, const char *call, const char *const *words,
+                              bool *again) {
+    const provider *of = it->provider;
+    bool old = it->client != NULL;
+    *again = false;
+    if (!old && !connect_it(it)) return NULL;
+    int status = kmip_call_words(it->client, call, words);
+    if (status == KMIP_ANSWERED) return it->client;
+    *again = status == KMIP_LOST && old && !kmip_was_sent(it->client);
+    if (status == KMIP_NO_MEMORY)
+        RAISE(of, REASON_MEMORY, "%s", call);
+    else if (!*again)
+        RAISE(of, status == KMIP_LOST ? REASON_CONNECTION : REASON_REFUSED, "%s: %s", call,
+              kmip_line(it->client));
+    if (status == KMIP_LOST || status == KMIP_NO_MEMORY) disconnect(it);
+    return NULL;
+}
+
+kmip_client *connection_call(connection *it, const char *call, const char *const *words) {
+    if (it->client && it->process != atomic_load(&forks)) disconnect(it);
+    bool again;
+    kmip_client *client = call_once(it, call, words, &again);
+    return client || !again ? client : call_once(it, call, words, &again);
+}

@@ -1,0 +1,102 @@
+/* The hashes, and what algorithms are called in certificates (RFC 8017, A.2). */
+#include "provider.h"
+
+#include <openssl/err.h>
+#include <string.h>
+
+static const hash hashes[] = {
+    {"SHA224", 28, 4, 14}, {"SHA256", 32, 1, 11}, {"SHA384", 48, 2, 12}, {"SHA512", 64, 3, 13}};
+
+const hash *hash_of(const provider *it, const char *name) {
+    ERR_set_mark();
+    EVP_MD *fetched = EVP_MD_fetch(it->own, name, NULL);
+    ERR_pop_to_mark();
+    const hash *found = NULL;
+    for (size_t i = 0; fetched && i < sizeof hashes / sizeof *hashes; i++)
+        if (EVP_MD_is_a(fetched, hashes[i].name)) found = &hashes[i];
+    EVP_MD_free(fetched);
+    if (!found)
+        RAISE(it, REASON_PARAMETERS, "the hash %s; SHA224, SHA256, SHA384 and SHA512 can be", name);
+    return found;
+}
+
+/* DER, written from its end to its beginning; all of it has fewer than 128 bytes. */
+typedef struct {
+    uint8_t bytes[127];
+    size_t at;
+} writer;
+
+static void put(writer *it, const uint8_t *bytes, size_t count) {
+    it->at -= count;
+    memcpy(it->bytes + it->at, bytes, count);
+}
+
+/* Puts the head before what was put since then. */
+static void wrap(writer *it, uint8_t tag, size_t since) {
+    uint8_t head[] = {tag, (uint8_t)(since - it->at)};
+    put(it, head, sizeof head);
+}
+
+static void put_null(writer *it) {
+    static const uint8_t null[] = {0x05, 0x00};
+    put(it, null, sizeof null);
+}
+
+static void put_pkcs1_oid(writer *it, uint8_t end) {
+    uint8_t oid[] = {0x06, 0x09, 0x2A, 0x86, 0x48, 0x86, 0xF7, 0x0D, 0x01, 0x01, end};
+    put(it, oid, sizeof oid);
+}
+
+static void put_hash(writer *it, const hash *what) {
+    uint8_t oid[] = {0x06, 0x09, 0x60, 0x86, 0x48, 0x01, 0x65, 0x03, 0x04, 0x02, what->oid_end};
+    size_t since = it->at;
+    put_null(it);
+    put(it, oid, sizeof oid);
+    wrap(it, 0x30, since);
+}
+
+/* DER leaves out what is the default, 20. */
+static void put_salt(writer *it, int salt) {
+    uint8_t bytes[] = {(uint8_t)(salt >> 8), (uint8_t)salt};
+    size_t since = it->at;
+    bool two = salt > 127;
+    if (salt == 20) return;
+    put(it, bytes + !two, two ? 2 : 1);
+    wrap(it, 0x02, since);
+    wrap(it, 0xA2, since);
+}
+
+static void put_mask(writer *it, const hash *what) {
+    size_t since = it->at;
+    put_hash(it, what);
+    put_pkcs1_oid(it, 8);
+    wrap(it, 0x30, since);
+    wrap(it, 0xA1, since);
+}
+
+static void put_pss(writer *it, const hash *what, int salt) {
+    size_t since = it->at;
+    put_salt(it, salt);
+    put_mask(it, what);
+    size_t before = it->at;
+    put_hash(it, what);
+    wrap(it, 0xA0, before);
+    wrap(it, 0x30, since);
+    put_pkcs1_oid(it, 10);
+}
+
+size_t hash_identify(const hash *it, bool pss, int salt, uint8_t *into, size_t room) {
+    writer made = {.at = sizeof made.bytes};
+    if (pss && (salt < 0 || salt > 0x7FFF)) return 0;
+    if (pss) {
+        put_pss(&made, it, salt);
+    } else {
+        put_null(&made);
+        put_pkcs1_oid(&made, it->rsa_oid_end);
+    }
+    wrap(&made, 0x30, sizeof made.bytes);
+    size_t count = sizeof made.bytes - made.at;
+    if (count > room) return 0;
+    memcpy(into, made.bytes + made.at, count);
+    return count;
+}

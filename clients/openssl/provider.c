@@ -1,0 +1,142 @@
+/* What OpenSSL calls first, and errors. */
+#include "provider.h"
+
+#include <openssl/core_names.h>
+#include <openssl/crypto.h>
+#include <openssl/params.h>
+#include <openssl/provider.h>
+#include <stdarg.h>
+
+bool provider_raise(const provider *it, int reason, const char *file, int line, const char *format,
+                    ...) {
+    va_list given;
+    va_start(given, format);
+    it->new_error(it->core);
+    it->set_error_debug(it->core, file, line, "");
+    it->vset_error(it->core, (uint32_t)reason, format, given);
+    va_end(given);
+    return false;
+}
+
+static const OSSL_ITEM reasons[] = {
+    {REASON_SETTINGS, "the provider's settings are wrong"},
+    {REASON_ORDER, "metsuwan stands before the provider that makes RSA keys"},
+    {REASON_CONNECTION, "no answer of the KMIP server"},
+    {REASON_REFUSED, "the KMIP server refused"},
+    {REASON_URI, "not a URI of an object"},
+    {REASON_NOT_FOUND, "no such object"},
+    {REASON_KEY, "not an object that can be used so"},
+    {REASON_DIGEST_ALONE, "a KMIP server signs data, and no digest"},
+    {REASON_PARAMETERS, "the KMIP server cannot be asked for this"},
+    {REASON_SIGNATURE, "the KMIP server's signature does not verify"},
+    {REASON_NO_KEYS_MADE, "metsuwan makes no keys"},
+    {REASON_MEMORY, "out of memory"},
+    {0, NULL}};
+
+static const OSSL_ITEM *get_reasons(void *given) {
+    (void)given;
+    return reasons;
+}
+
+static void teardown(void *given) {
+    provider *it = given;
+    connections_end(it);
+    OSSL_LIB_CTX_free(it->own);
+    settings_free(it);
+    OPENSSL_free(it);
+}
+
+static const OSSL_PARAM *gettable(void *given) {
+    static const OSSL_PARAM known[] = {OSSL_PARAM_utf8_ptr(OSSL_PROV_PARAM_NAME, NULL, 0),
+                                       OSSL_PARAM_utf8_ptr(OSSL_PROV_PARAM_VERSION, NULL, 0),
+                                       OSSL_PARAM_utf8_ptr(OSSL_PROV_PARAM_BUILDINFO, NULL, 0),
+                                       OSSL_PARAM_int(OSSL_PROV_PARAM_STATUS, NULL),
+                                       OSSL_PARAM_END};
+    (void)given;
+    return known;
+}
+
+static int put_text(OSSL_PARAM params[], const char *name, const char *text) {
+    OSSL_PARAM *at = OSSL_PARAM_locate(params, name);
+    return !at || OSSL_PARAM_set_utf8_ptr(at, text);
+}
+
+static int get(void *given, OSSL_PARAM params[]) {
+    OSSL_PARAM *status = OSSL_PARAM_locate(params, OSSL_PROV_PARAM_STATUS);
+    (void)given;
+    return put_text(params, OSSL_PROV_PARAM_NAME, "RSA keys of a KMIP server (metsuwan)") &&
+           put_text(params, OSSL_PROV_PARAM_VERSION, METSUWAN_VERSION) &&
+           put_text(params, OSSL_PROV_PARAM_BUILDINFO, kmip_version()) &&
+           (!status || OSSL_PARAM_set_int(status, 1));
+}
+
+static const OSSL_ALGORITHM *query(void *given, int operation, int *no_cache) {
+    const provider *it = given;
+    *no_cache = 0;
+    switch (operation) {
+    case OSSL_OP_STORE: return provider_stores;
+    case OSSL_OP_KEYMGMT: return provider_keymgmts;
+    case OSSL_OP_SIGNATURE: return provider_signatures;
+    case OSSL_OP_DECODER: return it->gets ? provider_decoders : NULL;
+    default: return NULL;
+    }
+}
+
+static const OSSL_DISPATCH functions[] = {
+    FUNCTION(OSSL_FUNC_PROVIDER_TEARDOWN, teardown),
+    FUNCTION(OSSL_FUNC_PROVIDER_GETTABLE_PARAMS, gettable),
+    FUNCTION(OSSL_FUNC_PROVIDER_GET_PARAMS, get),
+    FUNCTION(OSSL_FUNC_PROVIDER_QUERY_OPERATION, query),
+    FUNCTION(OSSL_FUNC_PROVIDER_GET_REASON_STRINGS, get_reasons),
+    END_OF_FUNCTIONS};
+
+static void take_functions(provider *it, const OSSL_DISPATCH *in) {
+    for (; in->function_id; in++) {
+        switch (in->function_id) {
+        case OSSL_FUNC_CORE_GET_PARAMS: it->get_params = OSSL_FUNC_core_get_params(in); break;
+        case OSSL_FUNC_CORE_NEW_ERROR: it->new_error = OSSL_FUNC_core_new_error(in); break;
+        case OSSL_FUNC_CORE_SET_ERROR_DEBUG:
+            it->set_error_debug = OSSL_FUNC_core_set_error_debug(in);
+            break;
+        case OSSL_FUNC_CORE_VSET_ERROR: it->vset_error = OSSL_FUNC_core_vset_error(in); break;
+        case OSSL_FUNC_BIO_GETS: it->gets = OSSL_FUNC_BIO_gets(in); break;
+        default: break;
+        }
+    }
+}
+
+/* OpenSSL asks the first provider for an RSA key that is to be made or read. Were that this one,
+   which has none but those of the server, programs could make no more keys. The providers that stand
+   before this one are those of a child of the library context; one that is loaded there, the null
+   provider, keeps OpenSSL from adding the default one by itself. */
+static bool stands_after_rsa(const provider *it, const OSSL_DISPATCH *in) {
+    OSSL_LIB_CTX *around = OSSL_LIB_CTX_new_child(it->core, in);
+    OSSL_PROVIDER *null = around ? OSSL_PROVIDER_load(around, "null") : NULL;
+    bool good = null && (OSSL_PROVIDER_available(around, "default") == 1 ||
+                         OSSL_PROVIDER_available(around, "fips") == 1);
+    if (null && OSSL_PROVIDER_unload(null) != 1) good = false;
+    OSSL_LIB_CTX_free(around);
+    return good || RAISE(it, REASON_ORDER,
+                         "activate default (or fips) first, and metsuwan after it: in openssl.cnf, "
+                         "by the order of the lines of [providers]; in a program, by that of the "
+                         "calls of OSSL_PROVIDER_load");
+}
+
+__attribute__((visibility("default"))) OSSL_provider_init_fn OSSL_provider_init;
+
+int OSSL_provider_init(const OSSL_CORE_HANDLE *core, const OSSL_DISPATCH *in,
+                       const OSSL_DISPATCH **out, void **context) {
+    provider *it = OPENSSL_zalloc(sizeof *it);
+    if (!it) return 0;
+    it->core = core;
+    take_functions(it, in);
+    bool complete = it->get_params && it->new_error && it->set_error_debug && it->vset_error;
+    it->own = complete ? OSSL_LIB_CTX_new() : NULL;
+    if (!it->own || !stands_after_rsa(it, in) || !settings_read(it) || !connections_start(it)) {
+        teardown(it);
+        return 0;
+    }
+    *out = functions;
+    *context = it;
+    return 1;
+}

@@ -1,0 +1,174 @@
+/* A provider for OpenSSL 3: RSA keys that stay on a KMIP server, over the client of metsuwan_tls.h.
+   docs/OPENSSL.md says what it does. */
+#ifndef METSUWAN_PROVIDER_H
+#define METSUWAN_PROVIDER_H
+#include "metsuwan_tls.h"
+
+#include <openssl/core.h>
+#include <openssl/core_dispatch.h>
+#include <openssl/evp.h>
+#include <stdatomic.h>
+
+typedef struct provider provider;
+typedef struct connection connection;
+
+/* What openssl.cnf or the environment says; each text may be null, but those that are needed for a
+   connection: server, certificate, key and authority. */
+typedef struct {
+    char *host, *port, *certificate, *key, *authority, *passphrase, *user, *password;
+    double seconds;       /* the most time of a connection's opening and of each call; 0: no end */
+    unsigned connections; /* the most that are open at once */
+    bool salts_are_max;   /* how long the server makes the salts of PSS, which KMIP cannot ask */
+} settings;
+
+/* The provider in one library context. */
+struct provider {
+    const OSSL_CORE_HANDLE *core;
+    OSSL_FUNC_core_get_params_fn *get_params;
+    OSSL_FUNC_core_new_error_fn *new_error;
+    OSSL_FUNC_core_set_error_debug_fn *set_error_debug;
+    OSSL_FUNC_core_vset_error_fn *vset_error;
+    OSSL_FUNC_BIO_gets_fn *gets;
+    /* A context of its own, without this provider: for the connections' TLS and for public keys. */
+    OSSL_LIB_CTX *own;
+    settings settings;
+    /* What follows belongs to connection.c. */
+    connection *idle;
+    unsigned in_use;
+    bool is_listed;
+    provider *next;
+};
+
+/* Reasons of errors; provider.c has their texts. */
+enum {
+    REASON_SETTINGS = 1,
+    REASON_ORDER,
+    REASON_CONNECTION,
+    REASON_REFUSED,
+    REASON_URI,
+    REASON_NOT_FOUND,
+    REASON_KEY,
+    REASON_DIGEST_ALONE,
+    REASON_PARAMETERS,
+    REASON_SIGNATURE,
+    REASON_NO_KEYS_MADE,
+    REASON_MEMORY
+};
+
+/* Raises an error on OpenSSL's queue, and is false. */
+__attribute__((format(printf, 5, 6))) bool
+provider_raise(const provider *it, int reason, const char *file, int line, const char *format, ...);
+#define RAISE(it, reason, ...) provider_raise(it, reason, __FILE__, __LINE__, __VA_ARGS__)
+
+/* settings.c. Both for a provider whose settings are all zero, or read. */
+bool settings_read(provider *it);
+void settings_free(provider *it);
+
+/* connection.c: connections, of which each is for one thread at a time. */
+
+bool connections_start(provider *it);
+void connections_end(provider *it);
+
+/* One that no other thread has, or null with an error raised; nothing is opened yet. Waits where as
+   many as may be are in use. */
+connection *connection_take(provider *it);
+void connection_give_back(connection *it);
+
+/* A call of kmip_call_words: the client whose answer it is, until the next call, or null with an
+   error raised. A connection that was lost before the request was sent is opened again, once. */
+kmip_client *connection_call(connection *it, const char *call, const char *const *words);
+
+/* uri.c: kmip:NAME-OR-ID, or kmip: and name=value with a semicolon between two. */
+typedef struct {
+    char *any, *id, *name, *public_id, *public_name, *public_file;
+} uri;
+
+bool uri_read(const provider *it, const char *text, uri *into);
+void uri_free(uri *it);
+
+/* key.c: where the private part is, and the public part, which is OpenSSL's own. */
+typedef struct {
+    provider *provider;
+    char *id;         /* the private key's identifier; null: this is a public key alone */
+    EVP_PKEY *public; /* of the provider's own context; null: nothing is known yet */
+    atomic_int references;
+} private_key;
+
+/* How find.c hands a key to keymgmt.c by way of OpenSSL. */
+typedef struct {
+    private_key *key;
+} key_reference;
+
+private_key *key_new(provider *it);
+private_key *key_take(private_key *it);
+void key_free(private_key *it);
+
+/* Has the server sign data, with a hash and a padding by their names of KMIP. */
+bool key_sign(const private_key *it, const char *by, const char *padding, const uint8_t *data,
+              size_t count, uint8_t *into, size_t room, size_t *length);
+
+/* find.c: what a URI means. One of the three is there. */
+typedef struct {
+    private_key *key;
+    EVP_PKEY *public;
+    uint8_t *certificate; /* DER */
+    size_t length;
+} object;
+
+enum { WANT_PRIVATE = 1, WANT_PUBLIC = 2, WANT_CERTIFICATE = 4 };
+
+/* Finds what a URI means among what is wanted; false with an error raised. */
+bool find(provider *it, const uri *by, int wanted, object *into);
+void object_free(object *it);
+
+/* Hands it over to the caller of a store or of a decoder. */
+int object_hand_over(const object *it, OSSL_CALLBACK *take, void *taker);
+
+/* hash.c */
+typedef struct {
+    const char *name; /* OpenSSL's and KMIP's */
+    int size;
+    uint8_t oid_end, rsa_oid_end; /* the last bytes of the OIDs of it, and of RSA with it */
+} hash;
+
+const hash *hash_of(const provider *it, const char *name);
+
+/* Writes an AlgorithmIdentifier as DER, for PKCS #1 v1.5, or for PSS with a salt of so many bytes:
+   how many bytes it has, or 0 where it does not fit. */
+size_t hash_identify(const hash *it, bool pss, int salt, uint8_t *into, size_t room);
+
+/* signature.c and parameters.c */
+typedef struct {
+    provider *provider;
+    private_key *key;
+    const hash *hash;
+    int padding, salt; /* as RSA_PKCS1_PSS_PADDING and RSA_PSS_SALTLEN_AUTO */
+    uint8_t *data;
+    size_t count, room;
+} signature;
+
+bool signature_set_hash(signature *it, const char *name);
+int signature_set(void *given, const OSSL_PARAM params[]);
+int signature_get(void *given, OSSL_PARAM params[]);
+const OSSL_PARAM *signature_settable(void *given, void *context);
+const OSSL_PARAM *signature_gettable(void *given, void *context);
+
+/* The length of the salt that was asked for, and whether it is the one that the server makes; false
+   with an error raised. */
+int signature_salt(const signature *it);
+bool signature_salt_can_be(const signature *it);
+
+extern const OSSL_ALGORITHM provider_stores[], provider_keymgmts[], provider_signatures[],
+    provider_decoders[];
+
+/* No key of another provider asks for this name, so that none of theirs comes here. */
+#define SIGNATURE_NAME "KMIP-RSA"
+#define RSA_NAMES "RSA:rsaEncryption:1.2.840.113549.1.1.1"
+#define PROPERTIES "provider=metsuwan"
+
+#define FUNCTION(id, it) \
+    { id, (void (*)(void))(it) }
+#define END_OF_FUNCTIONS \
+    { 0, NULL }
+
+#endif

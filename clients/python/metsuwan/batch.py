@@ -1,0 +1,169 @@
+"""Several calls in one message. Each item of a batch is that of the request of a single call, and
+each item of the response is read as the response to a single call: so nothing of either is new."""
+from __future__ import annotations
+
+import json
+import struct
+from typing import TYPE_CHECKING, Any, Dict, Iterator, List, Mapping, Tuple, Union
+
+from .calls import Option, Word, line_of
+from .errors import DeserializeError, GrammarError, KmipError, NotDone, OtherObject
+from .items import Item
+from .library import Call, Operation
+
+if TYPE_CHECKING:
+    from .client import Client, Payload
+
+Answer = Union[Dict[str, Any], Item, KmipError]
+HEAD = 8
+STRUCTURE, INTEGER, ENUMERATION, BYTES = 1, 2, 5, 8
+HEADER, BATCH_COUNT, CONTINUATION, BATCH_ITEM = 0x420077, 0x42000D, 0x42000E, 0x42000F
+VERSION, OPERATION, ITEM_ID, RESPONSE_HEADER = 0x420069, 0x42005C, 0x420093, 0x42007A
+OPTIONS = {'Continue': 1, 'Stop': 2, 'Undo': 3}
+
+
+def _item(tag: int, kind: int, contents: bytes) -> bytes:
+    pad = b'' if kind == STRUCTURE else b'\0' * (-len(contents) % 8)
+    return struct.pack('>II', tag << 8 | kind, len(contents)) + contents + pad
+
+
+def _parts(structure: bytes) -> Iterator[Tuple[int, bytes, bytes]]:
+    """The items of a structure that is well formed: the tag, the whole and the contents of each.
+
+    :raises ValueError: it is not
+    """
+    at = 0
+    while at < len(structure):
+        if at + HEAD > len(structure):
+            raise ValueError('an item without its head')
+        head, length = struct.unpack_from('>II', structure, at)
+        end = at + HEAD + (length if head & 0xFF == STRUCTURE else (length + 7) // 8 * 8)
+        if end > len(structure):
+            raise ValueError('an item without its end')
+        yield head >> 8, structure[at:end], structure[at + HEAD:at + HEAD + length]
+        at = end
+
+
+def _with_id(item: bytes, name: bytes) -> bytes:
+    """A batch item of a request with a Unique Batch Item ID, which stands after its operation."""
+    made = b''
+    for tag, whole, _ in _parts(item):
+        made += whole + (_item(ITEM_ID, BYTES, name) if tag == OPERATION else b'')
+    return _item(BATCH_ITEM, STRUCTURE, made)
+
+
+def _split(message: bytes, header_tag: int) -> Tuple[List[Tuple[int, bytes, bytes]], List[bytes]]:
+    """The parts of a message's header, and its batch items."""
+    (_, _, contents), = _parts(message)
+    header: List[Tuple[int, bytes, bytes]] = []
+    items = []
+    for tag, _, body in _parts(contents):
+        if tag == header_tag:
+            header = list(_parts(body))
+        elif tag == BATCH_ITEM:
+            items.append(body)
+    return header, items
+
+
+def message_of(requests: List[bytes], on_error: int) -> bytes:
+    """One message of these requests, with the highest of their versions."""
+    split = [_split(request, HEADER) for request in requests]
+    version = max(part for header, _ in split for part in header if part[0] == VERSION)
+    made = b''
+    for tag, whole, _ in split[0][0]:
+        if tag == BATCH_COUNT:
+            made += _item(CONTINUATION, ENUMERATION, struct.pack('>I', on_error))
+            whole = _item(BATCH_COUNT, INTEGER, struct.pack('>i', len(requests)))
+        made += version[1] if tag == VERSION else whole
+    items = [_with_id(items[0], struct.pack('>I', at)) for at, (_, items) in enumerate(split)]
+    return _item(0x420078, STRUCTURE, _item(HEADER, STRUCTURE, made) + b''.join(items))
+
+
+def _single(header: List[Tuple[int, bytes, bytes]], item: bytes) -> bytes:
+    """The response to a single call that has this batch item."""
+    one = _item(BATCH_COUNT, INTEGER, struct.pack('>i', 1))
+    head = b''.join(one if tag == BATCH_COUNT else whole for tag, whole, _ in header)
+    rest = b''.join(whole for tag, whole, _ in _parts(item) if tag != ITEM_ID)
+    return _item(0x42007B, STRUCTURE, _item(RESPONSE_HEADER, STRUCTURE, head) +
+                 _item(BATCH_ITEM, STRUCTURE, rest))
+
+
+def responses_of(message: bytes, count: int) -> List[bytes]:
+    """Of each of so many calls the response, or no bytes where the server has not done it.
+
+    :raises DeserializeError: the message is not well formed
+    :raises OtherObject: an item of it is of no call, or two are of one
+    """
+    try:
+        header, items = _split(message, RESPONSE_HEADER)
+        names = [[body for tag, _, body in _parts(it) if tag == ITEM_ID] for it in items]
+    except ValueError as error:
+        raise DeserializeError(str(error)) from None
+    if len(items) == 1 and not names[0]:
+        # A failure of the whole message, as where a server takes no batches.
+        return [_single(header, items[0])] * count
+    found = [b''] * count
+    for item, given in zip(items, names):
+        at = int.from_bytes(given[0], 'big') if given and len(given[0]) == 4 else count
+        if at >= count or found[at]:
+            raise OtherObject('an item of the response is of no call of the batch')
+        found[at] = _single(header, item)
+    return found
+
+
+class Batch:
+    """Calls that are made in one message, in their order.
+
+        batch = kmip.batch(on_error='Stop')
+        batch.call('activate', key).call('sign', key, data).operation('MAC', [..])
+        activated, signed, mac = batch.send()
+
+    What goes wrong with one call stands in the place of its answer, and is not raised.
+    """
+
+    def __init__(self, client: 'Client', on_error: str) -> None:
+        if on_error not in OPTIONS:
+            raise GrammarError('on_error is Continue, Stop or Undo')
+        self._client, self._on_error = client, OPTIONS[on_error]
+        self._calls: List[Call] = []
+
+    def call(self, name: str, /, *words: Word, **options: Option) -> 'Batch':
+        """Adds a call of words, as ``Client.call``.
+
+        :raises GrammarError: it is none
+        """
+        return self._add(line_of(name, words, options))
+
+    def operation(self, name: str, payload: 'Payload', *, version: str = '1.2') -> 'Batch':
+        """Adds a call of any operation, as ``Client.operation``.
+
+        :raises GrammarError: it is none
+        """
+        if not isinstance(payload, (str, Mapping)):
+            payload = Item('RequestPayload', list(payload))
+        text = payload if isinstance(payload, str) else json.dumps(payload)
+        try:
+            return self._add(Operation(name.encode(), version.encode(), text.encode()))
+        except UnicodeEncodeError:
+            raise GrammarError('the operation, the version or the payload is not UTF-8') from None
+
+    def _add(self, call: Call) -> 'Batch':
+        self._client._check(call)
+        self._calls.append(call)
+        return self
+
+    def send(self) -> List[Answer]:
+        """Makes the calls, and returns of each its answer, as the single call has it, or its error:
+        ``NotDone`` where the server has not come to it.
+
+        :raises ConnectionLost: the connection is lost; of no call it is known whether it was done
+        :raises GrammarError: there are no calls
+        """
+        if not self._calls:
+            raise GrammarError('the batch has no calls')
+        return self._client._send(self._calls, self._on_error)
+
+
+def not_done() -> NotDone:
+    """What stands in the place of the answer to a call that the server has not come to."""
+    return NotDone('the server has not done this call of the batch')

@@ -1,0 +1,66 @@
+"""Several calls in one message."""
+import unittest
+
+from metsuwan import (ConnectionLost, GrammarError, Item, ItemNotFound, NotDone, OtherObject,
+                      ServerError)
+
+from .servers import client_of
+
+
+class Batches(unittest.TestCase):
+    def test_each_answer_is_that_of_the_single_call(self) -> None:
+        with client_of('batches') as kmip:
+            batch = kmip.batch().call('query').call('sign', 'k', b'x')
+            batch.operation('Archive', [Item('UniqueIdentifier', 'a')]).call('activate', 'k 1')
+            query, signed, archived, activated = batch.send()
+            with client_of('good') as good:
+                self.assertEqual(query, good.call('query'))
+                self.assertEqual(signed, good.call('sign', 'k', b'x'))
+                self.assertEqual(archived,
+                                 good.operation('Archive', [Item('UniqueIdentifier', 'a')]))
+                self.assertEqual(activated, good.call('activate', 'k 1'))
+            self.assertEqual(kmip.batch().call('query').send(), [query])
+
+    def test_an_error_stands_in_the_place_of_an_answer(self) -> None:
+        with client_of('batches') as kmip:
+            answers = kmip.batch().call('activate', 'failing').call('activate', 'k').send()
+            self.assertIsInstance(answers[0], ItemNotFound)
+            self.assertEqual(answers[1], {})
+            for how, last in (('Stop', NotDone), ('Undo', dict)):
+                batch = kmip.batch(on_error=how).call('activate', 'a').call('activate', 'failing')
+                first, second, third = batch.call('activate', 'k').send()
+                self.assertEqual(first, {})
+                self.assertIsInstance(second, ItemNotFound)
+                self.assertIsInstance(third, last)
+            self.assertEqual(kmip.call('activate', 'k'), {})
+
+    def test_a_message_that_is_refused_is_the_error_of_each(self) -> None:
+        with client_of('no_batches') as kmip:
+            for answer in kmip.batch().call('query').call('activate', 'k').send():
+                assert isinstance(answer, ServerError)
+                self.assertEqual(answer.message, 'no batches')
+
+    def test_what_is_no_batch(self) -> None:
+        with client_of('good') as kmip:
+            for wrong in (lambda: kmip.batch(on_error='stop'), lambda: kmip.batch().send(),
+                          lambda: kmip.batch().call('activat', 'k'),
+                          lambda: kmip.batch().operation('Archive', '{}')):
+                with self.assertRaises(GrammarError):
+                    wrong()
+            self.assertEqual(kmip.query()['vendor_identification'], 'fake')
+
+    def test_an_item_that_was_not_asked_for_loses_the_connection(self) -> None:
+        with client_of('batches') as kmip:
+            with self.assertRaises(OtherObject):
+                kmip.batch().call('activate', 'unknown').call('query').send()
+            with self.assertRaises(ConnectionLost):
+                kmip.query()
+        # One answer with no identifier in the batch, or two of them, are of no call.
+        for fake in ('rubbish', 'batch_two', 'half', 'other_operation'):
+            with client_of(fake) as kmip, self.subTest(fake):
+                try:
+                    answers = kmip.batch().call('query').call('activate', 'k').send()
+                except ConnectionLost:
+                    continue
+                for answer in answers:
+                    self.assertIsInstance(answer, ConnectionLost)

@@ -1,0 +1,120 @@
+"""Connections that are opened again, the pool, and what the logger is told."""
+import logging
+import threading
+import unittest
+from typing import List
+
+from metsuwan import Client, ConnectionLost, Item, Pool, ResponseReadError
+from metsuwan.errors import RequestWriteError
+
+from .servers import CERTS, PORTS, client_of
+
+
+def came(kmip: Client) -> str:
+    return str(kmip.query()['vendor_identification'])
+
+
+class Reconnect(unittest.TestCase):
+    def test_where_nothing_was_sent_the_call_is_made_again(self) -> None:
+        with client_of('end_after', reconnect=True) as kmip:
+            kmip.activate('k')
+            with self.assertLogs('metsuwan', 'WARNING') as log:
+                kmip.activate('k')
+                kmip.activate('k')
+            self.assertEqual(len([it for it in log.output if 'opened again' in it]), 2)
+        with client_of('end_after') as kmip:
+            kmip.activate('k')
+            with self.assertRaises(RequestWriteError):
+                kmip.activate('k')
+
+    def test_what_changes_nothing_is_made_again(self) -> None:
+        with client_of('first_lost', user='changeless', password='', reconnect=True) as kmip:
+            self.assertEqual(kmip.sign('k', b'x').signature_data, b'signature by k')
+            self.assertEqual(came(kmip), '3')
+        with client_of('first_lost', user='by operation', password='', reconnect=True) as kmip:
+            kmip.operation('MAC', [Item('UniqueIdentifier', 'k')])
+            self.assertEqual(came(kmip), '3')
+
+    def test_what_may_have_been_done_is_not(self) -> None:
+        with client_of('first_lost', user='changing', password='', reconnect=True) as kmip:
+            with self.assertRaises(ResponseReadError):
+                kmip.activate('k')
+            self.assertTrue(kmip.is_open)
+            self.assertEqual(came(kmip), '2')
+        with client_of('first_lost', user='archive', password='', reconnect=True) as kmip:
+            with self.assertRaises(ResponseReadError):
+                kmip.operation('Archive', [Item('UniqueIdentifier', 'k')])
+            self.assertEqual(came(kmip), '2')
+
+    def test_it_is_made_again_once(self) -> None:
+        with client_of('end', reconnect=True) as kmip:
+            with self.assertRaises(ResponseReadError):
+                kmip.query()
+
+    def test_a_client_that_is_closed_stays_closed(self) -> None:
+        kmip = client_of('good', reconnect=True)
+        kmip.close()
+        self.assertFalse(kmip.is_open)
+        with self.assertRaises(ConnectionLost):
+            kmip.query()
+
+
+class Logs(unittest.TestCase):
+    def test_it_tells_of_each_call_and_shows_no_value(self) -> None:
+        with client_of('good') as kmip, self.assertLogs('metsuwan', logging.DEBUG) as log:
+            kmip.sign('the key', b'the data')
+            kmip.operation('Encrypt', [Item('UniqueIdentifier', 'the key')])
+        text = '\n'.join(log.output)
+        for told in ('sign: status 0', 'Encrypt: status 0', 'ms'):
+            self.assertIn(told, text)
+        for secret in ('the key', 'the%20key', 'the data', 'signature'):
+            self.assertNotIn(secret, text)
+
+
+class Pools(unittest.TestCase):
+    def setUp(self) -> None:
+        self.settings = {'cert': CERTS + '/client.pem', 'key': CERTS + '/client.key',
+                         'ca': CERTS + '/ca.pem', 'timeout': 60}
+
+    def test_threads_share_it(self) -> None:
+        done: List[bytes] = []
+        with Pool('localhost', PORTS['good'], size=2, **self.settings) as pool:
+            seen = set()
+
+            def work(at: int) -> None:
+                for _ in range(3):
+                    with pool.client() as kmip:
+                        seen.add(kmip)
+                        done.append(kmip.sign('k%d' % at, b'x').signature_data)
+
+            threads = [threading.Thread(target=work, args=(at,)) for at in range(4)]
+            for thread in threads:
+                thread.start()
+            for thread in threads:
+                thread.join()
+            self.assertLessEqual(len(seen), 2)
+        self.assertEqual(sorted(done), sorted([b'signature by k%d' % at for at in range(4)] * 3))
+        for kmip in seen:
+            with self.assertRaises(ConnectionLost):
+                kmip.query()
+
+    def test_a_connection_that_is_lost_is_not_used_again(self) -> None:
+        with Pool('localhost', PORTS['end'], size=1, **self.settings) as pool:
+            seen = []
+            for _ in range(2):
+                with self.assertRaises(ConnectionLost), pool.client() as kmip:
+                    seen.append(kmip)
+                    kmip.query()
+            self.assertIsNot(seen[0], seen[1])
+
+    def test_it_is_closed(self) -> None:
+        pool = Pool('localhost', PORTS['good'], **self.settings)
+        with pool.client() as kmip:
+            pool.close()
+            kmip.query()
+        self.assertFalse(kmip.is_open)
+        with self.assertRaises(ValueError), pool.client():
+            pass
+        for size in (0, True, 'two'):
+            with self.assertRaises(ValueError):
+                Pool('localhost', size=size)  # type: ignore[arg-type]

@@ -1,0 +1,176 @@
+// The two fields, and what is pasted, chosen or dropped. What is shown is what they hold: each has
+// a reading (texts.js) and the number of the load that it is from.
+const fields = { sent: null, received: null };
+const LONGEST = 100000; // characters that a field shows: with more it is slow
+const loads = { next: 0, last: {} };
+const chunksAt = side => (fields[side]?.chunks || [])
+  .map(it => ({ ...it, side: it.side || side, unit: fields[side].unit }));
+const sidesAt = side => new Set(chunksAt(side).map(it => it.side));
+
+const NAMED_FILES = [[[0x1f, 0x8b], 'a gzip file: unpack it first'],
+  [[0x50, 0x4b, 3, 4], 'a zip file: unpack it first'], [[0x28, 0xb5, 0x2f, 0xfd],
+    'a zstd file: unpack it first'], [[0x16, 3], 'TLS, which is encrypted: capture where the '
+    + 'bytes are plain'], [[0x25, 0x50, 0x44, 0x46], 'a PDF file']];
+// The text of bytes, if they are one: in UTF-16 with its mark, as PowerShell writes, or in UTF-8.
+function textIn(bytes) {
+  if (bytes[0] === 0xff && bytes[1] === 0xfe) return new TextDecoder('utf-16le').decode(bytes);
+  if (bytes.subarray(0, 65536).includes(0)) return null;
+  try {
+    return new TextDecoder('utf-8', { fatal: true }).decode(bytes);
+  } catch {
+    return null;
+  }
+}
+function readGiven(bytes) {
+  const named = NAMED_FILES.find(([head]) => head.every((it, i) => bytes[i] === it));
+  if (named) throw new Error('This is ' + named[1] + '.');
+  if (isCapture(bytes)) return readCapture(bytes);
+  const text = textIn(bytes);
+  if (text !== null) return readText(text);
+  const made = reading('bytes', BY_PLACES);
+  made.chunks.push({ side: null, bytes, line: 1 });
+  return made;
+}
+function readOrSay(read) {
+  try {
+    const made = read();
+    if (made.chunks.some(it => it.bytes.length)) return made;
+    return { ...made, chunks: [], failed: 'Nothing in it could be read.' };
+  } catch (error) {
+    return { ...reading('', BY_PLACES), failed: reasonOf(error) };
+  }
+}
+
+// Puts a reading in a field. Of two fields that have bytes for the same side, the one that was
+// asked for first is emptied.
+function put(side, number, made, name) {
+  if (loads.last[side] !== number) return;
+  fields[side] = { ...made, number, name };
+  if (name) $(side).placeholder = name;
+  const other = SIDES.find(it => it !== side), theirs = sidesAt(other), mine = sidesAt(side);
+  if ([...mine].some(it => theirs.has(it))) {
+    empty(fields[other].number < number ? other : side);
+  }
+  for (const it of SIDES) if (!fields[it]) sayWhere(it);
+  show();
+}
+function sayWhere(side) {
+  const other = SIDES.find(it => it !== side), isThere = sidesAt(other).has(side);
+  $(side).placeholder = isThere ? 'what is shown is from the other field' : '';
+}
+function empty(side) {
+  fields[side] = null;
+  loads.last[side] = loads.next++;
+  $(side).value = '';
+  $(side).placeholder = '';
+  $(side + '-file').value = '';
+}
+function ask(side) {
+  loads.last[side] = loads.next++;
+  return loads.last[side];
+}
+function takeText(side, text, isTyped) {
+  if (!page.wasm) return null; // what stands in a field is read once the module is there
+  const number = ask(side), isLong = text.length > LONGEST;
+  if (!isTyped) $(side).value = isLong ? '' : text;
+  if (isLong && !isTyped) $(side).placeholder = counted(text.length, 'character');
+  $(side + '-file').value = '';
+  if (!text.trim()) {
+    fields[side] = null;
+    return show();
+  }
+  return put(side, number, readOrSay(() => readText(text)), '');
+}
+async function takeFile(side, file) {
+  await page.started;
+  const number = ask(side);
+  $(side).value = '';
+  $(side).placeholder = file.name + ', ' + counted(file.size, 'byte');
+  let bytes = null;
+  try {
+    bytes = new Uint8Array(await file.arrayBuffer());
+  } catch (error) {
+    const failed = 'The browser could not read ' + file.name + ': ' + reasonOf(error);
+    return put(side, number, { ...reading('', BY_PLACES), failed }, file.name);
+  }
+  return put(side, number, readOrSay(() => readGiven(bytes)), file.name);
+}
+// Two files are what was sent and what was received, in either order.
+async function takeFiles(side, files) {
+  if (files.length === 1) return takeFile(side, files[0]);
+  const firsts = await Promise.all(files.map(firstBytes));
+  const isTurned = beginsMessage(firsts[0], 0x7b) || beginsMessage(firsts[1], 0x78);
+  const order = isTurned ? [files[1], files[0]] : files;
+  return Promise.all(SIDES.map((it, i) => takeFile(it, order[i])));
+}
+async function firstBytes(file) {
+  try {
+    return new Uint8Array(await file.slice(0, 8).arrayBuffer());
+  } catch {
+    return NONE; // what is wrong with it is said where it is read
+  }
+}
+
+// What is shown.
+function show() {
+  stopAll();
+  $('out').replaceChildren();
+  $('left').replaceChildren();
+  const start = performance.now(), chunks = SIDES.flatMap(chunksAt);
+  const held = SIDES.filter(it => fields[it]);
+  document.body.classList.toggle('empty', !held.length);
+  if (!page.wasm || !held.length) {
+    $('summary').textContent = '';
+    return;
+  }
+  try {
+    const rows = chunks.length ? rowsOfFields(chunks) : [];
+    sayRead(held, rows, chunks);
+    if (rows.length) drawTable(rows);
+    if (rows.length === 1) table.body.querySelector('button').click();
+  } catch (error) {
+    $('summary').append(element('p', 'bad error', reasonOf(error)));
+  }
+  $('took').textContent = Math.round(performance.now() - start) + ' ms';
+}
+function rowsOfFields(chunks) {
+  const [first, second] = SIDES.filter(it => fields[it]?.chunks.length);
+  const rows = rowsOf(messagesOf(chunks), second ? BY_PLACES : fields[first].pairing);
+  const isPaired = SIDES.every(side => rows.some(it => it[side]));
+  for (const it of rows) it.isPaired = isPaired;
+  return rows;
+}
+// The summary: what each field holds, how much of it there is, and what was left out.
+function sayRead(held, rows, chunks) {
+  const lines = held.map(side => sourceWords(fields[side], SIDES.length === held.length && side));
+  const size = side => ofSide(chunks, side).reduce((sum, it) => sum + it.bytes.length, 0);
+  const sizes = SIDES.filter(size).map(side => counted(size(side), 'byte') + ' ' + side);
+  if (rows.length) {
+    const what = rows[0].isPaired ? 'exchange' : 'message';
+    lines.unshift(element('p', '', [counted(rows.length, what), ...sizes].join(', ')));
+  }
+  $('summary').replaceChildren(...lines);
+  for (const side of held) drawLeft(fields[side]);
+}
+function sourceWords({ failed, form, name, left, others, notes, unit }, side) {
+  const front = side ? (side === 'sent' ? 'Sent: ' : 'Received: ') : '';
+  if (failed) return element('p', 'bad error', front + failed);
+  const words = [form, ...notes];
+  if (left.length) words.push(counted(left.length, unit) + ' left out');
+  if (others) words.push(counted(others, 'other ' + unit));
+  const text = front + (name ? name + ', ' : '') + words.join('; ');
+  return element('p', left.length ? 'bad' : 'dim', text);
+}
+function drawLeft({ left, unit }) {
+  if (!left.length) return;
+  const made = element('details', 'left', '', element('summary', '', 'What was left out, and why'));
+  const list = element('ul');
+  for (const it of left.slice(0, MOST)) {
+    list.append(element('li', '', unit + ' ' + it.line + ': ' + it.why));
+  }
+  const more = left.length - MOST;
+  if (more > 0) list.append(element('li', '', 'and ' + grouped(more) + ' more'));
+  made.append(list);
+  made.open = left.length <= 5;
+  $('left').append(made);
+}

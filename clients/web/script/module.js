@@ -1,0 +1,93 @@
+'use strict';
+// The module, and the small parts that the page is made of. What is said of a message is text
+// that the module returned.
+const MODULE = '{{MODULE}}', ABOUT = '{{ABOUT}}';
+const SIDES = ['sent', 'received'];
+const NONE = new Uint8Array(0);
+const ENCODER = new TextEncoder(), DECODER = new TextDecoder();
+const page = { wasm: null };
+const $ = id => document.getElementById(id);
+
+function element(name, cls, text, ...inside) {
+  const made = document.createElement(name);
+  if (cls) made.className = cls;
+  if (text) made.textContent = text;
+  made.append(...inside);
+  return made;
+}
+function button(text, run, cls) {
+  const made = element('button', cls, text);
+  made.type = 'button';
+  made.onclick = event => { event.stopPropagation(); run(made); };
+  return made;
+}
+const counted = (count, one, many = one + 's') => grouped(count) + ' ' + (count === 1 ? one : many);
+const grouped = number => String(number).replace(/\B(?=(\d{3})+$)/g, ',');
+
+// Each call of the module begins with all of its memory given up.
+const REFUSED = 'The browser refused the memory that this takes. '
+  + 'Close other pages, or show less at once.';
+const NO_ROOM = -5;
+
+function roomFor(size) {
+  const at = page.wasm.web_alloc(BigInt(size));
+  if (at === 0n) throw new Error(REFUSED);
+  return at;
+}
+function handIn(bytes) {
+  const at = roomFor(bytes.length + 1);
+  new Uint8Array(page.wasm.memory.buffer, Number(at), bytes.length).set(bytes);
+  return [at, BigInt(bytes.length)];
+}
+// What an export writes; null where it returns -2 or -3.
+function written(name, inputs, numbers = [], guess = 65536) {
+  page.wasm.web_reset();
+  const words = [...inputs.flatMap(handIn), ...numbers.map(BigInt)];
+  for (let room = guess; ;) {
+    const into = roomFor(room + 1);
+    const length = Number(page.wasm[name](...words, into, BigInt(room)));
+    if (length === NO_ROOM) throw new Error(REFUSED);
+    if (length < 0) return null;
+    if (length <= room) {
+      return new Uint8Array(page.wasm.memory.buffer, Number(into), length).slice();
+    }
+    page.wasm.web_free(into);
+    room = length;
+  }
+}
+function textFrom(name, inputs, guess) {
+  const bytes = written(name, inputs, [], guess);
+  return bytes && DECODER.decode(bytes);
+}
+const PLAIN = 2; // the side of web_bytes that is no side: hex or base64
+function decoded(digits) {
+  return written('web_bytes', [ENCODER.encode(digits)], [PLAIN], digits.length);
+}
+// How many bytes the message at the front has by its head, of which it needs eight bytes.
+function sizeByHead(bytes) {
+  page.wasm.web_reset();
+  return Number(page.wasm.web_frame(...handIn(bytes.subarray(0, 8))));
+}
+
+// Work in slices, between which the page is drawn and answers. `step` returns whether more is to
+// be done; what began later ends what began before under the same name.
+const SLICE = 12; // milliseconds
+const begun = new Map();
+const pause = () => new Promise(ok => setTimeout(ok, 0));
+
+async function inSlices(name, step) {
+  const mine = {};
+  begun.set(name, mine);
+  for (;;) {
+    const end = performance.now() + SLICE;
+    do {
+      if (!step()) {
+        begun.delete(name);
+        return true;
+      }
+    } while (performance.now() < end);
+    await pause();
+    if (begun.get(name) !== mine) return false;
+  }
+}
+const stopAll = () => begun.clear();

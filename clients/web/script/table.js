@@ -1,0 +1,128 @@
+// The table of exchanges, or of the messages of one side.
+const ROWS = 100; // that are drawn at once
+const COLUMNS_OF = ['#', 'Operation', 'Object', 'Outcome', 'Time'];
+const table = { rows: [], opened: new Map(), body: null };
+
+function drawTable(rows) {
+  Object.assign(table, { rows, opened: new Map(), body: element('tbody') });
+  const heads = COLUMNS_OF.map(it => {
+    const made = element('th', '', it);
+    made.scope = 'col';
+    return roleOf(made, 'columnheader');
+  });
+  const head = roleOf(element('tr', '', '', ...heads), 'row');
+  const made = element('table', '', '', element('thead', '', '', head), table.body);
+  for (const it of [made.tHead, table.body]) roleOf(it, 'rowgroup');
+  $('out').append(searchBar(), element('p', 'found'), roleOf(made, 'table'));
+  find('');
+}
+function roleOf(made, role) { // which the styles of narrow screens would take away
+  made.setAttribute('role', role);
+  return made;
+}
+function searchBar() {
+  const made = element('input');
+  made.type = 'search';
+  made.placeholder = 'search: #12, Get, key-1, failed, a tag, a value';
+  made.setAttribute('aria-label', 'Search the rows');
+  made.oninput = () => find(made.value);
+  return made;
+}
+
+// Draws the rows that have all of the words: as #12 its number, as any other word a part of what
+// the row shows, of names and numbers of tags, or of a value that is not hidden.
+function find(text) {
+  const words = text.toLowerCase().split(/\s+/).filter(it => it);
+  const state = { words, next: 0, found: 0, room: ROWS };
+  table.body.replaceChildren();
+  run(state);
+}
+function run(state) {
+  said(state);
+  rowsInSlices(state).catch(error => {
+    $('out').querySelector('.found').textContent = reasonOf(error);
+  });
+}
+function rowsInSlices(state) {
+  return inSlices(table, () => {
+    const isMore = state.next < table.rows.length && state.room > 0;
+    if (isMore) lookAt(state);
+    if (isMore && state.room > 0 && state.next < table.rows.length) {
+      if (state.next % 500 === 0) said(state);
+      return true;
+    }
+    said(state, true);
+    return false;
+  });
+}
+function lookAt(state) {
+  const i = state.next++;
+  if (!hasWords(i, state.words)) return;
+  state.found++;
+  state.room--;
+  table.body.append(...rowOfTable(i));
+}
+function hasWords(i, words) {
+  if (!words.length) return true;
+  const { operation, about, outcome, time, call, words: inside } = rowFacts(table.rows[i]);
+  const shown = ['#' + (i + 1), operation, about, outcome, time, call].join('\n').toLowerCase();
+  return words.every(it => (/^#\d+$/.test(it) ? it === '#' + (i + 1)
+    : shown.includes(it) || inside.includes(it)));
+}
+function said(state, isOver) {
+  const line = $('out').querySelector('.found'), left = table.rows.length - state.next;
+  const looked = ', looked at ' + grouped(state.next) + ' of ' + grouped(table.rows.length);
+  line.textContent = !state.words.length ? ''
+    : !isOver ? 'searching' + looked
+      : !state.found ? 'Nothing found.' : counted(state.found, 'row') + ' found'
+        + (left ? looked : '');
+  if (!isOver || !left) return;
+  const label = 'more: ' + grouped(left) + ' are left';
+  const made = button(label, it => {
+    it.closest('tr').remove();
+    state.room = ROWS;
+    run(state);
+  });
+  const cell = roleOf(element('td', '', '', made), 'cell');
+  cell.colSpan = COLUMNS_OF.length;
+  table.body.append(roleOf(element('tr', 'rest', '', cell), 'row'));
+}
+
+// A row, and below it what was opened of it.
+function rowOfTable(i) {
+  const facts = rowFacts(table.rows[i]), { operation, about, outcome, time, call, isGood } = facts;
+  const made = roleOf(element('tr', 'exchange'), 'row'), opened = table.opened.get(i);
+  const open = button('#' + (i + 1), () => toggle(i, made, open));
+  open.setAttribute('aria-expanded', String(Boolean(opened)));
+  open.setAttribute('aria-label', ['#' + (i + 1), operation, about, outcome].join(' '));
+  const cells = [open, element('b', '', operation || (call ? call.split(' ')[0] : '')),
+    textOf(about || call.split(' ').slice(1).join(' ')),
+    element('span', isGood ? 'good' : 'bad', outcome), element('span', 'time', time)];
+  made.append(...cells.map((it, at) => {
+    const cell = roleOf(element('td', COLUMNS_OF[at].toLowerCase().replace('#', 'number')), 'cell');
+    cell.append(it);
+    return cell;
+  }));
+  made.onclick = () => {
+    if (getSelection().isCollapsed) toggle(i, made, open);
+  };
+  return opened ? [made, opened] : [made];
+}
+function toggle(i, made, open) {
+  const opened = table.opened.get(i);
+  if (opened) {
+    opened.remove();
+    table.opened.delete(i);
+  } else {
+    const shown = openedRow(table.rows[i]);
+    table.opened.set(i, shown);
+    made.after(shown);
+  }
+  open.setAttribute('aria-expanded', String(!opened));
+}
+function openedRow(row) {
+  const cell = roleOf(element('td'), 'cell');
+  cell.colSpan = COLUMNS_OF.length;
+  for (const side of SIDES) if (row.isPaired || row[side]) cell.append(drawSide(row, side));
+  return roleOf(element('tr', 'opened', '', cell), 'row');
+}

@@ -1,0 +1,122 @@
+// The lines of a listing, and how values are drawn.
+const SHOWN = 4000; // characters of a value that are drawn at once
+const BLOCK = 1 << 14; // of a longer one that are drawn as one block
+const PART = 1 << 17; // bytes that are listed at once
+
+function partsOf(line) {
+  const [at, tag, name, kind, value] = line.split('\t');
+  return { at: Number(at), tag, name, kind, value };
+}
+const CLOSING = ']';
+const isStructure = line => line.split('\t', 4)[3] === 'Structure';
+const mayBeSecret = ({ name, kind }) => kind === 'ByteString' || kind === 'BigInteger'
+  || /password|secret/i.test(name);
+const linesOf = bytes => textFrom('web_listing', [bytes], 65536 + 3 * bytes.length)
+  .split('\n').slice(0, -1);
+// Where bytes stop being items, and why: at their end, where all of them are.
+function faultOf(bytes) {
+  const fault = textFrom('web_fault', [bytes]), at = fault.indexOf(' ');
+  return fault ? { at: Number(fault.slice(0, at)), why: fault.slice(at + 1) }
+    : { at: bytes.length, why: '' };
+}
+
+// The listing of a message, which is made part by part where the message is long: a part ends
+// anywhere, what is listed of it ends where its items do, and the next one begins there. `ends`
+// has for each line where the lines of its item end; `closes`, where the bytes of the structures
+// that are open end, by their heads.
+function newListing(bytes, end) {
+  return { bytes, end, lines: [], ends: [], open: [], closes: [], at: 0, part: PART, room: PART,
+    isLong: bytes.length > PART, isDone: false, waiting: [], shown: new Set() };
+}
+function listNext(it) {
+  const limit = Math.min(it.closes.at(-1) ?? it.end, it.end);
+  const part = it.bytes.subarray(it.at, Math.min(it.at + it.room, limit));
+  const isAll = it.at + part.length === limit, count = faultOf(part).at;
+  if (!count && !isAll) it.room *= 4;
+  else {
+    addLines(it, linesOf(part), it.at);
+    it.at += count;
+    it.room = it.part;
+    closeStructures(it);
+  }
+  it.isDone = it.at === it.end || (isAll && !count) || !it.isLong;
+  const waiting = it.waiting;
+  it.waiting = [];
+  it.waiting.push(...waiting.filter(run => run()));
+  return !it.isDone;
+}
+function addLines(it, lines, base) {
+  for (const line of lines) {
+    const i = it.lines.length, tab = line.indexOf('\t');
+    it.lines.push(base && tab > 0 ? Number(line.slice(0, tab)) + base + line.slice(tab) : line);
+    if (line === CLOSING) it.ends[it.open.pop()] = i + 1;
+    else if (isStructure(line)) it.open.push(i);
+    else it.ends[i] = i + 1;
+  }
+}
+function closeStructures(it) {
+  while (it.closes.length < it.open.length) {
+    const at = partsOf(it.lines[it.open[it.closes.length]]).at;
+    it.closes.push(at + sizeByHead(it.bytes.subarray(at)));
+  }
+  while (it.closes.length && it.at >= it.closes.at(-1) && it.isLong) {
+    addLines(it, [CLOSING], 0);
+    it.closes.pop();
+  }
+}
+// Where the bytes of an item end: where the next one begins.
+function endOfItem(it, i) {
+  for (let next = it.ends[i] ?? it.lines.length; next < it.lines.length; next++) {
+    if (it.lines[next] !== CLOSING) return partsOf(it.lines[next]).at;
+  }
+  return it.at;
+}
+
+// A text, isolated, so that its characters turn round nothing beside it. A long one is cut.
+function textOf(text) {
+  const made = element('bdi', 'text');
+  if (text.length <= SHOWN) made.textContent = text;
+  else {
+    made.textContent = text.slice(0, SHOWN);
+    const label = 'show all ' + grouped(text.length) + ' characters';
+    made.append(button(label, it => drawLong(made, it, text), 'all'));
+  }
+  return made;
+}
+// All of a long text, in blocks that the browser lays out where they are seen.
+function drawLong(into, made, text) {
+  let at = SHOWN;
+  made.onclick = event => {
+    event.stopPropagation();
+    at = text.length;
+  };
+  inSlices(made, () => {
+    if (at < text.length) {
+      made.before(element('span', 'block', text.slice(at, at + BLOCK)));
+      at += BLOCK;
+      made.textContent = 'stop: ' + Math.floor(100 * Math.min(1, at / text.length)) + ' % is shown';
+    }
+    if (at >= text.length) made.remove();
+    return at < text.length;
+  });
+}
+// A value that may be secret is drawn when it is asked for, and may be hidden again.
+function valueOf(text, isHidden, changed = () => {}) {
+  const made = element('span', 'value'), inside = element('span');
+  if (!isHidden || !text) {
+    made.append(textOf(text));
+    return made;
+  }
+  const toggle = button('hidden: show', it => {
+    const isShown = it.textContent === 'hide';
+    it.textContent = isShown ? 'hidden: show' : 'hide';
+    inside.replaceChildren(...(isShown ? [] : [textOf(text)]));
+    changed(!isShown);
+  }, 'secret');
+  made.append(toggle, ' ', inside);
+  return made;
+}
+function dateAt(bytes, at) {
+  const json = textFrom('web_decode', [bytes.subarray(at, at + 16)]);
+  return json ? JSON.parse(json).value : '';
+}
