@@ -1,7 +1,7 @@
 #!/bin/bash
 # The checks of the clients that need no server: linters, and the cases of tools/live against fake servers.
 #
-#   tools/check_clients.sh [--built DIR] [--seconds N] [--client NAME].. [--topic NAME]..
+#   tools/check_clients.sh [--built DIR] [--seconds N] [--least NAME=N].. [--client NAME].. [--topic NAME]..
 #
 # (as tools/live.sh has them; with a topic, the linters of all files are left out)
 #
@@ -10,8 +10,9 @@
 # toolchain is there. A check whose tool is missing is skipped, and it says so with the name of the Debian package; what a
 # linter finds in another version than it was tried with fails nothing, nor does a check that tools/live/open.txt has. A case
 # file that fails is run once more, with nothing beside it, and that run counts. Nothing is begun after N seconds (190), and
-# nothing is waited for 100 seconds later, so that it ends within five minutes. The last line is `N passed, M failed`; the
-# status is 1 where one failed.
+# nothing is waited for 100 seconds later, so that it ends within five minutes. With --least a client that has passed fewer
+# checks than N has failed, unless it is said to be skipped, in part at least, for want of a tool, of time or of memory. The
+# last line is `N passed, M failed`; the status is 1 where one failed.
 # shellcheck disable=SC1090,SC1091,SC2030,SC2031,SC2034,SC2154 # harness.sh sets and uses them
 set -u
 top=$(cd "$(dirname "$0")/.." && pwd)
@@ -21,15 +22,19 @@ usage() {
     sed -n '4s/^# */usage: /p' "$0" >&2
     exit 2
 }
-built='' chosen=() until=190 again=1 slack=10 may_skip=1
+built='' chosen=() least=() until=190 again=1 slack=10 may_skip=1
 while (($#)); do
     case $1 in
     --help) sed -n '2,/^# shellcheck/{/shellcheck/d;s/^# \{0,1\}//p}' "$0" && exit ;;
-    --built | --seconds | --client | --topic)
+    --built | --seconds | --least | --client | --topic)
         (($# > 1)) || usage
         case $1 in
         --built) built=$(cd "$2" && pwd) || exit 2 ;;
         --seconds) until=$2 ;;
+        --least)
+            [[ $2 =~ ^[a-z]+=[0-9]+$ ]] || usage
+            least+=("$2")
+            ;;
         --client) chosen+=("$2") ;;
         --topic) topics+=("$2") ;;
         esac
@@ -49,9 +54,9 @@ fi
 trap 'rm -rf "$run"' EXIT
 trap 'exit 130' INT TERM
 
-# The files of the clients and tools that end so.
+# The files of the clients, the tools and the tables that end so.
 files_of() { # REGEX
-    (cd "$top" && find clients tools .ci -type f -not -path '*/target/*' | grep -E "$1" | sort)
+    (cd "$top" && find clients tools tables .ci -type f -not -path '*/target/*' | grep -E "$1" | sort)
 }
 
 lint_files() { # TOOL VERSION REGEX COMMAND..: the command finds nothing in these files
@@ -68,6 +73,9 @@ lint() {
     lint_files "$python" . '\.py$' "$python" -c 'import sys
 for name in sys.argv[1:]:
     compile(open(name, encoding="utf-8").read(), name, "exec")'
+    # (node takes one file at a time)
+    # shellcheck disable=SC2016 # that of the shell which is begun
+    lint_files node . '\.js$' bash -c 'for file in "$@"; do node --check "$file" || exit; done' -
 }
 
 # A proved build that is newer than all sources, or nothing.
@@ -184,8 +192,8 @@ check() {
     if "$here/certs.sh" "$certs" >"$run/certs.log" 2>&1 && start_fakes; then
         cases
     else
-        echo 'skipped the clients: the certificates are not made, or the fake servers are not reached at localhost'
-        tail -5 "$run/certs.log"
+        echo 'FAILED  the certificates are not made, or the fake servers are not reached at localhost'
+        tail -5 "$run/certs.log" | sed 's/^/        /'
     fi
 }
 

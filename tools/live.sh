@@ -1,7 +1,7 @@
 #!/bin/bash
-# The live test: the four clients against a real key server, PyKMIP, and against fake ones, over TLS on this machine alone.
+# The live test: the clients and the provider for OpenSSL against a real key server, PyKMIP, and fakes, on this machine.
 #
-#   tools/live.sh [--unproved] [--built DIR] [--client NAME].. [--topic NAME].. [--measure N] [--keep]
+#   tools/live.sh [--unproved] [--built DIR] [--client NAME].. [--topic NAME].. [--measure N] [--slack N] [--keep]
 #
 # It installs the server and what the clients are built with where they are missing (Debian; it needs root for that), builds
 # kmip_call and the library by clients/build.sh (proved; with --unproved optimized and not proved), makes an authority and
@@ -9,9 +9,10 @@
 # for every client, tools/live/CLIENT for one. The last line is `N passed, M failed`, and the status is 0 where none failed.
 #
 #   --built DIR    takes what is in this folder, which clients/build.sh made before
-#   --client NAME  this client alone (shell, c, python, rust), or these
+#   --client NAME  this client alone (shell, c, python, rust, or openssl, the provider), or these
 #   --topic NAME   this case file alone (as words for tools/live/each/words.sh), or these
 #   --measure N    each client also makes 10 N queries and N signatures over its one connection, beside PyKMIP's own client
+#   --slack N      seconds count N times, for a machine that is busy with other things
 #   --keep         leaves the folder of the run where it is, and says where
 #
 # It needs python3, openssl and, for a build, rt, gcc, make and cargo. What it starts it stops. How a case is added is said
@@ -31,13 +32,17 @@ while (($#)); do
     --help) sed -n '2,/^# shellcheck/{/shellcheck/d;s/^# \{0,1\}//p}' "$0" && exit ;;
     --unproved) unproved=(--unproved) ;;
     --keep) keep=1 ;;
-    --built | --client | --topic | --measure)
+    --built | --client | --topic | --measure | --slack)
         (($# > 1)) || usage
         case $1 in
         --built) built=$(cd "$2" && pwd) || exit 2 ;;
         --client) chosen+=("$2") ;;
         --topic) topics+=("$2") ;;
         --measure) measure=$2 ;;
+        --slack)
+            [[ $2 =~ ^[1-9][0-9]?$ ]] || usage
+            slack=$2
+            ;;
         esac
         shift
         ;;
@@ -60,7 +65,9 @@ install() {
     type -P pykmip-server >/dev/null || missing+=(python3-pykmip)
     type -P jq >/dev/null || missing+=(jq)
     [[ -e /usr/include/openssl/ssl.h ]] || missing+=(libssl-dev)
-    compgen -G '/usr/share/cargo/registry/openssl-0.10*' >/dev/null || missing+=(librust-openssl-dev)
+    if [[ " ${clients[*]} " == *' rust '* ]] && ! compgen -G '/usr/share/cargo/registry/openssl-0.10*' >/dev/null; then
+        missing+=(librust-openssl-dev)
+    fi
     ((${#missing[@]})) || return 0
     ((EUID == 0)) || give_up "missing, and this is not root: apt-get install ${missing[*]}"
     echo "installing ${missing[*]}"
@@ -72,10 +79,11 @@ time_calls() {
     mkdir -p "$run/measured"
     host=localhost port=$server_port certificate=$certs/client.pem key=$certs/client.key authority=$certs/ca.pem patience=3600
     for client in "${clients[@]}"; do
+        if [[ $client == openssl ]]; then continue; fi # it has no such program
         . "$here/$client/client.sh"
         client_run life "$run/measured" "$measure"
     done
-    "$python" "$here/measure.py" "$server_port" "$certs" "$KMIP_CALL" "$measure"
+    "$python" -B "$here/measure.py" "$server_port" "$certs" "$KMIP_CALL" "$measure"
 }
 
 live() {

@@ -5,8 +5,9 @@
 #
 # The page is taken from DIR, which clients/web/build.sh made before; without it, it is compiled with no proof (a few minutes).
 # What each export gives is held to the same code compiled for this machine, and to a reader of KMIP that was written for
-# this; then a paste, a drop, 16 MB, each kind of fault, requests that are tried, and memory that is refused. A browser that
-# is missing is skipped, and it says so with the name of the Debian package. The status is 1 where a check failed.
+# this; then each form of input, whole and damaged; what is shown, found, copied and saved; 16 MB and how long they take;
+# what reaches a listener of this machine from within the page; and memory that is refused. A browser that is missing is
+# skipped, and it says so with the name of the Debian package. The status is 1 where a check failed.
 #
 #   --shots DIR      pictures of the page, by Chromium
 #   --browser NAME   chromium or firefox; both if none is named
@@ -69,7 +70,7 @@ if grep -q ': built, and proved$' "$built/build.log"; then proved=proved; fi
 
 # The same code for this machine.
 mkdir "$work/page"
-cp "$built"/kmip*.html "$built/kmip.wasm" "$work/page"
+cp "$built"/kmip*.html "$built"/kmip*.wasm "$work/page"
 tools=$(dirname "$(rt doc)")/toolchain
 native() {
     "$tools/bin/clang" --target=x86_64-unknown-linux-gnu --no-default-config -Wno-override-module -O1 -fPIE -c -x ir "$built/kmip.ll" -o "$work/native.o" &&

@@ -6,7 +6,7 @@
 #
 # `start` prints what to enter next. The server listens on localhost, on port 5696 or, where that is taken, another one; it
 # begins with no objects each time. DIR, which is built/test_server if it is not given, has its certificates, its log and its
-# keys; `stop` ends the server and removes DIR.
+# keys; `stop` ends the server and removes DIR. A folder that has other things in it is left alone, by both.
 #
 # It needs openssl and PyKMIP's pykmip-server on the path: on Debian 12 the package python3-pykmip; elsewhere
 # `pip install PyKMIP` under a Python of 3.11 or earlier, since PyKMIP uses ssl.wrap_socket.
@@ -42,6 +42,11 @@ while (($#)); do
 done
 [[ -n $verb ]] || usage
 folder=$(realpath -m "$folder")
+# A folder that has this file was made by this script.
+mark=$folder/.metsuwan_test_server
+if [[ -e $folder && ! -f $mark && -n $(ls -A "$folder") ]]; then
+    give_up "$folder is not empty, and no folder of this script"
+fi
 
 # The server's process, where it runs: its words name its settings, so that it is no other process that has got its number.
 process_of() {
@@ -77,12 +82,10 @@ start() {
         printf 'test_server.sh: missing: %s\n' "${missing[@]}" >&2
         exit 1
     fi
-    if [[ -e $folder && ! -e $folder/server.conf && -n $(ls -A "$folder") ]]; then
-        give_up "$folder is not empty, and no folder of this script"
-    fi
     if [[ -n $port ]] && is_taken "$port"; then give_up "port $port is taken"; fi
     [[ -n $port ]] || port=$(free_port)
     rm -rf "$folder"
+    { mkdir -p "$folder" && : >"$mark"; } || give_up "$folder cannot be made"
     "$top/tools/live/certs.sh" "$folder/certs" few || give_up 'no certificates'
     "$top/tools/live/start_server.sh" "$folder" "$port" ||
         give_up "PyKMIP did not start; $folder/server.out has what it wrote"
@@ -130,7 +133,7 @@ stop() {
     else
         echo 'It does not run.'
     fi
-    if [[ -e $folder/server.conf ]]; then rm -rf "$folder"; fi
+    if [[ -f $mark ]]; then rm -rf "$folder"; fi
 }
 
 case $verb in

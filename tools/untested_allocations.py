@@ -5,7 +5,8 @@ A body that always answers want of memory meets every clause, so that a test has
 end. A call takes memory where it answers `OutOfMemory` or an error that may be that. Told apart are:
 
 - a public function, which a test calls by its name;
-- a public method of a type, which a test calls as `.name(` or `Type::name(`;
+- a public method of a type, which a test calls as `Type::name(`, or as `.name(` in a file that names the type, or that
+  takes something from a file of its crate that does: several types have methods of one name;
 - `try_clone`, `read` and `show` of each type that has the trait. Such a call counts where its type is written: as
   `helper::<Type>(`, where the helper is generic and makes that call on a value of its type parameter, itself or by
   another such helper of its crate, as `Type::read(`, or as `from_slice::<Type>(` and its like.
@@ -147,13 +148,23 @@ def helpers(files):
     return made
 
 
-def makes(call, text, forms, types):
-    """Whether a test file makes a call. `forms` are the generic functions that make it, `types` the names of its type."""
+def mentions(kind, where, files):
+    """Whether a test file names a type, or takes something from a file of its crate that does."""
+    texts = {name: text for name, text, _ in files}
+    crate = where.split("/")[0]
+    taken = [f"{crate}/{module}" for module in re.findall(r"\b(?:crate|super)::(\w+)::", texts[where])]
+    return any(re.search(r"\b%s\b" % kind, texts.get(name, "")) for name in [where, *taken])
+
+
+def makes(call, text, forms, types, is_named):
+    """Whether a test file makes a call. `forms` are the generic functions that make it, `types` the names of its type,
+    and `is_named` whether the file names the type."""
     sort, kind, name = call
     if sort == "function":
         return re.search(r"(?<![\w.])%s(?:::<[^;()]*>)?\(" % name, text)
     if sort == "method":
-        return re.search(r"\b%s(?:::<[^;()]*>)?::%s\(|\.%s\(" % (kind, name, name), text)
+        return re.search(r"\b%s(?:::<[^;()]*>)?::%s\(" % (kind, name), text) or (
+            is_named and re.search(r"\.%s\(" % name, text))
     return any(re.search(r"\b%s::<%s\b" % (form, kind), text) for form in forms for kind in types) or (
         name == "read" and re.search(r"\b%s::read\(" % kind, text))
 
@@ -175,7 +186,7 @@ def test_of(crate, call, files, made, sources):
                 continue
         forms = [helper for helper, calls in made.get(own, {}).items() if name in calls]
         forms += ["read_one", "read_opt", "read_list", "read_root", "from_slice"] if name == "read" else []
-        if makes(call, text, forms, types):
+        if makes(call, text, forms, types, sort == "method" and mentions(kind, where, files)):
             return where
     return None
 
@@ -199,17 +210,30 @@ def callers(form, code):
     return found
 
 
-def test_through(crate, call, files, code, stand):
+def methods(code):
+    """The types that have a method of a name, by crate and name."""
+    found = {}
+    for crate, text in code:
+        for trait, kind, block, _ in impls("\n" + text):
+            for _, name, _, _ in signatures(block) if trait is None else ():
+                found.setdefault((crate, name), set()).add(kind)
+    return found
+
+
+def test_through(crate, call, files, code, stand, owners):
     """The test file that makes a function or a method through functions, and the one of them that it names, or None.
-    Each function is looked for in its crate and in those above it alone."""
+    Each function is looked for in its crate and in those above it alone, and a method in files that name its type
+    (`owners`, by crate and name)."""
     _, kind, name = call
 
     def callers_of(of, it):
         above_it = [row for row in code if row[0] in stand[of]]
         return callers(r"(?<![\w.])(?<!fn )%s(?:::<[^;()]*>)?\(" % it, above_it) - {(of, it)}
     if kind:
-        # a method, in the files that take its type from its crate
-        takes = r"use [^;.]*\b%s\b[^;.]*;" % kind
+        # a method, in the files that take its type from its crate, or a function that returns one
+        makers = [it for of, text in code if of == crate for _, it, signature, _ in signatures(text)
+                  if re.search(r"->.*\b%s\b" % kind, signature, re.S)]
+        takes = r"use [^;.]*\b(?:%s)\b[^;.]*;" % "|".join([kind, *makers])
         ahead = callers(r"\.%s\(" % name, [row for row in code if row[0] in stand[crate] and re.search(takes, row[1])])
     else:
         ahead = callers_of(crate, name)
@@ -219,7 +243,10 @@ def test_through(crate, call, files, code, stand):
         seen.update(ahead)
         for of, it in ahead:
             for where, text, _ in files:
-                if where.split("/")[0] in stand[of] and re.search(r"(?<!fn )\b%s(?:::<[^;()]*>)?\(" % it, text):
+                if where.split("/")[0] not in stand[of] or not re.search(r"(?<!fn )\b%s(?:::<[^;()]*>)?\(" % it, text):
+                    continue
+                kinds = owners.get((of, it), ())
+                if not kinds or any(mentions(kind, where, files) for kind in kinds):
                     return f"{where}, through {it}"
         ahead = {above_it for of, it in ahead for above_it in callers_of(of, it)}
     return None
@@ -250,7 +277,7 @@ def main():
     paths = sorted(glob.glob(os.path.join(CRATES, "*", "src", "**", "*.rt"), recursive=True))
     code = [(path[len(CRATES) + 1:].split(os.sep)[0], without_comments(open(path).read()))
             for path in paths if not is_test_file(path)]
-    stand = above()
+    stand, owners = above(), methods(code)
     missing = 0
     for crate in sorted(sources):
         if crate == "kmip_tests":
@@ -262,7 +289,7 @@ def main():
             _, kind, name = call
             where = test_of(crate, call, near, made, sources)
             if where is None and call[0] in ("function", "method"):
-                where = test_through(crate, call, near, code, stand)
+                where = test_through(crate, call, near, code, stand, owners)
             missing += where is None
             print(f"{crate:22} {(kind + '::' if kind else '') + name:50} {where or 'NO TEST'}")
     print(f"{missing} public calls that take memory have no test")

@@ -15,10 +15,11 @@ TOP = pathlib.Path(__file__).resolve().parents[2]
 sys.path[:0] = [str(TOP / 'tools' / 'live'), str(TOP / 'clients' / 'python')]
 import fakes                                    # noqa: E402
 import trees                                    # noqa: E402
+import ttlv                                     # noqa: E402
 from metsuwan.library import Library, Operation  # noqa: E402
 
 ONE = b'1'
-IDENTIFIED = fakes.identifier('1')
+IDENTIFIED = ttlv.identifier('1')
 OPERATIONS = {'activate': 0x12, 'revoke': 0x13, 'destroy': 0x14}
 NAMES = {1: 'Create', 2: 'CreateKeyPair', 8: 'Locate', 0x0A: 'Get', 0x0B: 'GetAttributes',
          0x0E: 'ModifyAttribute', 0x12: 'Activate', 0x13: 'Revoke', 0x14: 'Destroy', 0x18: 'Query',
@@ -26,49 +27,49 @@ NAMES = {1: 'Create', 2: 'CreateKeyPair', 8: 'Locate', 0x0A: 'Get', 0x0B: 'GetAt
 
 
 def attribute(name: str, *value: bytes) -> bytes:
-    return fakes.structure(0x420008, fakes.text(0x42000A, name), *value)
+    return ttlv.structure(0x420008, ttlv.text(0x42000A, name), *value)
 
 
 def attributes() -> List[bytes]:
     """One of each type of value."""
-    named = fakes.structure(0x42000B, fakes.text(0x420055, 'a "name"\n'),
-                            fakes.enumeration(0x420054, 1))
+    named = ttlv.structure(0x42000B, ttlv.text(0x420055, 'a "name"\n'),
+                           ttlv.enumeration(0x420054, 1))
     return [
-        attribute('Name', fakes.integer(0x420009, 0), named),
-        attribute('State', fakes.enumeration(0x42000B, 1)),
-        attribute('Cryptographic Length', fakes.integer(0x42000B, 256)),
-        attribute('Initial Date', fakes.date(0x42000B, -5)),
-        attribute('Object Type', fakes.enumeration(0x42000B, 2)),
-        attribute('x-own', fakes.text(0x42000B, 'text')),
-        attribute('x-bytes', fakes.octets(0x42000B, b'\0\xff')),
+        attribute('Name', ttlv.integer(0x420009, 0), named),
+        attribute('State', ttlv.enumeration(0x42000B, 1)),
+        attribute('Cryptographic Length', ttlv.integer(0x42000B, 256)),
+        attribute('Initial Date', ttlv.date(0x42000B, -5)),
+        attribute('Object Type', ttlv.enumeration(0x42000B, 2)),
+        attribute('x-own', ttlv.text(0x42000B, 'text')),
+        attribute('x-bytes', ttlv.octets(0x42000B, b'\0\xff')),
     ]
 
 
 def answers(certs: str) -> Dict[str, Tuple[bytes, bytes]]:
     """Calls, and a good answer to each."""
-    response = fakes.response
+    response = ttlv.response
     made = {
         'query': (b'query', fakes.GOOD_QUERY),
         'create_rsa': (b'create-rsa 2048 a b', response(2, fakes.KEYS)),
         'create_aes': (b'create-aes 256 n',
-                       response(1, [fakes.enumeration(0x420057, 2), IDENTIFIED])),
-        'rng': (b'rng 4', response(0x25, [fakes.octets(0x4200C2, b'\xde\xad\xbe\xef')])),
+                       response(1, [ttlv.enumeration(0x420057, 2), IDENTIFIED])),
+        'rng': (b'rng 4', response(0x25, [ttlv.octets(0x4200C2, b'\xde\xad\xbe\xef')])),
         'sign': (b'sign 1 0102',
-                 response(0x21, [IDENTIFIED, fakes.octets(0x4200C3, b'signature')])),
+                 response(0x21, [IDENTIFIED, ttlv.octets(0x4200C3, b'signature')])),
         'rename': (b'rename 1 new', response(0x0E, [IDENTIFIED, attributes()[0]])),
-        'locate': (b'locate n', response(8, [IDENTIFIED, fakes.identifier('2')])),
+        'locate': (b'locate n', response(8, [IDENTIFIED, ttlv.identifier('2')])),
         'attributes': (b'attributes 1', response(0x0B, [IDENTIFIED, *attributes()])),
-        'discover': (b'discover', response(0x1E, [fakes.structure(
-            0x420069, fakes.integer(0x42006A, 1), fakes.integer(0x42006B, 2))])),
+        'discover': (b'discover', response(0x1E, [ttlv.structure(
+            0x420069, ttlv.integer(0x42006A, 1), ttlv.integer(0x42006B, 2))])),
     }
     for name, number in OPERATIONS.items():
         made[name] = (name.encode() + b' 1', response(number, [IDENTIFIED]))
     for path in sorted(pathlib.Path(certs, 'objects').glob('*.der')):
         kind, form = path.stem.split('.')
-        kind = {'EC': 'PrivateKey'}.get(kind, kind)     # certs.sh names a key for elliptic curves so
+        kind = {'EC': 'PrivateKey'}.get(kind, kind)  # certs.sh names a key on a curve so
         value = path.read_bytes()
         if kind != 'Certificate':
-            value = fakes.structure(0x420045, fakes.octets(0x420043, value))
+            value = ttlv.structure(0x420045, ttlv.octets(0x420043, value))
         number, body = fakes.object_of(kind, form, value)
         made['get.' + path.stem] = (b'get 1', response(0x0A, [number, IDENTIFIED, body]))
     return made
@@ -80,16 +81,16 @@ def all_pairs(certs: str) -> Dict[str, Tuple[bytes, bytes]]:
     pairs = answers(certs)
     for name, (call, _) in list(pairs.items()):
         request: Any = library.request(call)
-        operation = fakes.operation_of(request)
-        failed = fakes.response(operation, None, status=fakes.FAILED, reason=1,
-                                message='why "not"?\n')
+        operation = ttlv.operation_of(request)
+        failed = ttlv.response(operation, None, status=ttlv.FAILED, reason=1,
+                               message='why "not"?\n')
         pairs['failed.' + name] = (call, failed)
         pairs['raw.' + name] = (b'raw ' + request.hex().encode(), pairs[name][1])
     key = pairs['sign'][1]
     pairs['other_object'] = (b'sign mine 00', key)
-    pairs['reason'] = (b'activate 1', fakes.response(0x12, None, status=fakes.FAILED, reason=0x7FFF,
-                                                     message='m'))
-    pairs['levels'] = (b'query', fakes.response(0x18, [fakes.nested(58)]))
+    pairs['reason'] = (b'activate 1', ttlv.response(0x12, None, status=ttlv.FAILED, reason=0x7FFF,
+                                                    message='m'))
+    pairs['levels'] = (b'query', ttlv.response(0x18, [ttlv.nested(58)]))
     pairs['empty'] = (b'query', b'')
     return pairs
 
@@ -99,7 +100,7 @@ def operation_of(library: Library, call: bytes) -> Operation:
     request: Any = library.request(call)
     minor = request[request.index(bytes.fromhex('42006B02')) + 11]
     payload = json.dumps(trees.json_of(trees.payload_of(trees.parsed(request), trees.REQUEST)))
-    made = Operation(NAMES[fakes.operation_of(request)].encode(), b'1.%d' % minor, payload.encode())
+    made = Operation(NAMES[ttlv.operation_of(request)].encode(), b'1.%d' % minor, payload.encode())
     if library.request(made) != request:
         trees.found('another request', call, made, request.hex())
     return made

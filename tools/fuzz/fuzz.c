@@ -499,7 +499,7 @@ static void check_request(asked call) {
     int64_t length = request_of(call, has, user, password, into, room);
     check_written(into, room, length);
     if (length < 0) {
-        if (length != KMIP_GRAMMAR && length != KMIP_NO_FORM) found("another code of a request");
+        if (length != KMIP_LENGTH_GRAMMAR && length != KMIP_LENGTH_NO_FORM) found("another code of a request");
     } else {
         uint8_t *again = to_write((size_t)length);
         if (request_of(call, has, user, password, again, (size_t)length) != length)
@@ -515,6 +515,19 @@ static void check_request(asked call) {
     free(password.bytes);
 }
 
+/* Whether the three parts of a call of any operation are one, and why not: exactly one of the two. */
+static void check_refusal(asked call) {
+    const blob *part = call.parts;
+    size_t room = a_room();
+    uint8_t *into = to_write(room);
+    int64_t length = kmip_operation_refusal(part[0].bytes, part[0].length, part[1].bytes,
+                                            part[1].length, part[2].bytes, part[2].length, into, room);
+    check_written(into, room, length);
+    bool is_none = request_of(call, false, part[0], part[0], into, 0) == KMIP_LENGTH_GRAMMAR;
+    if (is_none ? length <= 0 : length != KMIP_LENGTH_ABSENT) found("a refusal of another call");
+    free(into);
+}
+
 static void check_contents_len(blob response) {
     blob head = random_bytes(17);
     if (below(4) && response.length >= 8) {
@@ -522,11 +535,11 @@ static void check_contents_len(blob response) {
         head = changed((blob){response.bytes, 8}, 1);
     }
     uint32_t limit = below(3) ? (uint32_t)(below(2) ? below(70000) : any()) : 0;
-    int64_t length = kmip_contents_len(head.bytes, head.length, limit), wanted = KMIP_GRAMMAR;
+    int64_t length = kmip_contents_len(head.bytes, head.length, limit), wanted = KMIP_LENGTH_GRAMMAR;
     if (head.length == 8) {
         wanted = number_at(head.bytes + 4);
-        if (limit && wanted + 8 > limit) wanted = KMIP_TOO_LONG;
-        if (head.bytes[3] != 1) wanted = KMIP_NOT_A_MESSAGE;
+        if (limit && wanted + 8 > limit) wanted = KMIP_LENGTH_LIMIT;
+        if (head.bytes[3] != 1) wanted = KMIP_LENGTH_ABSENT;
     }
     if (length != wanted) found("another length of the contents");
     free(head.bytes);
@@ -585,7 +598,7 @@ static void check_value(blob call, blob response) {
     uint8_t *into = to_write(room);
     int64_t length = kmip_value(call.bytes, call.length, response.bytes, response.length,
                                 exact.bytes, exact.length, hex, into, room);
-    if (length < 0 && length != KMIP_GRAMMAR && length != KMIP_NO_VALUE)
+    if (length < 0 && length != KMIP_LENGTH_GRAMMAR && length != KMIP_LENGTH_ABSENT)
         found("another code of a value");
     check_written(into, room, length);
     free(into);
@@ -598,6 +611,7 @@ static void a_round(FILE *lines) {
     blob response = a_response(file);
     check_request(call);
     check_request(any);
+    check_refusal(any);
     check_contents_len(response);
     check_answer(call, response, lines);
     check_answer(any, response, lines);

@@ -31,7 +31,7 @@ TYPES = ['', 'Structure', 'Integer', 'LongInteger', 'BigInteger', 'Enumeration',
          'TextString', 'ByteString', 'DateTime', 'Interval']
 REFUSALS = ('ServerError', 'ItemNotFound', 'InternalError')
 MEMBERS = {'error', 'text', 'response', 'reason', 'message'}
-LOSSES = ('DeserializeError', 'ResponseReadError', 'InternalError')
+LOSSES = ('DeserializeError', 'ResponseReadError', 'InternalError', 'ServerError')
 TAGS = [0x420008, 0x420009, 0x42000A, 0x42000B, 0x42000D, 0x42000F, 0x420028, 0x42002A, 0x420040,
         0x420042, 0x420043, 0x420045, 0x420054, 0x420055, 0x420057, 0x42005C, 0x420066, 0x42006F,
         0x420069, 0x42006A, 0x42006B, 0x42007C, 0x42007D, 0x42007E, 0x42007F, 0x420092, 0x420094,
@@ -64,6 +64,12 @@ def no_constant(text: str) -> Any:
     raise ValueError(text)
 
 
+def is_reason(it: Any) -> bool:
+    """Whether it is a number, and the name of it where KMIP has one."""
+    return isinstance(it, dict) and list(it) in (['number'], ['name', 'number']) \
+        and isinstance(it['number'], int) and isinstance(it.get('name', ''), str)
+
+
 def check_line(status: int, line: bytes) -> Any:
     """The object of a line."""
     try:
@@ -80,6 +86,8 @@ def check_line(status: int, line: bytes) -> Any:
             raise ValueError('its error is of another status')
         elif not isinstance(it['text'], str):
             raise ValueError('its text is none')
+        elif 'reason' in it and not is_reason(it['reason']):
+            raise ValueError('its reason is none')
     except ValueError as error:
         found(error, status, line[:300])
     return it

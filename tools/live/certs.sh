@@ -10,10 +10,13 @@
 # and, without the word `few`,
 #   address          a server at 127.0.0.1 and ::1 that has no name
 #   wrong_host       a server that is named other.example
+#   cn_only          a server whose subject is localhost, and that has no alternative name
+#   wildcard         a server that is named k*.example.test
 #   expired_server   a server named localhost, whose certificate ended long ago
 #   expired          a client, alice, whose certificate ended long ago
 #   plain            a client, bob, whose certificate is not made for clients
 #   encrypted        alice's certificate again; its key is encrypted with the passphrase `geheim & co`
+#   of_between       a server named localhost, of an authority between, `between`
 #   chained          a client, carol, of an authority between; chained.pem holds that authority's certificate too
 #   other/..         `ca`, `server` and `client` again, under another authority
 #   objects/..       keys and a certificate that a server may hold, in DER, as PublicKey.X509.der
@@ -81,12 +84,15 @@ make_all() { # DIR few|all
     [ "$2" = all ] || return 0
     leaf address /CN=address "${of_server}subjectAltName=IP:127.0.0.1,IP:::1\n"
     leaf wrong_host /CN=other.example "${of_server}subjectAltName=DNS:other.example\n"
+    leaf cn_only /CN=localhost "$of_server"
+    leaf wildcard /CN=wildcard "${of_server}subjectAltName=DNS:k*.example.test\n"
     leaf plain /CN=bob 'basicConstraints=CA:FALSE\n'
     expired expired_server /CN=localhost "$localhost"
     expired expired /CN=alice "$of_client"
     openssl pkey -in client.key -aes256 -passout 'pass:geheim & co' -out encrypted.key
     cp client.pem encrypted.pem
     leaf between '/CN=Test authority between' "$authority"
+    leaf of_between /CN=localhost "$localhost" between
     leaf chained /CN=carol "$of_client" between
     cat between.pem >>chained.pem
     objects objects

@@ -15,117 +15,27 @@ last bytes, and `control` says what `held` has.
 import collections
 import contextlib
 import hashlib
+import importlib
 import os
 import socket
 import ssl
 import struct
 import sys
+import tempfile
 import threading
 import time
 
-FAKES = {}              # over TLS, by the name of the function
-PLAIN = {}              # those that get the connection before there is TLS
+import records
+from registry import (ADD_ATTRIBUTE, CREATE_KEY_PAIR, DELETE_ATTRIBUTE, FAKES, MODIFY_ATTRIBUTE, PLAIN, QUERY, RNG_RETRIEVE, SIGN,
+                      fake, plain)
+from ttlv import (FAILED, PENDING, SUCCESS, UNDONE, batch_item, date, enumeration, header, identifier, item,
+                  message_of, nested, octets, operation_of, response, structure, text, value_of)
+
+importlib.import_module('objects')   # fakes of its own
+
 # The server's certificate is that of certs.sh with this name; what it answers is good.
-CERTIFICATES = ('expired_server', 'wrong_host', 'address', 'other/server')
-QUERY, CREATE_KEY_PAIR, GET, ACTIVATE, SIGN = 0x18, 0x02, 0x0A, 0x12, 0x21
-ADD_ATTRIBUTE, MODIFY_ATTRIBUTE, DELETE_ATTRIBUTE, RNG_RETRIEVE = 0x0D, 0x0E, 0x0F, 0x25
-SUCCESS, FAILED, PENDING, UNDONE = 0, 1, 2, 3
+CERTIFICATES = ('expired_server', 'wrong_host', 'cn_only', 'wildcard', 'of_between', 'address', 'other/server')
 FOR_EVER = 1 << 30      # seconds
-
-
-def fake(function):
-    FAKES[function.__name__] = function
-    return function
-
-
-def plain(function):
-    PLAIN[function.__name__] = function
-    return function
-
-
-# TTLV: tag, type, length, value, padded to 8 bytes.
-
-def item(tag, kind, body):
-    pad = b'' if kind == 1 else b'\0' * (-len(body) % 8)
-    return struct.pack('>I', tag)[1:] + bytes([kind]) + struct.pack('>I', len(body)) + body + pad
-
-
-def structure(tag, *bodies):
-    return item(tag, 1, b''.join(bodies))
-
-
-def integer(tag, number):
-    return item(tag, 2, struct.pack('>i', number))
-
-
-def enumeration(tag, number):
-    return item(tag, 5, struct.pack('>I', number))
-
-
-def text(tag, value):
-    return item(tag, 7, value.encode() if isinstance(value, str) else value)
-
-
-def octets(tag, value):
-    return item(tag, 8, value)
-
-
-def date(tag, seconds):
-    return item(tag, 9, struct.pack('>q', seconds))
-
-
-def identifier(value):
-    return text(0x420094, value)
-
-
-def header(major=1, minor=2, count=1, more=b''):
-    return structure(0x42007A, structure(0x420069, integer(0x42006A, major), integer(0x42006B, minor)),
-                     date(0x420092, 1700000000), more, integer(0x42000D, count))
-
-
-def batch_item(operation, payload, status=SUCCESS, reason=None, message=None):
-    body = b'' if operation is None else enumeration(0x42005C, operation)
-    body += enumeration(0x42007F, status)
-    body += b'' if reason is None else enumeration(0x42007E, reason)
-    body += b'' if message is None else text(0x42007D, message)
-    return structure(0x42000F, body, b'' if payload is None else structure(0x42007C, *payload))
-
-
-def response(operation, payload, head=None, **how):
-    return structure(0x42007B, head or header(), batch_item(operation, payload, **how))
-
-
-def nested(levels):
-    made = b''
-    for _ in range(levels):
-        made = structure(0x420008, made)
-    return made
-
-
-def operation_of(request):
-    at = request.index(bytes.fromhex('42005C0500000004')) + 8
-    return int.from_bytes(request[at:at + 4], 'big')
-
-
-def value_of(request, tag, kind):
-    """The first value with this tag (6 hex digits) and type in a request, or None."""
-    at = request.find(bytes.fromhex(tag) + bytes([kind]))
-    if at < 0:
-        return None
-    length = int.from_bytes(request[at + 4:at + 8], 'big')
-    return request[at + 8:at + 8 + length]
-
-
-def message_of(wire):
-    """One message that came, or no bytes at the end."""
-    got = b''
-    while len(got) < 8 or len(got) < 8 + int.from_bytes(got[4:8], 'big'):
-        piece = wire.recv((8 if len(got) < 8 else 8 + int.from_bytes(got[4:8], 'big')) - len(got))
-        if not piece:
-            return b''
-        got += piece
-    return got
-
 
 GOOD_QUERY = response(QUERY, [enumeration(0x42005C, 1), text(0x42009D, 'fake')])
 KEYS = [text(0x420066, 'private'), text(0x42006F, 'public')]
@@ -239,36 +149,61 @@ def certificate(wire, request):
     wire.sendall(response(QUERY, [text(0x42009D, owner.get('commonName', 'nobody'))]))
 
 
-# KMIP's numbers of what `objects` has: of types of objects, with the tags of these, and of formats.
-OBJECT_TYPES = {'Certificate': (1, 0x420013), 'SymmetricKey': (2, 0x42008F),
-                'PublicKey': (3, 0x42006D), 'PrivateKey': (4, 0x420064)}
-FORMATS = {'Raw': 1, 'PKCS1': 3, 'PKCS8': 4, 'X509': 5, 'ECPrivateKey': 6}
+def items_of(request):
+    """The batch items of a request, each as its contents."""
+    at, made = request.find(bytes.fromhex('42000F01')), []
+    while 0 <= at < len(request):
+        length = int.from_bytes(request[at + 4:at + 8], 'big')
+        made.append(request[at + 8:at + 8 + length])
+        at += 8 + length
+    return made
 
 
-def object_of(kind, form, value):
-    """An object of this type and format; `value` is its key value as an item, or a certificate."""
-    number, tag = OBJECT_TYPES[kind]
-    if kind == 'Certificate':
-        body = [enumeration(0x42001D, 1), octets(0x42001E, value)]
-    else:
-        body = [structure(0x420040, enumeration(0x420042, FORMATS[form]), value)]
-    return [enumeration(0x420057, number), structure(tag, *body)]
+def batch_answer(body):
+    """What `good` answers to a batch item, with its identifier in the batch; about `failing` that it is not found."""
+    name = octets(0x420093, value_of(body, '420093', 8) or b'')
+    if value_of(body, '420094', 7) == b'failing':
+        operation = enumeration(0x42005C, operation_of(body))
+        return structure(0x42000F, operation, name, enumeration(0x42007F, FAILED), enumeration(0x42007E, 1))
+    one = items_of(answer_of(body))[0]
+    return structure(0x42000F, one[:16], name, one[16:])
 
 
 @fake
-def objects(wire, request):
-    """answers get with an object of certs.sh, as `PublicKey.X509`, or with a key that is `wrapped`"""
-    asked = (value_of(request, '420094', 7) or b'').decode()
-    if asked == 'wrapped':
-        kind, form, value = 'PrivateKey', 'PKCS8', octets(0x420045, b'wrapped')
-    else:
-        kind, form = asked.split('.')
-        with open('%s/objects/%s.der' % (sys.argv[1], asked), 'rb') as file:
-            value = file.read()
-        if kind != 'Certificate':
-            value = structure(0x420045, octets(0x420043, value))
-    number, body = object_of(kind, form, value)
-    wire.sendall(response(GET, [number, identifier(asked), body]))
+def batches(wire, request):
+    """answers each item of a batch as `good` does, the last one first; about `failing` it fails, and where the batch ends at
+    a failure, those after it are not answered; with the item `unknown` comes one that was not asked for"""
+    made = []
+    for body in items_of(request):
+        made.insert(0, batch_answer(body))
+        asked = value_of(body, '420094', 7)
+        if asked == b'unknown':
+            made.append(batch_answer(body.replace(bytes.fromhex('4200930800000004') + value_of(body, '420093', 8),
+                                                  bytes.fromhex('420093080000000400000063'))))
+        if asked == b'failing' and value_of(request, '42000E', 5) == b'\0\0\0\2':
+            break
+    wire.sendall(structure(0x42007B, header(count=len(made)), *made))
+
+
+@fake
+def no_batches(wire, request):
+    """refuses each message as a whole: it takes no batches"""
+    wire.sendall(structure(0x42007B, header(), batch_item(None, None, status=FAILED, reason=5, message='no batches')))
+
+
+CAME = collections.Counter()    # the requests of each user
+
+
+@fake
+def first_lost(wire, request):
+    """ends the connection at the first request of each user, and is good after it; query's vendor is how many came"""
+    user = value_of(request, '420099', 7)
+    CAME[user] += 1
+    if CAME[user] == 1:
+        return True
+    if operation_of(request) == QUERY:
+        return wire.sendall(response(QUERY, [text(0x42009D, '%d' % CAME[user])]))
+    return good(wire, request)
 
 
 class End:
@@ -495,6 +430,19 @@ def other_operation(wire, request):
 
 
 @fake
+def other_version(wire, request):
+    """answers with the identifier, in protocol version -9.99"""
+    asked = value_of(request, '420094', 7) or b'1'
+    wire.sendall(response(operation_of(request), [identifier(asked)], header(-9, 99)))
+
+
+@fake
+def other_failure(wire, request):
+    """fails as another operation than was asked: `Destroy failed`, for an object that is not there"""
+    wire.sendall(response(0x14, None, status=FAILED, reason=1, message='gone'))
+
+
+@fake
 def other_object(wire, request):
     """answers about another object than was asked"""
     operation = operation_of(request)
@@ -592,6 +540,12 @@ def unknown_reason(wire, request):
 
 
 @fake
+def denied(wire, request):
+    """fails for want of permission, with a message"""
+    wire.sendall(response(operation_of(request), None, status=FAILED, reason=12, message='ask "alice"'))
+
+
+@fake
 def shadow(wire, request):
     """answers create-rsa with other identifiers within an unknown structure in front"""
     wire.sendall(response(CREATE_KEY_PAIR, [structure(0x540001, *EVIL_KEYS), *KEYS]))
@@ -610,6 +564,16 @@ def no_attributes(wire, request):
 
 
 @fake
+def long_integers(wire, request):
+    """answers with two attributes of 64 bits: the largest that a double keeps, or for `large` some that it does not"""
+    asked = value_of(request, '420094', 7)
+    numbers = ((1 << 53) + 1, -1 << 63) if asked == b'large' else ((1 << 53) - 1, 1 - (1 << 53))
+    attributes = [structure(0x420008, text(0x42000A, 'x-%d' % at), item(0x42000B, 3, struct.pack('>q', number)))
+                  for at, number in enumerate(numbers)]
+    wire.sendall(response(operation_of(request), [identifier(asked), *attributes]))
+
+
+@fake
 def closing(wire, request):
     """ends the connection while the request is sent (see connection)"""
 
@@ -618,6 +582,20 @@ def closing(wire, request):
 def early(wire, request):
     """has answered query before it was asked: the answer comes with the last bytes of the handshake (see connection)"""
     time.sleep(FOR_EVER)
+
+
+@fake
+def tickets(wire, request):
+    """sends session tickets without an end in place of an answer, 900 a record"""
+    while True:
+        wire.sendall(b''.join(wire.records.tickets() for _ in range(16)))
+
+
+@fake
+def tickets_after(wire, request):
+    """is good once, and then sends session tickets without an end, 900 a record"""
+    wire.sendall(wire.records.of(records.DATA, answer_of(request)))
+    tickets(wire, request)
 
 
 class Together:
@@ -669,6 +647,25 @@ def by_steps(name, context, plain):
         request = message_of(wire)
         if request and FAKES[name](wire, request):
             finish(plain)
+
+
+class Recorded:
+    """A connection whose records are made by records.py."""
+
+    def __init__(self, plain, tls, made):
+        self.recv, self.sendall, self.records = tls.recv, plain.sendall, made
+
+
+def by_records(name, certs, plain):
+    """A connection of `tickets` or `tickets_after`."""
+    with plain, tempfile.NamedTemporaryFile() as log:
+        context = context_of(certs, 'server')
+        context.num_tickets, context.minimum_version = 0, ssl.TLSVersion.TLSv1_3
+        context.keylog_filename = log.name
+        tls = Together(plain, context)
+        tls.flush()
+        with records.records_of(tls.tls, log.name) as made:
+            FAKES[name](Recorded(plain, tls, made), message_of(tls))
 
 
 def connection(name, context, plain):
@@ -752,6 +749,8 @@ def main():
             # In TLS 1.2 the last bytes of the handshake are the server's.
             context.maximum_version = ssl.TLSVersion.TLSv1_2
         serve = by_steps if name in ('early', 'end_after') else connection
+        if name.startswith('tickets'):
+            return lambda listener: serve_each(listener, lambda wire: by_records(name, certs, wire))
         return lambda listener: serve_each(listener, lambda wire: serve(name, context, wire))
 
     for name in FAKES:

@@ -1,8 +1,9 @@
 # shellcheck shell=bash disable=SC2030,SC2031
 # What the cases of the live test stand on; tools/live.sh and tools/check_clients.sh source it.
 #
-# A CASE FILE is a file of bash, each/TOPIC.sh for every client or CLIENT/TOPIC.sh for one, where CLIENT is shell, c,
-# python or rust. It is found by its place and needs no other entry. A line `# needs: server` says that it wants PyKMIP;
+# A CASE FILE is a file of bash, each/TOPIC.sh for every client but openssl, the provider, or CLIENT/TOPIC.sh for one, where
+# CLIENT is shell, c, python, rust or openssl. It is found by its place and needs no other entry. A line
+# `# needs: server` says that it wants PyKMIP;
 # without one it is run with no server installed, against the fakes. It runs in a shell of its own, in a folder of its
 # own, beside other case files, and finds
 #
@@ -11,16 +12,18 @@
 #   $host $port $certificate $key $authority     what call_is and client_run connect with: alice, at localhost. $port is
 #                            that of PyKMIP where the file needs it
 #
-# and these calls, each of which but `fake`, `gate` and `lines_of_tasks` is one check, passed or failed:
+# and these calls, each of which but `fake`, `between`, `by_shell` and `lines_of_tasks` is one check, passed or failed:
 #
 #   fake NAME                from here on $port is that of this server of fakes.py (fakes.py --list)
-#   gate MODE                from here on $port is that of gate.py in this mode, in front of PyKMIP
+#   between MODE             from here on $port is that of between.py in this mode, in front of PyKMIP
+#   by_shell CALL WORD..     is no check: a call by the shell's client, where another client is not to make it
 #   call_is WHAT STATUS CALL WORD..    the program `call` of this client has this status, within $patience seconds (20)
 #   says WHAT REGEX          what call_is or the last command with `>"$said"` wrote has a line like this (grep -E)
 #   says_not WHAT REGEX      ..or has none
 #   lasts WHAT SECONDS       the last call_is took no longer than this
 #   verdict WHAT             the status of the command before is 0
-#   lines_of_tasks LANGUAGE  is no check: the lines of docs/CALL.md in this language (sh, c, python, rust)
+#   lines_of_tasks LANGUAGE  is no check: the lines of the tasks in this language (sh, c, python, rust), which stand in
+#                            docs/CALL.md and in the README of the client
 #   linter_says WHAT TOOL VERSION PACKAGE COMMAND..    COMMAND finds nothing; it is skipped where there is no TOOL, and what
 #                            another version than VERSION (a regex) finds is said, and fails nothing
 #
@@ -39,7 +42,7 @@
 #   client_program NAME      sets the array `program`, which runs the client's program call, life or rotate
 
 here=$top/tools/live
-clients=(shell c python rust)
+clients=(shell c python rust openssl)
 topics=()
 slack=1
 python=${PYTHON:-/usr/bin/python3}
@@ -121,9 +124,15 @@ lasts() { # WHAT SECONDS
     verdict "$1"
 }
 
-# The lines of docs/CALL.md in this language, those of a task after those of the one before.
+# The lines of code under `## By tasks`, those of a task after those of the one before.
 lines_of_tasks() { # LANGUAGE
-    awk -v fence="\`\`\`$1" '$0 == fence { within = 1; next } /^```/ { within = 0 } within' "$top/docs/CALL.md"
+    local file=clients/$1/README.md fence=$1
+    case $1 in
+    sh) file=docs/CALL.md ;;
+    rust) fence=rs ;; # rustdoc takes these for no tests of the crate
+    esac
+    awk -v fence="\`\`\`$fence" '/^## / { tasks = $0 == "## By tasks" } !tasks { next }
+        $0 == fence { within = 1; next } /^```/ { within = 0 } within' "$top/$file"
 }
 
 fake() { # NAME
@@ -135,29 +144,33 @@ free_port() {
     "$python" -c 'import socket; s = socket.socket(); s.bind(("127.0.0.1", 0)); print(s.getsockname()[1])'
 }
 
-wait_for() { # REGEX FILE: a line of this file, for at most 20 seconds
-    local try
-    for ((try = 0; try < 200 * slack; try++)); do
+wait_for() { # REGEX FILE PROCESS: a line of this file, which that process writes, for at most 20 seconds
+    local try lives=1
+    for ((try = 0; try < 200 * slack && lives; try++)); do
+        kill -0 "$3" 2>/dev/null || lives=0
         if grep -q -- "$1" "$2" 2>/dev/null; then return 0; fi
         sleep 0.1
     done
     return 1
 }
 
-gate() { # MODE
-    local gates=("$work"/gate.*)
-    local log=$work/gate.${#gates[@]}
-    port=$(free_port)
-    "$python" "$here/gate.py" "$1" "$port" "$server_port" "$certs" >"$log" 2>"$log.err" &
+between() { # MODE
+    local log=$work/between.$1
+    "$python" -B "$here/between.py" "$1" "$server_port" "$certs" >"$log" 2>"$log.err" &
     started+=($!)
     disown $! # bash is not to tell how it ends
-    wait_for ready "$log" || give_up 'the gate does not listen'
+    wait_for ready "$log" $! || give_up 'between.py does not listen'
+    port=$(sed -n 's/^ready //p' "$log")
+}
+
+by_shell() { # CALL WORD..
+    "$top/clients/shell/call.sh" "$host" "$port" "$certificate" "$key" "$authority" "$@"
 }
 
 start_fakes() {
-    "$python" "$here/fakes.py" "$certs" >"$run/fakes" 2>"$run/fakes.err" &
+    "$python" -B "$here/fakes.py" "$certs" >"$run/fakes" 2>"$run/fakes.err" &
     started+=($!)
-    wait_for ready "$run/fakes" && "$python" "$here/fakes.py" --reach "$certs" "$run/fakes" 2>>"$run/fakes.err" && return
+    wait_for ready "$run/fakes" $! && "$python" -B "$here/fakes.py" --reach "$certs" "$run/fakes" 2>>"$run/fakes.err" && return
     cat "$run/fakes.err" >&2
     return 1
 }
@@ -200,8 +213,9 @@ without_open() {
 
 # The case files of a client that want the server, or those that don't, one a line.
 cases_of() { # CLIENT server|fakes
-    local file needs
-    for file in "$here"/each/*.sh "$here/$1"/*.sh; do
+    local file needs files=("$here/$1"/*.sh)
+    if [[ $1 != openssl ]]; then files=("$here"/each/*.sh "${files[@]}"); fi
+    for file in "${files[@]}"; do
         [[ -e $file && ${file##*/} != client.sh ]] || continue
         needs=fakes
         if grep -q '^# needs: server' "$file"; then needs=server; fi
@@ -331,15 +345,30 @@ build_clients() {
 }
 
 # Runs a function whose processes end with it, and writes the last line, `N passed, M failed`, with what failed and what was
-# skipped before it. Its status is 0 where none failed, and some passed, or `may_skip` is set.
+# skipped before it. Its status is 0 where none failed, and some passed, or `may_skip` is set. A function that ends before its
+# end, as by a variable that is not set, has failed; so has a client that passed fewer checks than `least` says, unless it was
+# skipped, in part at least, for want of a tool, of time or of memory.
 count() { # FUNCTION
-    local passed failed
+    local passed failed statuses it
+    local excuse='(there is no |no temporary folder|.*(no time is left|for want of time|most likely for memory|is not built))'
     (
         started=() groups=()
         trap stop_all EXIT
         trap 'exit 130' INT TERM
         "$1"
+        : >"$run/ended"
     ) 2>&1 | tee "$run/log"
+    statuses=("${PIPESTATUS[@]}")
+    if [[ ! -e $run/ended || ${statuses[*]} != '0 0' ]]; then
+        printf 'FAILED  %s broke off: status %s\n' "$1" "${statuses[*]}" | tee -a "$run/log"
+    fi
+    for it in ${least[@]+"${least[@]}"}; do
+        passed=$(grep -c "^ok  *${it%=*}: " "$run/log")
+        if ((passed < ${it#*=})) && ! grep -qE "^skipped (${it%=*}|all|the clients[^:]*): $excuse" "$run/log"; then
+            printf 'FAILED  %s: %d checks have passed, and at least %d should\n' "${it%=*}" "$passed" "${it#*=}" |
+                tee -a "$run/log"
+        fi
+    done
     passed=$(grep -c '^ok ' "$run/log")
     failed=$(grep -c '^FAILED ' "$run/log")
     grep '^skipped ' "$run/log" | sort -u

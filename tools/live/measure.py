@@ -19,6 +19,7 @@ warnings.simplefilter('ignore')
 logging.disable(logging.CRITICAL)
 from kmip.pie.client import ProxyKmipClient          # noqa: E402
 from kmip.core import enums                          # noqa: E402
+from ttlv import message_of                          # noqa: E402
 
 port, certs, program, count = int(sys.argv[1]), sys.argv[2], sys.argv[3], int(sys.argv[4])
 NULL, PIPE = subprocess.DEVNULL, subprocess.PIPE
@@ -43,10 +44,7 @@ def tls():
 
 def ask(wire, request):
     wire.sendall(request)
-    got = b''
-    while len(got) < 8 or len(got) < 8 + int.from_bytes(got[4:8], 'big'):
-        got += wire.recv(8 - len(got) if len(got) < 8 else 8 + int.from_bytes(got[4:8], 'big') - len(got))
-    return got
+    return message_of(wire)
 
 
 def request_of(*call):

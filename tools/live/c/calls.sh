@@ -15,12 +15,19 @@ for name in two trailing; do
 done
 fake end_after
 test_run calls ended
+fake huge
+test_run calls announced
 fake no_close
 test_run calls close
 fake ends
 test_run calls in_order
+for name in tickets tickets_after; do
+    fake "$name"
+    test_run calls "$name"
+done
 fake good
 test_run calls values
 test_run calls operation
 test_run calls certificate
+test_run calls counted
 test_run calls refused

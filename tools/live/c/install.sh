@@ -21,12 +21,17 @@ for it in libmetsuwan libmetsuwan_tls; do
     soname=$(readelf -d "$lib/$it.so" | sed -n 's/.*soname: \[\(.*\)\]/\1/p')
     [[ $soname == "$it.so.1" && -e $lib/$soname && -e $lib/$it.a ]]
     verdict "$it has a SONAME, and is there by it"
+    readelf -d "$lib/$it.so" | grep -q 'Flags: NOW'
+    verdict "$it has its functions bound at the start"
+    # A thread that searches for a host may run longer than anybody needs the library.
+    readelf -d "$lib/$it.so" | grep -q 'Flags:.*NODELETE'
+    verdict "$it stays in memory after dlclose"
 done
 [[ $(names_of libmetsuwan.so | sed 's/kmip_//g') == \
-    'answer contents_len operation_answer operation_request request value' ]]
-verdict 'libmetsuwan.so has its six calls, and no other names'
+    'answer contents_len operation_answer operation_refusal operation_request refusal request value version' ]]
+verdict 'libmetsuwan.so has its nine calls, and no other names'
 [[ $(names_of libmetsuwan_tls.so | sed 's/kmip_//g') == \
-    'bytes call call_words close line open operation pem register_certificate text word' ]]
+    'abandon bytes call call_array call_words close connect error_kind line open operation pem register_certificate register_private_key register_public_key register_secret text was_sent word' ]]
 verdict 'libmetsuwan_tls.so has the calls of its header, and no other names'
 version=$(sed -n 's/^VERSION := //p' "$top/clients/c/Makefile")
 [[ $(pkg-config --modversion metsuwan metsuwan_tls | sort -u) == "$version" ]]
@@ -49,6 +54,8 @@ makes_a_call() {
 verdict 'a program is not built without what was installed'
 build gcc call.c "${shared[@]}" && makes_a_call
 verdict 'a program over the shared libraries is built and answered'
+readelf -d program | grep -q 'Flags: NOW'
+verdict 'and has its functions bound at the start, as pkg-config says'
 build gcc call.c "${static[@]}" && LD_LIBRARY_PATH='' makes_a_call
 verdict 'a program over the static libraries is built and answered'
 cat >sources/header.cc <<'CODE'

@@ -5,6 +5,7 @@ flags=(-std=c11 -Wall -Wextra -Wconversion -Wshadow -Wpedantic -Wstrict-prototyp
 compile=(-Werror -c -o "$work/it.o")
 for file in *.c; do
     linter_says "gcc says nothing of $file" gcc ' 12\.' gcc gcc "${flags[@]}" -O2 -fanalyzer "${compile[@]}" "$file"
+    linter_says "gcc says nothing of $file with GNU's calls" gcc ' 12\.' gcc gcc -D_GNU_SOURCE "${flags[@]}" -O1 "${compile[@]}" "$file"
     linter_says "clang says nothing of $file" clang ' 14\.' clang clang "${flags[@]}" "${compile[@]}" "$file"
 done
 # varFuncNullUB: NULL is a pointer here, and POSIX has it so.

@@ -54,10 +54,21 @@ KMIP_USER=alice reason 'a user without a password' 2 'a credential is a user and
 KMIP_TIMEOUT=soon reason 'a deadline that is none' 2 'KMIP_TIMEOUT' query
 KMIP_LIMIT=-1 reason 'a limit that is none' 2 'KMIP_LIMIT|limit' query
 reason 'a call that is none' 2 'there is no call sing' sing 1
-reason 'a word too few' 2 'rename: word 2 after it is missing' rename 1
-reason 'a word that is none' 2 'word 2 after it' sign 1 XY
+reason 'a word too few' 2 'the words are not those of rename ID NAME' rename 1
+reason 'a word that is none' 2 'HEX is no even number of hex digits' sign 1 XY
 reason 'a call with a space' 2 'one word|no call' 'sign -' 00
 reason 'a call of odd bytes' 2 'GrammarError' $'s\xff"\n\\'
+client_run call query 2>"$said" >/dev/full
+says 'an answer that cannot be written is said' 'NotWritten.*cannot be written: No space left'
+is_json 'an answer that cannot be written'
+# (Rust puts /dev/null in the place of a stream that is closed.)
+if [[ $client != rust ]]; then
+    client_run call query 2>"$said" >&-
+    says 'an output that is closed is said' 'NotWritten.*closed; nothing was sent'
+    client_run call query >"$said" 2>&-
+    (($? == 4)) && [[ ! -s $said ]]
+    verdict 'with standard error closed no call is made'
+fi
 client_run call >"$said" 2>&1
 (($? == 2))
 verdict 'no words have status 2'

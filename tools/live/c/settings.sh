@@ -1,5 +1,6 @@
 # shellcheck shell=bash
-# Settings, words, a name that is not found in time, values of items, and memory that runs out.
+# Settings, words, a name that is not found in time, values of items, memory that runs out, and
+# large answers.
 look_for_sanitizers
 test_build settings "${sanitized[@]}"
 fake ends
@@ -9,3 +10,5 @@ test_run items
 test_build memory "${sanitized[@]}" -Wl,--wrap=malloc,--wrap=calloc
 fake credential
 test_run memory
+test_build large -O2 -Wl,--wrap=malloc,--wrap=free
+test_run large

@@ -1,6 +1,6 @@
 # shellcheck shell=bash
 # needs: server
-# The tasks of docs/CALL.md, as they stand there.
+# The tasks of clients/c/README.md, as they stand there.
 {
     cat <<'CODE'
 #define _POSIX_C_SOURCE 200809L
@@ -34,7 +34,7 @@ CODE
 }
 CODE
 } >tasks.c
-gcc -std=c11 -Wall -Wextra -Werror "${sanitized[@]}" -I"$top/clients/c" -o tasks tasks.c "$top"/clients/c/metsuwan_{tls,wire,words,items,register}.c \
+gcc -std=c11 -Wall -Wextra -Werror "${sanitized[@]}" -I"$top/clients/c" -o tasks tasks.c "$top"/clients/c/metsuwan_{tls,wire,words,items,register,errors}.c \
     "$built/libmetsuwan.a" -lssl -lcrypto -pthread >"$said" 2>&1
 verdict 'the tasks are built'
 cp "$authority" ca.pem

@@ -16,6 +16,9 @@ call_is "a server's certificate of another authority" 3 query
 mkdir system
 cp "$certs/other/ca.pem" system && openssl rehash system >"$said" 2>&1
 SSL_CERT_FILE=$certs/other/ca.pem SSL_CERT_DIR=$work/system call_is 'the same where the system trusts that authority' 3 query
+fake of_between
+authority=$certs/between.pem call_is "a server's certificate of an authority that is no root, and that is given" 0 query
+call_is 'the same where the root alone is given' 3 query
 fake wrong_host
 call_is "a server's certificate for another host" 3 query
 fake expired_server

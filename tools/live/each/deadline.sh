@@ -2,7 +2,7 @@
 # One deadline for a call, with connect and handshake.
 export KMIP_TIMEOUT=2
 "$python" "$here/fakes.py" --list >"$work/list"
-for name in silent half_hold drip unanswered drip_handshake unaccepting; do
+for name in silent half_hold drip unanswered drip_handshake unaccepting tickets; do
     fake "$name"
     call_is "a server that $(sed -n "s/^$name  *//p" "$work/list")" 3 query
     lasts "$name ends with the deadline of 2 seconds" 5

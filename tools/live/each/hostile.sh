@@ -9,16 +9,17 @@ server_has() { # STATUS NAME..: where these servers are asked, a call ends so
     done
 }
 server_has 3 end reset half half_head rubbish deep abyss
-server_has 1 batch_none batch_one batch_two other_operation no_operation no_payload odd_payload doubled pending undone \
-    other_status large_text
+# None of these is a response to the call: what comes next may be that.
+server_has 3 batch_none batch_one batch_two other_operation no_operation
+server_has 1 no_payload odd_payload doubled pending undone other_status large_text
 fake levels
 call_is 'a server that answers with as many levels as may be' 0 query
 fake endless
 call_is 'a server that answers again and again: the first answer' 0 query
 fake no_length
-call_is 'an empty structure, which is a whole message and no response' 1 query
+call_is 'an empty structure, which is a whole message and no response' 3 query
 fake echo
-call_is 'a request in place of a response' 1 query
+call_is 'a request in place of a response' 3 query
 fake huge
 call_is 'an announcement of 4 GiB' 3 query
 lasts 'it is refused at once' 5

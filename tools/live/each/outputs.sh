@@ -30,3 +30,15 @@ for given in $((port + 65536)) 0 65536 -1; do
     port=$given client_run rotate old name >"$said" 2>&1
     written "a rotation by the port $given" 2
 done
+# What is said of a failure may have nowhere to go: the status tells of it.
+written_nowhere() { # WHAT STATUS PROGRAM WORD..
+    client_run "${@:3}" >"$said" 2>/dev/full
+    written "$1" "$2"
+}
+fake nobody
+written_nowhere 'nobody listens, and standard error is full' 3 call query
+fake good
+written_nowhere 'a call that is none, and standard error is full' 2 call sing
+written_nowhere 'a rotation with a word too few, and standard error is full' 2 rotate old
+written_nowhere 'a life with a word too few, and standard error is full' 2 life
+written_nowhere 'an object that is not there, and standard error is full' 2 call get ''

@@ -1,9 +1,6 @@
 # shellcheck shell=bash
 # needs: server
 # A key rotation. The old key is made, and the new one tried, by the shell's client.
-by_shell() { # CALL WORD..
-    "$top/clients/shell/call.sh" "$host" "$port" "$certificate" "$key" "$authority" "$@"
-}
 name="issuing by $client"
 old=$(by_shell create-rsa 2048 "$name" "$name, public" | jq -r .answer.private_key)
 by_shell activate "$old" >/dev/null

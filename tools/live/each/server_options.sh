@@ -1,9 +1,6 @@
 # shellcheck shell=bash
 # needs: server
 # Calls with options, against PyKMIP.
-by_shell() { # CALL WORD..
-    "$top/clients/shell/call.sh" "$host" "$port" "$certificate" "$key" "$authority" "$@"
-}
 name="options, $client"
 pair=$(by_shell create-rsa 2048 "$name" "$name, public")
 private=$(jq -r .answer.private_key <<<"$pair")
@@ -19,9 +16,9 @@ call_is 'an option of another call' 2 sign "$private" 00 reason=KeyCompromise
 call_is 'a value that is none' 2 sign "$private" 00 hash=SHA3
 call_is 'an option that comes twice' 2 get "$private" format=PKCS1 format=PKCS8
 call_is 'the private key in its format' 0 get "$private" format=PKCS8
-call_is 'objects by their name and type' 0 locate "name=$name" type=PrivateKey
+call_is 'objects by their name and type' 0 locate where "name=$name" type=PrivateKey
 says 'that is one' "\\[\"$private\"\\]"
-call_is 'none by a state that they have not' 0 locate "name=$name" state=Destroyed
+call_is 'none by a state that they have not' 0 locate where "name=$name" state=Destroyed
 says 'which is said' '"unique_identifiers": *\[\]'
 call_is 'attributes by their names' 0 attributes "$private" State 'Cryptographic Length'
 says 'the length is there' '"Integer": *2048'

@@ -1,9 +1,6 @@
 # shellcheck shell=bash
 # needs: server
 # A new pair as PEM, which openssl reads.
-by_shell() { # CALL WORD..
-    "$top/clients/shell/call.sh" "$host" "$port" "$certificate" "$key" "$authority" "$@"
-}
 pair=$(by_shell create-rsa 2048 "pem $client" "pem $client, public")
 export KMIP_PEM=1
 client_run call get "$(jq -r .answer.public_key <<<"$pair")" >"$work/public.pem" 2>"$said" &&

@@ -36,7 +36,9 @@ def same(found, wanted, what):
 
 
 def by_hand(program, folder):
-    for path in sorted(pathlib.Path(folder).iterdir()):
+    paths = sorted(pathlib.Path(folder).iterdir())
+    check(len(paths) == 20, 'there are twenty messages')
+    for path in paths:
         _, bytes_, json, xml = path.read_text(encoding='utf-8').split('\n\n')
         joined = [''.join(map(str.strip, text.splitlines())) for text in (json, xml)]
         name = path.name.replace('_', ' ')
@@ -59,9 +61,13 @@ def is_unchanged(program, message):
 
 def of_pykmip(program):
     import pykmip
+    operations = set()
     for name, made in pykmip.messages():
-        check(all([is_unchanged(program, message) for message in made]),
+        operations.add(name.partition(',')[0])
+        check(made and all([is_unchanged(program, message) for message in made]),
               '%d messages of %s through JSON and back are unchanged' % (len(made), name))
+    # (and `failures`)
+    check(len(operations) == 29 + 1, 'they are of twenty-nine operations')
 
 
 if __name__ == '__main__':

@@ -14,8 +14,8 @@ from typing import Any, Callable, List, Type
 from metsuwan import Client, InternalError, Item, ItemNotFound, KmipError, ServerError
 
 NAME = 'operations, python'
-HMAC_SHA256, ECDSA = '0x00000009', '0x00000006'
-VALID, INVALID = '0x00000001', '0x00000002'
+HMAC_SHA256, ECDSA = 'HMAC_SHA256', 'ECDSA'
+VALID, INVALID = 'Valid', 'Invalid'
 MAC_GENERATE, SIGN = 0x80, 0x1
 
 
@@ -67,10 +67,38 @@ def is_kept(kmip: Client, key: str, tag: str, algorithm: str, material: bytes) -
     got = kmip.operation('Get', [identifier(key)])
     check(got.name_at('ObjectType') == tag, what + ' is got')
     check(got.bytes_at(tag + '.KeyBlock.KeyValue.KeyMaterial') == material, what + ' as it was')
-    calls: List[Callable[[str], Any]] = [kmip.attributes, kmip.get]
-    for call in calls:
-        error = error_of(InternalError, lambda: call(key), what + ' is out of reach of words')
-        check('e%X:' % int(algorithm, 16) in (error.response or ''), 'what came is told')
+    by_words = kmip.get(key)
+    check(by_words.tree is not None and by_words.key_material == material,
+          what + ' is got by the call of words')
+    names = [it.text_at('AttributeName') for it in kmip.attributes(key)]
+    check('Cryptographic Algorithm' in names, what + ' has its attributes by that call')
+
+
+def typed(kmip: Client) -> None:
+    """The methods that stand on operations."""
+    secret = bytes(range(32))
+    key = register(kmip, 'SymmetricKey', 'Raw', HMAC_SHA256, 256, MAC_GENERATE, secret)
+    kmip.activate(key)
+    wanted = hmac.new(secret, b'hello', hashlib.sha256).digest()
+    check(kmip.mac(key, b'hello', algorithm=HMAC_SHA256) == wanted, 'mac')
+    key = kmip.create('AES', 256, NAME + ', typed')
+    kmip.activate(key)
+    how = {'mode': 'CBC', 'padding': 'PKCS5', 'algorithm': 'AES'}
+    sealed = kmip.encrypt(key, b'hello', iv=bytes(16), **how)
+    check(kmip.decrypt(key, sealed.data, iv=bytes(16), **how) == b'hello', 'encrypt and decrypt')
+    pair = kmip.create_rsa_key_pair(2048, NAME + ', typed private', NAME + ', typed public')
+    kmip.activate(pair.private_key)
+    kmip.activate(pair.public_key)
+    signature = kmip.sign(pair.private_key, b'hello', hash='SHA384', padding='PSS').signature_data
+    for data, is_valid in ((b'hello', True), (b'Hello', False)):
+        said = kmip.verify(pair.public_key, data, signature, hash='SHA384', padding='PSS',
+                           algorithm='RSA')
+        check(said is is_valid, 'verify: %s' % is_valid)
+    base = kmip.create('AES', 256, NAME + ', base', usage='DeriveKey')
+    kmip.activate(base)
+    derived = kmip.derive_key(base, 'HMAC', algorithm='AES', length=128, data=b'label', salt=b's',
+                              hash='SHA256', usage='Encrypt,Decrypt')
+    check(len(kmip.get(derived).key_material) == 16, 'derive_key')
 
 
 def keys(kmip: Client, objects: pathlib.Path) -> None:
@@ -176,6 +204,7 @@ def main() -> None:
     with Client(host, port, cert=cert, key=key, ca=ca, timeout=120) as kmip:
         keys(kmip, objects)
         signatures(kmip)
+        typed(kmip)
         encryption(kmip)
         dates(kmip)
         certificates(kmip, objects)

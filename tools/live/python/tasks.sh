@@ -1,6 +1,6 @@
 # shellcheck shell=bash
 # needs: server
-# The tasks of docs/CALL.md, as they stand there.
+# The tasks of clients/python/README.md, as they stand there.
 lines_of_tasks python >lines.py
 cat >tasks.py <<'CODE'
 import sys

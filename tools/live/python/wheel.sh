@@ -22,8 +22,28 @@ rm -rf source && cp -r "$top/clients/python" source
 LIBMETSUWAN=$built/libmetsuwan.so wheel
 verdict 'a wheel is built'
 machine=$("$python" -c 'import sysconfig; print(sysconfig.get_platform())')
-[[ -e $(echo metsuwan-*-py3-none-"${machine//[-.]/_}".whl) ]]
-verdict 'it is for any Python 3 on this kind of machine'
+newest=$(grep -aoE 'GLIBC_2\.[0-9]+' "$built/libmetsuwan.so" | sort -uV | tail -1)
+[[ -e $(echo metsuwan-*-py3-none-manylinux_2_"${newest#*.}_${machine#linux-}".whl) ]]
+verdict 'it is for any Python 3 on this kind of machine, with a C library that is new enough'
+note=$(PYTHONPATH=$top/clients/python "$python" -B -c 'import sys
+from metsuwan.library import Library
+print(Library(sys.argv[1]).version().partition(", ")[2] or "proof unknown")' "$built/libmetsuwan.so")
+case $note in
+proved) [[ -e $(echo metsuwan-[0-9.]*-py3-*.whl) && ! -e $(echo metsuwan-*+*.whl) ]] ;;
+*) [[ -e $(echo metsuwan-*+"${note// /.}"-*.whl) ]] ;;
+esac
+verdict "its version says of the library: $note"
+unzip_list() { "$python" -m zipfile -l "$1" >"$said" 2>&1; }
+unzip_list metsuwan-*.whl && grep -qE 'dist-info/(licenses/)?LICENSE ' "$said"
+verdict 'it has the licence'
+if "$python" -c 'import build' 2>"$said"; then
+    mkdir by_build && cp -r "$top/clients/python" by_build/source
+    LIBMETSUWAN=$built/libmetsuwan.so "$python" -m build --no-isolation --outdir by_build by_build/source >"$said" 2>&1 &&
+        [[ $(cd by_build && echo metsuwan-*.whl) == "$(echo metsuwan-*.whl)" && -e $(echo by_build/metsuwan-*.tar.gz) ]]
+    verdict 'python3 -m build makes the same one, and a package of the sources'
+else
+    echo 'skipped python: there is no python3-build: python3 -m build is not tried'
+fi
 own=$work/env/bin/python
 "$python" -m venv --without-pip "$work/env" >"$said" 2>&1 &&
     "$python" -m pip --python "$own" install "${alone[@]}" metsuwan-*.whl >"$said" 2>&1
@@ -37,5 +57,8 @@ with metsuwan.Client(host, port, cert=cert, key=key, ca=ca) as kmip:
     print(kmip.sign("k", b"x").signature_data.decode(), metsuwan.__file__)' \
     "$host" "$port" "$certificate" "$key" "$authority" >"$said" 2>&1
 says 'it makes a call with its own library' "^signature by k $work/env/"
+[[ $("$own" -I -c 'import importlib.metadata as it, metsuwan
+print(metsuwan.__version__ == it.version("metsuwan").partition("+")[0])') == True ]]
+verdict 'metsuwan.__version__ is its version'
 [[ -e $("$own" -I -c 'import metsuwan; print(metsuwan.__path__[0])')/py.typed ]]
 verdict 'it is typed'

@@ -1,8 +1,8 @@
 # shellcheck shell=bash
-# LIBMETSUWAN_DIR, where it names no folder of the library: that is what is said.
-builds() { # FOLDER
-    (cd "$run/rust/source" && unset RUSTFLAGS RUSTC_WRAPPER && export CARGO_HOME=$run/rust/home &&
-        LIBMETSUWAN_DIR=$1 CARGO_TARGET_DIR=$work/target cargo check --offline \
+# LIBMETSUWAN_DIR, where it names no folder of the library, or is not set: that is what is said.
+builds() { # [FOLDER]
+    (cd "$run/rust/source" && unset RUSTFLAGS RUSTC_WRAPPER LIBMETSUWAN_DIR DOCS_RS && export CARGO_HOME=$run/rust/home &&
+        if (($#)); then export LIBMETSUWAN_DIR=$1; fi && CARGO_TARGET_DIR=$work/target cargo check --offline \
             --config 'source.crates-io.replace-with="debian"' \
             --config "source.debian.directory=\"$crates\"" >"$said" 2>&1)
 }
@@ -15,3 +15,10 @@ done
 rm "$run/rust/source/libmetsuwan.a"
 builds "$built"
 verdict 'it is, with the folder of the library'
+if compgen -G '/usr/local/lib/libmetsuwan.a' >"$said" || compgen -G '/usr/lib*/libmetsuwan.a' >"$said"; then
+    echo 'skipped rust: the library is installed here, and found with no LIBMETSUWAN_DIR'
+else
+    ! builds
+    verdict 'it is not, where nothing says where the library is'
+    says 'which is said in a sentence' 'there is no libmetsuwan\.a: clients/build\.sh FOLDER makes it, and LIBMETSUWAN_DIR '
+fi

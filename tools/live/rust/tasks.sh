@@ -1,6 +1,6 @@
 # shellcheck shell=bash
 # needs: server
-# The tasks of docs/CALL.md, as they stand there.
+# The tasks of clients/rust/README.md, as they stand there.
 {
     cat <<'CODE'
 mod settings;

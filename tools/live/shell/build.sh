@@ -42,6 +42,7 @@ import shutil, sys
 if __name__ == '__main__':
     shutil.copy('/bin/true' if sys.argv[1] == 'program' else 'ready.a', sys.argv[3])
 else:
+    sys.path.insert(0, '$top/tools')
     exec(open('$top/tools/unproved_build.py').read())
 PY
 chmod +x "$kit/bin/rt" "$kit/bin/rattle"
@@ -56,7 +57,9 @@ says 'each crate is shown, of how many' '^\[1/[0-9]+\] kmip_[a-z_]+: kept$'
 wanted=$(sed -n 's/^kmip_c staticlib: *//p' "$copy/crates.txt")
 [[ $(tail -1 asked) == *" --crate-type staticlib "* ]]
 verdict 'the library is built last'
-for it in $wanted; do [[ $(tail -1 asked) == *" $it="*"/crates/$it/out/rlib/$it.rlib "* ]] || break; done
+missing=''
+for it in $wanted; do [[ $(tail -1 asked) == *" $it="*"/crates/$it/out/rlib/$it.rlib "* ]] || missing+=" $it"; done
+[[ -z $missing && -n $wanted ]]
 verdict 'over the crates that rt ci has passed'
 grep -qx kmip_c asked && grep -qx kmip_call asked && ! grep -qE '^kmip_(run|web|server)|/must-fail' asked
 verdict 'which are those that are wanted, without their edits'
@@ -64,9 +67,18 @@ verdict 'which are those that are wanted, without their edits'
 verdict 'nothing is written into the checkout'
 [[ $("the folder/kmip_call") == 'kmip_call of the copy' && -e $(echo "the folder/"lib*.a) && -e $(echo "the folder/"*.h) ]]
 verdict 'the folder has the program, the library and its header'
-for library in "the folder/"lib*.a "the folder/"lib*.so; do nm -g "$library" 2>/dev/null | grep -q ' T kmip_request$' || break; done
-[[ $library == *.so ]] && nm -g "$library" | grep -q ' T kmip_request$'
-verdict 'the library has its calls, static and shared'
+for it in "the folder/"lib*.a "the folder/"lib*.so; do
+    nm -g "$it" 2>"$said" | grep -q ' T kmip_request$'
+    verdict "${it##*.}: the library has its calls"
+done
+[[ -e $(echo "the folder/"lib*.a) && -e $(echo "the folder/"lib*.so) ]]
+verdict 'it is there static and shared'
+version_is() { # WHAT FOLDER REGEX: what kmip_version() of the library in this folder says
+    printf '%s\n' '#include <stdio.h>' '#include "metsuwan.h"' 'int main(void) { return puts(kmip_version()) < 0; }' |
+        gcc -x c -I"$2" -o version - -x none "$2/libmetsuwan.a" >"$said" 2>&1 && ./version >"$said"
+    says "$1" "$3"
+}
+version_is 'kmip_version() says that it is proved' 'the folder' '^[0-9.]+, proved$'
 BROKEN=kmip_types built_is 'a crate that is not proved ends it' 1 broken
 says 'what rt wrote is shown' 'kmip_types NOT PROVED'
 [[ ! -e broken/kmip_call ]]
@@ -78,8 +90,31 @@ verdict 'and there is no library'
 built_is 'build.sh FOLDER --unproved' 0 second --unproved
 built_is 'build.sh --unproved FOLDER' 0 --unproved third
 says 'it says how long it takes' 'minutes'
+built_is 'build.sh --unproved --encoder' 0 --unproved --encoder encoding
+[[ -x encoding/kmip_ttlv && ! -e third/kmip_ttlv ]]
+verdict 'makes the encoder too'
 built_is 'a program and a library that were built before' 0 --library ready.a fourth --program second/kmip_call
-built_is 'the same into the folder that they are in' 0 --library ready.a --program second/kmip_call second
+version_is 'of a library that was given its proof is not known' fourth '^[0-9.]+, proof unknown$'
+printf 'char kmip_not_proved[1];\n' >note.c && gcc -c note.c && ar rc noted.a library.o note.o
+built_is 'a library that has the note of unproved_build.py' 0 --library noted.a fourth --program second/kmip_call
+version_is 'is said to be not proved' fourth '^[0-9.]+, not proved$'
+note_of() { make -s -C "$copy/clients/c" note BUILT="$work/$1" >"$said" 2>&1; }
+note_of fourth
+says 'make install says so' 'compiled with no proof'
+note_of second
+says_not 'and nothing of another' 'proof'
+cp ready.a second/libkmip_c.a
+built_is 'the same into the folder that they are in' 0 --library second/libkmip_c.a --program second/kmip_call second
+cmp ready.a second/libkmip_c.a >"$said" 2>&1
+verdict 'the library that was given is as it was'
+echo 'no library' >second/none.a
+built_is 'a file that is no library' 1 --library second/none.a --program second/kmip_call second
+[[ $(<second/none.a) == 'no library' ]]
+verdict 'stays where it is'
+mkdir without
+for it in bash dirname sed realpath mkdir mktemp cp mv rm cat tail ar ld as cc gcc make objcopy; do ln -s "$(type -P "$it")" without; done
+PATH=$work/without "$copy/clients/build.sh" --library ready.a --program second/kmip_call fourth >"$said" 2>&1
+verdict 'where nothing is built there is no need of rt'
 built_is 'a program that is not there' 1 --program none fifth
 built_is 'a flag that is none' 2 --proved fifth
 built_is 'no folder' 2

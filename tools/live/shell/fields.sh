@@ -5,12 +5,32 @@ script_is 'a field that is false' 0 'open; kmip_field "operations | length > 9" 
 says 'is written' '^false$'
 script_is 'fields of which one is null' 0 'open; kmip_field "operations[0, 9]" query; kmip_close'
 says 'are written' '^null$'
-script_is 'a field that is not there' 1 'open; kmip_field "no \"such" query; status=$?; kmip_close; exit $status'
+script_is 'a field that is not there' 1 'open; kmip_field "\"no such\"" query; status=$?; kmip_close; exit $status'
 script_is 'fields that are not there' 1 'open; kmip_field "operations[8, 9]" query; status=$?; kmip_close; exit $status'
 says 'is said as a line of JSON' '^\{"error":"MissingValue","text":"the answer has no operations\[8, 9\]"\}$'
-script_is 'a field that is none of jq' 1 'open; kmip_field "a b" query; status=$?; kmip query; kmip_close; exit $status'
+script_is 'a field that is none of jq' 2 'open; kmip_field "private key" create-rsa 2048 a b; status=$?; kmip query; kmip_close; exit $status'
 says 'is said by jq' '^jq: '
+says 'before the call' '^\{"error":"GrammarError","text":"jq does not read the field.*nothing was sent"\}$'
+says_not 'so that no key is made that nobody knows' 'private_key'
 says 'and the connection is good' '^\{"answer":'
+script_is 'no jq' 2 'open; mkdir "$work/no jq"; for it in bash flock timeout openssl; do ln -s "$(type -P "$it")" "$work/no jq"; done
+    PATH=$work/no\ jq; kmip_field private_key create-rsa 2048 a b; (($? == 2)) || exit; kmip pem k'
+says 'is said before the call' '^\{"error":"GrammarError","text":"there is no jq .*nothing was sent"\}$'
+for field in privat_key 'private_key | keys'; do
+    script_is "the field $field of a new pair" 1 'open; kmip_field "'"$field"'" create-rsa 2048 a b; status=$?; kmip_close; exit $status'
+    says 'is missing' '^\{"error":"MissingValue"'
+    says 'and the identifiers of the pair are shown' '^\{"answer":\{"private_key":"private","public_key":"public"\}\}$'
+done
+fake long_integers
+script_is 'numbers that jq keeps' 0 'open; kmip_field "attributes[0, 1].value.LongInteger" attributes small; kmip_close'
+says 'are written' '^9007199254740991$'
+says 'with their sign' '^-9007199254740991$'
+for asked in attributes 'attributes[0].value.LongInteger' 'attributes[1].value.LongInteger'; do
+    script_is "numbers that jq would round: $asked" 1 'open; kmip_field "'"$asked"'" attributes large; status=$?; kmip_close; exit $status'
+    says 'are refused' '^\{"error":"MissingValue","text":"the field has a number that jq cannot keep'
+done
+script_is 'kmip shows them' 0 'open; kmip attributes large; kmip_close'
+says 'as they are' '"LongInteger":9007199254740993.*"LongInteger":-9223372036854775808'
 fake objects
 script_is 'a field that an answer with a key has not' 1 'open; kmip_field no_such get SymmetricKey.Raw; status=$?; kmip_close; exit $status'
 says_not 'nothing of the key is shown' "$(printf 'raw bytes' | od -An -v -tx1 | tr -d ' \n')|SymmetricKey"
@@ -37,7 +57,7 @@ script_is 'words that Linux does not take' 0 'open
     data=$(head -c 131072 /dev/zero | tr "\0" 0)
     kmip sign k "$data"; (($? == 2)) || exit
     kmip register symmetric "$data" format=Raw algorithm=AES length=128; (($? == 2)) || exit
-    KMIP_USER=$data kmip query; (($? == 2)) || exit
+    KMIP_USER=$data KMIP_PASSWORD=p kmip query; (($? == 2)) || exit
     kmip locate "$(printf "%43700s")"; (($? == 2)) || exit
     kmip query; kmip_close'
 (($(grep -c '"GrammarError".*131071 bytes.*nothing was sent' "$said") == 4))
@@ -46,7 +66,7 @@ script_is 'as many bytes as it takes' 0 'open; data=$(head -c 131070 /dev/zero |
 script_is 'a call of another name, with no word' 2 'open; kmip qeury; status=$?; kmip_close; exit $status'
 says 'is named' '"there is no call qeury"'
 script_is 'a call without its identifier' 2 'open; kmip get; status=$?; kmip_close; exit $status'
-says 'is said' 'get TEXT'
+says 'is said' 'the words are not those of get ID '
 
 # By the address of the socket a number past 65535 would be another port: 65536 and that of the server, the server's.
 for given in $((port + 65536)) "+$((port + 65536))" 0 65536 -1; do

@@ -47,6 +47,34 @@ for answer in half rubbish end reset; do
     says "$answer: openssl has ended" '^ended: 0$'
 done
 
+# The note that a call is made cannot be written: a call that is given up would not be known to be.
+fake held
+script 'open; exec {KMIP_STATE}<>/dev/full; kmip sign "$held" 41; echo "first: $?"; kmip query; echo "second: $?"'
+says 'a full TMPDIR: status 3' '^first: 3$'
+says 'a full TMPDIR: nothing is sent' 'RequestWriteError.*TMPDIR.*nothing was sent'
+says 'a full TMPDIR: nor by the next call' '^second: 3$'
+
+# Programs that the script begins have the connection; with kmip_without they have not.
+fake good
+script 'open; has_it() { local it; for it in /proc/self/fd/*; do [[ ! $it -ef $1 ]] || return 0; done; return 1; }
+    out=/proc/$$/fd/$KMIP_OUT; export -f has_it
+    bash -c "has_it $out" && echo "with it"
+    kmip_without bash -c "has_it $out" || echo "without it"
+    export KMIP_PASSWORD=geheim; kmip_without bash -c "echo \"password: \$KMIP_PASSWORD.\""; unset KMIP_PASSWORD
+    kmip_without false || echo "status $?"
+    kmip_without kmip query || echo "no call: $?"
+    kmip query; process=$KMIP_PID; kmip_without sleep 60 & daemon=$!
+    kmip_close; ended "$process" && kill -0 "$daemon" && echo "the connection ended"; kill "$daemon"
+    kmip_without true && echo "without any"'
+says 'a child has the connection' '^with it$'
+says 'kmip_without: it has not' '^without it$'
+says 'kmip_without: nor the password' '^password: \.$'
+says 'kmip_without: the status is that of the command' '^status 1$'
+says 'kmip_without: no call is made' '^no call: 3$'
+says 'kmip_without: the connection is good' '^\{"answer":'
+says 'kmip_without: a daemon does not hold it open' '^the connection ended$'
+says 'kmip_without: no connection is open' '^without any$'
+
 fake silent
 script_is 'after a deadline openssl has ended' 0 'KMIP_TIMEOUT=1; open; kmip query; ended "$KMIP_PID"'
 script_is 'kmip_close ends it' 0 'open; process=$KMIP_PID; kmip_close; ended "$process"'

@@ -13,7 +13,7 @@ call_is 'a name that is none of KMIP' 2 operation archive "$payload"
 says 'it is said' '"GrammarError".*no operation of this name'
 call_is 'a version that is none of these' 2 operation Archive version=2.0 "$payload"
 call_is 'a payload with another tag' 2 operation Archive '{"tag":"ResponsePayload","value":[]}'
-says 'it is said, too' '"GrammarError".*not the JSON of a RequestPayload'
+says 'it is said, too' '"GrammarError".*the payload: .*no Structure with the tag RequestPayload'
 call_is 'a payload without its end' 2 operation Archive "${payload%?}"
 call_is 'no payload' 2 operation Archive
 call_is 'no name' 2 operation
@@ -39,7 +39,7 @@ call_is 'a whole message' 0 message "$message"
 says 'its answer is the whole response' '^\{"answer":\{"tag":"ResponseMessage","value":\[\{"tag":"ResponseHeader",.*"my key"'
 call_is 'the message of a file' 0 message @message.json
 call_is 'a payload in the place of a message' 2 message "$payload"
-says 'what is wrong' '"GrammarError".*not the JSON of a RequestMessage'
+says 'what is wrong' '"GrammarError".*the message: .*no Structure with the tag RequestMessage'
 call_is 'a message and a word more' 2 message "$message" more
 fake batch_two
 call_is 'two answers to a message' 0 message "$message"
@@ -47,11 +47,15 @@ says 'both are told' '"BatchItem".*"BatchItem"'
 fake not_utf8
 call_is 'a response that is malformed' 3 message "$message"
 fake other_operation
-call_is 'an answer to another operation' 1 operation Archive "$payload"
-says 'the skeleton of what came is told' '"InternalError","text":"Response does not match request operation Archive","response":"7B\['
+call_is 'an answer to another operation' 3 operation Archive "$payload"
+says 'the operation that was asked for is named, and the skeleton shows the number of what came' \
+    '"InternalError","text":"Response does not match request operation Archive","response":"7B\[[^"]*0F\[5Ce14:'
+fake other_failure
+call_is 'a failure of another operation' 3 operation Archive "$payload"
+says 'both operations are named' '"InternalError","text":"Response operation Destroy does not match request operation Archive"'
 fake unknown_reason
 call_is 'a failure whose reason is in no table' 1 operation Archive "$payload"
-says "its number and the server's message are told" '"ServerError","text":"Operation Archive failed for reason 32767: not today"'
+says "its number and the server's message are shown" '"ServerError","text":"Operation Archive failed for reason 32767: not today".*"reason":\{"number":32767\},"message":"not today"'
 fake digest
 data=$(head -c 30000 /dev/zero | tr '\0' Q | tee "$work/data" | od -An -v -tx1 | tr -d ' \n')
 printf '{"tag":"RequestPayload","value":[{"tag":"UniqueIdentifier","type":"TextString","value":"k"},

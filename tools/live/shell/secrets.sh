@@ -27,11 +27,19 @@ says_not 'at a terminal: no question' 'Enter pass'
 # While a call waits, the words of all processes, and the environment of openssl and kmip_call.
 fake held
 export here_pid=$$
-script 'KMIP_USER=alice; export KMIP_PASSWORD=geheim2 KMIP_PASSPHRASE=geheim1; open; kmip sign "$held" 41 & calling
-    ps -eo args | grep -v grep | grep -c "geheim[12]" | sed "s/^/words /"
-    tr "\0" "\n" <"/proc/$KMIP_PID/environ" | grep -c "geheim" | sed "s/^/openssl /"
-    for it in $CALLING; do tr "\0" "\n" <"/proc/$it/environ"; done | grep -c geheim1 | sed "s/^/passphrase /"
+script 'export KMIP_USER=alice KMIP_PASSWORD=geheim2 KMIP_PASSPHRASE=geheim1; open; kmip sign "$held" 41 & calling
+    ps -eo args | grep -v grep >words
+    environment() { local it; for it in $1; do tr "\0" "\n" <"/proc/$it/environ" || exit; done; }
+    grep -c "kmip_call .* $held 41$" words | sed "s/^/calls /"
+    grep -c "geheim[12]" words | sed "s/^/words /"
+    environment "$KMIP_PID" >openssl; grep -c "^KMIP_USER=alice$" openssl | sed "s/^/user /"
+    grep -c geheim openssl | sed "s/^/openssl /"
+    environment "$CALLING" >call; grep -c "^KMIP_PASSWORD=geheim2$" call | sed "s/^/password /"
+    grep -c geheim1 call | sed "s/^/passphrase /"
     release; wait; kmip_close'
+says 'the words of processes are seen' '^calls [1-9]'
+says 'the environment of openssl is seen' '^user 1$'
+says 'the environment of kmip_call is seen, and has the password' '^password 1$'
 says 'no secret in the words of a process' '^words 0$'
 says 'no secret in the environment of openssl' '^openssl 0$'
 says 'no passphrase in the environment of kmip_call' '^passphrase 0$'

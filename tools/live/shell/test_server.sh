@@ -23,7 +23,7 @@ verdict 'it ends all processes of the server'
 says 'a second stop says that it does not run' 'does not run'
 mkdir few "$work/not empty"
 touch "$work/not empty/mine"
-for tool in bash dirname sed realpath ls openssl; do ln -s "$(type -P "$tool")" few; done
+for tool in bash dirname sed realpath ls openssl mkdir; do ln -s "$(type -P "$tool")" few; done
 ! PATH=$work/few "$it" start --folder "$folder" >"$said" 2>&1
 verdict 'without PyKMIP it does not start'
 says 'and names the package' 'apt-get install python3-pykmip'

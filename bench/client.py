@@ -1,0 +1,146 @@
+#!/usr/bin/env python3
+"""Times the client beside one by hand in Rust without proofs, in turn, by processor time.
+
+usage: bench/client.py [ROUNDS]      each program is run so many times, 11 if it is left out
+
+It prints a line for each of three things that both do, with the least and the median of the rounds and their ratios, of
+which a smaller one is faster here:
+  make       `make 100000`: each response is made, fed to a link in memory, and read by a call; the bytes of both are compared
+  small      400,000 calls over a link that was fed before: the client alone
+  large      9 responses of 16 MiB: read into their place, checked, and copied to the payload
+
+Both are optimized. Ours is built without proof by tools/unproved_build.py with the inline hints of a proved build, and the
+plain one from bench/client/plain.rs. Wants `rt`, `rustc` and some 600 MB of memory; writes nothing into the repository.
+"""
+import os
+import resource
+import shutil
+import subprocess
+import sys
+import tempfile
+
+HERE = os.path.dirname(os.path.abspath(__file__))
+TOP = os.path.dirname(HERE)
+LARGE = 16 << 20
+# The ratios that are aimed at.
+AIMS = {'make': 0.70, 'small': 0.45, 'large': 1.3}
+
+
+# Our program of calls alone.
+CALLS = r'''// N exchanges of random bytes over a link in memory that was fed the N responses before: the client alone, no generator.
+#![tactic(auto)]
+
+use kmip_client::ClientBuilder;
+use kmip_link::MemoryLink;
+use std::env;
+use std::io::{self, Read};
+
+fn main(rt: HostRuntime) -> io::Result<()> {
+    let mut bytes = Vec::new(rt.alloc());
+    rt.stdin().read_to_end(&mut bytes)?;
+    let mut count: u32 = 1;
+    for word in env::args(&rt)? {
+        if let Ok(number) = word.parse() {
+            count = number;
+        }
+    }
+    let mut link = MemoryLink::new(rt.alloc());
+    for _ in 0..count {
+        let _ = link.feed(&bytes);
+    }
+    let mut client = ClientBuilder::new(link).build();
+    let mut good: u32 = 0;
+    for _ in 0..count {
+        if let Ok(payload) = client.rng_retrieve(rt.alloc(), 16) {
+            if payload.random_bytes.as_slice().len() > 0 && good < u32::MAX {
+                good += 1;
+            }
+        }
+    }
+    println!(rt; "{good}")?;
+    Ok(())
+}
+'''
+
+
+def item(tag, kind, value):
+    """An item of TTLV, padded to eight bytes: KMIP 1.2, 9.1.1."""
+    return bytes.fromhex(tag) + bytes([kind]) + len(value).to_bytes(4, 'big') + value + bytes(-len(value) % 8)
+
+
+def structure(tag, *parts):
+    return item(tag, 1, b''.join(parts))
+
+
+def number(tag, kind, value):
+    return item(tag, kind, value.to_bytes(4, 'big'))
+
+
+def response(data):
+    """A response to RNG Retrieve in KMIP 1.2 with these bytes."""
+    version = structure('420069', number('42006a', 2, 1), number('42006b', 2, 2))
+    stamp = item('420092', 9, (1).to_bytes(8, 'big'))
+    header = structure('42007a', version, stamp, number('42000d', 2, 1))
+    payload = structure('42007c', item('4200c2', 8, data))
+    batch_item = structure('42000f', number('42005c', 5, 0x25), number('42007f', 5, 0), payload)
+    return structure('42007b', header, batch_item)
+
+
+def build(work):
+    """The three programs: ours for `make`, ours for calls alone, and the plain one."""
+    os.makedirs(f'{work}/top/crates/client_bench/src')
+    for name in os.listdir(f'{TOP}/crates'):
+        shutil.copytree(f'{TOP}/crates/{name}', f'{work}/top/crates/{name}', ignore=shutil.ignore_patterns('out', 'must-fail'))
+    with open(f'{work}/top/crates/client_bench/src/main.rt', 'w', encoding='utf-8') as out:
+        out.write(CALLS)
+    with open(f'{TOP}/crates.txt', encoding='utf-8') as rows, open(f'{work}/top/crates.txt', 'w', encoding='utf-8') as out:
+        for row in rows:
+            out.write(row)
+            if row.startswith('kmip_client:'):
+                out.write('client_bench: kmip_client' + row.partition(':')[2])
+    for crate in ('kmip_run', 'client_bench'):
+        subprocess.run([sys.executable, f'{TOP}/tools/unproved_build.py', 'program', crate, f'{work}/{crate}', f'{work}/top'],
+                       check=True, stdout=subprocess.DEVNULL, stderr=subprocess.DEVNULL)
+    subprocess.run(['rustc', '--edition', '2021', '-O', '-o', f'{work}/plain', f'{HERE}/client/plain.rs'], check=True)
+
+
+def run(words, feed):
+    """The processor seconds of a program, and what it wrote."""
+    before = resource.getrusage(resource.RUSAGE_CHILDREN)
+    with open(feed, 'rb') as given:
+        written = subprocess.run(words, stdin=given, stdout=subprocess.PIPE, check=True).stdout
+    after = resource.getrusage(resource.RUSAGE_CHILDREN)
+    return after.ru_utime - before.ru_utime + after.ru_stime - before.ru_stime, written
+
+
+def compare(name, ours, plain, feed, rounds):
+    times = ([], [])
+    for _ in range(rounds):
+        (our_time, our_text), (plain_time, plain_text) = run(ours, feed), run(plain, feed)
+        if our_text.split() != plain_text.split():
+            sys.exit(f'{name}: the programs wrote {our_text[:80]} and {plain_text[:80]}')
+        times[0].append(our_time)
+        times[1].append(plain_time)
+    least, median = ([sorted(it)[at] for it in times] for at in (0, rounds // 2))
+    print(f'{name}: ours {least[0]:.3f} s (median {median[0]:.3f}), plain {least[1]:.3f} s (median {median[1]:.3f}), '
+          f'ratio {least[0] / least[1]:.2f} (median {median[0] / median[1]:.2f}), aim {AIMS[name]:.2f}')
+
+
+def main():
+    rounds = int(sys.argv[1]) if len(sys.argv) > 1 else 11
+    work = tempfile.mkdtemp(prefix='client-bench-')
+    try:
+        build(work)
+        feeds = {'none': b'', 'small': response(bytes.fromhex('deadbeef')), 'large': response(bytes(LARGE))}
+        for name, value in feeds.items():
+            with open(f'{work}/{name}.bin', 'wb') as out:
+                out.write(value)
+        plain = f'{work}/plain'
+        compare('make', [f'{work}/kmip_run', 'make', '100000'], [plain, 'make', '100000'], f'{work}/none.bin', rounds)
+        compare('small', [f'{work}/client_bench', '400000'], [plain, 'answer', '400000'], f'{work}/small.bin', rounds)
+        compare('large', [f'{work}/client_bench', '9'], [plain, 'answer', '9'], f'{work}/large.bin', rounds)
+    finally:
+        shutil.rmtree(work)
+
+
+main()

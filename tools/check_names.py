@@ -1,0 +1,174 @@
+#!/usr/bin/env python3
+"""Compares the generated files of names and numbers with the lists of tools/names, value by value.
+
+    tools/check_names.py
+
+The lists were entered apart from tables/*.toml, and nothing writes them: tables/generate.py writes
+both what is proved and what its specs say, so a wrong value in a table would be wrong in both. The
+last line is `N passed, M failed`; the status is 1 where one failed.
+"""
+
+import re
+import sys
+from pathlib import Path
+
+TOP = Path(__file__).resolve().parent.parent
+LISTS = TOP / "tools" / "names"
+CRATES = TOP / "crates"
+COUNTS = {"passed": 0, "failed": 0}
+
+
+def expect(what, found, wanted):
+    """One comparison of all keys and values of two dictionaries."""
+    for key in sorted(set(found) | set(wanted), key=str):
+        if found.get(key) == wanted.get(key):
+            COUNTS["passed"] += 1
+        else:
+            COUNTS["failed"] += 1
+            print(f"{what}: {key} is {found.get(key)}, and should be {wanted.get(key)}")
+
+
+def lines_of(name):
+    """The words of each line of a list, but for comments."""
+    text = (LISTS / name).read_text(encoding="utf-8")
+    return [line for line in text.splitlines() if line and not line.startswith("#")]
+
+
+def read(*path):
+    return CRATES.joinpath(*path).read_text(encoding="utf-8")
+
+
+def strings_of(text, constant):
+    """The members of a constant list, as texts or numbers."""
+    body = re.search(rf"const {constant}: \[[^=]*= \[(.*?)\];", text, re.S)[1]
+    return [s or int(n, 16) for s, n in re.findall(r'"([^"]*)"|(0x[0-9A-F]+)', body)]
+
+
+def wanted_tags():
+    return {int(line[:6], 16): line[7:] for line in lines_of("tags.txt")}
+
+
+def check_tags():
+    wanted = wanted_tags()
+    first = min(wanted)
+    names = strings_of(read("kmip_tags", "src", "table.rt"), "NAMES")
+    expect("kmip_tags, table.rt", {first + at: name for at, name in enumerate(names)}, wanted)
+    source = read("kmip_tags", "src", "tags.rt")
+    constants = {int(n, 16): c for c, n in re.findall(r"pub const (\w+): u32 = (0x\w+);", source)}
+    expect(
+        "kmip_tags, tags.rt",
+        constants,
+        {number: re.sub(r"[^A-Z0-9]+", "_", name.upper()) for number, name in wanted.items()},
+    )
+    specs = re.findall(r"^\s*codes \"([^\"]*)\" ∷$", read("kmip_tags", "specs", "Table.antt"), re.M)
+    expect("kmip_tags, Table.antt", {first + at: name for at, name in enumerate(specs)}, wanted)
+    spec = read("kmip_tags", "specs", "Tags.antt")
+    expect(
+        "kmip_tags, Tags.antt",
+        {int(n, 16): name for name, n in re.findall(r"^(\w+) = (0x\w+)$", spec, re.M)},
+        {number: name for number, name in constants.items() if number <= 0x4200D2},
+    )
+
+
+def snake(name):
+    return re.sub(r"(?<=[a-z0-9])(?=[A-Z])|(?<=[A-Z])(?=[A-Z][a-z])", "_", name).lower()
+
+
+def check_types():
+    """The variants of each type, and the numbers and names that its spec gives them."""
+    wanted, bits = {}, {}
+    for line in lines_of("types.txt"):
+        words = line.split()
+        if words[0] == "MASK":
+            bits[words[1]] = {name: 1 << at for at, name in enumerate(words[2:])}
+            continue
+        of_type = wanted.setdefault(words[0], {})
+        of_type.update({name: int(words[2], 16) + at for at, name in enumerate(words[3:])})
+    folders = [CRATES / crate / "src" for crate in ("kmip_enums", "kmip_codes")]
+    sources = {file.stem: file for folder in folders for file in folder.iterdir() if file.stem != "lib"}
+    expect("the types", dict.fromkeys(sources, True), dict.fromkeys([*map(snake, wanted), "usage_mask"], True))
+    for name, variants in wanted.items():
+        source = sources[snake(name)].read_text(encoding="utf-8")
+        found = re.findall(r"^    (\w+) = (\w+),$", source, re.M)
+        expect(name, {variant: int(number, 0) for variant, number in found}, variants)
+        many = name + ("es" if name.endswith("s") else "s")
+        spec = (sources[snake(name)].parent.parent / "specs" / f"{many}.antt").read_text(encoding="utf-8")
+        found = re.findall(r"entry (0x\w+) \(codes \"(\w+)\"\)", spec)
+        expect(f"{many}.antt", {variant: int(number, 16) for number, variant in found}, variants)
+    for name, variants in bits.items():
+        found = re.findall(r"const (\w+) = (0x\w+);", sources["usage_mask"].read_text(encoding="utf-8"))
+        expect(name, {variant: int(number, 16) for variant, number in found}, variants)
+        spec = (CRATES / "kmip_codes" / "specs" / "UsageMask.antt").read_text(encoding="utf-8")
+        found = re.findall(r"\(codes \"(\w+)\", (0x\w+)\)", spec)
+        expect("UsageMask.antt", {variant: int(number, 16) for variant, number in found}, variants)
+
+
+def check_encodings():
+    """The lines that kmip_encodings has: first those of KMIP's names, then kmip-protocol's others."""
+    wanted, types = {}, {}
+    for line in lines_of("encodings.txt"):
+        words = line.split()
+        if words[0] != "MASK":
+            tag, first = int(words[0], 16), int(words[1], 16)
+            wanted.update({(tag, first + at): name for at, name in enumerate(words[2:])})
+    for line in lines_of("types.txt"):
+        words = line.split()
+        if words[0] != "MASK":
+            tag, first = int(words[1], 16), int(words[2], 16)
+            types.update({(tag, first + at): name for at, name in enumerate(words[3:])})
+    others = {key: name for key, name in types.items() if wanted[key] != name}
+    source = read("kmip_encodings", "src", "lines.rt")
+    keys = list(zip(strings_of(source, "TAGS"), strings_of(source, "NUMBERS")))
+    names = strings_of(source, "NAMES")
+    count = len(wanted)
+    expect("kmip_encodings, lines.rt", dict(zip(keys[:count], names)), wanted)
+    expect("kmip_encodings, lines.rt, other names", dict(zip(keys[count:], names[count:])), others)
+    expect("kmip_encodings, lines.rt", {"lines": len(names)}, {"lines": len(wanted) + len(others)})
+    spec = read("kmip_encodings", "specs", "Lines.antt")
+    found = re.findall(r"\((0x\w+), \((0x\w+), codes \"(\w+)\"\)\) ∷", spec)
+    lines = [((int(tag, 16), int(number, 16)), name) for tag, number, name in found]
+    expect("Lines.antt", dict(enumerate(lines)), dict(enumerate(zip(keys, names))))
+    words = strings_of(read("kmip_encodings", "src", "table.rt"), "WORDS")
+    no_letters = str.maketrans({" ": "", "-": "", "/": "", ".": "_", "#": "_"})
+    expect(
+        "kmip_encodings, table.rt",
+        {0x420001 + at: word for at, word in enumerate(words)},
+        {number: name.translate(no_letters) for number, name in wanted_tags().items()},
+    )
+
+
+def check_clients():
+    """The names that the clients list by hand: those of options in Rust and Python, and completion's."""
+    types, bits = {}, {}
+    for line in lines_of("types.txt"):
+        words = line.split()
+        if words[0] == "MASK":
+            bits = {name: 1 << at for at, name in enumerate(words[2:])}
+        else:
+            types.setdefault(words[0], []).extend(words[3:])
+    rust = (TOP / "clients" / "rust" / "src" / "names.rs").read_text(encoding="utf-8")
+    found = re.findall(r"^enumeration! \{\n(?: *///.*\n)* *(\w+):\n([^}]*)\}", rust, re.M)
+    if not found:
+        raise SystemExit("clients/rust/src/names.rs has no enumeration")
+    expect("names.rs", {name: names.split() for name, names in found}, {name: types[name] for name, _ in found})
+    found = re.findall(r"^    (\w+) = (0x[0-9A-F_]+)$", rust, re.M)
+    expect("names.rs, uses", {name: int(bit, 16) for name, bit in found}, bits)
+    python = (TOP / "clients" / "python" / "metsuwan" / "calls.py").read_text(encoding="utf-8")
+    found = re.findall(r"'(\w+)'", re.search(r"^USES = (.*?)\)\)\}", python, re.S | re.M)[1])
+    expect("calls.py, USES", {name: 1 << at for at, name in enumerate(found)}, bits)
+    shell = (TOP / "clients" / "shell" / "completion.bash").read_text(encoding="utf-8")
+    found = re.search(r"^_kmip_operations=\(([^)]*)\)", shell, re.M)[1].split()
+    expect("completion.bash", dict(enumerate(found)), dict(enumerate(types["Operation"])))
+
+
+def main():
+    check_tags()
+    check_types()
+    check_encodings()
+    check_clients()
+    print(f"{COUNTS['passed']} passed, {COUNTS['failed']} failed")
+    sys.exit(1 if COUNTS["failed"] else 0)
+
+
+if __name__ == "__main__":
+    main()

@@ -1,0 +1,107 @@
+#!/usr/bin/env python3
+"""What can be looked at in the documents without running what they show.
+
+    documents.py FOLDER    FOLDER is the repository; prints what is wrong, and ends with 1 where something is
+
+Links lead to files and headings that are there; README has at most 100 lines; the examples of docs/CRATES.md stand word
+for word in the files that it names; and in the documents of PLAIN no sentence has more than 40 words.
+"""
+
+import re
+import sys
+from pathlib import Path
+
+MOST_LINES = 100
+MOST_WORDS = 40
+PLACES = ["*.md", "docs/*.md", "clients/*.md", "clients/*/*.md", "tools/live/*.md"]
+PLAIN = [
+    "README.md",
+    *(f"docs/{name}.md" for name in (
+        "ARCHITECTURE", "BENCHMARKS", "CALL", "CRATES", "DECISIONS", "DIFFERENCES", "LIVE", "PROGRAM", "PROVED")),
+]
+
+
+def without_code(text):
+    """The text without its blocks of code."""
+    text = re.sub(r"^ *```.*?^ *```$", "", text, flags=re.M | re.S)
+    return re.sub(r"^    .*$", "", text, flags=re.M)
+
+
+def anchors_of(path):
+    """The anchors that the headings of a document have."""
+    headings = re.findall(r"^#+ (.*)$", re.sub(r"```.*?```", "", path.read_text(encoding="utf-8"), flags=re.S), re.M)
+    return {re.sub(r"[^\w\- ]", "", heading.lower()).replace(" ", "-") for heading in headings}
+
+
+def faults_of_links(path):
+    """Links of a document that lead nowhere."""
+    for target in re.findall(r"\]\(([^)\s]+)\)", without_code(path.read_text(encoding="utf-8"))):
+        if "://" in target:
+            continue
+        file, _, anchor = target.partition("#")
+        to = (path.parent / file).resolve() if file else path
+        if not to.exists():
+            yield f"{target}: there is no such file"
+        elif anchor and anchor not in anchors_of(to):
+            yield f"{target}: there is no such heading"
+
+
+def faults_of_examples(path, top):
+    """Examples that do not stand in the file that the text before them names last."""
+    text = path.read_text(encoding="utf-8")
+    for place in re.finditer(r"```rust\n(.*?)```", text, flags=re.S):
+        names = re.findall(r"\(`(crates/\S+\.rt)`\)", text[: place.start()])
+        if not names:
+            yield "an example names no file"
+            continue
+        source = [line.strip() for line in (top / names[-1]).read_text(encoding="utf-8").splitlines()]
+        joined = "\n".join(source)
+        for part in re.split(r"^\.\.\n", place.group(1), flags=re.M):
+            wanted = "\n".join(line.strip() for line in part.strip().splitlines())
+            if wanted not in joined:
+                yield f"{names[-1]} has no lines {wanted.splitlines()[0]!r} .."
+
+
+def sentences_of(text):
+    """The sentences of a document: those of its paragraphs, items of lists and cells of tables."""
+    text = re.sub(r"\]\([^)]*\)", "]", without_code(text))
+    for block in re.split(r"\n\s*\n|\n(?=\s*[-|#>\d])", text):
+        for cell in block.split("|"):
+            yield from re.split(r"(?<=[.!?:])[)*]*\s+(?=[A-Z`*(\[])", " ".join(cell.split()))
+
+
+def faults_of_sentences(path):
+    """Sentences that are too long."""
+    for sentence in sentences_of(path.read_text(encoding="utf-8")):
+        count = len([word for word in sentence.split() if re.search(r"\w", word)])
+        if count > MOST_WORDS:
+            yield f"a sentence of {count} words: {sentence[:70]} .."
+
+
+def faults(top):
+    """What is wrong, in all documents."""
+    for path in sorted({path for place in PLACES for path in top.glob(place)}):
+        name = path.relative_to(top)
+        for fault in faults_of_links(path):
+            yield f"{name}: {fault}"
+    count = len((top / "README.md").read_text(encoding="utf-8").splitlines())
+    if count > MOST_LINES:
+        yield f"README.md: {count} lines"
+    for fault in faults_of_examples(top / "docs/CRATES.md", top):
+        yield f"docs/CRATES.md: {fault}"
+    for name in PLAIN:
+        for fault in faults_of_sentences(top / name):
+            yield f"{name}: {fault}"
+
+
+def main():
+    """Prints the faults."""
+    if len(sys.argv) != 2:
+        sys.exit("usage: documents.py FOLDER")
+    found = list(faults(Path(sys.argv[1]).resolve()))
+    print("\n".join(found) if found else "nothing is wrong")
+    sys.exit(1 if found else 0)
+
+
+if __name__ == "__main__":
+    main()

@@ -1,0 +1,70 @@
+# shellcheck shell=bash
+# needs: server
+# The commands of README.md, as they stand there, in a copy of the repository: what they write is what README says, where it
+# says something; `..` at the end of a line is the rest of it. Only the two lines of clients/build.sh are not run: $built is
+# what they make. Those with `rt` are left out where there is no toolchain.
+folder=$work/copy
+mkdir "$folder"
+(cd "$top" && git ls-files -z | xargs -0 cp --parents -t "$folder") >"$said" 2>&1
+verdict 'the repository is copied'
+cp -r "$built" "$folder/built"
+port_of() { sed -n 's/^PyKMIP listens on localhost:\([0-9]*\),.*/\1/p'; }
+
+# Runs the lines of a block that begin with `$ `, in one shell, and prints their output, each after a line `== COMMAND`.
+run_block() { # BLOCK
+    {
+        echo "cd '$folder' && PATH=\$PWD/built:\$PATH"
+        echo "unset KMIP_CALL" # as for a user who has put the folder on the path
+        sed -n 's/^\$ //p' <<<"$1" | while IFS= read -r line; do printf 'echo %q\n%s\n' "== $line" "$line"; done
+    } >"$work/block.sh"
+    # two lines are rt's own
+    bash "$work/block.sh" 2>&1 | grep -v -e '^checked: ' -e '^run='
+}
+
+# Whether what a block wrote is what it says: each line after a command, where there is one.
+is_as_said() { # BLOCK OUTPUT
+    local wanted got command
+    while IFS= read -r wanted; do
+        if [[ $wanted == '$ '* ]]; then
+            command=${wanted#'$ '}
+            until [[ ${got-} == "== $command" ]]; do IFS= read -r got <&3 || return; done
+        else
+            IFS= read -r got <&3 || return
+            if [[ $wanted == *.. ]]; then
+                # a signature is another one each time
+                [[ $got =~ ^[0-9A-F]{512}$ ]] || return
+            elif [[ $got != "$wanted" ]]; then
+                return 1
+            fi
+        fi
+    done <<<"$1" 3<"$2"
+}
+
+# The blocks of README with commands, one after the other.
+mapfile -d '' -t blocks < <(awk '/^    \$ / { within = 1 } within && !/^    / { within = 0; printf "%c", 0 }
+    within { sub(/^    /, ""); print }' "$top/README.md")
+((${#blocks[@]} == 2))
+verdict 'README has two blocks of commands'
+for block in "${blocks[@]}"; do
+    if [[ $block == *'rt try'* ]] && ! type -P rt >/dev/null; then
+        echo "skipped $client: there is no toolchain (rt)"
+        continue
+    fi
+    if [[ $block == *test_server.sh* ]]; then
+        # The server may have another port, which it says.
+        "$folder/tools/test_server.sh" start >"$said" 2>&1
+        other=$(port_of <"$said")
+        block=${block//localhost:5696/localhost:$other}
+    fi
+    run_block "$block" >"$work/output" </dev/null
+    cp "$work/output" "$said"
+    is_as_said "$block" "$work/output"
+    verdict "README: $(sed -n '1s/^\$ //p' <<<"$block" | cut -c1-60)"
+done
+if type -P rt >/dev/null; then
+    (cd "$folder/crates/kmip_run" && rt try -- replay <stdin) >"$work/output" 2>&1
+    cp "$work/output" "$said"
+    # `rt` may write lines of its own
+    grep -qxF -f <(head -1 "$top/crates/kmip_run/stdout") "$work/output"
+    verdict 'README: the recorded exchange'
+fi

@@ -1,0 +1,30 @@
+# shellcheck shell=bash
+# Records of calls: those of several processes in one file, and of a process whose standard streams are closed.
+fake many_operations
+record() {
+    KMIP_TIMEOUT=0 KMIP_RECORD=$work/shared by_shell query >/dev/null 2>>"$said"
+    echo "status $?" >>statuses
+}
+: >"$said"
+for ((i = 0; i < 12; i++)); do record & done
+wait
+[[ $(sort -u statuses) == 'status 0' ]]
+verdict 'twelve scripts record large answers in one file'
+printf '%d lines, of which %d are records\n' "$(wc -l <shared)" "$(awk 'length > 1000000 && /^query 42007B[0-9A-F]+$/ { n++ } END { print n + 0 }' shared)" >"$said"
+[[ $(<"$said") == '12 lines, of which 12 are records' ]]
+verdict 'each of them is there, whole'
+without_stream() { # WHAT: the status is that of the command before, which had not all three streams
+    local status=$?
+    printf 'status %d; the record has %d bytes\n' "$status" "$(stat -c %s secret 2>/dev/null || echo 0)" >>"$said"
+    ((status == 2)) && [[ ! -s secret ]]
+    verdict "$1: nothing is recorded"
+    rm -f secret
+}
+words=(user=u password=geheim "record=$work/secret" sign k 00)
+: >"$said"
+"$built/kmip_call" "${words[@]}" >&- 2>"$said" </dev/null
+without_stream 'standard output is closed'
+"$built/kmip_call" "${words[@]}" >"$said" 2>&- </dev/null
+without_stream 'standard error is closed'
+"$built/kmip_call" "${words[@]}" >"$said" 2>&1 <&-
+without_stream 'standard input is closed'

@@ -1,0 +1,88 @@
+"""Messages of KMIP as bytes: written item by item, and read from a connection."""
+import struct
+
+SUCCESS, FAILED, PENDING, UNDONE = 0, 1, 2, 3
+
+
+# TTLV: tag, type, length, value, padded to 8 bytes.
+
+def item(tag, kind, body):
+    pad = b'' if kind == 1 else b'\0' * (-len(body) % 8)
+    return struct.pack('>I', tag)[1:] + bytes([kind]) + struct.pack('>I', len(body)) + body + pad
+
+
+def structure(tag, *bodies):
+    return item(tag, 1, b''.join(bodies))
+
+
+def integer(tag, number):
+    return item(tag, 2, struct.pack('>i', number))
+
+
+def enumeration(tag, number):
+    return item(tag, 5, struct.pack('>I', number))
+
+
+def text(tag, value):
+    return item(tag, 7, value.encode() if isinstance(value, str) else value)
+
+
+def octets(tag, value):
+    return item(tag, 8, value)
+
+
+def date(tag, seconds):
+    return item(tag, 9, struct.pack('>q', seconds))
+
+
+def identifier(value):
+    return text(0x420094, value)
+
+
+def header(major=1, minor=2, count=1, more=b''):
+    return structure(0x42007A, structure(0x420069, integer(0x42006A, major), integer(0x42006B, minor)),
+                     date(0x420092, 1700000000), more, integer(0x42000D, count))
+
+
+def batch_item(operation, payload, status=SUCCESS, reason=None, message=None):
+    body = b'' if operation is None else enumeration(0x42005C, operation)
+    body += enumeration(0x42007F, status)
+    body += b'' if reason is None else enumeration(0x42007E, reason)
+    body += b'' if message is None else text(0x42007D, message)
+    return structure(0x42000F, body, b'' if payload is None else structure(0x42007C, *payload))
+
+
+def response(operation, payload, head=None, **how):
+    return structure(0x42007B, head or header(), batch_item(operation, payload, **how))
+
+
+def nested(levels):
+    made = b''
+    for _ in range(levels):
+        made = structure(0x420008, made)
+    return made
+
+
+def operation_of(request):
+    at = request.index(bytes.fromhex('42005C0500000004')) + 8
+    return int.from_bytes(request[at:at + 4], 'big')
+
+
+def value_of(request, tag, kind):
+    """The first value with this tag (6 hex digits) and type in a request, or None."""
+    at = request.find(bytes.fromhex(tag) + bytes([kind]))
+    if at < 0:
+        return None
+    length = int.from_bytes(request[at + 4:at + 8], 'big')
+    return request[at + 8:at + 8 + length]
+
+
+def message_of(wire):
+    """One message that came, or no bytes at the end."""
+    got = b''
+    while len(got) < 8 or len(got) < 8 + int.from_bytes(got[4:8], 'big'):
+        piece = wire.recv((8 if len(got) < 8 else 8 + int.from_bytes(got[4:8], 'big')) - len(got))
+        if not piece:
+            return b''
+        got += piece
+    return got
