@@ -131,7 +131,7 @@ is_built() { # program|library
     return 1
 }
 
-# The shell's cases need the program alone, and run while the library is built.
+# The shell's cases need the program alone, but for a few, and run while the library is built.
 cases() {
     local all=("${clients[@]}")
     if [[ -z $built ]]; then
@@ -155,7 +155,9 @@ cases() {
             return
         fi
         clients=()
-        for it in "${all[@]}"; do [[ $it == shell ]] || clients+=("$it"); done
+        for it in "${all[@]}"; do
+            if [[ $it == shell ]]; then run_cases library 8 shell; else clients+=("$it"); fi
+        done
     fi
     export KMIP_CALL=$built/kmip_call
     rest_of_cases

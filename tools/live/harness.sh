@@ -3,9 +3,9 @@
 #
 # A CASE FILE is a file of bash, each/TOPIC.sh for every client but openssl, the provider, or CLIENT/TOPIC.sh for one, where
 # CLIENT is shell, c, python, rust or openssl. It is found by its place and needs no other entry. A line
-# `# needs: server` says that it wants PyKMIP;
-# without one it is run with no server installed, against the fakes. It runs in a shell of its own, in a folder of its
-# own, beside other case files, and finds
+# `# needs: server` says that it wants PyKMIP, `# needs: library` that a case of the shell wants the libraries too; without
+# one it is run with no server installed, against the fakes. It runs in a shell of its own, in a folder of its own, beside
+# other case files, and finds
 #
 #   $client $top $built      the client, the repository, the folder that clients/build.sh made
 #   $certs $work             the certificates of certs.sh, and an empty folder for this file
@@ -211,14 +211,16 @@ without_open() {
         { print }'
 }
 
-# The case files of a client that want the server, or those that don't, one a line.
-cases_of() { # CLIENT server|fakes
+# The case files of a client that want the server, those that don't, or of the latter those that want the libraries in
+# $built, one a line. Where there are no libraries, those are none of the others.
+cases_of() { # CLIENT server|fakes|library
     local file needs files=("$here/$1"/*.sh)
     if [[ $1 != openssl ]]; then files=("$here"/each/*.sh "${files[@]}"); fi
     for file in "${files[@]}"; do
         [[ -e $file && ${file##*/} != client.sh ]] || continue
         needs=fakes
         if grep -q '^# needs: server' "$file"; then needs=server; fi
+        if grep -q '^# needs: library' "$file" && [[ $2 == library || ! -e $built/libmetsuwan.a ]]; then needs=library; fi
         [[ $needs == "$2" ]] || continue
         file=${file#"$here/"}
         if ((${#topics[@]} == 0)) || [[ " ${topics[*]} " == *" $(basename "$file" .sh) "* ]]; then printf '%s\n' "$file"; fi
@@ -242,7 +244,7 @@ running() {
 
 # Runs the case files of these clients, so many at once, and prints what each wrote, in order. Where `again` is set, those
 # that failed are then run once more, one at a time, and the second run counts.
-run_cases() { # server|fakes AT-ONCE CLIENT..
+run_cases() { # server|fakes|library AT-ONCE CLIENT..
     local who file list=() processes=() failed=() shown=0
     for who in "${@:3}"; do
         while read -r file; do list+=("$who $file"); done < <(cases_of "$who" "$1")

@@ -1,5 +1,6 @@
 # shellcheck shell=bash
 # clients/install.sh and clients/release.sh: what they leave, in an empty folder, and what is made with it there.
+# needs: library
 for it in gcc:gcc make:make nm:binutils dpkg-deb:dpkg; do
     type -P "${it%:*}" >/dev/null && continue
     printf 'skipped shell: packages are not made: there is no %s (Debian: apt-get install %s)\n' "${it%:*}" "${it#*:}"
