@@ -5,28 +5,29 @@ from spelling import spelled
 HEAD = """\
 # Names
 
-What the options of calls take, and what stands in JSON and XML for the numbers of KMIP 1.2.
+What the options of calls take, and what JSON and XML have for the numbers of KMIP 1.2.
 
 ## Values of options
+
+The names are those of the Rust crate kmip-protocol, in every client. Uses are separated by commas:
+`Encrypt,Decrypt`.
 
 | option, or word | values |
 |---|---|
 {options}
-
-A list of uses is written with a comma between two, as `Encrypt,Decrypt`. These names are those of
-the Rust crate kmip-protocol, and the same in every client.
+| `operation NAME` | the names of [Operation](#enumerations-in-json-and-xml), either of two |
 
 ## Enumerations in JSON and XML
 
-An enumeration's value is written by the name that KMIP's encodings give it: KMIP's own text, in
-which brackets become spaces, a word begins with a capital, and spaces go. A character that is no
-letter and no digit is left out where a word follows it, and is `_` elsewhere. Digits that begin the
-text stand behind its first word. `tables/enumerations.toml` has KMIP's text of each.
+A number (in hex here) is written as its name; one without a name as `0x` and eight digits, a form
+that is read for every number. A name in brackets is that of kmip-protocol: read, and never written.
 
-Numbers are in hex. One that has no name is written `0x` and eight digits, which are read for every
-number. A name in brackets is that of kmip-protocol: it is read too, and never written.
+The names are made of KMIP's text (`tables/enumerations.toml`) by the rule of OASIS's encodings:
+brackets become spaces, a word begins with a capital, and spaces go. A character that is no letter
+and no digit is left out where a word follows it, and is `_` elsewhere. Digits that begin the text
+stand behind its first word.
 
-| enumeration | tag | KMIP 1.2 | values |
+| enumeration | tag | KMIP 1.2: 9.1.3.2. | values |
 |---|---|---|---|
 """
 
@@ -40,24 +41,23 @@ OPTIONS = [
     ("`hash=`", "HashingAlgorithm"),
     ("`padding=`", "PaddingMethod"),
     ("`reason=`", "RevocationReasonCode"),
-    ("`operation NAME`", "Operation"),
 ]
 
 
 def option_row(option, table):
-    return f"| {option} | {', '.join(f'`{value.variant}`' for value in table.typed)} |"
+    return f"| {option} | {', '.join(value.variant for value in table.typed)} |"
 
 
 def named(value):
     """A value: its number, its name, and the other one that is read."""
     name = spelled(value.text)
-    other = f" (`{value.variant}`)" if value.variant not in ("", name) else ""
-    return f"{value.number:X} `{name}`{other}"
+    other = f" ({value.variant})" if value.variant not in ("", name) else ""
+    return f"{value.number:X} {name}{other}"
 
 
 def enumeration_row(table, tag):
     values = ", ".join(named(value) for value in table.values)
-    return f"| {tag} | {table.tag:06X} | {table.section} | {values} |"
+    return f"| {tag} | {table.tag:06X} | {table.section.removeprefix('9.1.3.2.')} | {values} |"
 
 
 def files(tables):
