@@ -3,8 +3,8 @@
 
     documents.py FOLDER    FOLDER is the repository; prints what is wrong, and ends with 1 where something is
 
-Links lead to files and headings that are there; README has at most 100 lines; the examples of docs/CRATES.md stand word
-for word in the files that it names; and in the documents of PLAIN no sentence has more than 40 words.
+Links lead to files and headings that are there; README has at most 100 lines; the examples in the READMEs of crates stand
+word for word in the files that these name; and in the documents of PLAIN no sentence has more than 40 words.
 """
 
 import re
@@ -13,12 +13,13 @@ from pathlib import Path
 
 MOST_LINES = 100
 MOST_WORDS = 40
-PLACES = ["*.md", "docs/*.md", "clients/*.md", "clients/*/*.md", "tools/live/*.md"]
+PLACES = ["*.md", "docs/*.md", "crates/*/*.md", "clients/*.md", "clients/*/*.md", "tools/live/*.md"]
 PLAIN = [
     "README.md",
     *(f"docs/{name}.md" for name in (
-        "ARCHITECTURE", "BENCHMARKS", "CALL", "CRATES", "DECISIONS", "DIFFERENCES", "LIVE", "PROGRAM", "PROVED")),
+        "ARCHITECTURE", "BENCHMARKS", "CALL", "DECISIONS", "DIFFERENCES", "LIVE", "PROGRAM", "PROVED")),
 ]
+CRATES = "crates/*/README.md"
 
 
 def without_code(text):
@@ -87,11 +88,13 @@ def faults(top):
     count = len((top / "README.md").read_text(encoding="utf-8").splitlines())
     if count > MOST_LINES:
         yield f"README.md: {count} lines"
-    for fault in faults_of_examples(top / "docs/CRATES.md", top):
-        yield f"docs/CRATES.md: {fault}"
-    for name in PLAIN:
-        for fault in faults_of_sentences(top / name):
-            yield f"{name}: {fault}"
+    crates = sorted(top.glob(CRATES))
+    for path in crates:
+        for fault in faults_of_examples(path, top):
+            yield f"{path.relative_to(top)}: {fault}"
+    for path in (*(top / name for name in PLAIN), *crates):
+        for fault in faults_of_sentences(path):
+            yield f"{path.relative_to(top)}: {fault}"
 
 
 def main():
