@@ -9,13 +9,13 @@ What the options of calls take, and what JSON and XML have for the numbers of KM
 
 ## Values of options
 
-The names are those of the Rust crate kmip-protocol, in every client. Uses are separated by commas:
-`Encrypt,Decrypt`.
+An option takes names of an enumeration below, in every client; where a value has two names, the one
+in brackets. `kmip_call --help` lists them.
 
 | option, or word | values |
 |---|---|
 {options}
-| `operation NAME` | the names of [Operation](#enumerations-in-json-and-xml), either of two |
+| `operation NAME` | Operation, by either name |
 
 ## Enumerations in JSON and XML
 
@@ -44,8 +44,16 @@ OPTIONS = [
 ]
 
 
-def option_row(option, table):
-    return f"| {option} | {', '.join(value.variant for value in table.typed)} |"
+def option_row(option, table, tags):
+    """An option: its names, or the enumeration whose names they are, all of them or the first ones."""
+    names = ", ".join(value.variant for value in table.typed)
+    if table.mask:
+        shown = f"{names}; `,` stands between two"
+    elif len(table.typed) == len(table.values):
+        shown = tags[table.tag]
+    else:
+        shown = f"{tags[table.tag]}: {names}"
+    return f"| {option} | {shown} |"
 
 
 def named(value):
@@ -63,6 +71,6 @@ def enumeration_row(table, tag):
 def files(tables):
     tags = dict(tables["tags"])
     by_name = {table.name: table for table in tables["enumerations"]}
-    options = "\n".join(option_row(option, by_name[name]) for option, name in OPTIONS)
+    options = "\n".join(option_row(option, by_name[name], tags) for option, name in OPTIONS)
     rows = [enumeration_row(table, tags[table.tag]) for table in tables["enumerations"] if not table.mask]
     yield "docs/NAMES.md", HEAD.format(options=options) + "\n".join(rows) + "\n"
