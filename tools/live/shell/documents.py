@@ -4,7 +4,8 @@
     documents.py FOLDER    FOLDER is the repository; prints what is wrong, and ends with 1 where something is
 
 Links lead to files and headings that are there; README has at most 100 lines; the examples in the READMEs of crates stand
-word for word in the files that these name; and in the documents of PLAIN no sentence has more than 40 words.
+word for word in the files that these name; the names in the documents of NAMED are names in the code; and in the documents
+of PLAIN no sentence has more than 40 words.
 """
 
 import re
@@ -19,7 +20,9 @@ PLAIN = [
     *(f"docs/{name}.md" for name in (
         "ARCHITECTURE", "BENCHMARKS", "CALL", "DECISIONS", "DIFFERENCES", "LIVE", "PROGRAM", "PROVED")),
 ]
+NAMED = [f"docs/{name}.md" for name in ("ARCHITECTURE", "DECISIONS", "PROVED")]
 CRATES = "crates/*/README.md"
+SOURCES = ["crates.txt", "crates/*/src/**/*.rt", "crates/*/specs/**/*.antt", "crates/*/proofs/**/*.antt"]
 
 
 def without_code(text):
@@ -63,6 +66,23 @@ def faults_of_examples(path, top):
                 yield f"{names[-1]} has no lines {wanted.splitlines()[0]!r} .."
 
 
+def words_of_sources(top):
+    """All words of the crates' code, definitions and proofs."""
+    words = set()
+    for place in SOURCES:
+        for path in top.glob(place):
+            words.update(re.findall(r"\w+", path.read_text(encoding="utf-8")))
+    return words
+
+
+def faults_of_names(path, words):
+    """Names in code marks, as `IsCall` or `call.exchange`, that the code has not."""
+    for name in re.findall(r"`([A-Za-z]\w*(?:(?:::|\.)\w+)*)`", without_code(path.read_text(encoding="utf-8"))):
+        # the name of a file ends in its kind
+        if not re.search(r"\.(antt|json|rt|toml|txt)$", name) and not words.issuperset(re.split(r"::|\.", name)):
+            yield f"{name}: the code has no such name"
+
+
 def sentences_of(text):
     """The sentences of a document: those of its paragraphs, items of lists and cells of tables."""
     text = re.sub(r"\]\([^)]*\)", "]", without_code(text))
@@ -92,6 +112,10 @@ def faults(top):
     for path in crates:
         for fault in faults_of_examples(path, top):
             yield f"{path.relative_to(top)}: {fault}"
+    words = words_of_sources(top)
+    for name in NAMED:
+        for fault in faults_of_names(top / name, words):
+            yield f"{name}: {fault}"
     for path in (*(top / name for name in PLAIN), *crates):
         for fault in faults_of_sentences(path):
             yield f"{path.relative_to(top)}: {fault}"
