@@ -22,10 +22,8 @@ in brackets. `kmip_call --help` lists them.
 A number (in hex here) is written as its name; one without a name as `0x` and eight digits, a form
 that is read for every number. A name in brackets is that of kmip-protocol: read, and never written.
 
-The names are made of KMIP's text (`tables/enumerations.toml`) by the rule of OASIS's encodings:
-brackets become spaces, a word begins with a capital, and spaces go. A character that is no letter
-and no digit is left out where a word follows it, and is `_` elsewhere. Digits that begin the text
-stand behind its first word.
+The names are made of KMIP's text (`tables/enumerations.toml`) by the rule of OASIS's encodings
+(`tables/spelling.py`).
 
 | enumeration | tag | KMIP 1.2: 9.1.3.2. | values |
 |---|---|---|---|
