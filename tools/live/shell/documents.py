@@ -79,7 +79,7 @@ def faults_of_names(path, words):
     """Names in code marks, as `IsCall` or `call.exchange`, that the code has not."""
     for name in re.findall(r"`([A-Za-z]\w*(?:(?:::|\.)\w+)*)`", without_code(path.read_text(encoding="utf-8"))):
         # the name of a file ends in its kind
-        if not re.search(r"\.(antt|json|rt|toml|txt)$", name) and not words.issuperset(re.split(r"::|\.", name)):
+        if not re.search(r"\.(antt|c|h|json|md|py|rs|rt|sh|toml|txt)$", name) and not words.issuperset(re.split(r"::|\.", name)):
             yield f"{name}: the code has no such name"
 
 
