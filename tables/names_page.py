@@ -19,8 +19,9 @@ in brackets. `kmip_call --help` lists them.
 
 ## Enumerations in JSON and XML
 
-A number (in hex here) is written as its name; one without a name as `0x` and eight digits, a form
-that is read for every number. A name in brackets is that of kmip-protocol: read, and never written.
+A number is written as its name; one without a name as `0x` and eight digits, a form that is read for
+every number. A name in brackets is that of kmip-protocol: read, and never written. The numbers here
+are in hex, and grow by 1 from name to name.
 
 The names are made of KMIP's text (`tables/enumerations.toml`) by the rule of OASIS's encodings
 (`tables/spelling.py`).
@@ -55,15 +56,18 @@ def option_row(option, table, tags):
 
 
 def named(value):
-    """A value: its number, its name, and the other one that is read."""
+    """A value: its name, and the other one that is read."""
     name = spelled(value.text)
-    other = f" ({value.variant})" if value.variant not in ("", name) else ""
-    return f"{value.number:X} {name}{other}"
+    return name if value.variant in ("", name) else f"{name} ({value.variant})"
 
 
 def enumeration_row(table, tag):
-    values = ", ".join(named(value) for value in table.values)
-    return f"| {tag} | {table.tag:06X} | {table.section.removeprefix('9.1.3.2.')} | {values} |"
+    """An enumeration: a number stands before each eighth name, and where one is left out."""
+    shown = []
+    for at, value in enumerate(table.values):
+        follows = at % 8 and value.number == table.values[at - 1].number + 1
+        shown.append(named(value) if follows else f"{value.number:X} {named(value)}")
+    return f"| {tag} | {table.tag:06X} | {table.section.removeprefix('9.1.3.2.')} | {', '.join(shown)} |"
 
 
 def files(tables):
