@@ -138,6 +138,23 @@ const ENCRYPTED: Row = Row {
     ..ANSWERED
 };
 
+/// An Encrypt of a payload of 62 levels, whose message has 64.
+pub const DEEPEST: Row = Row {
+    shows: "a message of 64 levels",
+    sent: "REQ2(1F, 79^61{})",
+    ..ENCRYPTED
+};
+
+/// One whose message would have more, for which nothing is sent or read.
+pub const TOO_DEEP: Row = Row {
+    shows: "a message of more than 64 levels",
+    sent: "",
+    line: "{\"error\":\"SerializeError\",\"text\":\"request has no wire form\"}\n",
+    status: 1,
+    left: 168,
+    ..ENCRYPTED
+};
+
 /// An operation without a payload, for which nothing is sent or read.
 const NO_OPERATION: Row = Row {
     shows: "an operation without a payload",
