@@ -10,6 +10,7 @@
 
 mod command;
 mod exchange;
+mod file_words;
 mod help;
 mod program;
 mod record;
@@ -22,15 +23,16 @@ mod tree_words;
 mod wire;
 
 use command::{Command, Order, command_of};
+use file_words::{file_in, with_contents};
 use help::{grammar_json, help_text};
 use kmip_link::{MemorySink, Sink, StdSink, StdSource};
 use kmip_wire::{List, OutOfMemory, Text};
-use kmip_words::Ending;
+use kmip_words::{Ending, number_of};
 use refusal::{CLOSED_STREAM, NO_FILE, WRONG_LIMIT, refuse};
 use status::Status;
 use std::env::{self, VarError};
-use std::fs::{File, OpenOptions};
-use std::io::{self, Write};
+use std::fs::{self, File, OpenOptions};
+use std::io::{self, ErrorKind, Write};
 use std::os::fd::AsRawFd;
 use std::os::unix::fs::{FileExt, OpenOptionsExt};
 use std::process::ExitCode;
@@ -79,6 +81,41 @@ fn say_made(rt: &HostRuntime, text: Result<Text, OutOfMemory>) -> Status {
 /// Writes on standard error why no call is made, and returns the status.
 fn refuse_with(rt: &HostRuntime, text: &str) -> Status {
     refuse(rt.alloc(), text, &mut StdSink::new(rt.stderr()))
+}
+
+/// What a file has that a word names by `@FILE`, or a descriptor by `@3`, up to its end.
+fn read_named(rt: &HostRuntime, name: &str) -> io::Result<Vec<u8>> {
+    let Some(number) = number_of(name) else {
+        return fs::read(rt, name);
+    };
+    if number < 3 {
+        let why = "0, 1 and 2 are the connection and the answer";
+        return Err(io::Error::new(ErrorKind::InvalidInput, why));
+    }
+    let path = format!(in rt.alloc(); "/dev/fd/{number}")?;
+    fs::read(rt, path.as_str())
+}
+
+/// Puts what a file has in the place of the word of a call that names it, where one does. It
+/// returns why it cannot.
+fn fill(rt: &HostRuntime, order: &mut Order) -> Result<Option<Text>, OutOfMemory> {
+    let Some(name) = file_in(order.words.as_slice()) else {
+        return Ok(None);
+    };
+    let contents = match read_named(rt, name) {
+        Ok(contents) => contents,
+        Err(error) if error.kind() == ErrorKind::OutOfMemory => return Err(OutOfMemory),
+        Err(error) => {
+            let why = format!(in rt.alloc(); "cannot read @{name}: {error}")?;
+            return Ok(Some(Text::of_string(why)));
+        }
+    };
+    let Some(words) = with_contents(rt.alloc(), &contents, order.words.as_slice())? else {
+        let why = format!(in rt.alloc(); "@{name} is no JSON: it is not UTF-8")?;
+        return Ok(Some(Text::of_string(why)));
+    };
+    order.words = words;
+    Ok(None)
 }
 
 /// Whether the file of records has this length and ends in a line feed, or is empty.
@@ -150,6 +187,16 @@ fn perform(rt: &HostRuntime, order: &Order) -> Status {
     }
 }
 
+/// Makes a call, whose words may name a file, and returns the status. Where that cannot be read, it
+/// is `NoCall`.
+fn perform_named(rt: &HostRuntime, mut order: Order) -> Status {
+    match fill(rt, &mut order) {
+        Ok(None) => perform(rt, &order),
+        Ok(Some(why)) => refuse_with(rt, why.as_str()),
+        Err(OutOfMemory) => Status::OutOfMemory,
+    }
+}
+
 fn main(rt: HostRuntime) -> ExitCode {
     if has_closed_stream(&rt) {
         return ExitCode::from(refuse_with(&rt, CLOSED_STREAM).code());
@@ -165,7 +212,7 @@ fn main(rt: HostRuntime) -> ExitCode {
         Ok(Some(Command::Help)) => say_made(&rt, help_text(rt.alloc())),
         Ok(Some(Command::Grammar)) => say_made(&rt, grammar_json(rt.alloc())),
         Ok(Some(Command::Version)) => say(&rt, VERSION),
-        Ok(Some(Command::Make(order))) => perform(&rt, &order),
+        Ok(Some(Command::Make(order))) => perform_named(&rt, order),
         Ok(None) => refuse_with(&rt, WRONG_LIMIT),
         Err(OutOfMemory) => Status::OutOfMemory,
     };

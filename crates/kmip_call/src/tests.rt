@@ -19,6 +19,7 @@ use std::test::Fail;
 
 mod answers;
 mod errors;
+mod files;
 
 /// The request of `rng 16`, and its response.
 const RNG: &str = "REQ2(25, C4 i16)";
