@@ -2,6 +2,7 @@
    status is that of the call.
 
        operate HOST PORT CERTIFICATE KEY AUTHORITY OPERATION PAYLOAD */
+#define _POSIX_C_SOURCE 200809L
 #include "testing.h"
 
 int main(int argc, char **argv) {
