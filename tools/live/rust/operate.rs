@@ -3,12 +3,27 @@
 //! operate HOST PORT CERTIFICATE KEY AUTHORITY OPERATION PAYLOAD
 mod settings;
 
-fn main() -> Result<(), settings::Failure> {
+use settings::Failure;
+use std::process::ExitCode;
+
+fn answer() -> Result<String, Failure> {
     let words = settings::arguments()?;
     let Some((server, [name, payload])) = settings::server_of(&words)? else {
         return Err(settings::wrong("the words are no operation and its payload"));
     };
     let answer = server.connect()?.build().operation(name, "1.2", payload)?;
-    println!("{{\"answer\":{}}}", answer.json());
-    Ok(())
+    Ok(format!("{{\"answer\":{}}}", answer.json()))
+}
+
+fn main() -> ExitCode {
+    match answer() {
+        Ok(line) => {
+            println!("{line}");
+            ExitCode::SUCCESS
+        }
+        Err(Failure(line, status)) => {
+            settings::say(&line);
+            ExitCode::from(status)
+        }
+    }
 }
