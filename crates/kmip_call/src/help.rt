@@ -57,7 +57,7 @@ record=FILE          adds CALL and the response to FILE, as a line that
 
 Status   0 answered   1 refused   2 the words are no call: nothing was sent
          3 the connection is lost   4 the answer or record is not written
-         5 out of memory, or a word or the password is not UTF-8
+         5 out of memory
 After 3, 4 and 5 the connection is to be closed.
 ";
 

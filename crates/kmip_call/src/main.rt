@@ -28,7 +28,7 @@ use help::{grammar_json, help_text};
 use kmip_link::{MemorySink, Sink, StdSink, StdSource};
 use kmip_wire::{List, OutOfMemory, Text};
 use kmip_words::{Ending, number_of};
-use refusal::{CLOSED_STREAM, NO_FILE, WRONG_LIMIT, refuse};
+use refusal::{CLOSED_STREAM, NO_FILE, NOT_UTF8, WRONG_LIMIT, refuse};
 use status::Status;
 use std::env::{self, VarError};
 use std::fs::{self, File, OpenOptions};
@@ -39,11 +39,27 @@ use std::process::ExitCode;
 
 const VERSION: &str = "kmip_call 1.0\n";
 
-/// The words after the program's name. `OutOfMemory` comes also where one of them is not UTF-8.
-fn given_words(rt: &HostRuntime) -> Result<List<Text>, OutOfMemory> {
+/// Why the words or the password of the environment are not had.
+#[derive(Drop)]
+enum NotRead {
+    OutOfMemory,
+    /// One of them is not UTF-8.
+    NotUtf8,
+}
+
+impl From<OutOfMemory> for NotRead {
+    fn from(_: OutOfMemory) -> NotRead {
+        NotRead::OutOfMemory
+    }
+}
+
+/// The words after the program's name.
+fn given_words(rt: &HostRuntime) -> Result<List<Text>, NotRead> {
     let mut words = List::new(rt.alloc());
-    let Ok(args) = env::args(rt) else {
-        return Err(OutOfMemory);
+    let args = match env::args(rt) {
+        Ok(args) => args,
+        Err(error) if error.kind() == ErrorKind::InvalidData => return Err(NotRead::NotUtf8),
+        Err(_) => return Err(NotRead::OutOfMemory),
     };
     for word in args.skip(1) {
         words.push(Text::of(rt.alloc(), word.as_str())?)?;
@@ -51,13 +67,13 @@ fn given_words(rt: &HostRuntime) -> Result<List<Text>, OutOfMemory> {
     Ok(words)
 }
 
-/// The password of the environment, `KMIP_PASSWORD`. `OutOfMemory` comes also where it is not
-/// UTF-8.
-fn given_password(rt: &HostRuntime) -> Result<Option<Text>, OutOfMemory> {
+/// The password of the environment, `KMIP_PASSWORD`.
+fn given_password(rt: &HostRuntime) -> Result<Option<Text>, NotRead> {
     match env::var(rt, "KMIP_PASSWORD") {
         Ok(password) => Ok(Some(Text::of(rt.alloc(), password.as_str())?)),
         Err(VarError::NotPresent) => Ok(None),
-        Err(_) => Err(OutOfMemory),
+        Err(VarError::NotUnicode) => Err(NotRead::NotUtf8),
+        Err(VarError::OutOfMemory) => Err(NotRead::OutOfMemory),
     }
 }
 
@@ -201,8 +217,12 @@ fn main(rt: HostRuntime) -> ExitCode {
     if has_closed_stream(&rt) {
         return ExitCode::from(refuse_with(&rt, CLOSED_STREAM).code());
     }
-    let (Ok(words), Ok(password)) = (given_words(&rt), given_password(&rt)) else {
-        return ExitCode::from(Status::OutOfMemory.code());
+    let (words, password) = match (given_words(&rt), given_password(&rt)) {
+        (Ok(words), Ok(password)) => (words, password),
+        (Err(NotRead::OutOfMemory), _) | (_, Err(NotRead::OutOfMemory)) => {
+            return ExitCode::from(Status::OutOfMemory.code());
+        }
+        _ => return ExitCode::from(refuse_with(&rt, NOT_UTF8).code()),
     };
     let password = match &password {
         Some(password) => Some(password.as_str()),
