@@ -12,6 +12,7 @@ mod command;
 mod exchange;
 mod file_words;
 mod help;
+mod last_error;
 mod program;
 mod record;
 mod refusal;
@@ -28,6 +29,7 @@ use help::{grammar_json, help_text};
 use kmip_link::{MemorySink, Sink, StdSink, StdSource};
 use kmip_wire::{List, OutOfMemory, Text};
 use kmip_words::{Ending, number_of};
+use last_error::{LastError, Watched};
 use refusal::{CLOSED_STREAM, NO_FILE, NOT_UTF8, WRONG_LIMIT, refuse};
 use status::Status;
 use std::env::{self, VarError};
@@ -178,10 +180,26 @@ fn take_back_part(file: &File, len: u64) -> io::Result<()> {
 /// Makes a call over standard input and output, with this sink for its record, and returns the
 /// status.
 fn perform_over<F: Sink>(rt: &HostRuntime, order: &Order, kept: &mut F) -> Status {
-    let mut wire = StdSink::new(rt.stdout());
-    let mut source = StdSource::new(rt.stdin());
+    let last = LastError::new();
+    let (stdout, stdin) = (rt.stdout(), rt.stdin());
+    let mut wire = StdSink::new(Watched {
+        stream: stdout,
+        last: &last,
+    });
+    let mut source = StdSource::new(Watched {
+        stream: stdin,
+        last: &last,
+    });
     let mut told = StdSink::new(rt.stderr());
-    program::run(rt.alloc(), order, &mut wire, &mut source, kept, &mut told)
+    program::run(
+        rt.alloc(),
+        order,
+        &mut wire,
+        &mut source,
+        kept,
+        &mut told,
+        &last,
+    )
 }
 
 /// Makes a call, and returns the status. Where the file for the record cannot be opened or locked,

@@ -46,7 +46,7 @@ fn not_typed(alloc: Global, words: &[Text]) -> Result<Text, OutOfMemory>
 }
 
 /// A text and another after it.
-fn joined(alloc: Global, front: &str, rest: &str) -> Result<Text, OutOfMemory>
+pub fn joined(alloc: Global, front: &str, rest: &str) -> Result<Text, OutOfMemory>
     ensures { IfOk result (λ text. text ≡ front.now ++ rest.now) }
 {
     let mut text = Text::of(alloc, front)?;

@@ -6,6 +6,7 @@ use self::answers::{ANSWERS, DEEPEST, MESSAGES, OPERATIONS, TOO_DEEP};
 use self::errors::{AROUND, ERRORS, GRAMMAR, RECORDS};
 use crate::command::{Command, command_of};
 use crate::help::{grammar_json, help_text};
+use crate::last_error::LastError;
 use crate::program::run;
 use crate::refusal::{WRONG_LIMIT, refuse};
 use crate::status::Status;
@@ -211,6 +212,7 @@ fn ordered(alloc: Global, command: &Option<Command>, ends: &mut Ends) -> Status 
             &mut ends.source,
             &mut ends.kept,
             &mut ends.told,
+            &LastError::new(),
         ),
         None => refuse(alloc, WRONG_LIMIT, &mut ends.told),
         _ => Status::NoCall,

@@ -1,5 +1,5 @@
 # shellcheck shell=bash
-# What kmip_call reads from a file or a descriptor in the place of a word, and what it says where it cannot.
+# What kmip_call reads from a file or a descriptor in the place of a word, and what it says where it cannot, or cannot write.
 printf '\012\377@' >'the data'
 printf %s '{"tag":"RequestPayload","value":[]}' >payload.json
 printf '"\377"' >other.json
@@ -55,3 +55,22 @@ KMIP_RECORD=$work/calls script_is 'a key that is recorded' 0 'open
     kmip register symmetric 0aff40 format=Raw algorithm=AES length=24; kmip_close'
 grep -q '^raw 420078[0-9A-F]*0AFF40[0-9A-F]* 42007B' calls
 verdict 'is so with its hex'
+
+# An output that is full.
+"$KMIP_CALL" query >/dev/full 2>"$said" <empty
+(($? == 3))
+verdict 'a request that cannot be written'
+says 'its reason is said' '^\{"error":"RequestWriteError","text":"link failed: No space left on device \(os error 28\)"\}$'
+"$KMIP_CALL" query >sent 2>"$said" <folder
+(($? == 3))
+verdict 'a response that cannot be read'
+says 'its reason is said, too' '^\{"error":"ResponseReadError","text":"link failed: Is a directory \(os error 21\)"\}$'
+"$KMIP_CALL" qeury >sent 2>/dev/full <empty
+(($? == 2))
+verdict 'a refusal that cannot be written has its status'
+"$KMIP_CALL" query >sent 2>/dev/full <empty
+(($? == 4))
+verdict 'and so has an answer'
+"$KMIP_CALL" --help >/dev/full 2>"$said"
+(($? == 4))
+verdict 'and a help'
