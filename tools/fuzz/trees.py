@@ -256,11 +256,12 @@ class Values:
                 found('a value at', path, call, response.hex())
 
 
-def has_empty_identifier(payload: Any) -> bool:
-    """Whether one of its items is an empty Unique Identifier: a request with such a payload is
-    refused."""
-    empty = {'tag': 'UniqueIdentifier', 'type': 'TextString', 'value': ''}
-    return empty in payload['value']
+def has_empty_identifier(item: Any) -> bool:
+    """Whether it is an empty Unique Identifier, or has one anywhere: a request with such a payload
+    is refused."""
+    if item == {'tag': 'UniqueIdentifier', 'type': 'TextString', 'value': ''}:
+        return True
+    return isinstance(item['value'], list) and any(map(has_empty_identifier, item['value']))
 
 
 def check_payload(library: Library, asked: Operation, answer: Any, tree: List[Item]) -> None:
