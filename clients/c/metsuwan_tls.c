@@ -425,33 +425,10 @@ static int wrong_operation(kmip_client *client) {
     }
 }
 
-static size_t number_at(const uint8_t *bytes) {
-    return (size_t)bytes[0] << 24 | (size_t)bytes[1] << 16 | (size_t)bytes[2] << 8 | bytes[3];
-}
-
-/* Whether a message has an empty Unique Identifier; the library looks at that of the payload alone,
-   and not at those within its structures. The items are gone through in their order: the first of a
-   structure follows its head, and each other what is before it. */
-static bool has_empty_identifier(const uint8_t *message, size_t length) {
-    enum { IDENTIFIER = 0x42009407, STRUCTURE = 1 };
-    for (size_t at = 0; at + HEAD <= length;) {
-        size_t count = number_at(message + at + 4);
-        if (number_at(message + at) == IDENTIFIER && count == 0) return true;
-        bool goes_in = message[at + 3] == STRUCTURE;
-        at += HEAD;
-        if (!goes_in && count > length - at) return false;
-        if (!goes_in) at += (count + 7) / 8 * 8;
-    }
-    return false;
-}
-
 /* The same for any operation, whose three texts stand in the client. */
 static int call_operation(kmip_client *client) {
     int64_t length = make_request(client, 0);
     if (length == KMIP_LENGTH_GRAMMAR) return wrong_operation(client);
-    if (length > 0 && has_empty_identifier(client->request.bytes, (size_t)length))
-        return fails_as(client, KMIP_CALL_GRAMMAR, "GrammarError",
-                        "the payload: a UniqueIdentifier in it is empty");
     return exchange_of(client, 0, length);
 }
 
