@@ -9,8 +9,8 @@ const { sent, received } = messages.capture(40, 32);
 const faulty = Object.fromEntries(Object.entries(messages.faults)
   .map(([name, it]) => [name, it[0]]));
 const lists = { 'all types': messages.allTypes, 'a request': request, 'a response': response,
-  'a failure': messages.exchange(3, 16)[1], 'a stream': sent, 'nothing': Buffer.alloc(0),
-  'one byte': Buffer.from([0x42]), ...faulty };
+  'attributes': messages.attributes, 'a failure': messages.exchange(3, 16)[1], 'a stream': sent,
+  'nothing': Buffer.alloc(0), 'one byte': Buffer.from([0x42]), ...faulty };
 
 const textOrCode = (name, bytes) => textFrom(name, [bytes]) ?? 'code -3';
 function framed(bytes) {
@@ -67,16 +67,24 @@ const listing = bytes => textFrom('web_listing', [bytes]).split('\n').slice(0, -
 function plain(line) {
   const [at, tag, , kind, value] = line.split('\t');
   if (!tag) return line;
-  return [at, tag, kind, kind === 'Enumeration' ? value.split(' ')[0] : value].join('\t');
+  return [at, tag, kind, /^(?:Enumeration|Integer)$/.test(kind) ? value.split(' ')[0] : value]
+    .join('\t');
 }
 async function listings({ verdict }, page) {
   const wrong = [];
-  for (const name of ['all types', 'a request', 'a response', 'a stream']) {
+  for (const name of ['all types', 'a request', 'a response', 'attributes', 'a stream']) {
     const lines = (await page.call(listing, lists[name])).map(plain);
     if (String(lines) !== String(messages.listed(lists[name]))) wrong.push(name);
   }
   verdict('the listings are what another reader finds: places, tags, types and values',
     !wrong.length, wrong);
+}
+// The values by name: under Attribute Value by the Attribute Name before it in the structure.
+async function names({ verdict }, page) {
+  const lines = (await page.call(listing, messages.attributes)).map(it => it.split('\t'));
+  const got = lines.filter(it => /^(?:Enumeration|Integer)$/.test(it[3])).map(it => it[4]);
+  verdict('enumerations and masks have their names, also under Attribute Value',
+    String(got) === String(messages.attributeValues), got);
 }
 function offsetsOf(bytes) {
   const offsets = [], walk = it => {
@@ -112,7 +120,7 @@ async function faults({ verdict }, page) {
     && part.includes('No item at') && part.includes('0xA Get'), part);
 }
 async function exports(harness, page) {
-  for (const run of [asNative, textsAsNative, reports, listings, offsets, faults]) {
+  for (const run of [asNative, textsAsNative, reports, listings, names, offsets, faults]) {
     await run(harness, page);
   }
   await page.call(seen.clear);

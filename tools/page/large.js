@@ -154,6 +154,7 @@ async function parts({ verdict }, page) {
     inner => structure(0x420091, inner, text(0x420094, 'x'), structure(0x420091), inner),
     structure(0x420091, text(0x420094, 'y')));
   const lists = { deep, cut: deep.subarray(0, -40), 'all types': messages.allTypes,
+    attributes: messages.attributes,
     ...Object.fromEntries(Object.entries(messages.faults).map(([name, it]) => [name, it[0]])) };
   const listed = (bytes, room) => {
     const it = { ...newListing(bytes, faultOf(bytes).at), isLong: true, room, part: room };

@@ -46,6 +46,28 @@ const allTypes = structure(0x420078, integer(0x42000D, -5), long(0x42000D, -9007
   bytes(0x420043, Buffer.from('00ff10', 'hex')), date(0x420092, -1), date(0x420092, 1764374400),
   interval(0x420049, 4294967295), structure(0x420091), text(0x540001, 'of nobody'));
 
+// Values that have names by the tables of KMIP 1.2, 9.1.3.2 and 9.1.3.3, and what is shown of them.
+const USES = 'Sign Verify Encrypt Decrypt WrapKey UnwrapKey Export MACGenerate MACVerify DeriveKey '
+  + 'ContentCommitmentNonRepudiation KeyAgreement CertificateSign CRLSign GenerateCryptogram '
+  + 'ValidateCryptogram TranslateEncrypt TranslateDecrypt TranslateWrap TranslateUnwrap';
+const attribute = (name, ...values) => structure(0x420008, text(0x42000A, name), ...values);
+const under = [['Cryptographic Algorithm', enumeration(0x42000B, 3), '0x3 AES'],
+  ['Object Type', enumeration(0x42000B, 4), '0x4 PrivateKey'],
+  ['State', enumeration(0x42000B, 2), '0x2 Active'],
+  ['Certificate Type', enumeration(0x42000B, 2), '0x2 PGP'],
+  ['Digital Signature Algorithm', enumeration(0x42000B, 5),
+    '0x5 SHA_256WithRSAEncryptionPKCS_1V1_5'],
+  ['Cryptographic Usage Mask', integer(0x42000B, 12), '12 Encrypt Decrypt'],
+  ['Cryptographic Usage Mask', integer(0x42000B, 0xFFFFF), '1048575 ' + USES],
+  ['Cryptographic Length', integer(0x42000B, 12), '12'], ['x-own', enumeration(0x42000B, 3), '0x3'],
+  ['State', enumeration(0x42000B, 0x80000001), '0x80000001']];
+const attributes = structure(0x420078, ...under.map(([name, value]) => attribute(name, value)),
+  attribute('State', integer(0x420009, 1), enumeration(0x42000B, 4)),
+  structure(0x420008, enumeration(0x42000B, 3)), enumeration(0x42000B, 1),
+  enumeration(0x420024, 1), integer(0x42002C, -2147483647), integer(0x42008E, 3));
+const attributeValues = [...under.map(it => it[2]), '1', '0x4 Compromised', '0x3', '0x1',
+  '0x1 UsernameAndPassword', '-2147483647 Sign', '3 OnLineStorage ArchivalStorage'];
+
 function exchange(number, size) {
   const id = 'key-' + number;
   if (number % 7 === 3) return [request(10, named(id)), failed(10, 1, 'no such object')];
@@ -109,5 +131,6 @@ function listed(all, from = 0) {
   }
   return lines;
 }
-module.exports = { request, response, answered, failed, named, key, allTypes, capture, exchange,
-  faults, listed, structure, integer, text, bytes, enumeration };
+module.exports = { request, response, answered, failed, named, key, allTypes, attribute, attributes,
+  attributeValues, capture, exchange, faults, listed, structure, integer, text, bytes,
+  enumeration };

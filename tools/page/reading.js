@@ -10,6 +10,8 @@ const idOf = row => row[2];
 async function tables({ verdict }, page) {
   await page.call(seen.show, sent, received);
   const rows = await page.call(seen.rows);
+  verdict('no skeleton is there before a row is opened',
+    await page.call(seen.countOf, '.skeleton') === 0);
   verdict('a row leads with operation, identifier, outcome and time', String(rows[2])
     === '#3,Get,key-3,failed ItemNotFound,2025-11-29T00:00:00+00:00', rows[2]);
   const heads = await page.call(() => [...document.querySelectorAll('th[scope=col]')]
@@ -174,6 +176,43 @@ async function secrets({ verdict }, page) {
     !(await page.call(seen.shown)).includes('01010101') && await page.call(isFocused));
 }
 
+// A structure and an enumeration whose names have the word are no secrets: the value inside is one.
+async function secretData({ verdict }, page) {
+  const object = messages.structure(0x420085, messages.enumeration(0x420086, 1),
+    messages.structure(0x420040, messages.bytes(0x420043, Buffer.alloc(8, 7))));
+  await page.call(seen.show, null, messages.answered(10, messages.named('s'), object));
+  await page.call(seen.rows);
+  await page.call(seen.click, '.show-bytes');
+  const digits = () => [...document.querySelectorAll('.digits')].map(it => it.textContent)
+    .join(' ');
+  const text = await page.call(seen.text, '.tree'), before = await page.call(digits);
+  await page.call(seen.click, '.secret');
+  const after = await page.call(digits), want = Buffer.from(object).toString('hex').toUpperCase()
+    .replace(/(..)(?=.)/g, '$1 ');
+  verdict('of Secret Data the key material alone is hidden', text.includes('0x1 Password')
+    && before.includes(want.replace(/(?:07 ){7}07/, '·· '.repeat(8).trim()))
+    && after.includes(want), [text, before, want]);
+}
+// "Open all" of a message that is not drawn open, and has more than is drawn at once.
+async function allOpened({ verdict }, page) {
+  const { attribute, structure, integer } = messages;
+  const many = structure(0x420078, ...Array.from({ length: 600 }, (_, i) =>
+    attribute('Cryptographic Usage Mask', integer(0x42000B, i))));
+  const counts = () => [document.querySelectorAll('.tree .row').length,
+    document.querySelectorAll('.tree details:not([open]), .more').length];
+  await page.call(seen.show, many, null);
+  await page.call(seen.rows);
+  const label = await page.call(seen.text, '.open-all'), before = await page.call(counts);
+  await page.call(seen.click, '.open-all');
+  await until(page, 60, () => begun.size === 0);
+  const after = await page.call(counts);
+  verdict('"Open all" opens all', label === 'Open all' && before[1] > 300
+    && String(after) === '1200,0', [label, before, after]);
+  const last = await page.call(() => [...document.querySelectorAll('.row')].at(-1).textContent);
+  verdict('a mask under Attribute Value has its names in the tree', last.endsWith('Attribute Value '
+    + '42000B Integer 599 Sign Verify Encrypt WrapKey Export DeriveKey'), last);
+}
+
 // The bytes beside the tree: those of the item that is chosen are marked, and hidden ones are dots.
 async function bytesBeside({ verdict }, page) {
   await page.call(seen.show, null, messages.exchange(1, 32)[1]);
@@ -330,9 +369,8 @@ async function keyboardCopy({ verdict, native, file }, page) {
     && got === native('web_skeleton', file('first', messages.exchange(1, 32)[0])), got);
 }
 async function reading(harness, page) {
-  for (const run of [tables, searched, copies, shown, secrets, bytesBeside, directions, dragged,
-    narrow,
-    assistive, keyboardCopy]) await run(harness, page);
+  for (const run of [tables, searched, copies, shown, secrets, secretData, allOpened, bytesBeside,
+    directions, dragged, narrow, assistive, keyboardCopy]) await run(harness, page);
   await page.call(seen.clear);
 }
 module.exports = { reading };

@@ -34,7 +34,9 @@ function roomFor(size) {
   if (at === 0n) throw new Error(REFUSED);
   return at;
 }
+const ahead = { bytes: NONE, at: 0n }; // what was handed in last for heads of messages
 function handIn(bytes) {
+  ahead.bytes = NONE;
   const at = roomFor(bytes.length + 1);
   new Uint8Array(page.wasm.memory.buffer, Number(at), bytes.length).set(bytes);
   return [at, BigInt(bytes.length)];
@@ -63,10 +65,19 @@ const PLAIN = 2; // the side of web_bytes that is no side: hex or base64
 function decoded(digits) {
   return written('web_bytes', [ENCODER.encode(digits)], [PLAIN], digits.length);
 }
-// How many bytes the message at the front has by its head, of which it needs eight bytes.
+// How many bytes the message at the front has by its head, of which it needs eight bytes. What
+// follows is handed in with it, for the heads of the messages after it.
+const AHEAD = 1 << 16;
 function sizeByHead(bytes) {
-  page.wasm.web_reset();
-  return Number(page.wasm.web_frame(...handIn(bytes.subarray(0, 8))));
+  const isThere = bytes.buffer === ahead.bytes.buffer && bytes.byteOffset >= ahead.bytes.byteOffset
+    && bytes.byteOffset + 8 <= ahead.bytes.byteOffset + ahead.bytes.length;
+  if (!isThere) {
+    page.wasm.web_reset();
+    const part = bytes.subarray(0, AHEAD), [at] = handIn(part);
+    Object.assign(ahead, { bytes: part, at });
+  }
+  const from = ahead.at + BigInt(bytes.byteOffset - ahead.bytes.byteOffset);
+  return Number(page.wasm.web_frame(from, BigInt(Math.min(8, bytes.length))));
 }
 
 // Work in slices, between which the page is drawn and answers. `step` returns whether more is to

@@ -8,9 +8,10 @@ function partsOf(line) {
   return { at: Number(at), tag, name, kind, value };
 }
 const CLOSING = ']';
+const isAttributeName = line => /^\d+\t42000A\t[^\t]*\tTextString\t/.test(line);
 const isStructure = line => line.split('\t', 4)[3] === 'Structure';
 const mayBeSecret = ({ name, kind }) => kind === 'ByteString' || kind === 'BigInteger'
-  || /password|secret/i.test(name);
+  || (kind === 'TextString' && /password|secret/i.test(name));
 const linesOf = bytes => textFrom('web_listing', [bytes], 65536 + 3 * bytes.length)
   .split('\n').slice(0, -1);
 // Where bytes stop being items, and why: at their end, where all of them are.
@@ -23,10 +24,10 @@ function faultOf(bytes) {
 // The listing of a message, which is made part by part where the message is long: a part ends
 // anywhere, what is listed of it ends where its items do, and the next one begins there. `ends`
 // has for each line where the lines of its item end; `closes`, where the bytes of the structures
-// that are open end, by their heads.
+// that are open end, by their heads; `names`, where the last Attribute Name of each begins.
 function newListing(bytes, end) {
-  return { bytes, end, lines: [], ends: [], open: [], closes: [], at: 0, part: PART, room: PART,
-    isLong: bytes.length > PART, isDone: false, waiting: [], shown: new Set() };
+  return { bytes, end, lines: [], ends: [], open: [], closes: [], names: [], at: 0, part: PART,
+    room: PART, isLong: bytes.length > PART, isDone: false, waiting: [], shown: new Set() };
 }
 function listNext(it) {
   const limit = Math.min(it.closes.at(-1) ?? it.end, it.end);
@@ -34,7 +35,7 @@ function listNext(it) {
   const isAll = it.at + part.length === limit, count = faultOf(part).at;
   if (!count && !isAll) it.room *= 4;
   else {
-    addLines(it, linesOf(part), it.at);
+    addLines(it, ...linesAfter(it, part));
     it.at += count;
     it.room = it.part;
     closeStructures(it);
@@ -45,13 +46,29 @@ function listNext(it) {
   it.waiting.push(...waiting.filter(run => run()));
   return !it.isDone;
 }
+// The lines of a part, and what is added to their places. They stand behind the Attribute Name
+// before the part in the same structure, by which the listing names values.
+function linesAfter(it, part) {
+  const at = it.names[it.open.length];
+  if (at === undefined) return [linesOf(part), it.at];
+  const size = 8 + Math.ceil(new DataView(it.bytes.buffer, it.bytes.byteOffset + at)
+    .getUint32(4) / 8) * 8;
+  const both = new Uint8Array(size + part.length);
+  both.set(it.bytes.subarray(at, at + size));
+  both.set(part, size);
+  return [linesOf(both).slice(1), it.at - size];
+}
 function addLines(it, lines, base) {
   for (const line of lines) {
     const i = it.lines.length, tab = line.indexOf('\t');
-    it.lines.push(base && tab > 0 ? Number(line.slice(0, tab)) + base + line.slice(tab) : line);
-    if (line === CLOSING) it.ends[it.open.pop()] = i + 1;
-    else if (isStructure(line)) it.open.push(i);
+    const added = base && tab > 0 ? Number(line.slice(0, tab)) + base + line.slice(tab) : line;
+    it.lines.push(added);
+    if (line === CLOSING) {
+      it.names.length = it.open.length;
+      it.ends[it.open.pop()] = i + 1;
+    } else if (isStructure(line)) it.open.push(i);
     else it.ends[i] = i + 1;
+    if (isAttributeName(line)) it.names[it.open.length] = partsOf(added).at;
   }
 }
 function closeStructures(it) {
