@@ -297,9 +297,12 @@ fn an_encrypted_key() {
     assert!(!shown.contains("geheim") && shown.contains("encrypted.key"), "{shown}");
 }
 
-/// A client that reconnects, as this user, and what its log was told.
-fn reconnecting(fake: &str, user: &str) -> (TlsClient, Arc<Mutex<Vec<(EventKind, String)>>>) {
-    let told = Arc::new(Mutex::new(Vec::new()));
+/// What a log was told.
+type Told = Arc<Mutex<Vec<(EventKind, String)>>>;
+
+/// A client that reconnects, as this user, and its log.
+fn reconnecting(fake: &str, user: &str) -> (TlsClient, Told) {
+    let told = Told::default();
     let log = Arc::clone(&told);
     let builder = connector(fake, "localhost", "client").with_reconnect(true).connect().unwrap();
     let builder = builder.with_credentials(user, "");
