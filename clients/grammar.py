@@ -200,14 +200,6 @@ def page_calls(grammar):
             *('| `%s` | %s |' % (it['form'].replace(', or ', '`, or `'), it['help']) for it in grammar.all)]
 
 
-def page_values(grammar):
-    lines = ['| option | of | its value |', '|---|---|---|']
-    for name, calls, names, said in values_of(grammar):
-        shown = ', '.join('`%s`' % it for it in names) if names else said
-        lines.append('| `%s` | %s | %s |' % (name, ', '.join(it if ' ' in it else '`%s`' % it for it in calls), shown))
-    return lines
-
-
 # Each file, with the block that it has of each name.
 BLOCKS = {
     'clients/python/metsuwan/calls.py': {'calls': python_calls, 'uses': python_uses},
@@ -216,7 +208,7 @@ BLOCKS = {
     'clients/shell/kmip.sh': {'calls': shell_calls},
     'clients/shell/completion.bash': {'calls': completion_calls},
     'clients/man/kmip_call.1': {'calls': man_calls, 'values': man_values},
-    'docs/CALL.md': {'calls': page_calls, 'values': page_values},
+    'docs/CALL.md': {'calls': page_calls},
 }
 
 

@@ -87,13 +87,34 @@ attribute_tag name =
 MASKS_SOURCE = """\
 //! The bits of masks, by the tag that a mask stands under and their names: those by OASIS's rule, and
 //! kmip-protocol's where they differ.
-ghost use Rattle.std.specs.Prelude.{{◌≡◌}};
+ghost use Rattle.std.specs.Prelude.{{◌≡◌, map}};
 {imports}
 
 use kmip_tags::tags;
 use kmip_wire::Tag;
 
 {functions}
+
+/// Whether an Integer under the tag is a mask.
+pub(crate) fn is_mask(tag: Tag) -> bool
+    ensures {{ result ≡ is_mask tag }}
+{{
+    match tag.number() {{
+{masks}
+        _ => false,
+    }}
+}}
+
+/// The bits that have names in the mask under the tag, the lowest first, with their names by OASIS's
+/// rule; none where the tag is none of a mask.
+pub(crate) fn mask_bits(tag: Tag) -> &'static [(u32, &'static str)]
+    ensures {{ map (λ bit. (bit.0, bit.1.now)) result.now ≡ mask_bits tag }}
+{{
+    match tag.number() {{
+{lists}
+        _ => &[],
+    }}
+}}
 
 /// The bit with this name in the mask under the tag; `None` where the tag is none of a mask, or there
 /// is no such bit.
@@ -118,11 +139,43 @@ fn {function}(name: &str) -> Option<u32>
 }}
 """
 
+MASK_LIST = """\
+pub(crate) const {constant}: [(u32, &str); {count}] = [
+{rows}
+];
+
+static {constant}_TABLE: [(u32, &str); {count}] = {constant};
+
+fn {function}() -> &'static [(u32, &'static str)]
+    ensures {{ map (λ bit. (bit.0, bit.1.now)) result.now ≡ {function} }}
+{{
+    &{constant}_TABLE
+}}
+"""
+
 MASKS_SPEC = """\
 -- The bits of masks, by the tag that a mask stands under and their names (KMIP 1.2, 9.1.3.3): those by
 -- OASIS's rule, and kmip-protocol's where they differ.
-use Rattle.std.specs.Prelude.{{ℕ, ◌==◌, List, codes, Option, Some, None, if◌then◌else◌, bytes_eq}}
+use Rattle.std.specs.Prelude.{{ℕ, ◌==◌, Bool, true, false, List, [], ◌∷◌, codes, Option, Some, None, if◌then◌else◌, bytes_eq}}
 use Rattle.kmip_tags.specs.Tags as tags
+
+-- a bit with its name by OASIS's rule
+abbrev pub Bit : Type 0
+Bit = ℕ × List ℕ
+
+{lists}
+
+-- whether an Integer under the tag is a mask
+abbrev pub is_mask : ℕ → Bool
+is_mask tag =
+    {mask_tests}
+    else false
+
+-- the bits that have names, the lowest first; none where the tag is none of a mask
+abbrev pub mask_bits : ℕ → List Bit
+mask_bits tag =
+    {list_tests}
+    else []
 
 {functions}
 
@@ -172,10 +225,33 @@ def mask_chains(table, names):
     return list(zip(titles, pieces, [None, *titles]))
 
 
+def mask_list(table, names):
+    """The list of a mask's bits with their names by the rule: its function, in code and in specs/."""
+    function = constant(names[table.tag]).lower().removesuffix("_mask") + "_bits"
+    bits = [(spelled(value.text), value.number) for value in table.values]
+    source = MASK_LIST.format(
+        constant=function.upper(),
+        count=len(bits),
+        rows="\n".join(f'    (0x{bit:X}, "{name}"),' for name, bit in bits),
+        function=function,
+    )
+    rows = "\n".join(f'    (0x{bit:X}, codes "{name}") ∷' for name, bit in bits)
+    return function, source, f"unfoldable pub {function} : List Bit\n{function} =\n{rows}\n    []\n"
+
+
 def mask_files(tables, crate):
     names = dict(tables["tags"])
     sources, specs, arms, tests, imports = [], [], [], [], []
+    spec_lists, lists, list_tests, masks, mask_tests = [], [], [], [], []
     for table in (table for table in tables["enumerations"] if table.mask):
+        function, source, spec = mask_list(table, names)
+        imports.append(function)
+        sources.append(source)
+        spec_lists.append(spec)
+        lists.append(f"        tags::{constant(names[table.tag])} => {function}(),")
+        list_tests.append(f"if tag == tags.{constant(names[table.tag])} then {function}")
+        masks.append(f"        tags::{constant(names[table.tag])} => true,")
+        mask_tests.append(f"if tag == tags.{constant(names[table.tag])} then true")
         chains = mask_chains(table, names)
         for title, bits, before in chains:
             imports.append(title)
@@ -200,15 +276,23 @@ def mask_files(tables, crate):
         f"{crate}/src/masks.rt",
         MASKS_SOURCE.format(
             imports="\n".join(
-                f"ghost use Rattle.kmip_encodings.specs.Masks.{{{name}}};" for name in [*imports, "mask_bit"]
+                f"ghost use Rattle.kmip_encodings.specs.Masks.{{{name}}};" for name in [*imports, "is_mask", "mask_bits", "mask_bit"]
             ),
+            lists="\n".join(lists),
+            masks="\n".join(masks),
             functions="\n".join(sources).rstrip("\n"),
             arms="\n".join(arms),
         ),
     )
     yield (
         f"{crate}/specs/Masks.antt",
-        MASKS_SPEC.format(functions="\n".join(specs).rstrip("\n"), tests="\n    else ".join(tests)),
+        MASKS_SPEC.format(
+            lists="\n".join(spec_lists).rstrip("\n"),
+            list_tests="\n    else ".join(list_tests),
+            mask_tests="\n    else ".join(mask_tests),
+            functions="\n".join(specs).rstrip("\n"),
+            tests="\n    else ".join(tests),
+        ),
     )
 
 

@@ -5,28 +5,28 @@ from spelling import spelled
 HEAD = """\
 # Names
 
-What the options of calls take, and what stands in JSON and XML for the numbers of KMIP 1.2.
+What the options of calls take, and what JSON and XML have for the numbers of KMIP 1.2.
 
 ## Values of options
+
+An option takes names of an enumeration below, in every client; where a value has two names, the one
+in brackets. `kmip_call --help` lists them.
 
 | option, or word | values |
 |---|---|
 {options}
-
-A list of uses is written with a comma between two, as `Encrypt,Decrypt`. These names are those of
-the Rust crate kmip-protocol, and the same in every client.
+| `operation NAME` | Operation, by either name |
 
 ## Enumerations in JSON and XML
 
-An enumeration's value is written by the name that KMIP's encodings give it: KMIP's own text, in
-which brackets become spaces, a word begins with a capital, and spaces go. A character that is no
-letter and no digit is left out where a word follows it, and is `_` elsewhere. Digits that begin the
-text stand behind its first word. `tables/enumerations.toml` has KMIP's text of each.
+A number is written as its name; one without a name as `0x` and eight digits, a form that is read for
+every number. A name in brackets is that of kmip-protocol: read, and never written. The numbers here
+are in hex, and grow by 1 from name to name.
 
-Numbers are in hex. One that has no name is written `0x` and eight digits, which are read for every
-number. A name in brackets is that of kmip-protocol: it is read too, and never written.
+The names are made of KMIP's text (`tables/enumerations.toml`) by the rule of OASIS's encodings
+(`tables/spelling.py`).
 
-| enumeration | tag | KMIP 1.2 | values |
+| enumeration | tag | KMIP 1.2: 9.1.3.2. | values |
 |---|---|---|---|
 """
 
@@ -40,29 +40,39 @@ OPTIONS = [
     ("`hash=`", "HashingAlgorithm"),
     ("`padding=`", "PaddingMethod"),
     ("`reason=`", "RevocationReasonCode"),
-    ("`operation NAME`", "Operation"),
 ]
 
 
-def option_row(option, table):
-    return f"| {option} | {', '.join(f'`{value.variant}`' for value in table.typed)} |"
+def option_row(option, table, tags):
+    """An option: its names, or the enumeration whose names they are, all of them or the first ones."""
+    names = ", ".join(value.variant for value in table.typed)
+    if table.mask:
+        shown = f"{names}; `,` stands between two"
+    elif len(table.typed) == len(table.values):
+        shown = tags[table.tag]
+    else:
+        shown = f"{tags[table.tag]}: {names}"
+    return f"| {option} | {shown} |"
 
 
 def named(value):
-    """A value: its number, its name, and the other one that is read."""
+    """A value: its name, and the other one that is read."""
     name = spelled(value.text)
-    other = f" (`{value.variant}`)" if value.variant not in ("", name) else ""
-    return f"{value.number:X} `{name}`{other}"
+    return name if value.variant in ("", name) else f"{name} ({value.variant})"
 
 
 def enumeration_row(table, tag):
-    values = ", ".join(named(value) for value in table.values)
-    return f"| {tag} | {table.tag:06X} | {table.section} | {values} |"
+    """An enumeration: a number stands before each eighth name, and where one is left out."""
+    shown = []
+    for at, value in enumerate(table.values):
+        follows = at % 8 and value.number == table.values[at - 1].number + 1
+        shown.append(named(value) if follows else f"{value.number:X} {named(value)}")
+    return f"| {tag} | {table.tag:06X} | {table.section.removeprefix('9.1.3.2.')} | {', '.join(shown)} |"
 
 
 def files(tables):
     tags = dict(tables["tags"])
     by_name = {table.name: table for table in tables["enumerations"]}
-    options = "\n".join(option_row(option, by_name[name]) for option, name in OPTIONS)
+    options = "\n".join(option_row(option, by_name[name], tags) for option, name in OPTIONS)
     rows = [enumeration_row(table, tags[table.tag]) for table in tables["enumerations"] if not table.mask]
     yield "docs/NAMES.md", HEAD.format(options=options) + "\n".join(rows) + "\n"

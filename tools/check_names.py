@@ -137,6 +137,21 @@ def check_encodings():
     )
 
 
+def check_masks():
+    """The bits that kmip_encodings writes by name, in code and in specs, and by which names it reads them."""
+    masks = [words[2:] for words in map(str.split, lines_of("encodings.txt")) if words[0] == "MASK"]
+    wanted = dict(enumerate((1 << at, name) for names in masks for at, name in enumerate(names)))
+    files = {"masks.rt": read("kmip_encodings", "src", "masks.rt")}
+    files["Masks.antt"] = read("kmip_encodings", "specs", "Masks.antt")
+    for file, text in files.items():
+        rows = re.findall(r"^ +\((0x\w+), (?:codes )?\"(\w+)\"\)", text, re.M)
+        expect(f"kmip_encodings, {file}", dict(enumerate((int(bit, 16), name) for bit, name in rows)), wanted)
+        read_as = re.findall(r"\"(\w+)\"(?: =>|\) then) Some\(?\s*(0x\w+)", text)
+        bits = {name: int(bit, 16) for name, bit in read_as}
+        found = {key: (bits.get(name), name) for key, (_, name) in wanted.items()}
+        expect(f"kmip_encodings, {file}, as they are read", found, wanted)
+
+
 def check_clients():
     """The names that the clients list by hand: those of options in Rust and Python, and completion's."""
     types, bits = {}, {}
@@ -165,6 +180,7 @@ def main():
     check_tags()
     check_types()
     check_encodings()
+    check_masks()
     check_clients()
     print(f"{COUNTS['passed']} passed, {COUNTS['failed']} failed")
     sys.exit(1 if COUNTS["failed"] else 0)

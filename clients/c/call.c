@@ -113,7 +113,8 @@ static int make(kmip_client *client, const char *call, const char *const *words)
     if (of_file && status == KMIP_ANSWERED) {
         const char *made = kmip_text(client, "UniqueIdentifier", NULL);
         printf("{\"answer\":{\"unique_identifier\":\"%s\"}}\n", made ? made : "");
-        return fflush(stdout) == 0 ? status : not_written("the answer cannot be written", "");
+        if (fflush(stdout) == 0) return status;
+        return not_written("the answer cannot be written: ", strerror(errno));
     }
     if (status != KMIP_ANSWERED) {
         static const char no_memory[] = "{\"error\":\"OutOfMemory\",\"text\":\"out of memory\"}";

@@ -542,26 +542,6 @@ static int wrong_operation(kmip_client *client) {
     }
 }
 
-static size_t number_at(const uint8_t *bytes) {
-    return (size_t)bytes[0] << 24 | (size_t)bytes[1] << 16 | (size_t)bytes[2] << 8 | bytes[3];
-}
-
-/* Whether a message has an empty Unique Identifier; the library looks at that of the payload alone,
-   and not at those within its structures. The items are gone through in their order: the first of a
-   structure follows its head, and each other what is before it. */
-static bool has_empty_identifier(const uint8_t *message, size_t length) {
-    enum { IDENTIFIER = 0x42009407, STRUCTURE = 1 };
-    for (size_t at = 0; at + HEAD <= length;) {
-        size_t count = number_at(message + at + 4);
-        if (number_at(message + at) == IDENTIFIER && count == 0) return true;
-        bool goes_in = message[at + 3] == STRUCTURE;
-        at += HEAD;
-        if (!goes_in && count > length - at) return false;
-        if (!goes_in) at += (count + 7) / 8 * 8;
-    }
-    return false;
-}
-
 int kmip_make_operation(kmip_client *client, const char *name, const char *version,
                         const char *payload, size_t *length) {
     /* No words: values are those of the line. */
@@ -572,9 +552,6 @@ int kmip_make_operation(kmip_client *client, const char *name, const char *versi
     client->payload = payload;
     int64_t made = make_request(client);
     if (made == KMIP_LENGTH_GRAMMAR) return wrong_operation(client);
-    if (made > 0 && has_empty_identifier(client->request.bytes, (size_t)made))
-        return kmip_fails_as(client, KMIP_CALL_GRAMMAR, "GrammarError",
-                             "the payload: a UniqueIdentifier in it is empty");
     return made_request(client, made, length);
 }
 

@@ -337,8 +337,8 @@ bool kmip_was_sent(const kmip_client *client);
    words for, as a key of EC or HMAC (the line then begins with {"answer":{"tag":), the path is one
    of tags below the response's payload, with a dot between two, as KeyBlock.KeyFormatType. A number after a tag counts, from 0, among the items with this
    tag: Attribute.1.AttributeName. kmip_bytes has Byte Strings and Big Integers; kmip_text a text
-   without its quotes and escapes, an Enumeration by its name, or as 0x00000001, and numbers, dates
-   and booleans as the line writes them.
+   without its quotes and escapes, an Enumeration by its name, or as 0x00000001, a mask by the names
+   of its bits, as Encrypt|Decrypt, and numbers, dates and booleans as the line writes them.
 
    `length` may be null. Where it is, kmip_text is null for a text that has a byte 0 within, which C
    would take for its end.

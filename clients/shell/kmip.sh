@@ -28,7 +28,9 @@
 #
 # `kmip operation Encrypt '{"tag":"RequestPayload","value":[..]}'` is any operation of KMIP, and `@payload.json` in the place
 # of the payload a file that has it. `version=1.1` stands before the payload, where the request is not to be of KMIP 1.2.
-# `kmip message @message.json` sends a whole message as it stands, and answers the whole response.
+# `kmip message @message.json` sends a whole message as it stands, and answers the whole response. In the place of hex
+# `@data.bin` is a file that has the bytes; `@3` is descriptor 3, up to its end. Payloads, messages and the keys of `register`
+# are in no word of a process.
 #
 # Settings, all optional:
 #   KMIP_TIMEOUT     seconds for each call, with connect and handshake; status 3 when they are over. 30 where it is not
@@ -137,19 +139,39 @@ kmip_word() { # TEXT
     printf '%s\n' "$KMIP_WORD"
 }
 
-# Leaves in KMIP_WORDS the words of a call whose last word is JSON, or @FILE with a file that has it: they are no texts, and
-# stand as they are. Where the file cannot be read, it says so, and its status is 2.
+# Leaves in KMIP_WORDS the words of a call whose last word is JSON, which kmip_call gets by a descriptor, or @FILE with a file
+# that it reads: they are no texts, and stand as they are.
 kmip_json_words() { # CALL WORD..
-    local json=${!#}
-    if [[ $json == @* ]]; then
-        if [[ ! -r ${json#@} || -d ${json#@} ]]; then
-            kmip_fails GrammarError 'the file of the JSON cannot be read'
-            return 2
-        fi
-        # bash would drop a byte of zero, by which the file is no JSON
-        json=$(tr '\0' '\1' <"${json#@}")
+    KMIP_WORDS=("$@")
+    if (($# < 2)) || [[ ${!#} == @* ]]; then return 0; fi
+    KMIP_GIVEN=${!#} KMIP_GIVES=json
+    KMIP_WORDS[$# - 1]=@3
+}
+
+# The same for bytes in hex, which stand behind so many words: kmip_call reads @FILE, or gets them by a descriptor where they
+# may be those of a key. What is no hex is not shown, since it may be a key's all the same, and is no hex by another word.
+kmip_bytes_word() { # PLACE CALL WORD..
+    local hex=${*:2+$1:1}
+    (($# > $1 + 1)) || return 0
+    if [[ $hex == @* ]]; then
+        KMIP_WORDS[$1]=$hex
+    elif [[ $2 == sign || -z $hex || $hex == - ]]; then
+        return 0
+    elif [[ $hex == *[!0-9A-Fa-f]* ]] || ((${#hex} % 2)); then
+        KMIP_WORDS[$1]=none
+    else
+        KMIP_GIVEN=$hex KMIP_GIVES=bytes
+        KMIP_WORDS[$1]=@3
     fi
-    KMIP_WORDS=("${@:1:$#-1}" "$json")
+}
+
+# Writes what kmip_call gets by a descriptor. Whoever reads may end before.
+kmip_give() {
+    export -n KMIP_GIVEN
+    case $KMIP_GIVES in
+    json) printf %s "$KMIP_GIVEN" ;;
+    bytes) printf %b "$(printf %s "$KMIP_GIVEN" | sed 's/../\\x&/g')" ;;
+    esac 2>/dev/null
 }
 
 # Whether Linux takes each of these words, for a program. Where it does not, it says so, and its status is 2.
@@ -186,6 +208,10 @@ kmip_words() { # CALL WORD..
         kmip_escape_option "$word"
         KMIP_WORDS+=("$KMIP_WORD")
     done
+    case $1 in
+    raw) kmip_bytes_word 1 "$@" ;;
+    sign | register) kmip_bytes_word 2 "$@" ;;
+    esac
 }
 
 # One line of JSON for a failure that kmip_call cannot tell of.
@@ -442,7 +468,7 @@ kmip_not_pem() { # WORD..
 
 # The same for a call of kmip_call.
 kmip_once() { # CALL WORD..
-    local words=() status=0 KMIP_WORDS KMIP_DEADLINE
+    local words=() status=0 KMIP_WORDS KMIP_DEADLINE KMIP_GIVEN='' KMIP_GIVES=''
     if [[ ! -e /proc/self/fd/1 ]]; then
         echo 'kmip: standard output is closed; nothing was sent' >&2
         return 4
@@ -469,6 +495,10 @@ kmip_once() { # CALL WORD..
     (
         export -n KMIP_PASSPHRASE
         if [[ -n ${KMIP_PASSWORD+set} ]]; then export KMIP_PASSWORD; fi
+        if [[ -n $KMIP_GIVES ]]; then
+            exec 3< <(kmip_give)
+            export -n KMIP_GIVEN
+        fi
         kmip_make "${KMIP_WORDS[@]}" "${words[@]}"
     ) || status=$?
     if ((status > 5)); then

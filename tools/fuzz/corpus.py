@@ -14,6 +14,7 @@ from typing import Any, Dict, List, Tuple
 TOP = pathlib.Path(__file__).resolve().parents[2]
 sys.path[:0] = [str(TOP / 'tools' / 'live'), str(TOP / 'clients' / 'python')]
 import fakes                                    # noqa: E402
+import objects                                  # noqa: E402
 import trees                                    # noqa: E402
 import ttlv                                     # noqa: E402
 from metsuwan.library import Library, Operation  # noqa: E402
@@ -70,7 +71,7 @@ def answers(certs: str) -> Dict[str, Tuple[bytes, bytes]]:
         value = path.read_bytes()
         if kind != 'Certificate':
             value = ttlv.structure(0x420045, ttlv.octets(0x420043, value))
-        number, body = fakes.object_of(kind, form, value)
+        number, body = objects.object_of(kind, form, value)
         made['get.' + path.stem] = (b'get 1', response(0x0A, [number, IDENTIFIED, body]))
     return made
 

@@ -24,7 +24,7 @@ from typing import Any, Iterator, List, Optional, Tuple
 
 TOP = pathlib.Path(__file__).resolve().parents[2]
 sys.path.insert(0, str(TOP / 'clients' / 'python'))
-from metsuwan.library import Library, Operation  # noqa: E402
+from metsuwan.library import GRAMMAR, Library, Operation  # noqa: E402
 
 Item = List[Any]                                # tag, type, and bytes or a list of items
 TYPES = ['', 'Structure', 'Integer', 'LongInteger', 'BigInteger', 'Enumeration', 'Boolean',
@@ -256,6 +256,13 @@ class Values:
                 found('a value at', path, call, response.hex())
 
 
+def has_empty_identifier(payload: Any) -> bool:
+    """Whether one of its items is an empty Unique Identifier: a request with such a payload is
+    refused."""
+    empty = {'tag': 'UniqueIdentifier', 'type': 'TextString', 'value': ''}
+    return empty in payload['value']
+
+
 def check_payload(library: Library, asked: Operation, answer: Any, tree: List[Item]) -> None:
     """That the JSON of an answer is the payload of the response. One that is no structure is shown
     too, but no request has such a payload."""
@@ -265,7 +272,10 @@ def check_payload(library: Library, asked: Operation, answer: Any, tree: List[It
         found('another tag', asked, answer)
     again = asked._replace(payload=json.dumps({**answer, 'tag': 'RequestPayload'}).encode())
     request = library.request(again)
-    if not isinstance(request, bytes):
+    if has_empty_identifier(answer):
+        if request != GRAMMAR:
+            found('a request with an empty identifier', again)
+    elif not isinstance(request, bytes):
         found('no request of an answer', request, again)
     elif payload_of(parsed(request), REQUEST)[1:] != payload_of(tree, RESPONSE)[1:]:
         found('another payload', again, request.hex(), written(tree).hex())

@@ -31,7 +31,8 @@ from registry import (ADD_ATTRIBUTE, CREATE_KEY_PAIR, DELETE_ATTRIBUTE, FAKES, G
 from ttlv import (FAILED, PENDING, SUCCESS, UNDONE, batch_item, date, enumeration, header, identifier, item,
                   message_of, nested, octets, operation_of, response, structure, text, value_of)
 
-importlib.import_module('objects')   # fakes of its own
+for it in 'objects', 'curves':      # fakes of their own
+    importlib.import_module(it)
 
 # The server's certificate is that of certs.sh with this name; what it answers is good.
 CERTIFICATES = ('expired_server', 'wrong_host', 'cn_only', 'wildcard', 'of_between', 'address', 'other/server')

@@ -23,7 +23,7 @@
 #   lasts WHAT SECONDS       the last call_is took no longer than this
 #   verdict WHAT             the status of the command before is 0
 #   lines_of_tasks LANGUAGE  is no check: the lines of the tasks in this language (sh, c, python, rust), which stand in
-#                            docs/CALL.md and in the README of the client
+#                            the README of the client
 #   linter_says WHAT TOOL VERSION PACKAGE COMMAND..    COMMAND finds nothing; it is skipped where there is no TOOL, and what
 #                            another version than VERSION (a regex) finds is said, and fails nothing
 #
@@ -128,7 +128,7 @@ lasts() { # WHAT SECONDS
 lines_of_tasks() { # LANGUAGE
     local file=clients/$1/README.md fence=$1
     case $1 in
-    sh) file=docs/CALL.md ;;
+    sh) file=clients/shell/README.md ;;
     rust) fence=rs ;; # rustdoc takes these for no tests of the crate
     esac
     awk -v fence="\`\`\`$fence" '/^## / { tasks = $0 == "## By tasks" } !tasks { next }

@@ -3,7 +3,7 @@
 FAKES = {}              # over TLS, by the name of the function
 PLAIN = {}              # those that get the connection before there is TLS
 QUERY, CREATE_KEY_PAIR, GET, ACTIVATE, SIGN = 0x18, 0x02, 0x0A, 0x12, 0x21
-REGISTER, GET_ATTRIBUTES = 0x03, 0x0B
+REGISTER, LOCATE, GET_ATTRIBUTES, REVOKE, DESTROY, SIGNATURE_VERIFY = 0x03, 0x08, 0x0B, 0x13, 0x14, 0x22
 ADD_ATTRIBUTE, MODIFY_ATTRIBUTE, DELETE_ATTRIBUTE, RNG_RETRIEVE = 0x0D, 0x0E, 0x0F, 0x25
 
 

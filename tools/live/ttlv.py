@@ -77,6 +77,16 @@ def value_of(request, tag, kind):
     return request[at + 8:at + 8 + length]
 
 
+def items_in(contents):
+    """The tag and the value of each item of these contents of a structure."""
+    made, at = [], 0
+    while at + 8 <= len(contents):
+        length = int.from_bytes(contents[at + 4:at + 8], 'big')
+        made.append((int.from_bytes(contents[at:at + 3], 'big'), contents[at + 8:at + 8 + length]))
+        at += 8 + length + -length % 8
+    return made
+
+
 def message_of(wire):
     """One message that came, or no bytes at the end."""
     got = b''

@@ -4,11 +4,14 @@ from __future__ import annotations
 import datetime
 from typing import Any, Dict, Iterable, Mapping, Optional, Sequence, Union
 
+from .calls import USES
 from .errors import GrammarError, MissingValue
 
 Value = Union[str, bytes, bytearray, memoryview, bool, int, datetime.datetime,
               Sequence[Mapping[str, Any]]]
 EPOCH = datetime.datetime(1970, 1, 1, tzinfo=datetime.timezone.utc)
+# The bits of masks. KMIP's encodings have MACGenerate for MacGenerate.
+BITS = {'onlinestorage': 1, 'archivalstorage': 2, **{name.lower(): USES[name] for name in USES}}
 
 
 def _type_of(value: Value) -> str:
@@ -45,6 +48,15 @@ def _json_of(kind: str, value: Value) -> Any:
     if not isinstance(value, Iterable):
         raise TypeError('an item has no value of the type %s' % type(value).__name__)
     return list(value)
+
+
+def _mask_of(names: str) -> int:
+    """The number of a mask as ``Encrypt|Decrypt|0x00100000``: the names of its bits, and bits in
+    hex."""
+    bits = 0
+    for name in names.split('|'):
+        bits |= int(name, 16) if name.startswith('0x') else BITS[name.lower()]
+    return bits - (bits >> 31 << 32)
 
 
 def _shown(item: Any) -> str:
@@ -156,6 +168,8 @@ class Item(Dict[str, Any]):
         value = self._value_at(path, 'number', 'Integer', 'LongInteger', 'Interval', 'DateTime')
         if isinstance(value, int):
             return value
+        if self.at(path)['type'] == 'Integer':
+            return _mask_of(value)
         if value.startswith('0x'):
             return int.from_bytes(bytes.fromhex(value[2:]), 'big', signed=True)
         return (datetime.datetime.fromisoformat(value) - EPOCH) // datetime.timedelta(seconds=1)

@@ -93,6 +93,14 @@ class Read(unittest.TestCase):
                    ('TimeStamp', 'ValidityDate', 'LeaseTime', 'BatchCount')]
         self.assertEqual(numbers, [0x47DA67F8, (1 << 53) + 1, 3600, -4503599627370495])
 
+    def test_the_number_of_a_mask(self) -> None:
+        for names, bits in (('Encrypt|Decrypt|CertificateSign', 0x100C), ('0x80000000', -1 << 31),
+                            ('MACGenerate|MACVerify|CRLSign|0x00100000', 0x102180),
+                            ('OnLineStorage|ArchivalStorage', 3)):
+            with self.subTest(names):
+                payload = Item('ResponsePayload', [Item('AttributeValue', names, 'Integer')])
+                self.assertEqual(payload.number_at('AttributeValue'), bits)
+
     def test_what_is_missing_is_an_error(self) -> None:
         for path in ('', 'Name', 'Attribute.2', 'Attribute.State', 'UniqueIdentifier.0.0'):
             with self.subTest(path), self.assertRaises(MissingValue) as raised:

@@ -1,6 +1,7 @@
 //! Items of messages: what requests and responses of any operation are made of.
 use crate::error::{Error, Result};
 use crate::json::{bytes_of, Json};
+use crate::names::CryptographicUsageMask;
 use std::fmt::{self, Debug, Formatter};
 
 /// The most levels of items within each other that are read. Messages have at most 64.
@@ -275,7 +276,10 @@ impl Value {
                 let items = json.as_list()?.iter().map(|it| Item::of_levels(it, levels));
                 Value::Structure(items.collect::<Option<_>>()?)
             }
-            "Integer" => Value::Integer(i32::try_from(json.as_number()?).ok()?),
+            "Integer" => Value::Integer(match json.as_text() {
+                Some(names) => mask_of(names)?,
+                None => i32::try_from(json.as_number()?).ok()?,
+            }),
             "LongInteger" => Value::LongInteger(json.as_number().or_else(|| hex_number(json))?),
             "BigInteger" => Value::BigInteger(bytes_of(json.as_text()?.strip_prefix("0x")?)?),
             "Enumeration" => Value::Enumeration(text()?),
@@ -296,6 +300,26 @@ impl Value {
 
 fn hex_of(bytes: &[u8]) -> String {
     bytes.iter().map(|byte| format!("{byte:02X}")).collect()
+}
+
+/// The number of a mask as `Encrypt|Decrypt|0x00100000`: the names of its bits, and bits in hex.
+fn mask_of(names: &str) -> Option<i32> {
+    names.split('|').try_fold(0, |bits, name| Some(bits | bits_of(name)?))
+}
+
+/// The bits of a name, or of `0x` and eight digits.
+fn bits_of(name: &str) -> Option<i32> {
+    if let Some(digits) = name.strip_prefix("0x").filter(|it| it.len() == 8) {
+        let bits = u32::from_str_radix(digits, 16).ok()?;
+        return Some(i32::from_be_bytes(bits.to_be_bytes()));
+    }
+    // KMIP's encodings have `MACGenerate` for `MacGenerate`.
+    let is_it = |it: &&CryptographicUsageMask| it.names()[0].eq_ignore_ascii_case(name);
+    match name {
+        "OnLineStorage" => Some(1),
+        "ArchivalStorage" => Some(2),
+        _ => CryptographicUsageMask::ALL.iter().find(is_it).map(|it| it.bits()),
+    }
 }
 
 /// The number of 64 bits that a text as `0x0000000047DA67F8` is.
@@ -396,6 +420,21 @@ mod tests {
     }
 
     #[test]
+    fn masks_are_read() {
+        let rows = [
+            ("Encrypt|Decrypt|CertificateSign", 0x100C),
+            ("MACGenerate|MACVerify|CRLSign|0x00100000", 0x10_2180),
+            ("OnLineStorage|ArchivalStorage", 3),
+            ("0x80000000", i32::MIN),
+        ];
+        for (names, bits) in rows {
+            let text = format!(r#"{{"tag":"StorageStatusMask","type":"Integer","value":"{names}"}}"#);
+            let item = of_text(&text).unwrap();
+            assert!(item.value == Value::Integer(bits), "{names}");
+        }
+    }
+
+    #[test]
     fn dates_are_read() {
         let rows = [
             ("2008-03-14T11:56:40+00:00", 0x47DA_67F8),
@@ -465,6 +504,8 @@ mod tests {
             r#"{"tag":"Data","type":"Bytes","value":"00"}"#,
             r#"{"tag":"Data","type":"ByteString","value":"0"}"#,
             r#"{"tag":"BatchCount","type":"Integer","value":2147483648}"#,
+            r#"{"tag":"CryptographicUsageMask","type":"Integer","value":"Encrypt|"}"#,
+            r#"{"tag":"CryptographicUsageMask","type":"Integer","value":"0x0000000G"}"#,
             r#"{"tag":"TimeStamp","type":"DateTime","value":"2008-03-14"}"#,
         ] {
             assert!(of_text(text).is_none(), "{text}");

@@ -14,6 +14,8 @@ function attribute(name, value) {
 }
 function xmlValue(type, value) {
   if (type === 'BigInteger') return value.replace(/^0x/, '');
+  // The names of a mask.
+  if (type === 'Integer') return String(value).replaceAll('|', ' ');
   return type === 'LongInteger' ? String(BigInt.asIntN(64, BigInt(value))) : value;
 }
 function xmlOf({ tag, type, value }, indent = '') {

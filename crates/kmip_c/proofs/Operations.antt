@@ -4,6 +4,7 @@ use Rattle.kmip_client.specs.Operation.{TreeRequest, operation_bytes}
 use Rattle.kmip_words.specs.Exchange.{Settings}
 use Rattle.kmip_words.specs.declared.ending.Ending.{Ending}
 use Rattle.kmip_operations.specs.Answers.{operation_json_line, operation_ending}
+use Rattle.kmip_operations.specs.JsonLines.{IsTextLine}
 use Rattle.kmip_c.specs.Calls.{plain, status_of}
 use Rattle.kmip_exports.specs.Exports.{IsReported, room_with}
 use Rattle.kmip_c.specs.Codes.{no_form}
@@ -22,9 +23,9 @@ operation_requested settings s request name version payload before after result 
 pub operation_answered : (request : TreeRequest)
     (name version payload response before after line : List ℕ) (ending : Ending) (status told : ℤ) →
     AsksInBytes name version payload request → ending ≡ operation_ending plain request response
-    → line ≡ operation_json_line plain request response →
+    → line ≡ operation_json_line plain request response → IsTextLine line →
     status ≡ status_of ending → told ≡ pos (length line) → after ≡ room_with line before
     → IsOperationAnswered name version payload response status before told after
-operation_answered request name version payload response before after line ending status told asks e l s n w =
-    IsOperationAnswered.answered request asks (s ∙ ap status_of e)
+operation_answered request name version payload response before after line ending status told asks e l json s n w =
+    IsOperationAnswered.answered request asks (s ∙ ap status_of e) (subst IsTextLine l json)
     (n ∙ ap (λ (x : List ℕ). pos (length x)) l, w ∙ ap (λ (x : List ℕ). room_with x before) l)

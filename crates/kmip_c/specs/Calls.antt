@@ -6,6 +6,7 @@ use Rattle.kmip_words.specs.Words.{words_of}
 use Rattle.kmip_words.specs.Calls.{typed_call}
 use Rattle.kmip_words.specs.Exchange.{Settings, request_asked}
 use Rattle.kmip_words.specs.About.{response_line, response_ending}
+use Rattle.kmip_words.specs.JsonLines.{IsJsonLine}
 use Rattle.kmip_words.specs.Lookup.{value_at}
 use Rattle.kmip_words.specs.declared.call.Call.{Call}
 use Rattle.kmip_words.specs.declared.ending.Ending.{Ending}
@@ -61,11 +62,12 @@ status_of Answered = pos 0
 status_of Refused = pos 1
 status_of Lost = pos 3
 
--- what C gets for a response, memory aside: how the call ended, and the line of its answer; or that
--- the call is not of the grammar
+-- what C gets for a response, memory aside: how the call ended, and the line of its answer, which is
+-- a text of JSON in UTF-8 and a line feed; or that the call is not of the grammar
 abbrev pub IsAnswered : Option Call → List ℕ → ℤ → List ℕ → ℤ → List ℕ → Type 0
 IsAnswered (Some call) response status before length after =
     (status ≡ status_of (response_ending plain call response))
+    × IsJsonLine (response_line plain call response)
     × IsReported (Some (response_line plain call response)) (pos 0) before length after
 IsAnswered None response status before length after =
     (status ≡ pos 2) × IsReported None (pos 0) before length after

@@ -5,6 +5,7 @@ use Rattle.kmip_client.specs.Operation.{TreeRequest, operation_bytes}
 use Rattle.kmip_words.specs.Exchange.{Settings}
 use Rattle.kmip_operations.specs.Calls.{Asks}
 use Rattle.kmip_operations.specs.Answers.{operation_json_line, operation_ending}
+use Rattle.kmip_operations.specs.JsonLines.{IsTextLine}
 use Rattle.kmip_c.specs.Calls.{plain, status_of}
 use Rattle.kmip_exports.specs.Exports.{IsReported}
 use Rattle.kmip_c.specs.Codes.{grammar, no_value, no_form}
@@ -34,12 +35,13 @@ pub data IsOperationRequested (settings : Option Settings) (name version payload
   no_call : AsksForNone name version payload → (result ≡ grammar) × (after ≡ before) →
       IsOperationRequested settings name version payload before result after
 
--- what C gets for a response, memory aside: how the call ended, and the line of its answer; or that
--- what was given is not of the grammar
+-- what C gets for a response, memory aside: how the call ended, and the line of its answer, which is
+-- a text of JSON in UTF-8 and a line feed; or that what was given is not of the grammar
 pub data IsOperationAnswered (name version payload response : List ℕ) (status : ℤ)
     (before : List ℕ) (length : ℤ) (after : List ℕ) : Type 0 where
   answered : (request : TreeRequest) → AsksInBytes name version payload request →
       status ≡ status_of (operation_ending plain request response) →
+      IsTextLine (operation_json_line plain request response) →
       IsReported (Some (operation_json_line plain request response)) (pos 0) before length after →
       IsOperationAnswered name version payload response status before length after
   no_call : AsksForNone name version payload → status ≡ pos 2 →

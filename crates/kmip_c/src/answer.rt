@@ -2,6 +2,7 @@
 ghost use Rattle.std.specs.Prelude.{◌≡◌, IfOk, MatchOption, None, Some};
 ghost use Rattle.kmip_words.specs.declared.call.Call.{Call as TheCall};
 ghost use Rattle.kmip_words.specs.About.{response_line, response_ending};
+ghost use Rattle.kmip_words.specs.JsonLines.{IsJsonLine};
 ghost use Rattle.kmip_c.specs.Calls.{call_of, plain, status_of};
 
 use crate::call::call_of;
@@ -39,7 +40,8 @@ pub fn answer_line(
     ensures answer { (c : TheCall) → call_of call.now ≡ Some c →
         IfOk result (λ answer. MatchOption answer ⊥
         (λ a. (a.ending ≡ response_ending plain c response.now) ×
-        (a.line ≡ response_line plain c response.now))) }
+        (a.line ≡ response_line plain c response.now) ×
+        IsJsonLine (response_line plain c response.now))) }
 {
     let Some(call) = call_of(alloc, call)? else {
         return Ok(None);

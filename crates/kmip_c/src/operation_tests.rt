@@ -2,6 +2,7 @@
 //! kmip_test_messages, and JSON is written by hand.
 use crate::{kmip_operation_answer, kmip_operation_refusal, kmip_operation_request};
 use kmip_test_messages::message;
+use kmip_wire::Text;
 use std::alloc::Global;
 use std::test::Fail;
 
@@ -140,6 +141,45 @@ fn what_is_no_call_has_a_code(rt: HostRuntime) {
     }
     assert!(rt; request(alloc, NO_FORM, false, b"", b"", &mut into) == -6);
     assert!(rt; into == [7u8; 8]);
+}
+
+/// Adds a part so many times.
+fn push_times(text: &mut Text, part: &str, times: u32) -> Result<(), Fail> {
+    for _ in 0..times {
+        text.push_str(part)?;
+    }
+    Ok(())
+}
+
+/// The JSON of a payload of so many levels.
+fn nested(alloc: Global, levels: u32) -> Result<Text, Fail> {
+    let mut json = Text::new(alloc);
+    push_times(&mut json, "{\"tag\":\"RequestPayload\",\"value\":[", levels)?;
+    push_times(&mut json, "]}", levels)?;
+    Ok(json)
+}
+
+/// What is returned for the request of an Encrypt with a payload of so many levels: its length, also
+/// where it does not fit.
+fn request_nested(alloc: Global, levels: u32, into: &mut [u8]) -> Result<i64, Fail> {
+    let json = nested(alloc, levels)?;
+    let payload = json.as_str().as_bytes();
+    Ok(kmip_operation_request(alloc, b"Encrypt", b"1.2", payload, false, b"", b"", into))
+}
+
+#[test]
+fn a_request_has_at_most_64_levels(rt: HostRuntime) -> Result<(), Fail> {
+    let alloc: Global = rt.alloc();
+    // the payload is the third level of its message
+    let expected = message(alloc, "REQ2(1F, 79^61{})")?;
+    let mut into = [7u8; 8];
+    let length = request_nested(alloc, 62, &mut into)?;
+    let deep = request_nested(alloc, 63, &mut into)?;
+    let deeper = request_nested(alloc, 64, &mut into)?;
+    assert!(rt; length == expected.len() as i64);
+    assert!(rt; deep == -6);
+    assert!(rt; deeper == -6);
+    Ok(())
 }
 
 /// A response to Decrypt, and the status and the line that it comes to.

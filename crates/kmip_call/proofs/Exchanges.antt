@@ -7,7 +7,7 @@ use Rattle.kmip_words.specs.Streams.{Gives, GivesPart, WrotePart, WroteProperPar
 use Rattle.kmip_words.specs.Exchange.{or_empty, loses_link}
 use Rattle.kmip_words.specs.declared.ending.Ending.TheVariants.{Lost, Refused}
 use Rattle.kmip_call.specs.Wire.{taken_at, IsOneAtMost}
-use Rattle.kmip_call.specs.Exchange.{Errand, failure_line, not_sent, answered, write_failed, read_failed, most_taken, CarriedPart}
+use Rattle.kmip_call.specs.Exchange.{Errand, failure_line, IsLinkFailed, not_sent, answered, write_failed, read_failed, most_taken, CarriedPart}
 use Rattle.kmip_call.specs.Asked.{AsksFor, errand_of, Requests}
 use Rattle.kmip_call.specs.Program.{Makes}
 use Rattle.kmip_call.specs.declared.command.Order.{Order}
@@ -73,7 +73,7 @@ sent_or order asked request bytes w0 w1 s0 s1 (Err error) asks writes one reads 
 
 pub write_fault_or : {E : Type 0} (order : Order) (asked : Asked) (request text : List ℕ)
     (w0 w1 : SinkState) (s0 s1 : SourceState) (result : Result CallEnd E)
-    → Requests order asked (Some request) → text ≡ codes "link failed" →
+    → Requests order asked (Some request) → IsLinkFailed text →
     FaultCountRose w0.faults w1.faults × (IsTrue w0.tells → WroteProperPart w0 w1 request) × (s1 ≡ s0) →
     IfOk result (λ end. end.line.items ≡ failure_line (RequestWriteError text)) →
     IfOk result (λ end. end.ending ≡ cond (loses_link (RequestWriteError text)) Lost Refused) →
@@ -83,15 +83,14 @@ pub write_fault_or : {E : Type 0} (order : Order) (asked : Asked) (request text 
 write_fault_or order asked request text w0 w1 s0 s1 (Ok end) asks is fault line ends response = record {
   errand = errand_of order.settings asked;
   asks = asks.asks;
-  carried = write_failed request (sym asks.message) response
-      (line ∙ ap (λ (t : List ℕ). failure_line (RequestWriteError t)) is) ends fault.0 fault.1
+  carried = write_failed request (sym asks.message) response text is line ends fault.0 fault.1
       fault.2;
 }
 write_fault_or order asked request text w0 w1 s0 s1 (Err error) asks is fault line ends response = tt
 
 pub read_fault_or : {E : Type 0} (order : Order) (asked : Asked) (request text : List ℕ)
     (w0 w1 : SinkState) (s0 s1 : SourceState) (result : Result CallEnd E)
-    → Requests order asked (Some request) → text ≡ codes "link failed" →
+    → Requests order asked (Some request) → IsLinkFailed text →
     FaultCountRose s0.faults s1.faults × (IsTrue w0.tells → w1.sent ≡ w0.sent ++ request)
     × (IsTrue s0.tells → GivesPart s0 s1 (taken_at (source_left s0) order.settings.limit)) →
     IfOk result (λ end. end.line.items ≡ failure_line (ResponseReadError text)) →
@@ -102,8 +101,7 @@ pub read_fault_or : {E : Type 0} (order : Order) (asked : Asked) (request text :
 read_fault_or order asked request text w0 w1 s0 s1 (Ok end) asks is fault line ends response = record {
   errand = errand_of order.settings asked;
   asks = asks.asks;
-  carried = read_failed request (sym asks.message) response
-      (line ∙ ap (λ (t : List ℕ). failure_line (ResponseReadError t)) is) ends fault.0 fault.1
+  carried = read_failed request (sym asks.message) response text is line ends fault.0 fault.1
       fault.2;
 }
 read_fault_or order asked request text w0 w1 s0 s1 (Err error) asks is fault line ends response = tt

@@ -6,3 +6,4 @@ pub mod Orders
 pub mod ReadBack
 pub mod Runs
 pub mod Refusing
+pub mod Contents

@@ -60,6 +60,10 @@ pub record Takes (limit : Option ℕ) (errand : Errand) (s0 s1 : SourceState) (b
 abbrev pub failure_line : Error → List ℕ
 failure_line error = error_line error Json
 
+-- what is said where the sink or the source failed: that it did, and why, where the system tells
+abbrev pub IsLinkFailed : List ℕ → Type 0
+IsLinkFailed text = (why : List ℕ) × (text ≡ codes "link failed" ++ why)
+
 -- A call took its sink and its source from the states `0` to the states `1`, ended so and has this
 -- line for its answer. What is said of bytes holds where contracts know those of the sink, or of
 -- the source.
@@ -79,14 +83,14 @@ pub data Carried (limit : Option ℕ) (errand : Errand) (w0 w1 : SinkState) (s0 
       Carried limit errand w0 w1 s0 s1 response line ending
   -- the sink failed: a proper part of the request was sent, and nothing was read
   write_failed : (request : List ℕ) → errand.message ≡ Some request → response ≡ None →
-      line ≡ failure_line (RequestWriteError (codes "link failed")) → ending ≡ Lost →
-      FaultCountRose w0.faults w1.faults →
+      (text : List ℕ) → IsLinkFailed text → line ≡ failure_line (RequestWriteError text) →
+      ending ≡ Lost → FaultCountRose w0.faults w1.faults →
       (IsTrue w0.tells → WroteProperPart w0 w1 request) → s1 ≡ s0 →
       Carried limit errand w0 w1 s0 s1 response line ending
   -- the source failed: the request was sent, and a part of the message was read
   read_failed : (request : List ℕ) → errand.message ≡ Some request → response ≡ None →
-      line ≡ failure_line (ResponseReadError (codes "link failed")) → ending ≡ Lost →
-      FaultCountRose s0.faults s1.faults →
+      (text : List ℕ) → IsLinkFailed text → line ≡ failure_line (ResponseReadError text) →
+      ending ≡ Lost → FaultCountRose s0.faults s1.faults →
       (IsTrue w0.tells → w1.sent ≡ w0.sent ++ request) →
       (IsTrue s0.tells → GivesPart s0 s1 (taken_at (source_left s0) limit)) →
       Carried limit errand w0 w1 s0 s1 response line ending

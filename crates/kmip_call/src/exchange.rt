@@ -4,10 +4,13 @@ ghost use Rattle.kmip_words.specs.Exchange.{loses_link};
 ghost use Rattle.kmip_words.specs.About.{response_line, response_ending};
 ghost use Rattle.kmip_words.specs.declared.ending.Ending.TheVariants as endings;
 ghost use Rattle.kmip_call.specs.Exchange.{Errand as TheErrand, failure_line, CarriedPart};
+ghost use Rattle.kmip_call.specs.Exchange.{IsLinkFailed};
 ghost use Rattle.kmip_call.specs.Asked.{errand_of, AsksFor, Requests};
 ghost use Rattle.kmip_call.specs.Program.{Makes};
 
 use crate::command::Order;
+use crate::last_error::LastError;
+use crate::refusal::joined;
 use crate::requested::{Asked, Requested};
 use crate::wire::{TransferStop, transfer};
 use kmip_client::Error;
@@ -116,14 +119,24 @@ fn failed(alloc: Global, error: Error, response: Option<Vec<u8>>) -> Result<Call
     })
 }
 
+/// That the sink or the source failed, and why, where the system tells.
+fn link_failed(alloc: Global, last: &LastError) -> Result<Text, OutOfMemory>
+    ensures { IfOk result (λ text. IsLinkFailed text) }
+{
+    let why = last.told(alloc)?;
+    Ok(joined(alloc, "link failed", why.as_str())?)
+}
+
 /// Makes a call: sends its request, where it has a wire form, and reads at most one message. Where
-/// memory runs out, the request may have been sent, and the message taken, in part or whole.
+/// memory runs out, the request may have been sent, and the message taken, in part or whole. What
+/// the sink and the source last failed with is in `last`.
 pub fn exchange<W: Sink, S: Source>(
     alloc: Global,
     order: &Order,
     requested: &Requested,
     wire: &mut W,
     source: &mut S,
+    last: &LastError,
 ) -> Result<CallEnd, OutOfMemory>
     requires { Requests order.now requested.now.asked requested.now.request }
     ensures made { IfOk result
@@ -149,11 +162,11 @@ pub fn exchange<W: Sink, S: Source>(
     ) {
         Ok(()) => answered(alloc, &order.settings, &requested.asked, response),
         Err(TransferStop::WriteFault) => {
-            let text = Text::of(alloc, "link failed")?;
+            let text = link_failed(alloc, last)?;
             failed(alloc, Error::RequestWriteError(text), None)
         }
         Err(TransferStop::ReadFault) => {
-            let text = Text::of(alloc, "link failed")?;
+            let text = link_failed(alloc, last)?;
             failed(alloc, Error::ResponseReadError(text), None)
         }
         Err(TransferStop::OutOfMemory) => Err(OutOfMemory),

@@ -43,6 +43,10 @@ where none is given. PAYLOAD is the JSON of the request's payload, as
 payload. `message` sends a whole message, whose JSON MESSAGE is, as it stands;
 the answer is the whole response. Neither can be recorded.
 
+@FILE in the place of HEX, PAYLOAD or MESSAGE stands for what that file has, its
+bytes or its JSON, and @3 for what descriptor 3 has up to its end: the words of
+a program can be seen by other users of the machine.
+
 user=U, password=P   the credential of the request; without password=P the
                      password is that of the environment, KMIP_PASSWORD
 limit=N              the most bytes that a response may have, its head counted;
@@ -53,7 +57,7 @@ record=FILE          adds CALL and the response to FILE, as a line that
 
 Status   0 answered   1 refused   2 the words are no call: nothing was sent
          3 the connection is lost   4 the answer or record is not written
-         5 out of memory, or a word or the password is not UTF-8
+         5 out of memory
 After 3, 4 and 5 the connection is to be closed.
 ";
 

@@ -10,7 +10,9 @@
 
 mod command;
 mod exchange;
+mod file_words;
 mod help;
+mod last_error;
 mod program;
 mod record;
 mod refusal;
@@ -22,26 +24,44 @@ mod tree_words;
 mod wire;
 
 use command::{Command, Order, command_of};
+use file_words::{file_in, with_contents};
 use help::{grammar_json, help_text};
 use kmip_link::{MemorySink, Sink, StdSink, StdSource};
 use kmip_wire::{List, OutOfMemory, Text};
-use kmip_words::Ending;
-use refusal::{CLOSED_STREAM, NO_FILE, WRONG_LIMIT, refuse};
+use kmip_words::{Ending, number_of};
+use last_error::{LastError, Watched};
+use refusal::{CLOSED_STREAM, NO_FILE, NOT_UTF8, WRONG_LIMIT, refuse};
 use status::Status;
 use std::env::{self, VarError};
-use std::fs::{File, OpenOptions};
-use std::io::{self, Write};
+use std::fs::{self, File, OpenOptions};
+use std::io::{self, ErrorKind, Write};
 use std::os::fd::AsRawFd;
 use std::os::unix::fs::{FileExt, OpenOptionsExt};
 use std::process::ExitCode;
 
 const VERSION: &str = "kmip_call 1.0\n";
 
-/// The words after the program's name. `OutOfMemory` comes also where one of them is not UTF-8.
-fn given_words(rt: &HostRuntime) -> Result<List<Text>, OutOfMemory> {
+/// Why the words or the password of the environment are not had.
+#[derive(Drop)]
+enum NotRead {
+    OutOfMemory,
+    /// One of them is not UTF-8.
+    NotUtf8,
+}
+
+impl From<OutOfMemory> for NotRead {
+    fn from(_: OutOfMemory) -> NotRead {
+        NotRead::OutOfMemory
+    }
+}
+
+/// The words after the program's name.
+fn given_words(rt: &HostRuntime) -> Result<List<Text>, NotRead> {
     let mut words = List::new(rt.alloc());
-    let Ok(args) = env::args(rt) else {
-        return Err(OutOfMemory);
+    let args = match env::args(rt) {
+        Ok(args) => args,
+        Err(error) if error.kind() == ErrorKind::InvalidData => return Err(NotRead::NotUtf8),
+        Err(_) => return Err(NotRead::OutOfMemory),
     };
     for word in args.skip(1) {
         words.push(Text::of(rt.alloc(), word.as_str())?)?;
@@ -49,13 +69,13 @@ fn given_words(rt: &HostRuntime) -> Result<List<Text>, OutOfMemory> {
     Ok(words)
 }
 
-/// The password of the environment, `KMIP_PASSWORD`. `OutOfMemory` comes also where it is not
-/// UTF-8.
-fn given_password(rt: &HostRuntime) -> Result<Option<Text>, OutOfMemory> {
+/// The password of the environment, `KMIP_PASSWORD`.
+fn given_password(rt: &HostRuntime) -> Result<Option<Text>, NotRead> {
     match env::var(rt, "KMIP_PASSWORD") {
         Ok(password) => Ok(Some(Text::of(rt.alloc(), password.as_str())?)),
         Err(VarError::NotPresent) => Ok(None),
-        Err(_) => Err(OutOfMemory),
+        Err(VarError::NotUnicode) => Err(NotRead::NotUtf8),
+        Err(VarError::OutOfMemory) => Err(NotRead::OutOfMemory),
     }
 }
 
@@ -79,6 +99,41 @@ fn say_made(rt: &HostRuntime, text: Result<Text, OutOfMemory>) -> Status {
 /// Writes on standard error why no call is made, and returns the status.
 fn refuse_with(rt: &HostRuntime, text: &str) -> Status {
     refuse(rt.alloc(), text, &mut StdSink::new(rt.stderr()))
+}
+
+/// What a file has that a word names by `@FILE`, or a descriptor by `@3`, up to its end.
+fn read_named(rt: &HostRuntime, name: &str) -> io::Result<Vec<u8>> {
+    let Some(number) = number_of(name) else {
+        return fs::read(rt, name);
+    };
+    if number < 3 {
+        let why = "0, 1 and 2 are the connection and the answer";
+        return Err(io::Error::new(ErrorKind::InvalidInput, why));
+    }
+    let path = format!(in rt.alloc(); "/dev/fd/{number}")?;
+    fs::read(rt, path.as_str())
+}
+
+/// Puts what a file has in the place of the word of a call that names it, where one does. It
+/// returns why it cannot.
+fn fill(rt: &HostRuntime, order: &mut Order) -> Result<Option<Text>, OutOfMemory> {
+    let Some(name) = file_in(order.words.as_slice()) else {
+        return Ok(None);
+    };
+    let contents = match read_named(rt, name) {
+        Ok(contents) => contents,
+        Err(error) if error.kind() == ErrorKind::OutOfMemory => return Err(OutOfMemory),
+        Err(error) => {
+            let why = format!(in rt.alloc(); "cannot read @{name}: {error}")?;
+            return Ok(Some(Text::of_string(why)));
+        }
+    };
+    let Some(words) = with_contents(rt.alloc(), &contents, order.words.as_slice())? else {
+        let why = format!(in rt.alloc(); "@{name} is no JSON: it is not UTF-8")?;
+        return Ok(Some(Text::of_string(why)));
+    };
+    order.words = words;
+    Ok(None)
 }
 
 /// Whether the file of records has this length and ends in a line feed, or is empty.
@@ -125,10 +180,26 @@ fn take_back_part(file: &File, len: u64) -> io::Result<()> {
 /// Makes a call over standard input and output, with this sink for its record, and returns the
 /// status.
 fn perform_over<F: Sink>(rt: &HostRuntime, order: &Order, kept: &mut F) -> Status {
-    let mut wire = StdSink::new(rt.stdout());
-    let mut source = StdSource::new(rt.stdin());
+    let last = LastError::new();
+    let (stdout, stdin) = (rt.stdout(), rt.stdin());
+    let mut wire = StdSink::new(Watched {
+        stream: stdout,
+        last: &last,
+    });
+    let mut source = StdSource::new(Watched {
+        stream: stdin,
+        last: &last,
+    });
     let mut told = StdSink::new(rt.stderr());
-    program::run(rt.alloc(), order, &mut wire, &mut source, kept, &mut told)
+    program::run(
+        rt.alloc(),
+        order,
+        &mut wire,
+        &mut source,
+        kept,
+        &mut told,
+        &last,
+    )
 }
 
 /// Makes a call, and returns the status. Where the file for the record cannot be opened or locked,
@@ -150,12 +221,26 @@ fn perform(rt: &HostRuntime, order: &Order) -> Status {
     }
 }
 
+/// Makes a call, whose words may name a file, and returns the status. Where that cannot be read, it
+/// is `NoCall`.
+fn perform_named(rt: &HostRuntime, mut order: Order) -> Status {
+    match fill(rt, &mut order) {
+        Ok(None) => perform(rt, &order),
+        Ok(Some(why)) => refuse_with(rt, why.as_str()),
+        Err(OutOfMemory) => Status::OutOfMemory,
+    }
+}
+
 fn main(rt: HostRuntime) -> ExitCode {
     if has_closed_stream(&rt) {
         return ExitCode::from(refuse_with(&rt, CLOSED_STREAM).code());
     }
-    let (Ok(words), Ok(password)) = (given_words(&rt), given_password(&rt)) else {
-        return ExitCode::from(Status::OutOfMemory.code());
+    let (words, password) = match (given_words(&rt), given_password(&rt)) {
+        (Ok(words), Ok(password)) => (words, password),
+        (Err(NotRead::OutOfMemory), _) | (_, Err(NotRead::OutOfMemory)) => {
+            return ExitCode::from(Status::OutOfMemory.code());
+        }
+        _ => return ExitCode::from(refuse_with(&rt, NOT_UTF8).code()),
     };
     let password = match &password {
         Some(password) => Some(password.as_str()),
@@ -165,7 +250,7 @@ fn main(rt: HostRuntime) -> ExitCode {
         Ok(Some(Command::Help)) => say_made(&rt, help_text(rt.alloc())),
         Ok(Some(Command::Grammar)) => say_made(&rt, grammar_json(rt.alloc())),
         Ok(Some(Command::Version)) => say(&rt, VERSION),
-        Ok(Some(Command::Make(order))) => perform(&rt, &order),
+        Ok(Some(Command::Make(order))) => perform_named(&rt, order),
         Ok(None) => refuse_with(&rt, WRONG_LIMIT),
         Err(OutOfMemory) => Status::OutOfMemory,
     };

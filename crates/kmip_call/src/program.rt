@@ -10,6 +10,7 @@ ghost use Rattle.kmip_call.specs.Program.{is_ended, Makes, streams, Runs};
 
 use crate::command::Order;
 use crate::exchange::{CallEnd, exchange};
+use crate::last_error::LastError;
 use crate::record::write_record;
 use crate::refusal::refuse_words;
 use crate::requested::request_for;
@@ -26,6 +27,7 @@ fn make_call<W: Sink, S: Source>(
     order: &Order,
     wire: &mut W,
     source: &mut S,
+    last: &LastError,
 ) -> Result<Option<CallEnd>, OutOfMemory>
     ensures none { IfOk result (λ end. end ≡ None → AsksForNone order.now) }
     ensures wire { AsksForNone order.now → W.state wire.new ≡ W.state wire.old }
@@ -39,7 +41,7 @@ fn make_call<W: Sink, S: Source>(
         (S.state source.new) (option_map (λ r. r.items) it.response) it.line.items it.ending)) }
 {
     match request_for(alloc, order)? {
-        Some(requested) => Ok(Some(exchange(alloc, order, &requested, wire, source)?)),
+        Some(requested) => Ok(Some(exchange(alloc, order, &requested, wire, source, last)?)),
         None => Ok(None),
     }
 }
@@ -110,7 +112,8 @@ fn report<F: Sink, K: Sink>(
 /// Makes a call, and returns how the program ends.
 ///
 /// The request goes to `wire`, the response comes from `source`, the answer goes to `told` as a
-/// line of JSON, and the record to `kept`, where `record=FILE` asks for one.
+/// line of JSON, and the record to `kept`, where `record=FILE` asks for one. What `wire` and `source`
+/// last failed with is in `last`.
 ///
 /// - `Ended`: the call was made, and its record and its answer were written.
 /// - `NoCall`: the words are not of the grammar, or a record cannot hold them; nothing was sent,
@@ -125,13 +128,14 @@ pub fn run<W: Sink, S: Source, F: Sink, K: Sink>(
     source: &mut S,
     kept: &mut F,
     told: &mut K,
+    last: &LastError,
 ) -> Status
     ensures { Runs order.now
         (streams (W.state wire.old) (S.state source.old) (F.state kept.old) (K.state told.old))
         (streams (W.state wire.new) (S.state source.new) (F.state kept.new) (K.state told.new))
         result }
 {
-    match make_call(alloc, order, wire, source) {
+    match make_call(alloc, order, wire, source, last) {
         Ok(Some(end)) => report(alloc, order, &end, kept, told),
         Ok(None) => refuse_words(alloc, order, told),
         Err(OutOfMemory) => Status::OutOfMemory,

@@ -29,7 +29,7 @@ fn push_spaced(words: &[Text], line: &mut Text) -> Result<(), OutOfMemory>
 }
 
 /// Adds a response as a word: `-` where it is empty, or else upper-case hex.
-fn push_response(alloc: Global, response: &[u8], line: &mut Text) -> Result<(), OutOfMemory>
+pub fn push_response(alloc: Global, response: &[u8], line: &mut Text) -> Result<(), OutOfMemory>
     ensures { OnOk result (line.new ≡ line.old ++ response_word response.now) }
 {
     if response.is_empty() {

@@ -29,6 +29,9 @@ pub const NO_FILE: &str = "the file of record= cannot be opened or locked";
 /// What is said where a standard stream is closed.
 pub const CLOSED_STREAM: &str = "standard input, output or error is closed";
 
+/// What is said where a word, or the password of the environment, is not UTF-8.
+pub const NOT_UTF8: &str = "a word or KMIP_PASSWORD is not UTF-8";
+
 /// What is said of words that a record cannot hold.
 const NOT_RECORDED: &str = "a record cannot hold these words";
 
@@ -43,7 +46,7 @@ fn not_typed(alloc: Global, words: &[Text]) -> Result<Text, OutOfMemory>
 }
 
 /// A text and another after it.
-fn joined(alloc: Global, front: &str, rest: &str) -> Result<Text, OutOfMemory>
+pub fn joined(alloc: Global, front: &str, rest: &str) -> Result<Text, OutOfMemory>
     ensures { IfOk result (λ text. text ≡ front.now ++ rest.now) }
 {
     let mut text = Text::of(alloc, front)?;

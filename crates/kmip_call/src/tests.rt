@@ -2,10 +2,11 @@
 //!
 //! A message in a row stands in the notation of kmip_test_messages, as `REQ2(25, C4 i16)`, and in a
 //! record as `<REQ2(25, C4 i16)>`. The lines of answers were written by hand.
-use self::answers::{ANSWERS, MESSAGES, OPERATIONS};
+use self::answers::{ANSWERS, DEEPEST, MESSAGES, OPERATIONS, TOO_DEEP};
 use self::errors::{AROUND, ERRORS, GRAMMAR, RECORDS};
 use crate::command::{Command, command_of};
 use crate::help::{grammar_json, help_text};
+use crate::last_error::LastError;
 use crate::program::run;
 use crate::refusal::{WRONG_LIMIT, refuse};
 use crate::status::Status;
@@ -19,6 +20,7 @@ use std::test::Fail;
 
 mod answers;
 mod errors;
+mod files;
 
 /// The request of `rng 16`, and its response.
 const RNG: &str = "REQ2(25, C4 i16)";
@@ -210,19 +212,25 @@ fn ordered(alloc: Global, command: &Option<Command>, ends: &mut Ends) -> Status 
             &mut ends.source,
             &mut ends.kept,
             &mut ends.told,
+            &LastError::new(),
         ),
         None => refuse(alloc, WRONG_LIMIT, &mut ends.told),
         _ => Status::NoCall,
     }
 }
 
-/// That the program does what the row says.
-fn is_made(rt: &impl Abort, alloc: Global, row: &Row) -> Result<(), Fail> {
+/// That the program does what the row says, for these words.
+fn is_made_of(rt: &impl Abort, alloc: Global, words: &[&str], row: &Row) -> Result<(), Fail> {
     let mut ends = ends_of(alloc, row)?;
-    let command = commanded(alloc, row.words, row.password)?;
+    let command = commanded(alloc, words, row.password)?;
     let status = ordered(alloc, &command, &mut ends);
     drop(command);
     is_as_the_row_says(rt, alloc, status.code(), &mut ends, row)
+}
+
+/// That the program does what the row says.
+fn is_made(rt: &impl Abort, alloc: Global, row: &Row) -> Result<(), Fail> {
+    is_made_of(rt, alloc, row.words, row)
 }
 
 #[test]
@@ -235,6 +243,36 @@ fn a_call_sends_reads_records_and_answers_as_its_row_says(rt: HostRuntime) -> Re
         }
     }
     Ok(())
+}
+
+/// Adds a part so many times.
+fn push_times(text: &mut Text, part: &str, times: u32) -> Result<(), Fail> {
+    for _ in 0..times {
+        text.push_str(part)?;
+    }
+    Ok(())
+}
+
+/// The JSON of a payload of so many levels.
+fn nested(alloc: Global, levels: u32) -> Result<Text, Fail> {
+    let mut json = Text::new(alloc);
+    push_times(&mut json, "{\"tag\":\"RequestPayload\",\"value\":[", levels)?;
+    push_times(&mut json, "]}", levels)?;
+    Ok(json)
+}
+
+/// That an Encrypt of a payload of so many levels does what the row says.
+fn is_made_nested(rt: &impl Abort, alloc: Global, levels: u32, row: &Row) -> Result<(), Fail> {
+    let json = nested(alloc, levels)?;
+    is_made_of(rt, alloc, &["operation", "Encrypt", json.as_str()], row)
+}
+
+#[test]
+fn a_request_has_at_most_64_levels(rt: HostRuntime) -> Result<(), Fail> {
+    // the payload is the third level of its message
+    is_made_nested(&rt, rt.alloc(), 62, &DEEPEST)?;
+    is_made_nested(&rt, rt.alloc(), 63, &TOO_DEEP)?;
+    is_made_nested(&rt, rt.alloc(), 64, &TOO_DEEP)
 }
 
 /// What these words ask for.

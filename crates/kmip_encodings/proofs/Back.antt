@@ -32,16 +32,16 @@ hex_marked b = grind (arith, nat_tests)
 pub hex_back : (b : List ℕ) → AreBytes b → hex_bytes (hex_text b) ≡ Some b
 hex_back b h = rw (hex_marked b) (ap result_ok (decode_of-encode_upper b h))
 
-marked_back : (b : List ℕ) (number : List ℕ → Option ℕ) (other : Option ℕ) → AreBytes b
+pub marked_back : (b : List ℕ) (number : List ℕ → Option ℕ) (other : Option ℕ) → AreBytes b
     → hex_or (hex_text b) number other ≡ number b
 marked_back b number other h =
     ap (λ m. cond m (option_and_then number (hex_bytes (hex_text b))) other) (hex_marked b)
     ∙ ap (option_and_then number) (hex_back b h)
 
-unmarked : (s : List ℕ) → (get_or s 0 0 == 48) ≡ false → has_mark s ≡ false
+pub unmarked : (s : List ℕ) → (get_or s 0 0 == 48) ≡ false → has_mark s ≡ false
 unmarked s h = rw h (and-false (nat_le 2 (length s)))
 
-four_are_bytes : (n : ℕ) → AreBytes (to_be_bytes w32 n)
+pub four_are_bytes : (n : ℕ) → AreBytes (to_be_bytes w32 n)
 four_are_bytes n zero = omega arith
 four_are_bytes n (suc zero) = omega arith
 four_are_bytes n (suc (suc zero)) = omega arith
@@ -78,15 +78,15 @@ words_good : are_good words ≡ true
 unfolding words names
 words_good = refl
 
-and_left : (a b : Bool) → (a && b) ≡ true → a ≡ true
+pub and_left : (a b : Bool) → (a && b) ≡ true → a ≡ true
 and_left true b h = refl
 and_left false b h = h
 
-and_right : (a b : Bool) → (a && b) ≡ true → b ≡ true
+pub and_right : (a b : Bool) → (a && b) ≡ true → b ≡ true
 and_right true b h = h
 and_right false b h = absurd (false≢true h)
 
-not_true : (b : Bool) → not b ≡ true → b ≡ false
+pub not_true : (b : Bool) → not b ≡ true → b ≡ false
 not_true true h = absurd (false≢true h)
 not_true false h = refl
 
@@ -198,7 +198,7 @@ enumeration_back tag n h =
 
 -- ---- dates
 
-is_that : (o : Option ℕ) (n : ℕ) → is_number o n ≡ true → o ≡ Some n
+pub is_that : (o : Option ℕ) (n : ℕ) → is_number o n ≡ true → o ≡ Some n
 is_that None n h = absurd (false≢true h)
 is_that (Some m) n h = ap Some ((Decides-eqb m n).0 h)
 

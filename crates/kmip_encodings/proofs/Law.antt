@@ -1,5 +1,5 @@
 -- Reading the JSON of a tree gives the tree, and its text is a text of JSON.
-use Rattle.std.proofs.Common.{◌≡◌, ◌≢◌, ℕ, zero, suc, ◌+◌, ◌*◌, ◌^◌, ◌<◌, ◌≤◌, true, false, cond, List, [], ◌∷◌, Some, None, option_map, option_and_then, refl, ap, ◌∙◌, nat_lt, arith, ℤ, pos, negsuc}
+use Rattle.std.proofs.Common.{◌≡◌, ◌≢◌, ℕ, zero, suc, ◌+◌, ◌*◌, ◌^◌, ◌<◌, ◌≤◌, true, false, cond, List, [], ◌∷◌, Option, Some, None, option_map, option_and_then, refl, ap, ◌∙◌, nat_lt, arith, ℤ, pos, negsuc}
 use Rattle.std.proofs.lemmas.List.Elements.{All-nil, All-cons}
 use Rattle.std.proofs.lemmas.List.Kept.{AllPairs-cons}
 use Rattle.std.specs.Prelude.{All, AllPairs, codes, unsigned_abs, FitsSigned, Ok}
@@ -22,12 +22,13 @@ use Rattle.kmip_wire.specs.Kinds.{kind_of_scalar}
 use Rattle.kmip_wire.specs.Tree.{Tree, Trees, Scalar, scalar, structure, none, more, integer, long_integer, big_integer, enumeration, boolean, text_string, byte_string, date_time, interval}
 use Rattle.kmip_wire.specs.Bytes.{levels, levels_of_all, IsInRange, HasRanges, HaveRanges}
 use Rattle.kmip_wire.specs.Names.{kind_name}
-use Rattle.kmip_encodings.specs.Texts.{hex_text}
+use Rattle.kmip_encodings.specs.Texts.{hex_text, mask_text}
 use Rattle.kmip_tags.specs.Tags.{ATTRIBUTE_VALUE}
 use Rattle.kmip_encodings.specs.Context.{place, named_after}
-use Rattle.kmip_encodings.specs.Encoding.{is_short, long_json, value_json, json_at, items_at, json_of, items_json, text_at, json_text}
+use Rattle.kmip_encodings.specs.Encoding.{is_short, long_json, text_or_number, value_json, json_at, items_at, json_of, items_json, text_at, json_text}
 use Rattle.kmip_encodings.specs.Reading.{kind_named, small_integer, small_natural, parts_read, node_read, structure_read, scalar_read, trees_read, within, named_from, items_by, read_item, tree_of, Read}
 use Rattle.kmip_encodings.proofs.Back.{hex_back, long_back, tag_back, enumeration_back, date_back, whole_back}
+use Rattle.kmip_encodings.proofs.Masked.{mask_back}
 
 kind_back : (kind : Kind) → kind_named (kind_name kind) ≡ Some kind
 kind_back Structure = refl
@@ -75,9 +76,22 @@ module _ (one : ℕ → Json → Read Tree) (named tag : ℕ) where
             ∙ ap (λ y. Ok (scalar tag (long_integer y))) (to_z-of_z w64 z h)
       ] refl
 
+  integer_is_back : (z : ℤ) → FitsSigned w32 z
+      → node_read one named tag Integer (text_or_number z (mask_text (codes "|") (place named tag) z))
+      ≡ Ok (scalar tag (integer z))
+  integer_is_back z h =
+      let p = place named tag in
+      elim (mask_text (codes "|") p z) as (λ o. mask_text (codes "|") p z ≡ o
+      → node_read one named tag Integer (text_or_number z o) ≡ Ok (scalar tag (integer z))) [
+        | None ↦ λ e. rw (whole_back z (abs_small z h), small_back z h) refl
+        | Some s ↦ λ e. ap (λ o. scalar_read tag Integer (option_map (λ n. integer (cast_signed w32 n)) o))
+            (mask_back p z s h e)
+            ∙ ap (λ y. Ok (scalar tag (integer y))) (to_z-of_z w32 z h)
+      ] refl
+
   scalar_back : (s : Scalar) → IsInRange s
       → node_read one named tag (kind_of_scalar s) (value_json (place named tag) s) ≡ Ok (scalar tag s)
-  scalar_back (integer z) h = rw (whole_back z (abs_small z h), small_back z h) refl
+  scalar_back (integer z) h = integer_is_back z h
   scalar_back (long_integer z) h = long_is_back z h
   scalar_back (big_integer b) h = ap (λ o. scalar_read tag BigInteger (option_map big_integer o)) (hex_back b h)
   scalar_back (enumeration n) h = ap (λ o. scalar_read tag Enumeration (option_map enumeration o))
@@ -131,8 +145,12 @@ flat_long z = elim (is_short z)
       | false ↦ refl
     ]
 
+flat_integer : (z : ℤ) (o : Option (List ℕ)) → depth (text_or_number z o) ≡ 0
+flat_integer z None = refl
+flat_integer z (Some s) = refl
+
 flat : (tag : ℕ) (s : Scalar) → depth (value_json tag s) ≡ 0
-flat tag (integer z) = refl
+flat tag (integer z) = flat_integer z (mask_text (codes "|") tag z)
 flat tag (long_integer z) = flat_long z
 flat tag (big_integer b) = refl
 flat tag (enumeration n) = refl
@@ -164,8 +182,12 @@ long_number z = elim (is_short z) as
       | false ↦ λ e. tt
     ] refl
 
+integer_number : (z : ℤ) (o : Option (List ℕ)) → FitsSigned w32 z → HasNumbers (text_or_number z o)
+integer_number z None h = IsNumber-signed_decimal z (mag_of z (abs_small z h))
+integer_number z (Some s) h = tt
+
 number_is : (tag : ℕ) (s : Scalar) → IsInRange s → HasNumbers (value_json tag s)
-number_is tag (integer z) h = IsNumber-signed_decimal z (mag_of z (abs_small z h))
+number_is tag (integer z) h = integer_number z (mask_text (codes "|") tag z) h
 number_is tag (long_integer z) h = long_number z
 number_is tag (big_integer b) h = tt
 number_is tag (enumeration n) h = tt
@@ -188,8 +210,12 @@ pub text_back : (t : Tree) → HasRanges t → levels t ≤ 64 → document (jso
 unfolding text_at
 text_back t h d = document-print (json_of t) (numbers t ATTRIBUTE_VALUE h) (omega (arith, nests t ATTRIBUTE_VALUE))
 
+integer_unique : (z : ℤ) (o : Option (List ℕ)) → HasUniqueKeys (text_or_number z o)
+integer_unique z None = tt
+integer_unique z (Some s) = tt
+
 value_unique : (tag : ℕ) (s : Scalar) → HasUniqueKeys (value_json tag s)
-value_unique tag (integer z) = tt
+value_unique tag (integer z) = integer_unique z (mask_text (codes "|") tag z)
 value_unique tag (long_integer z) =
     elim (is_short z) as (λ b. HasUniqueKeys
     (cond b (json.number (signed_decimal z))

@@ -3,6 +3,7 @@ pub mod TheLines
 pub mod Named
 pub mod Written
 pub mod Back
+pub mod Masked
 pub mod Law
 pub mod Numbers
 pub mod Items

@@ -13,7 +13,7 @@ use Rattle.kmip_wire.specs.Names.{kind_name}
 use Rattle.kmip_tags.specs.Tags as tags
 use Rattle.kmip_encodings.specs.Sizes.{size_of}
 use Rattle.kmip_encodings.specs.Context.{place, named_after}
-use Rattle.kmip_encodings.specs.Texts.{hex_text, tag_text, enumeration_text, date_text}
+use Rattle.kmip_encodings.specs.Texts.{hex_text, tag_text, enumeration_text, date_text, mask_text}
 
 -- whether a number is nearer to 0 than 2^52
 abbrev pub is_short : ℤ → Bool
@@ -24,9 +24,17 @@ long_json z =
     if is_short z then number (signed_decimal z)
     else string (hex_text (to_be_bytes w64 (cast_unsigned w64 z)))
 
+abbrev pub text_or_number : ℤ → Option (List ℕ) → Json
+text_or_number z None = number (signed_decimal z)
+text_or_number z (Some s) = string s
+
+-- a mask by the names of its bits, with `|` between two, and any other number in decimal
+abbrev pub integer_json : ℕ → ℤ → Json
+integer_json tag z = text_or_number z (mask_text (codes "|") tag z)
+
 -- the value of an item, whose names are looked up under the tag
 abbrev pub value_json : ℕ → Scalar → Json
-value_json tag (integer z) = number (signed_decimal z)
+value_json tag (integer z) = integer_json tag z
 value_json tag (long_integer z) = long_json z
 value_json tag (big_integer b) = string (hex_text b)
 value_json tag (enumeration n) = string (enumeration_text tag n)

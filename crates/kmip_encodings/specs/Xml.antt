@@ -1,5 +1,5 @@
 -- A tree as an element of XML.
-use Rattle.std.specs.Prelude.{ℕ, ◌==◌, List, [], ◌∷◌, ◌++◌, drop, flat_map, codes, Option, Some, None, if◌then◌else◌}
+use Rattle.std.specs.Prelude.{ℕ, ◌==◌, List, [], ◌∷◌, ◌++◌, ℤ, drop, flat_map, codes, Option, Some, None, if◌then◌else◌}
 use Rattle.std.specs.Char.{encode_utf8}
 use Rattle.std.specs.Str.{chars}
 use Rattle.std.specs.Fmt.{decimal, signed_decimal}
@@ -14,7 +14,7 @@ use Rattle.kmip_wire.specs.Tree.{Tree, Trees, Scalar, scalar, structure, none, m
 use Rattle.kmip_tags.specs.Tags as tags
 use Rattle.kmip_encodings.specs.Context.{place, named_after}
 use Rattle.kmip_encodings.specs.Words.{tag_word}
-use Rattle.kmip_encodings.specs.Texts.{hex_text, enumeration_text, date_text}
+use Rattle.kmip_encodings.specs.Texts.{hex_text, enumeration_text, date_text, mask_text}
 use Rattle.kmip_encodings.specs.XmlGrammar.{is_xml_char}
 
 -- U+FFFD, which stands for each character that XML lacks
@@ -41,9 +41,13 @@ escaped cs = flat_map xml_char cs
 abbrev pub attribute_xml : List ℕ → List ℕ → List ℕ
 attribute_xml name value = 32 ∷ (name ++ 61 ∷ 34 ∷ (escaped (chars value) ++ 34 ∷ []))
 
+-- a mask by the names of its bits, with a space between two, and any other number in decimal
+abbrev pub integer_text : ℕ → ℤ → List ℕ
+integer_text tag z = unwrap_or (mask_text (codes " ") tag z) (signed_decimal z)
+
 -- the value of an item, whose names are looked up under the tag
 abbrev pub value_text : ℕ → Scalar → List ℕ
-value_text tag (integer z) = signed_decimal z
+value_text tag (integer z) = integer_text tag z
 value_text tag (long_integer z) = signed_decimal z
 value_text tag (big_integer b) = encode_upper b
 value_text tag (enumeration n) = enumeration_text tag n

@@ -1,12 +1,15 @@
 //! The texts of values.
 ghost use Rattle.std.specs.Int.{w32, to_be_bytes};
-ghost use Rattle.std.specs.Prelude.{drop, ◌≡◌, ◌++◌, [], ◌∷◌, ◌<◌, ◌+◌, IfOk};
+ghost use Rattle.std.specs.Prelude.{drop, map, bit_and, ◌≡◌, ◌==◌, ◌++◌, [], ◌∷◌, ◌<◌, ◌+◌, IfOk};
+ghost use Rattle.std.specs.List.{join_by};
 ghost use Rattle.hex.specs.Hex.{encode_upper};
 ghost use Rattle.kmip_encodings.specs.Dates.{two, civil_text};
 ghost use Rattle.kmip_encodings.specs.Texts.{hex_text, tag_text, enumeration_text, date_text};
-ghost use Rattle.kmip_encodings.specs.Texts.{is_number};
+ghost use Rattle.kmip_encodings.specs.Texts.{is_number, mask_parts, bits_text};
+ghost use Rattle.kmip_encodings.specs.Texts.{mask_text};
 
 use crate::date::{Civil, civil_of, date_number};
+use crate::masks::{is_mask, mask_bits};
 use crate::names::enumeration_name;
 use crate::words::tag_word;
 use kmip_wire::{OutOfMemory, Tag, Text};
@@ -125,4 +128,79 @@ pub(crate) fn date_text(alloc: Global, number: u64) -> Result<Text, OutOfMemory>
     } else {
         hex_text(alloc, &number.to_be_bytes())
     }
+}
+
+fn has_bits(number: u32, bits: u32) -> bool
+    ensures { result ≡ (bit_and number bits == bits) }
+{
+    number & bits == bits
+}
+
+/// The names of the bits of a number, and the bits that have none.
+fn named(
+    alloc: Global,
+    bits: &'static [(u32, &'static str)],
+    number: u32,
+) -> Result<(Vec<&'static str>, u32), OutOfMemory>
+    ensures { IfOk result (λ found.
+        map (λ name. name.now) found.0.items ++ mask_parts [] found.1 ≡
+        mask_parts (map (λ bit. (bit.0, bit.1.now)) bits.now) number) }
+{
+    let mut names = Vec::new(alloc);
+    let mut rest = number;
+    for bit in bits {
+        if !has_bits(rest, bit.0) {
+            continue;
+        }
+        names.push(bit.1)?;
+        rest ^= bit.0;
+    }
+    Ok((names, rest))
+}
+
+/// The parts with the separator between two.
+fn joined(alloc: Global, separator: &str, parts: &[&str]) -> Result<Text, OutOfMemory>
+    ensures { IfOk result
+        (λ text. text ≡ join_by (λ part. part.now) separator.now parts.now) }
+{
+    let text = parts.join(alloc, separator)?;
+    Text::of(alloc, text.as_str())
+}
+
+/// The names of the bits of a number, and then the bits that have none as `0x` and eight digits,
+/// with the separator between two.
+fn bits_text(alloc: Global, separator: &str, tag: Tag, number: u32) -> Result<Text, OutOfMemory>
+    ensures { IfOk result (λ text. text ≡ bits_text separator.now tag number) }
+{
+    let (names, rest) = named(alloc, mask_bits(tag), number)?;
+    if rest == 0 {
+        let text = joined(alloc, separator, &names)?;
+        return Ok(text);
+    }
+    let digits = hex_text(alloc, &rest.to_be_bytes())?;
+    let mut parts: Vec<&str> = names;
+    parts.push(digits.as_str())?;
+    let text = joined(alloc, separator, &parts)?;
+    Ok(text)
+}
+
+/// A mask by the names of its bits, with the separator between two; `None` of what is no mask, and
+/// of 0.
+#[tactic(auto, unfolding(crate::specs::Texts::mask_text))]
+pub(crate) fn mask_text(
+    alloc: Global,
+    separator: &str,
+    tag: Tag,
+    number: i32,
+) -> Result<Option<Text>, OutOfMemory>
+    ensures { IfOk result (λ text. text ≡ mask_text separator.now tag number) }
+{
+    if !is_mask(tag) {
+        return Ok(None);
+    }
+    let bits = number.cast_unsigned();
+    if bits == 0 {
+        return Ok(None);
+    }
+    Ok(Some(bits_text(alloc, separator, tag, bits)?))
 }

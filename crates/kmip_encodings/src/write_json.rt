@@ -9,11 +9,11 @@ ghost use Rattle.kmip_tags.specs.Tags.{ATTRIBUTE_VALUE};
 ghost use Rattle.kmip_encodings.specs.Texts.{tag_text};
 ghost use Rattle.kmip_encodings.specs.Parts.{part_json, offset_tokens};
 ghost use Rattle.kmip_encodings.specs.Sizes.{size_of};
-ghost use Rattle.kmip_encodings.specs.Encoding.{is_short, long_json, after, item_json, json_at};
-ghost use Rattle.kmip_encodings.specs.Encoding.{text_at, json_text};
+ghost use Rattle.kmip_encodings.specs.Encoding.{is_short, long_json, integer_json, after};
+ghost use Rattle.kmip_encodings.specs.Encoding.{item_json, json_at, text_at, json_text};
 
 use crate::context::{named_after, place, unnamed};
-use crate::text::{bytes_text, date_text, enumeration_text, hex_text, tag_text};
+use crate::text::{bytes_text, date_text, enumeration_text, hex_text, mask_text, tag_text};
 use json::Writer;
 use kmip_wire::{Kind, Node, OutOfMemory, Tag, Text, Tree};
 use std::alloc::Global;
@@ -44,6 +44,16 @@ fn long_part(alloc: Global, number: i64) -> Result<Part<'static>, OutOfMemory>
     }
     let bytes = number.cast_unsigned().to_be_bytes();
     Ok(Part::Made(hex_text(alloc, &bytes)?))
+}
+
+/// An Integer: a mask by the names of its bits, and else a number.
+fn integer_part(alloc: Global, tag: Tag, number: i32) -> Result<Part<'static>, OutOfMemory>
+    ensures { IfOk result (λ part. part_json part ≡ integer_json tag number) }
+{
+    match mask_text(alloc, "|", tag, number)? {
+        Some(names) => Ok(Part::Made(names)),
+        None => Ok(Part::Number(number as i64)),
+    }
 }
 
 /// Writes the value of an item that is no structure.
@@ -150,7 +160,10 @@ fn put_tree(
     let tag = tree.tag;
     let (kind, len, part) = match &tree.node {
         Node::Structure(items) => return put_structure(alloc, at, tag, items.as_slice(), writer),
-        Node::Integer(number) => (Kind::Integer, 4, Part::Number(*number as i64)),
+        Node::Integer(number) => {
+            let part = integer_part(alloc, place(named, tag), *number)?;
+            (Kind::Integer, 4, part)
+        }
         Node::LongInteger(number) => (Kind::LongInteger, 8, long_part(alloc, *number)?),
         Node::BigInteger(bytes) => {
             let digits = hex_text(alloc, bytes.as_slice())?;
@@ -235,10 +248,11 @@ fn append_json(
 /// Appends the tree's JSON: an object with the members `tag`, `type` (left out for Structure) and
 /// `value`. A tag is its name as one word, or `0x` and six digits; an enumeration's number is its
 /// name, or `0x` and eight digits where no table has one (under Attribute Value it is the name that
-/// the attribute's values have, as the Attribute Name before it says); a Long Integer from 2^52 on,
-/// in either direction, is `0x` and its 16 digits, a Big Integer `0x` and the digits of its bytes,
-/// a Byte String the digits of its bytes, and a Date-Time a text of ISO 8601 in UTC, or `0x` and 16
-/// digits before the year 1 and after 9999.
+/// the attribute's values have, as the Attribute Name before it says); a mask that is not 0 is the
+/// names of its bits with `|` between two, as `Encrypt|Decrypt`, and `0x` and eight digits for those
+/// that have none; a Long Integer from 2^52 on, in either direction, is `0x` and its 16 digits, a
+/// Big Integer `0x` and the digits of its bytes, a Byte String the digits of its bytes, and a
+/// Date-Time a text of ISO 8601 in UTC, or `0x` and 16 digits before the year 1 and after 9999.
 ///
 /// The text is in UTF-8 and has no white space. Where memory runs out, nothing was appended.
 pub fn to_json(alloc: Global, tree: &Tree, out: &mut Vec<u8>) -> Result<(), OutOfMemory>

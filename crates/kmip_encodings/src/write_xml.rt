@@ -4,18 +4,18 @@ ghost use Rattle.std.specs.Str.{chars};
 ghost use Rattle.std.specs.Fmt.{signed_decimal};
 ghost use Rattle.hex.specs.Hex.{encode_upper};
 ghost use Rattle.kmip_shape.specs.Shown.{truth_shown};
-ghost use Rattle.kmip_wire.specs.declared.kind.Kind.TheVariants.{Enumeration, Boolean};
+ghost use Rattle.kmip_wire.specs.declared.kind.Kind.TheVariants.{Integer, Enumeration, Boolean};
 ghost use Rattle.kmip_wire.specs.declared.kind.Kind.TheVariants.{DateTime};
 ghost use Rattle.kmip_tags.specs.Tags.{ATTRIBUTE_VALUE};
 ghost use Rattle.kmip_encodings.specs.Texts.{enumeration_text, date_text};
 ghost use Rattle.kmip_wire.specs.Tree.{structure, trees_of};
 ghost use Rattle.kmip_encodings.specs.XmlGrammar.{IsElement, is_xml_char};
 ghost use Rattle.kmip_encodings.specs.Xml.{xml_char, escaped, attribute_xml, start_xml, end_xml};
-ghost use Rattle.kmip_encodings.specs.Xml.{item_xml, name_xml, xml_at, xml_of};
+ghost use Rattle.kmip_encodings.specs.Xml.{integer_text, item_xml, name_xml, xml_at, xml_of};
 
 use crate::context::{named_after, place, unnamed};
 use crate::laws::written_xml;
-use crate::text::{bytes_text, date_text, enumeration_text, tag_digits};
+use crate::text::{bytes_text, date_text, enumeration_text, mask_text, tag_digits};
 use crate::words::tag_word;
 use itoa::Buffer;
 use kmip_wire::{Kind, Node, OutOfMemory, Tag, Text, Tree};
@@ -129,6 +129,22 @@ fn put_number(
     put_item(alloc, tag, kind, Buffer::new().format(number), out)
 }
 
+fn put_integer(
+    alloc: Global,
+    tag: Tag,
+    place: Tag,
+    number: i32,
+    out: &mut Text,
+) -> Result<(), OutOfMemory>
+    ensures { IfOk result
+        (λ _. out.new ≡ out.old ++ item_xml tag Integer (integer_text place number)) }
+{
+    match mask_text(alloc, " ", place, number)? {
+        Some(names) => put_item(alloc, tag, Kind::Integer, names.as_str(), out),
+        None => put_number(alloc, tag, Kind::Integer, number as i64, out),
+    }
+}
+
 fn truth_text(truth: bool) -> &'static str
     ensures { result.now ≡ truth_shown truth }
 {
@@ -184,7 +200,7 @@ fn put_tree(alloc: Global, named: Tag, tree: &Tree, out: &mut Text) -> Result<()
     let tag = tree.tag;
     match &tree.node {
         Node::Structure(items) => put_structure(alloc, tag, items.as_slice(), out),
-        Node::Integer(number) => put_number(alloc, tag, Kind::Integer, *number as i64, out),
+        Node::Integer(number) => put_integer(alloc, tag, place(named, tag), *number, out),
         Node::LongInteger(number) => put_number(alloc, tag, Kind::LongInteger, *number, out),
         Node::BigInteger(bytes) => {
             put_bytes(alloc, tag, Kind::BigInteger, bytes.as_slice(), out)
@@ -219,11 +235,11 @@ fn put_structure(alloc: Global, tag: Tag, items: &[Tree], out: &mut Text) -> Res
 /// and `value`; a structure has neither, and an element for each of its items.
 ///
 /// A tag that has no name is the attribute `tag` of an element `TTLV`, as `0x` and six digits. The
-/// values are as in `to_json`, but for a Long Integer, which is always in decimal, and a Big
-/// Integer, whose digits stand without `0x`. U+FFFD stands for each character that XML lacks: the
-/// control characters but tab, line feed and carriage return, U+FFFE and U+FFFF. There is no white
-/// space between elements, and no declaration before the first. It fails only where memory runs
-/// out.
+/// values are as in `to_json`, but for a mask, whose names have a space between two, a Long Integer,
+/// which is always in decimal, and a Big Integer, whose digits stand without `0x`. U+FFFD stands for
+/// each character that XML lacks: the control characters but tab, line feed and carriage return,
+/// U+FFFE and U+FFFF. There is no white space between elements, and no declaration before the first.
+/// It fails only where memory runs out.
 pub fn to_xml(alloc: Global, tree: &Tree) -> Result<Text, OutOfMemory>
     ensures text { IfOk result (λ text. text ≡ xml_of tree.now) }
     ensures xml { IfOk result IsElement }

@@ -65,7 +65,7 @@ pub(crate) const MESSAGES: &[Row] = &[
     // The payload of a request to create a key.
     Row {
         hex: "4200790100000088420057050000000400000002000000004200910100000070420008010000003042000A070000001743727970746F6772617068696320416C676F726974686D0042000B05000000040000000300000000420008010000003042000A070000001843727970746F67726170686963205573616765204D61736B42000B02000000040000000C00000000",
-        json: r#"{"tag":"RequestPayload","value":[{"tag":"ObjectType","type":"Enumeration","value":"SymmetricKey"},{"tag":"TemplateAttribute","value":[{"tag":"Attribute","value":[{"tag":"AttributeName","type":"TextString","value":"Cryptographic Algorithm"},{"tag":"AttributeValue","type":"Enumeration","value":"AES"}]},{"tag":"Attribute","value":[{"tag":"AttributeName","type":"TextString","value":"Cryptographic Usage Mask"},{"tag":"AttributeValue","type":"Integer","value":12}]}]}]}"#,
+        json: r#"{"tag":"RequestPayload","value":[{"tag":"ObjectType","type":"Enumeration","value":"SymmetricKey"},{"tag":"TemplateAttribute","value":[{"tag":"Attribute","value":[{"tag":"AttributeName","type":"TextString","value":"Cryptographic Algorithm"},{"tag":"AttributeValue","type":"Enumeration","value":"AES"}]},{"tag":"Attribute","value":[{"tag":"AttributeName","type":"TextString","value":"Cryptographic Usage Mask"},{"tag":"AttributeValue","type":"Integer","value":"Encrypt|Decrypt"}]}]}]}"#,
     },
     // Cryptographic parameters with names of several tables.
     Row {
@@ -97,11 +97,24 @@ pub(crate) const MESSAGES: &[Row] = &[
         hex: "4200910100000038420008010000002042000A0700000005537461746500000042000B0500000004000000020000000042000B05000000040000000200000000",
         json: r#"{"tag":"TemplateAttribute","value":[{"tag":"Attribute","value":[{"tag":"AttributeName","type":"TextString","value":"State"},{"tag":"AttributeValue","type":"Enumeration","value":"Active"}]},{"tag":"AttributeValue","type":"Enumeration","value":"0x00000002"}]}"#,
     },
+    // Masks have the names of their bits, and bits without a name are in hex; no other number has names.
+    Row {
+        hex: "540005010000008042002C02000000040000100C0000000042002C0200000004000000000000000042002C0200000004001000040000000042002C0200000004FFFFFFFF0000000042002C0200000004800000000000000042008E0200000004000000030000000042008E0200000004000000050000000042002A02000000040000000C00000000",
+        json: r#"{"tag":"0x540005","value":[{"tag":"CryptographicUsageMask","type":"Integer","value":"Encrypt|Decrypt|CertificateSign"},{"tag":"CryptographicUsageMask","type":"Integer","value":0},{"tag":"CryptographicUsageMask","type":"Integer","value":"Encrypt|0x00100000"},{"tag":"CryptographicUsageMask","type":"Integer","value":"Sign|Verify|Encrypt|Decrypt|WrapKey|UnwrapKey|Export|MACGenerate|MACVerify|DeriveKey|ContentCommitmentNonRepudiation|KeyAgreement|CertificateSign|CRLSign|GenerateCryptogram|ValidateCryptogram|TranslateEncrypt|TranslateDecrypt|TranslateWrap|TranslateUnwrap|0xFFF00000"},{"tag":"CryptographicUsageMask","type":"Integer","value":"0x80000000"},{"tag":"StorageStatusMask","type":"Integer","value":"OnLineStorage|ArchivalStorage"},{"tag":"StorageStatusMask","type":"Integer","value":"OnLineStorage|0x00000004"},{"tag":"CryptographicLength","type":"Integer","value":12}]}"#,
+    },
 ];
 
-/// Items whose names are read, and written otherwise: kmip-protocol's names, numbers in hex, and
-/// attributes whose values have no name.
+/// Items whose names are read, and written otherwise: kmip-protocol's names, numbers in hex, masks as
+/// numbers, and attributes whose values have no name.
 pub(crate) const READ: &[Row] = &[
+    Row {
+        hex: "42002C02000000040000100C00000000",
+        json: r#"{"tag":"CryptographicUsageMask","type":"Integer","value":4108}"#,
+    },
+    Row {
+        hex: "42002C02000000040000100C00000000",
+        json: r#"{"tag":"CryptographicUsageMask","type":"Integer","value":"0x0000100c"}"#,
+    },
     Row {
         hex: "42003805000000040000000600000000",
         json: r#"{"tag":"HashingAlgorithm","type":"Enumeration","value":"SHA256"}"#,

@@ -41,6 +41,27 @@ const ROWS: &[(&str, &str)] = &[
         "420094070000000AEFBFBEEFBFBFF48FBFBF000000000000",
         "<UniqueIdentifier type=\"TextString\" value=\"\u{fffd}\u{fffd}\u{10ffff}\"/>",
     ),
+    // Masks have the names of their bits, and bits without a name are in hex.
+    (
+        "42002C02000000040000100C00000000",
+        r#"<CryptographicUsageMask type="Integer" value="Encrypt Decrypt CertificateSign"/>"#,
+    ),
+    (
+        "42002C02000000040010000400000000",
+        r#"<CryptographicUsageMask type="Integer" value="Encrypt 0x00100000"/>"#,
+    ),
+    (
+        "42002C02000000040000000000000000",
+        r#"<CryptographicUsageMask type="Integer" value="0"/>"#,
+    ),
+    (
+        "42008E02000000040000000300000000",
+        r#"<StorageStatusMask type="Integer" value="OnLineStorage ArchivalStorage"/>"#,
+    ),
+    (
+        "420008010000003042000A070000001843727970746F67726170686963205573616765204D61736B42000B02000000040000000C00000000",
+        r#"<Attribute><AttributeName type="TextString" value="Cryptographic Usage Mask"/><AttributeValue type="Integer" value="Encrypt Decrypt"/></Attribute>"#,
+    ),
     // A value of an attribute has the name that the attribute's values have.
     (
         "420008010000002042000A0700000005537461746500000042000B05000000040000000200000000",

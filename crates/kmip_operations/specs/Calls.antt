@@ -1,12 +1,11 @@
 -- A call of any operation, by the operation's name, a version of KMIP and a payload in JSON; and a
 -- message in JSON.
-use Rattle.std.specs.Prelude.{◌≡◌, ℕ, ◌==◌, ◌&&◌, Bool, true, false, List, length, codes, Option, Some, None, Ok, if◌then◌else◌, bytes_eq}
-use Rattle.std.specs.List.{list_any}
+use Rattle.std.specs.Prelude.{◌≡◌, ℕ, ◌==◌, ◌&&◌, ◌||◌, Bool, true, false, List, length, codes, Option, Some, None, Ok, if◌then◌else◌, bytes_eq}
 use Rattle.std.specs.Option.{option_and_then, IsSomeAnd}
 use Rattle.json.specs.Json.{document}
 use Rattle.json.specs.Strict.{HasUniqueKeys}
 use Rattle.kmip_tags.specs.Tags.{OPERATION, REQUEST_MESSAGE, REQUEST_PAYLOAD, UNIQUE_IDENTIFIER}
-use Rattle.kmip_wire.specs.Tree.{Tree, scalar, structure, text_string, list_of}
+use Rattle.kmip_wire.specs.Tree.{Tree, Trees, Scalar, scalar, structure, none, more, text_string}
 use Rattle.kmip_shape.specs.Enumerations.{variant_at}
 use Rattle.kmip_enums.specs.Operations.{operation_line, operation_variants}
 use Rattle.kmip_enums.specs.declared.operation.Operation.{Operation}
@@ -47,15 +46,20 @@ IsStructureText wanted text tree =
     × (is_structure wanted tree ≡ true)
 
 -- whether an item is an empty Unique Identifier, which a server may take for that of another object
-abbrev pub is_empty_identifier : Tree → Bool
-is_empty_identifier (scalar tag (text_string text)) =
-    tag == UNIQUE_IDENTIFIER && length text == 0
-is_empty_identifier tree = false
+abbrev pub is_empty_identifier : ℕ → Scalar → Bool
+is_empty_identifier tag (text_string text) = tag == UNIQUE_IDENTIFIER && length text == 0
+is_empty_identifier tag value = false
 
--- whether one stands in a payload
-abbrev pub has_empty_identifier : Tree → Bool
-has_empty_identifier (structure tag items) = list_any is_empty_identifier (list_of items)
-has_empty_identifier (scalar tag value) = false
+-- whether a payload has one in it, at whatever depth
+abbrev mutual
+  pub has_empty_identifier : Tree → Bool
+  has_empty_identifier (scalar tag value) = is_empty_identifier tag value
+  has_empty_identifier (structure tag items) = have_empty_identifier items
+
+  pub have_empty_identifier : Trees → Bool
+  have_empty_identifier none = false
+  have_empty_identifier (more item items) =
+      has_empty_identifier item || have_empty_identifier items
 
 -- the text is the JSON of the payload of a request (KMIP 1.0, 9.1.3.1) in which no identifier is
 -- empty

@@ -1,9 +1,9 @@
 //! A call of any operation, by the operation's name, a version of KMIP and a payload in JSON.
 ghost use Rattle.std.specs.Prelude.{◌≡◌, IfOk, MatchOption, Result};
-ghost use Rattle.kmip_wire.specs.Tree.{Tree as TheTree};
+ghost use Rattle.kmip_wire.specs.Tree.{Tree as TheTree, trees_of};
 ghost use Rattle.kmip_client.specs.Operation.{TreeRequest};
 ghost use Rattle.kmip_operations.specs.Calls.{operation_named, version_written, is_structure};
-ghost use Rattle.kmip_operations.specs.Calls.{is_empty_identifier, has_empty_identifier};
+ghost use Rattle.kmip_operations.specs.Calls.{has_empty_identifier, have_empty_identifier};
 ghost use Rattle.kmip_operations.specs.Calls.{IsStructureText, IsPayloadText, Asks, request_of};
 
 use kmip_client::Version;
@@ -71,29 +71,31 @@ pub fn structure_of(alloc: Global, text: &str, tag: u32) -> Result<Option<Tree>,
     }
 }
 
-/// Whether an item is an empty Unique Identifier.
-fn is_empty_identifier(tree: &Tree) -> bool
-    ensures { result ≡ is_empty_identifier tree.now }
+/// Whether an item is an empty Unique Identifier, or one stands in it at whatever depth.
+#[cycle(identifiers)]
+fn has_empty_identifier(tree: &Tree) -> bool
+    ensures { result ≡ has_empty_identifier tree.now }
 {
     match &tree.node {
         Node::TextString(text) => {
             tree.tag.number() == UNIQUE_IDENTIFIER && text.as_str().is_empty()
         }
+        Node::Structure(items) => have_empty_identifier(items.as_slice()),
         _ => false,
     }
 }
 
-/// Whether an empty Unique Identifier stands in a payload.
-fn has_empty_identifier(payload: &Tree) -> bool
-    ensures { result ≡ has_empty_identifier payload.now }
+/// Whether that is so of one of the items.
+#[cycle(identifiers)]
+fn have_empty_identifier(items: &[Tree]) -> bool
+    ensures { result ≡ have_empty_identifier (trees_of items.now) }
 {
-    match &payload.node {
-        Node::Structure(items) => items
-            .as_slice()
-            .iter()
-            .any(|item| is_empty_identifier(item)),
-        _ => false,
+    for item in items {
+        if has_empty_identifier(item) {
+            return true;
+        }
     }
+    false
 }
 
 /// The payload whose JSON a text is, and in which no identifier is empty.
@@ -113,9 +115,9 @@ pub(crate) fn payload_of(alloc: Global, text: &str) -> Result<Option<Tree>, OutO
 /// The call of an operation. `name` is the operation's name, as `Encrypt`, `Rekey` or
 /// `MACVerify`; `version` is `1.0`, `1.1` or `1.2`; `payload` is the JSON of a structure with the
 /// tag `RequestPayload`, as kmip_encodings reads it: any of the names, types and values that it
-/// has, in at most 64 levels, and with no empty Unique Identifier in it, which a server may take for
-/// that of another object: who means one sends a message. `None` exactly where one of the three is
-/// not so.
+/// has, in at most 64 levels, and with no empty Unique Identifier anywhere in it, which a server may
+/// take for that of another object: who means one sends a message. `None` exactly where one of the
+/// three is not so.
 pub fn operation_call(
     alloc: Global,
     name: &str,

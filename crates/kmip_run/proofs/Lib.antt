@@ -5,6 +5,7 @@ pub mod Joins
 pub mod Lines
 pub mod Makes
 pub mod Runs
+pub mod Replayed
 pub mod Pieces
 pub mod Whole
 pub mod SentBytes

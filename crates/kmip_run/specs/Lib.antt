@@ -5,6 +5,7 @@ pub mod Making
 pub mod Auditing
 pub mod Transcript
 pub mod Program
+pub mod Records
 pub mod Performed
 pub mod Sent
 pub mod Told

@@ -1,7 +1,8 @@
 //! Laws over what the program stands on, each the contract of a function that does nothing or only
 //! reads.
 
-ghost use Rattle.std.specs.Prelude.{◌≡◌, ◌↔◌, ℕ, List, Option, map, take, length, IfOk};
+ghost use Rattle.std.specs.Prelude.{◌≡◌, ◌↔◌, ℕ, List, [], Option, map, take, length, IfOk};
+ghost use Rattle.std.specs.Prelude.{IsSome};
 ghost use Rattle.kmip_wire.specs.Bytes.{AreBytes};
 ghost use Rattle.kmip_wire.specs.Parses.{AreTexts, joined_texts};
 ghost use Rattle.kmip_types.specs.declared.auth.CredentialType.{CredentialType as Credential};
@@ -13,9 +14,19 @@ ghost use Rattle.kmip_client.specs.Session.{session, all_sent, all_taken};
 ghost use Rattle.kmip_client.specs.Order.{AreServed};
 ghost use Rattle.kmip_audit.specs.Agreement.{AreMatched};
 ghost use Rattle.kmip_client.specs.Skeletons.{texts_of};
+ghost use Rattle.kmip_words.specs.About.{outcome_line, response_line};
+ghost use Rattle.kmip_words.specs.Exchange.{Settings as TheSettings, request_asked, call_outcome};
+ghost use Rattle.kmip_words.specs.Exchange.{IsRequestOf};
+ghost use Rattle.kmip_words.specs.declared.call.Call.{Call as TheCall};
+ghost use Rattle.kmip_words.specs.declared.call.Call.TheVariants.{Request};
+ghost use Rattle.kmip_words.specs.declared.call.Recorded.{Recorded as TheRecorded};
+ghost use Rattle.kmip_run.specs.Records.{AreRecords, ReplaysEach, script_of};
 ghost use Rattle.kmip_run.specs.Reported.{ReportsTurns};
 ghost use Rattle.kmip_run.specs.Sent.{messages_of, AreHeld, IsSent, GivesBack};
+ghost use Rattle.kmip_run.specs.Script.{lines_of};
 ghost use Rattle.kmip_run.specs.Told.{AllAnswered, skeletons_in};
+ghost use Rattle.kmip_run.specs.Transcript.{replay_from};
+ghost use Rattle.kmip_run.specs.declared.status.ScriptEnd.TheVariants.{Answered};
 
 use kmip_audit::{Report, audit, sessions_are_reported};
 use kmip_client::diagnostics_of_sessions;
@@ -24,6 +35,7 @@ use kmip_request_read::{RequestReadError, from_slice, request_parses};
 use kmip_shape::{Item, fits_items};
 use kmip_types::auth::CredentialType;
 use kmip_wire::{OutOfMemory, one_tree, parsed_ranges, tree_computed};
+use kmip_words::responses_are_outcomes;
 use std::alloc::Global;
 
 /// Without a fault, what a session sends splits in exactly one way into messages that parse. They
@@ -141,4 +153,30 @@ pub fn traffic_of_sessions_is_reported(
 {
     sessions_are_reported();
     audit(alloc, sent, received)
+}
+
+/// A file of records, as kmip_call writes them, replays each call over the response that was
+/// recorded with it, and leaves no byte to the next call. The call's outcome, shown as a line of
+/// JSON, is then the line that kmip_call writes of this response under the same limit. Where a
+/// record has `raw` in place of a call's words, it has the outcome of that call, since it asks for
+/// the same request.
+///
+/// The premise `AreRecords` holds of what kmip_call records: a line without a line feed, from which
+/// a script reads the call and the response (its law `records_read_back`), and a response of one
+/// message at most (`IsOneAtMost`), or of no byte where the request has no wire form.
+pub fn records_are_replayed()
+    ensures replayed { (settings : TheSettings) (lines : List (List ℕ))
+        (records : List TheRecorded) → AreRecords settings lines records →
+        ReplaysEach settings records Answered
+        (replay_from settings (lines_of (script_of lines)) 1 Answered []) }
+    ensures line { (settings recorded : TheSettings) (it : TheRecorded) →
+        settings.limit ≡ recorded.limit →
+        IsSome (request_asked it.call settings.credential).message →
+        outcome_line it.call (call_outcome settings it.call it.response) it.response ≡
+        response_line recorded it.call it.response }
+    ensures raw { (payload : Payload) (call : TheCall) → IsRequestOf payload call →
+        (settings : TheSettings) (rest : List ℕ) →
+        call_outcome settings call rest ≡ call_outcome settings (Request payload) rest }
+{
+    responses_are_outcomes();
 }

@@ -1,2 +1,4 @@
 mod Listed
+mod Fits
+mod Splits
 mod Front

@@ -8,6 +8,7 @@ use Rattle.kmip_wire.specs.declared.kind.Kind.TheVariants.{Structure}
 use Rattle.kmip_wire.specs.Tree.{Tree, Trees, scalar, structure, none, more, trees_of, list_of}
 use Rattle.kmip_wire.specs.Sizes.{tree_size, trees_size}
 use Rattle.kmip_wire.specs.Parts.{tag_of, kind_of_tree, children_in}
+use Rattle.kmip_tags.specs.Tags as tags
 use Rattle.kmip_encodings.specs.Sizes.{size_of, sizes_of}
 use Rattle.kmip_web.specs.Listing.{head_text, listed, all_listed, escaped_char, escaped}
 
@@ -30,19 +31,19 @@ children_sized (scalar tag s) ts e = absurd (none-some ts e)
 children_sized (structure tag us) ts e =
     ap (λ x. 8 + sizes_of x) (sym (trees_of-list_of us) ∙ ap trees_of (same_Some (list_of us) ts e))
 
-pub structure_listed : (at : ℕ) (t : Tree) (tag : ℕ) (kind : Kind) (ts : List Tree)
+pub structure_listed : (at named : ℕ) (t : Tree) (tag : ℕ) (kind : Kind) (ts : List Tree)
     (old headed begun inside new : List ℕ) → Some ts ≡ children_in t → tag ≡ tag_of t
     → kind ≡ kind_of_tree t
     → headed ≡ old ++ head_text at tag kind → begun ≡ headed ++ codes "\n"
-    → inside ≡ begun ++ all_listed (at + 8) (trees_of ts) → new ≡ inside ++ codes "]\n"
-    → new ≡ old ++ listed at t
-structure_listed at (scalar a s) tag kind ts old headed begun inside new m e k f g h i = absurd (none-some ts (sym m))
-structure_listed at (structure a us) tag kind ts old headed begun inside new m e k f g h i =
+    → inside ≡ begun ++ all_listed (at + 8) tags.ATTRIBUTE_VALUE (trees_of ts) → new ≡ inside ++ codes "]\n"
+    → new ≡ old ++ listed at named t
+structure_listed at named (scalar a s) tag kind ts old headed begun inside new m e k f g h i = absurd (none-some ts (sym m))
+structure_listed at named (structure a us) tag kind ts old headed begun inside new m e k f g h i =
     let same : trees_of ts ≡ us = ap trees_of (same_Some ts (list_of us) m) ∙ trees_of-list_of us
     in let head = head_text at a Structure
-    in let all = all_listed (at + 8) us
+    in let all = all_listed (at + 8) tags.ATTRIBUTE_VALUE us
     in i
-    ∙ ap (λ x. x ++ codes "]\n") (h ∙ ap (λ x. begun ++ all_listed (at + 8) x) same ∙ ap
+    ∙ ap (λ x. x ++ codes "]\n") (h ∙ ap (λ x. begun ++ all_listed (at + 8) tags.ATTRIBUTE_VALUE x) same ∙ ap
     (λ x. x ++ all) (g ∙ ap (λ x. x ++ codes "\n")
     (f ∙ ap (λ n. old ++ head_text at n kind) e ∙ ap (λ n. old ++ head_text at a n) k)))
     ∙ append_assoc ((old ++ head) ++ codes "\n") all (codes "]\n")

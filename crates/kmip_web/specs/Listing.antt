@@ -1,15 +1,17 @@
 -- The items of any bytes with their values, one a line.
-use Rattle.std.specs.Prelude.{ℕ, ◌+◌, ◌==◌, ◌&&◌, Bool, true, List, [], ◌∷◌, ◌++◌, Option, Some, None, codes, if◌then◌else◌, nat_le, not}
+use Rattle.std.specs.Prelude.{ℕ, ◌+◌, ◌/◌, ◌%◌, ◌==◌, ◌&&◌, Bool, true, List, [], ◌∷◌, ◌++◌, Option, Some, None, codes, if◌then◌else◌, nat_le, not}
 use Rattle.std.specs.Char.{encode_utf8}
 use Rattle.std.specs.Str.{chars}
 use Rattle.std.specs.Fmt.{decimal, digits, signed_decimal}
-use Rattle.std.specs.Int.{w64, cast_signed}
+use Rattle.std.specs.Int.{w32, w64, cast_signed, cast_unsigned}
 use Rattle.hex.specs.Hex.{encode_upper}
 use Rattle.kmip_wire.specs.declared.kind.Kind.{Kind}
 use Rattle.kmip_wire.specs.declared.kind.Kind.TheVariants.{Structure}
 use Rattle.kmip_wire.specs.Tree.{Tree, Trees, Scalar, scalar, structure, none, more, integer, long_integer, big_integer, enumeration, boolean, text_string, byte_string, date_time, interval}
 use Rattle.kmip_wire.specs.Kinds.{kind_of_scalar}
+use Rattle.kmip_tags.specs.Tags as tags
 use Rattle.kmip_tags.specs.Names.{name_of}
+use Rattle.kmip_encodings.specs.Context.{place, named_after}
 use Rattle.kmip_encodings.specs.Names.{enumeration_name}
 use Rattle.kmip_wire.specs.Names.{kind_name}
 use Rattle.kmip_diag.specs.Lines.{name_text}
@@ -36,10 +38,37 @@ abbrev pub named : Option (List ℕ) → List ℕ
 named None = []
 named (Some name) = codes " " ++ name
 
--- the value of an item with the tag: numbers in decimal, an enumeration's in hex with its name,
--- bytes as hex digits
+-- the names of a mask's bits, from the lowest on
+abbrev pub usage_names : List (List ℕ)
+usage_names =
+    codes "Sign" ∷ codes "Verify" ∷ codes "Encrypt" ∷ codes "Decrypt" ∷ codes "WrapKey"
+    ∷ codes "UnwrapKey" ∷ codes "Export" ∷ codes "MACGenerate" ∷ codes "MACVerify"
+    ∷ codes "DeriveKey" ∷ codes "ContentCommitmentNonRepudiation" ∷ codes "KeyAgreement"
+    ∷ codes "CertificateSign" ∷ codes "CRLSign" ∷ codes "GenerateCryptogram"
+    ∷ codes "ValidateCryptogram" ∷ codes "TranslateEncrypt" ∷ codes "TranslateDecrypt"
+    ∷ codes "TranslateWrap" ∷ codes "TranslateUnwrap" ∷ []
+
+abbrev pub storage_names : List (List ℕ)
+storage_names = codes "OnLineStorage" ∷ codes "ArchivalStorage" ∷ []
+
+abbrev pub bit_names : ℕ → List (List ℕ)
+bit_names tag =
+    if tag == tags.CRYPTOGRAPHIC_USAGE_MASK then usage_names
+    else if tag == tags.STORAGE_STATUS_MASK then storage_names
+    else []
+
+abbrev pub bit_text : Bool → List ℕ → List ℕ
+bit_text is_set name = if is_set then codes " " ++ name else []
+
+-- the names of the bits that are set in a number, with a space before each
+abbrev pub bits_text : List (List ℕ) → ℕ → List ℕ
+bits_text [] n = []
+bits_text (name ∷ names) n = bit_text (n % 2 == 1) name ++ bits_text names (n / 2)
+
+-- the value of an item whose names are looked up under the tag: numbers in decimal, a mask's with
+-- the names of its bits, an enumeration's in hex with its name, bytes as hex digits
 abbrev pub value_text : ℕ → Scalar → List ℕ
-value_text tag (integer z) = signed_decimal z
+value_text tag (integer z) = signed_decimal z ++ bits_text (bit_names tag) (cast_unsigned w32 z)
 value_text tag (long_integer z) = signed_decimal z
 value_text tag (big_integer b) = encode_upper b
 value_text tag (enumeration n) =
@@ -56,26 +85,29 @@ head_text at tag kind =
     decimal at ++ (codes "\t" ++ (digits 16 true tag ++ (codes "\t" ++ (name_text (name_of tag)
     ++ (codes "\t" ++ (kind_name kind ++ codes "\t"))))))
 
--- a line for each item; a structure's line, those of its items, and a line that closes it
+-- a line for each item; a structure's line, those of its items, and a line that closes it. The
+-- names of a value are looked up as in the JSON: under Attribute Value by the Attribute Name before it
 abbrev mutual
-  pub listed : ℕ → Tree → List ℕ
-  listed at (scalar tag s) =
-      head_text at tag (kind_of_scalar s) ++ (value_text tag s ++ codes "\n")
-  listed at (structure tag ts) =
-      head_text at tag Structure ++ (codes "\n" ++ (all_listed (at + 8) ts ++ codes "]\n"))
+  pub listed : ℕ → ℕ → Tree → List ℕ
+  listed at named (scalar tag s) = head_text at tag (kind_of_scalar s)
+      ++ (value_text (place named tag) s ++ codes "\n")
+  listed at named (structure tag ts) = head_text at tag Structure
+      ++ (codes "\n" ++ (all_listed (at + 8) tags.ATTRIBUTE_VALUE ts ++ codes "]\n"))
 
-  pub all_listed : ℕ → Trees → List ℕ
-  all_listed at none = []
-  all_listed at (more t ts) = listed at t ++ all_listed (at + size_of t) ts
+  pub all_listed : ℕ → ℕ → Trees → List ℕ
+  all_listed at named none = []
+  all_listed at named (more t ts) =
+      listed at named t ++ all_listed (at + size_of t) (named_after named t) ts
 
 -- what bytes from `at` on show: their items, and of a structure that is cut off its own line and
 -- what is there of its contents
-abbrev pub shown_listed : ℕ → Shown → List ℕ
-shown_listed at ended = []
-shown_listed at stopped = []
-shown_listed at (item t s) = listed at t ++ shown_listed (at + size_of t) s
-shown_listed at (cut_off tag s) =
-    head_text at tag Structure ++ (codes "\n" ++ shown_listed (at + 8) s)
+abbrev pub shown_listed : ℕ → ℕ → Shown → List ℕ
+shown_listed at named ended = []
+shown_listed at named stopped = []
+shown_listed at named (item t s) =
+    listed at named t ++ shown_listed (at + size_of t) (named_after named t) s
+shown_listed at named (cut_off tag s) = head_text at tag Structure
+    ++ (codes "\n" ++ shown_listed (at + 8) tags.ATTRIBUTE_VALUE s)
 
 unfoldable pub listing : List ℕ → List ℕ
-listing bytes = shown_listed 0 (shown_within 1 bytes)
+listing bytes = shown_listed 0 tags.ATTRIBUTE_VALUE (shown_within 1 bytes)

@@ -19,9 +19,12 @@ ghost use Rattle.kmip_web.specs.Input.{text_bytes};
 ghost use Rattle.kmip_exports.specs.Exports.{IsShown, IsReported, memory, not_a_message};
 ghost use Rattle.kmip_web.specs.Shown.{frame_code, not_a_text};
 
+mod context;
 mod input;
 mod json;
+mod laws;
 mod listing;
+mod masks;
 mod report;
 mod values;
 
@@ -31,6 +34,7 @@ use kmip_diag::PrettyPrinter;
 use kmip_exports::{NO_MEMORY, NOT_A_MESSAGE, copy_out};
 use kmip_faults::{fault_of, fault_text};
 use kmip_wire::{Config, OutOfMemory, head};
+pub use laws::listing_splits;
 use listing::list_bytes;
 use report::report_text;
 use std::alloc::Global;

@@ -3,11 +3,12 @@ ghost use Rattle.std.specs.Fmt.{signed_decimal};
 ghost use Rattle.std.specs.Prelude.{◌≡◌, ◌++◌, ◌∷◌, [], IfOk, option_map};
 ghost use Rattle.std.specs.Str.{chars};
 ghost use Rattle.hex.specs.Hex.{encode_upper};
-ghost use Rattle.kmip_wire.specs.Tree.{enumeration};
-ghost use Rattle.kmip_wire.specs.Parts.{scalar_in, tag_of};
+ghost use Rattle.kmip_wire.specs.Tree.{integer, enumeration};
+ghost use Rattle.kmip_wire.specs.Parts.{scalar_in};
 ghost use Rattle.kmip_wire.specs.Items.{item_tree};
 ghost use Rattle.kmip_web.specs.Listing.{is_plain, escaped_char, escaped, value_text};
 
+use crate::masks::{bit_names, push_bits};
 use kmip_encodings::enumeration_name;
 use kmip_wire::{ItemRef, OutOfMemory, Tag, Text};
 use std::alloc::Global;
@@ -28,6 +29,21 @@ fn push_signed(alloc: Global, text: &mut Text, number: i64) -> Result<(), OutOfM
         Ok(made) => text.push_str(made.as_str()),
         Err(_) => Err(OutOfMemory),
     }
+}
+
+fn push_short(alloc: Global, text: &mut Text, number: i32) -> Result<(), OutOfMemory>
+    ensures { IfOk result (λ _. text.new ≡ text.old ++ signed_decimal number) }
+{
+    push_signed(alloc, text, number as i64)
+}
+
+/// Adds a number, and of a mask the names of its bits.
+fn push_integer(alloc: Global, text: &mut Text, tag: Tag, number: i32) -> Result<(), OutOfMemory>
+    ensures { IfOk result (λ _. text.new ≡ text.old ++ value_text tag (integer number)) }
+{
+    push_short(alloc, text, number)?;
+    push_bits(text, bit_names(tag), number.cast_unsigned())?;
+    Ok(())
 }
 
 /// Adds an enumeration's number, and its name where one is known.
@@ -70,14 +86,19 @@ fn push_escaped(alloc: Global, text: &mut Text, shown: &str) -> Result<(), OutOf
     Ok(())
 }
 
-/// Adds the value of an item that is no structure.
-pub fn push_value(alloc: Global, text: &mut Text, item: ItemRef<'_>) -> Result<(), OutOfMemory>
-    ensures { IfOk result (λ _. option_map (λ s. text.old ++ value_text (tag_of (item_tree item.entry)) s)
+/// Adds the value of an item that is no structure; its names are looked up under the tag.
+pub fn push_value(
+    alloc: Global,
+    text: &mut Text,
+    tag: Tag,
+    item: ItemRef<'_>,
+) -> Result<(), OutOfMemory>
+    ensures { IfOk result (λ _. option_map (λ s. text.old ++ value_text tag s)
         (scalar_in (item_tree item.entry)) ≡
         option_map (λ _. text.new) (scalar_in (item_tree item.entry))) }
 {
     if let Some(number) = item.int() {
-        return push_signed(alloc, text, number as i64);
+        return push_integer(alloc, text, tag, number);
     }
     if let Some(number) = item.long() {
         return push_signed(alloc, text, number);
@@ -86,7 +107,7 @@ pub fn push_value(alloc: Global, text: &mut Text, item: ItemRef<'_>) -> Result<(
         return push_hex(alloc, text, bytes);
     }
     if let Some(number) = item.enumeration() {
-        return push_number(alloc, text, item.tag(), number);
+        return push_number(alloc, text, tag, number);
     }
     if let Some(flag) = item.flag() {
         return text.push_str(if flag { "true" } else { "false" });

@@ -5,7 +5,7 @@ use kmip_operations::{
     OperationCall, TreeAnswer, message_answer, message_of, message_request, operation_answer,
     operation_call, operation_request,
 };
-use kmip_wire::Tree;
+use kmip_wire::{Text, Tree};
 use kmip_words::{Ending, Settings};
 use std::alloc::Global;
 use std::process::Abort;
@@ -275,6 +275,51 @@ fn what_has_no_wire_form_has_no_request(rt: HostRuntime) {
     let request = operation_request(alloc, &plain(), &call).expect(&rt, "memory");
     assert!(rt; request.is_none());
     drop(call);
+}
+
+/// Adds a part so many times.
+fn push_times(rt: &impl Abort, text: &mut Text, part: &str, times: u32) {
+    for _ in 0..times {
+        text.push_str(part).expect(rt, "memory");
+    }
+}
+
+/// The JSON of a payload of so many levels.
+fn nested(rt: &impl Abort, alloc: Global, levels: u32) -> Text {
+    let mut json = Text::new(alloc);
+    push_times(
+        rt,
+        &mut json,
+        r#"{"tag":"RequestPayload","value":["#,
+        levels,
+    );
+    push_times(rt, &mut json, "]}", levels);
+    json
+}
+
+/// An Encrypt of a payload of so many levels.
+fn encrypt_nested(rt: &impl Abort, alloc: Global, levels: u32) -> OperationCall {
+    let payload = nested(rt, alloc, levels);
+    encrypt(rt, alloc, payload.as_str())
+}
+
+/// An Encrypt of a payload of so many levels is a call, and has no request.
+fn is_too_deep(rt: &impl Abort, alloc: Global, levels: u32) {
+    let call = encrypt_nested(rt, alloc, levels);
+    let request = operation_request(alloc, &plain(), &call).expect(rt, "memory");
+    assert!(rt; request.is_none(), "{levels}");
+    drop(call);
+}
+
+#[test]
+fn a_request_has_at_most_64_levels(rt: HostRuntime) {
+    let alloc = rt.alloc();
+    // the payload is the third level of its message
+    let call = encrypt_nested(&rt, alloc, 62);
+    is_requested(&rt, alloc, &plain(), &call, "REQ2(1F, 79^61{})");
+    drop(call);
+    is_too_deep(&rt, alloc, 63);
+    is_too_deep(&rt, alloc, 64);
 }
 
 /// A response to Encrypt, how the call ended, and its line.

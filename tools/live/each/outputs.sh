@@ -11,6 +11,7 @@ unset PYTHONUNBUFFERED
 fake good
 client_run call query 2>"$said" >/dev/full
 written 'an answer, and a disk that is full' 4
+if [[ $client != shell ]]; then says 'the reason is said' 'No space left on device'; fi
 # (Rust puts /dev/null in the place of an output that is closed.)
 closed=4
 if [[ $client == rust ]]; then closed=0; fi

@@ -25,17 +25,19 @@ client_reads() { # WHAT PORT tls1_2|tls1_3
     grep -q 'HTTP/1.* 200' "$said"
     verdict "$1, $3 to s_client"
 }
-python_reads() { # WHAT PORT
-    OPENSSL_CONF=/dev/null timeout $((20 * slack)) "$python" - "$2" >"$said" 2>&1 <<'PY'
+python_reads() { # WHAT PORT TLSv1_2|TLSv1_3
+    OPENSSL_CONF=/dev/null timeout $((20 * slack)) "$python" - "$2" "$3" $((20 * slack)) >"$said" 2>&1 <<'PY'
 import socket
 import ssl
 import sys
 context = ssl.create_default_context(cafile='tls.pem')
-with context.wrap_socket(socket.create_connection(('127.0.0.1', int(sys.argv[1])), 20), server_hostname='localhost') as wire:
+context.minimum_version = context.maximum_version = ssl.TLSVersion[sys.argv[2]]
+plain = socket.create_connection(('127.0.0.1', int(sys.argv[1])), int(sys.argv[3]))
+with context.wrap_socket(plain, server_hostname='localhost') as wire:
     wire.sendall(b'GET / HTTP/1.0\r\n\r\n')
     assert b' 200' in wire.recv(4096)
 PY
-    verdict "$1, to Python"
+    verdict "$1, $3 to Python"
 }
 listens() { # PORT PROCESS
     local try
@@ -54,7 +56,8 @@ serve() { # WHAT -key URI
     listens "$own" $! || cat "$work/s_server"
     client_reads "$1" "$own" tls1_2
     client_reads "$1" "$own" tls1_3
-    python_reads "$1" "$own"
+    python_reads "$1" "$own" TLSv1_2
+    python_reads "$1" "$own" TLSv1_3
     kill "${started[-1]}"
 }
 serve 's_server with a URI' -key "$uri"
@@ -89,7 +92,8 @@ CONF
         client_reads 'nginx' "$own" tls1_2
         client_reads 'nginx' "$own" tls1_3
     done
-    python_reads 'nginx' "$own"
+    python_reads 'nginx' "$own" TLSv1_2
+    python_reads 'nginx' "$own" TLSv1_3
     kill "${started[-1]}"
 }
 if command -v nginx >/dev/null; then

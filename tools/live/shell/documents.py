@@ -3,8 +3,9 @@
 
     documents.py FOLDER    FOLDER is the repository; prints what is wrong, and ends with 1 where something is
 
-Links lead to files and headings that are there; README has at most 100 lines; the examples of docs/CRATES.md stand word
-for word in the files that it names; and in the documents of PLAIN no sentence has more than 40 words.
+Links lead to files and headings that are there; README has at most 100 lines; the examples in the READMEs of crates stand
+word for word in the files that these name; the names in the documents of NAMED are names in the code; and in the documents
+of PLAIN no sentence has more than 40 words.
 """
 
 import re
@@ -13,12 +14,15 @@ from pathlib import Path
 
 MOST_LINES = 100
 MOST_WORDS = 40
-PLACES = ["*.md", "docs/*.md", "clients/*.md", "clients/*/*.md", "tools/live/*.md"]
+PLACES = ["*.md", "docs/*.md", "crates/*/*.md", "clients/*.md", "clients/*/*.md", "tools/live/*.md"]
 PLAIN = [
     "README.md",
     *(f"docs/{name}.md" for name in (
-        "ARCHITECTURE", "BENCHMARKS", "CALL", "CRATES", "DECISIONS", "DIFFERENCES", "LIVE", "PROGRAM", "PROVED")),
+        "ARCHITECTURE", "BENCHMARKS", "CALL", "DECISIONS", "DIFFERENCES", "LIVE", "PROGRAM", "PROVED")),
 ]
+NAMED = [f"docs/{name}.md" for name in ("ARCHITECTURE", "DECISIONS", "PROVED")]
+CRATES = "crates/*/README.md"
+SOURCES = ["crates.txt", "crates/*/src/**/*.rt", "crates/*/specs/**/*.antt", "crates/*/proofs/**/*.antt"]
 
 
 def without_code(text):
@@ -62,6 +66,23 @@ def faults_of_examples(path, top):
                 yield f"{names[-1]} has no lines {wanted.splitlines()[0]!r} .."
 
 
+def words_of_sources(top):
+    """All words of the crates' code, definitions and proofs."""
+    words = set()
+    for place in SOURCES:
+        for path in top.glob(place):
+            words.update(re.findall(r"\w+", path.read_text(encoding="utf-8")))
+    return words
+
+
+def faults_of_names(path, words):
+    """Names in code marks, as `IsCall` or `call.exchange`, that the code has not."""
+    for name in re.findall(r"`([A-Za-z]\w*(?:(?:::|\.)\w+)*)`", without_code(path.read_text(encoding="utf-8"))):
+        # the name of a file ends in its kind
+        if not re.search(r"\.(antt|c|h|json|md|py|rs|rt|sh|toml|txt)$", name) and not words.issuperset(re.split(r"::|\.", name)):
+            yield f"{name}: the code has no such name"
+
+
 def sentences_of(text):
     """The sentences of a document: those of its paragraphs, items of lists and cells of tables."""
     text = re.sub(r"\]\([^)]*\)", "]", without_code(text))
@@ -87,11 +108,17 @@ def faults(top):
     count = len((top / "README.md").read_text(encoding="utf-8").splitlines())
     if count > MOST_LINES:
         yield f"README.md: {count} lines"
-    for fault in faults_of_examples(top / "docs/CRATES.md", top):
-        yield f"docs/CRATES.md: {fault}"
-    for name in PLAIN:
-        for fault in faults_of_sentences(top / name):
+    crates = sorted(top.glob(CRATES))
+    for path in crates:
+        for fault in faults_of_examples(path, top):
+            yield f"{path.relative_to(top)}: {fault}"
+    words = words_of_sources(top)
+    for name in NAMED:
+        for fault in faults_of_names(top / name, words):
             yield f"{name}: {fault}"
+    for path in (*(top / name for name in PLAIN), *crates):
+        for fault in faults_of_sentences(path):
+            yield f"{path.relative_to(top)}: {fault}"
 
 
 def main():

@@ -2,7 +2,7 @@
 # Links, sentences and examples of the documents; and the manual page, the completion and the program have the same calls
 # and options.
 "$python" -B "$here/shell/documents.py" "$top" >"$said" 2>&1
-verdict 'links of the documents lead somewhere, sentences are short, and the examples of crates stand in tests'
+verdict 'links of the documents lead somewhere, sentences are short, and examples and names stand in the code'
 mapfile -t calls < <("$built/kmip_call" --help | sed -n '/^CALL is one of/,/^$/s/^    \([a-z][a-z-]*\).*/\1/p' | sort)
 ((${#calls[@]} > 10))
 verdict 'kmip_call --help names the calls'

@@ -1,8 +1,8 @@
 # shellcheck shell=bash
 # needs: server
 # The commands of README.md, as they stand there, in a copy of the repository: what they write is what README says, where it
-# says something; `..` at the end of a line is the rest of it. Only the two lines of clients/build.sh are not run: $built is
-# what they make. Those with `rt` are left out where there is no toolchain.
+# says something; `..` at the end of a line is the rest of it. The commands of clients/build.sh are not run: $built is what
+# they make; nor is that of dpkg, which packages.sh tries. Those with `rt` are left out where there is no toolchain.
 folder=$work/copy
 mkdir "$folder"
 (cd "$top" && git ls-files -z | xargs -0 cp --parents -t "$folder") >"$said" 2>&1
@@ -39,6 +39,17 @@ is_as_said() { # BLOCK OUTPUT
         fi
     done <<<"$1" 3<"$2"
 }
+
+# The first way to install, in a folder with what clients/release.sh makes.
+if type -P dpkg-deb readelf >/dev/null && printf '#include <openssl/ssl.h>\n' | gcc -E -x c - >"$said" 2>&1; then
+    "$folder/clients/release.sh" --built "$built" release >"$said" 2>&1
+    verdict 'a release is made'
+    install=$(sed -n 's/^| a release | `\(tar [^`]*\)`.*/\1/p' "$top/README.md")
+    (cd release && eval "$install" && [[ $(type -P kmip_call) == "$PWD"/* ]] && kmip_call --version) >"$said" 2>&1
+    says 'README: a release is installed' '^kmip_call [0-9.]+$'
+else
+    echo "skipped $client: no release is made without dpkg-deb, readelf and libssl-dev"
+fi
 
 # The blocks of README with commands, one after the other.
 mapfile -d '' -t blocks < <(awk '/^    \$ / { within = 1 } within && !/^    / { within = 0; printf "%c", 0 }

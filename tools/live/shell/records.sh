@@ -28,3 +28,11 @@ without_stream 'standard output is closed'
 without_stream 'standard error is closed'
 "$built/kmip_call" "${words[@]}" >"$said" 2>&1 <&-
 without_stream 'standard input is closed'
+# What is not UTF-8 is no word, and no password.
+is_no_text() { # WHAT COMMAND..
+    "${@:2}" >"$said" 2>&1 </dev/null
+    (($? == 2)) && grep -qF '{"error":"GrammarError","text":"a word or KMIP_PASSWORD is not UTF-8"}' "$said"
+    verdict "$1 that is not UTF-8 is refused"
+}
+is_no_text 'a word' "$built/kmip_call" get $'\xff'
+is_no_text 'a password of the environment' env KMIP_PASSWORD=$'\xff' "$built/kmip_call" user=u query

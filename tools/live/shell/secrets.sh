@@ -46,3 +46,35 @@ says 'no passphrase in the environment of kmip_call' '^passphrase 0$'
 fake credential
 script_is 'a password that is not exported is sent' 0 'KMIP_USER=alice; KMIP_PASSWORD="a word"; open; kmip_field vendor_identification query; kmip_close'
 says 'as it is' '^alice:a word$'
+
+# While a server keeps a key waiting, no process has it among its words. (It comes to the script by the environment.)
+fake silent
+export secret=5EC2E7
+secret+=$(head -c 58 /dev/zero | tr '\0' 7)
+export payload='{"tag":"RequestPayload","value":[{"tag":"KeyMaterial","type":"ByteString","value":"'$secret'"}]}'
+export message='{"tag":"RequestMessage","value":[{"tag":"KeyMaterial","type":"ByteString","value":"'$secret'"}]}'
+printf %s "$payload" >payload.json
+script 'seen() { pgrep -f "^[^ ]*kmip_call .*$1" >/dev/null; }
+    while_called() { # FILE PATTERN CALL WORD..
+        open || return
+        kmip "${@:3}" &
+        until_true seen "$2" || return
+        ps -eo args | grep -v grep >"$1"
+        kill "$KMIP_PID"; wait; kmip_close
+    }
+    while_called register register register symmetric "$secret" format=Raw algorithm=AES length=256
+    while_called operation Register operation Register "$payload"
+    while_called file Register operation Register @payload.json
+    while_called message message message "$message"
+    grep -h "kmip_call .*\(register\|operation\|message\)" register operation file message
+    cat register operation file message | grep -c "$secret" | sed "s/^/secrets /"'
+says 'the words of register are seen' 'kmip_call .*register symmetric @3 format=Raw algorithm=AES length=256$'
+says 'those of operation' 'kmip_call .*operation Register @3$'
+says 'those with a file' 'kmip_call .*operation Register @payload.json$'
+says 'those of message' 'kmip_call .*message @3$'
+says 'no key is among the words of a process' '^secrets 0$'
+fake good
+script_is 'a key that is no hex is refused, and not shown' 2 'open; kmip register symmetric "${secret}1" format=Raw algorithm=AES length=256
+    status=$?; kmip_close; exit $status'
+says 'why' 'register: HEX is no even number of hex digits'
+says_not 'and it is not shown' "$secret"

@@ -1,6 +1,6 @@
 # shellcheck shell=bash
 # needs: server
-# The tasks of docs/CALL.md, as they stand there.
+# The tasks of clients/shell/README.md, as they stand there.
 lines=$(lines_of_tasks sh)
 patience=200 script_is 'all tasks' 0 "set -euo pipefail; open; $lines
 kmip_close; echo 'the end'"

@@ -13,7 +13,7 @@ list_item-list_items-requires t c =
 
 pub list_item-returns-clause-listed : goal.list_item-returns-clause-listed
 list_item-returns-clause-listed t c =
-    structure_listed c.args.at (item_tree c.args.item) c.tag.result c.kind.result
+    structure_listed c.args.at c.args.named (item_tree c.args.item) c.tag.result c.kind.result
     (trees_left c.in-Some.children)
     c.args.text.now c.push_head.new.text c.push_str-2.new.self c.list_items.new.text c.push_str-3.new.self
     c.in-Some.ensures c.tag.ensures c.kind.ensures c.in_ok-push_head.ensures c.in_ok-push_str-2.ensures c.in_ok-end.ensures.listed c.in_ok-push_str-3.ensures

@@ -2,6 +2,7 @@ use Rattle.std.proofs.Common.{◌≡◌, ◌+◌, ◌*◌, ◌++◌, ◌≤◌}
 use Rattle.kmip_wire.specs.Tree.{trees_of}
 use Rattle.kmip_wire.specs.Sizes.{tree_size, trees_size}
 use Rattle.kmip_wire.specs.Items.{item_tree, trees_left}
+use Rattle.kmip_tags.specs.Tags as tags
 use Rattle.kmip_encodings.specs.Sizes.{sizes_of}
 use Rattle.kmip_web.specs.Listing.{all_listed}
 use Rattle.kmip_web.proofs.listing.+items.Given as goal
@@ -17,5 +18,5 @@ invariant-list_items-loop-child l =
     (trees_size (trees_of (trees_left l.child-iterator)) ≤ trees_size (trees_of (trees_left l.fn.children)))
     × (l.at + sizes_of (trees_of (trees_left l.child-iterator))
     ≡ l.fn.from + sizes_of (trees_of (trees_left l.fn.children)))
-    × (l.fn.text ++ all_listed l.fn.from (trees_of (trees_left l.fn.children))
-    ≡ l.text ++ all_listed l.at (trees_of (trees_left l.child-iterator)))
+    × (l.fn.text ++ all_listed l.fn.from tags.ATTRIBUTE_VALUE (trees_of (trees_left l.fn.children))
+    ≡ l.text ++ all_listed l.at l.named (trees_of (trees_left l.child-iterator)))

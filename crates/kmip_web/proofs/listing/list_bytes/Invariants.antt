@@ -7,7 +7,7 @@ abbrev pub invariant-shown : goal.invariant-shown
 invariant-shown l =
     (1 ≤ l.level)
     × (l.at + length l.rest ≤ length l.bytes)
-    × (listing l.bytes ≡ l.text ++ shown_listed l.at (shown_within l.level l.rest))
+    × (listing l.bytes ≡ l.text ++ shown_listed l.at l.named (shown_within l.level l.rest))
 
 abbrev pub decreases-shown : goal.decreases-shown
 decreases-shown l = length l.rest
