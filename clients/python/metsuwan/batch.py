@@ -19,6 +19,7 @@ HEAD = 8
 STRUCTURE, INTEGER, ENUMERATION, BYTES = 1, 2, 5, 8
 HEADER, BATCH_COUNT, CONTINUATION, BATCH_ITEM = 0x420077, 0x42000D, 0x42000E, 0x42000F
 VERSION, OPERATION, ITEM_ID, RESPONSE_HEADER = 0x420069, 0x42005C, 0x420093, 0x42007A
+RESULT_STATUS, SUCCESS = 0x42007F, b'\0\0\0\0'
 OPTIONS = {'Continue': 1, 'Stop': 2, 'Undo': 3}
 
 
@@ -88,6 +89,11 @@ def _single(header: List[Tuple[int, bytes, bytes]], item: bytes) -> bytes:
                  _item(BATCH_ITEM, STRUCTURE, rest))
 
 
+def _values(item: bytes, wanted: int) -> List[bytes]:
+    """The values of a batch item that have this tag."""
+    return [body for tag, _, body in _parts(item) if tag == wanted]
+
+
 def responses_of(message: bytes, count: int) -> List[bytes]:
     """Of each of so many calls the response, or no bytes where the server has not done it.
 
@@ -96,10 +102,11 @@ def responses_of(message: bytes, count: int) -> List[bytes]:
     """
     try:
         header, items = _split(message, RESPONSE_HEADER)
-        names = [[body for tag, _, body in _parts(it) if tag == ITEM_ID] for it in items]
+        names = [_values(it, ITEM_ID) for it in items]
+        failed = len(items) == 1 and SUCCESS not in _values(items[0], RESULT_STATUS)
     except ValueError as error:
         raise DeserializeError(str(error)) from None
-    if len(items) == 1 and not names[0]:
+    if failed and not names[0]:
         # A failure of the whole message, as where a server takes no batches.
         return [_single(header, items[0])] * count
     found = [b''] * count

@@ -55,6 +55,16 @@ class Batches(unittest.TestCase):
                 kmip.batch().call('activate', 'unknown').call('query').send()
             with self.assertRaises(ConnectionLost):
                 kmip.query()
+        # So does a success that does not say of which call it is, also where there is one call.
+        for others in ([], ['query']):
+            with client_of('batches') as kmip, self.subTest(others):
+                batch = kmip.batch().call('activate', 'unnamed')
+                for other in others:
+                    batch.call(other)
+                with self.assertRaises(OtherObject):
+                    batch.send()
+                with self.assertRaises(ConnectionLost):
+                    kmip.query()
         # One answer with no identifier in the batch, or two of them, are of no call.
         for fake in ('rubbish', 'batch_two', 'half', 'other_operation'):
             with client_of(fake) as kmip, self.subTest(fake):
