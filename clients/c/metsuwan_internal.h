@@ -3,6 +3,9 @@
 #define METSUWAN_INTERNAL_H
 #include "metsuwan_tls.h"
 
+#include <stdarg.h>
+#include <sys/types.h>
+
 #ifdef __GNUC__
 #define HIDDEN __attribute__((visibility("hidden")))
 #define PRINTS(text, first) __attribute__((format(printf, text, first)))
@@ -28,6 +31,64 @@ HIDDEN void kmip_copy_free(char *text);
 /* A TLS connection, of which each use has to end by a deadline. */
 typedef struct kmip_wire kmip_wire;
 
+struct kmip_client {
+    kmip_wire *wire;     /* a null pointer once the connection is lost */
+    kmip_settings again; /* what opens it again: with no context, it is not */
+    pid_t owner;         /* the process that opened it */
+    char *host, *port, *user, *password;
+    uint32_t limit;
+    int status;
+    bool sent;        /* whether a part of the last request was handed to a connection */
+    bool torn;        /* whether the last exchange failed by its connection, and in time, .. */
+    char reason[300]; /* .. and why */
+    kmip_room call, request, response, line, value, pem;
+    size_t request_len, response_len;
+    /* of any operation, while its call is made; else null pointers */
+    const char *name, *version, *payload;
+    kmip_log *log;
+    void *log_data;
+    const char *operation; /* that of the last call, for the log, .. */
+    double begun;          /* .. and when it began */
+};
+
+/* Begins a call: KMIP_ANSWERED, or the status of what went wrong. */
+HIDDEN int kmip_begin(kmip_client *client, const char *operation);
+
+/* Makes the request of a call, in client->request: KMIP_ANSWERED and its length, or the status of
+   what went wrong. After that of an operation its three texts stand in the client. */
+HIDDEN int kmip_make_call(kmip_client *client, const char *call, const char *const *words,
+                          size_t *length);
+HIDDEN int kmip_make_operation(kmip_client *client, const char *name, const char *version,
+                               const char *payload, size_t *length);
+
+/* Whether a call of this name changes nothing, so that it may be made twice. */
+HIDDEN bool kmip_is_changeless(const char *operation);
+
+/* Sends the request, and reads the response; where that is wanted and harmless, once more on a new
+   connection. KMIP_ANSWERED, or the status of what went wrong. */
+HIDDEN int kmip_exchange(kmip_client *client, size_t request_len, bool is_changeless);
+
+/* Says what the response answers to the call, whose line is kept. The connection is left as it
+   is. */
+HIDDEN int kmip_read_answer(kmip_client *client);
+
+/* What the response answers to this operation of KMIP 1.2, whose line is kept; -1: memory ran
+   out. */
+HIDDEN int32_t kmip_line_of_operation(kmip_client *client, const char *name);
+
+/* Tells the log what came of a call, which is called so. */
+HIDDEN void kmip_tell_call(kmip_client *client, const char *call);
+
+/* Keeps what came of a call. After a status that loses the connection it is closed. */
+HIDDEN int kmip_ends_as(kmip_client *client, int status);
+
+/* Keeps a status and the line of an error of this client; the second closes the connection after a
+   status that loses it. So do the next two, where memory ran out. */
+HIDDEN int kmip_says(kmip_client *client, int status, const char *kind, const char *text);
+HIDDEN int kmip_fails_as(kmip_client *client, int status, const char *kind, const char *text);
+HIDDEN int kmip_says_no_memory(kmip_client *client);
+HIDDEN int kmip_out_of_memory(kmip_client *client);
+
 /* Connects; a null pointer where there is no connection. Then `reason` says why, and `status` is
    KMIP_LOST or KMIP_NO_MEMORY. */
 HIDDEN kmip_wire *kmip_wire_open(const kmip_settings *settings, int *status, char *reason,
@@ -42,8 +103,15 @@ HIDDEN bool kmip_wire_is_idle(kmip_wire *wire);
 HIDDEN bool kmip_wire_write(kmip_wire *wire, const uint8_t *bytes, size_t count);
 HIDDEN bool kmip_wire_read(kmip_wire *wire, uint8_t *into, size_t count);
 
-/* Why the last of these calls was false. */
+/* Why the last of these calls was false, and whether it was since the time was over. */
 HIDDEN const char *kmip_wire_reason(const kmip_wire *wire);
+HIDDEN bool kmip_wire_is_late(const kmip_wire *wire);
+
+/* What connects to any server as this wire does: a reference of the caller's. */
+HIDDEN struct ssl_ctx_st *kmip_wire_context(const kmip_wire *wire);
+
+/* The time in seconds. Without a clock each deadline is over. */
+HIDDEN double kmip_now(void);
 
 /* Ends the connection, and waits for nothing. A null pointer is fine. */
 HIDDEN void kmip_wire_close(kmip_wire *wire);
@@ -103,6 +171,9 @@ HIDDEN const char *kmip_write_parts(kmip_room *into, size_t *length, const char 
 
 /* Whether a text is UTF-8. */
 HIDDEN bool kmip_is_utf8(const char *text);
+
+/* The words that are given, with a null pointer after them; a null pointer where memory runs out. */
+HIDDEN const char **kmip_words_of(va_list given);
 
 /* Writes a call and its words as the grammar has them; false where memory runs out. */
 HIDDEN bool kmip_write_words(kmip_room *into, const char *call, const char *const *words);

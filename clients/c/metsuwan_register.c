@@ -1,5 +1,5 @@
-/* Keys, certificates and secrets: the payloads of requests to register them, and the DER of keys
-   whose parts are told one by one. */
+/* Keys, certificates and secrets: the payloads of requests to register them, the DER of keys whose
+   parts are told one by one, and PEM of what a server gave. */
 #define _POSIX_C_SOURCE 200809L
 #include "metsuwan_internal.h"
 
@@ -572,4 +572,116 @@ const char *kmip_write_parts(kmip_room *into, size_t *length, const char *line,
     *into = it.room;
     *length = it.length;
     return label;
+}
+
+/* Whether the text at a path is this one. */
+static bool text_is(kmip_client *client, const char *path, const char *text) {
+    const char *found = kmip_text(client, path, NULL);
+    return found && strcmp(found, text) == 0;
+}
+
+/* What objects are called in PEM (RFC 7468, and OpenSSL's own for PKCS#1 and SEC 1), and where
+   their bytes stand. */
+#define KEY_BLOCK(object) "cryptographic_object." object ".key_block."
+#define KEY(object, format, label)                                  \
+    {                                                               \
+        object, KEY_BLOCK(object) "key_format_type", format,        \
+            KEY_BLOCK(object) "key_value.key_material.Bytes", label \
+    }
+static const struct {
+    const char *object, *format_at, *format, *bytes_at, *label;
+} pems[] = {
+    KEY("PublicKey", "PKCS1", "RSA PUBLIC KEY"),
+    KEY("PublicKey", "X509", "PUBLIC KEY"),
+    KEY("PrivateKey", "PKCS1", "RSA PRIVATE KEY"),
+    KEY("PrivateKey", "PKCS8", "PRIVATE KEY"),
+    KEY("PrivateKey", "ECPrivateKey", "EC PRIVATE KEY"),
+    {"Certificate", "cryptographic_object.Certificate.certificate_type", "X509",
+     "cryptographic_object.Certificate.certificate_value", "CERTIFICATE"},
+};
+
+/* Writes bytes as PEM, in lines of 64 characters for 48 bytes; false where memory runs out. */
+static bool write_pem(kmip_room *into, const char *label, const uint8_t *bytes, size_t count) {
+    size_t room = 2 * (strlen(label) + 20) + (count + 47) / 48 * 65 + 1;
+    if (!kmip_room_has(into, room)) return false;
+    char *at = (char *)into->bytes;
+    at += snprintf(at, room, "-----BEGIN %s-----\n", label);
+    for (size_t done = 0; done < count; done += 48) {
+        int left = count - done < 48 ? (int)(count - done) : 48;
+        at += EVP_EncodeBlock((unsigned char *)at, bytes + done, left);
+        *at++ = '\n';
+    }
+    snprintf(at, room - (size_t)(at - (char *)into->bytes), "-----END %s-----\n", label);
+    return true;
+}
+
+/* The line of the response as one to Get: that of the last call, or one that is made; then it is
+   kept in `own`. A null pointer where there is none. */
+static const char *tree_of(kmip_client *client, kmip_room *own) {
+    if (client->status != KMIP_ANSWERED || client->response_len == 0) return NULL;
+    if (client->call.bytes[0] == 0) return (const char *)client->line.bytes;
+    kmip_room line = client->line;
+    client->line = (kmip_room){NULL, 0};
+    int32_t status = kmip_line_of_operation(client, "Get");
+    *own = client->line;
+    client->line = line;
+    return status == KMIP_ANSWERED ? (const char *)own->bytes : NULL;
+}
+
+/* The text at a path of a line, without the signs that KMIP's encodings put for others, as PKCS8
+   for PKCS_8. */
+static bool name_at(const char *line, const char *object, const char *path, char into[60]) {
+    kmip_room room = {NULL, 0};
+    char whole[100];
+    size_t done = 0;
+    snprintf(whole, sizeof whole, "%s%s", object, path);
+    int64_t length = kmip_item_value(line, whole, false, &room);
+    for (int64_t i = 0; i < length && done < 59; i++)
+        if (room.bytes[i] != '_') into[done++] = (char)room.bytes[i];
+    into[done] = 0;
+    kmip_room_free(&room);
+    return length >= 0;
+}
+
+/* The PEM of the object in a line of Get, in client->pem. */
+static bool pem_of_tree(kmip_client *client, const char *line) {
+    char kind[60], format[60], path[100];
+    kmip_room der = {NULL, 0};
+    size_t length = 0;
+    const char *label = NULL;
+    if (!name_at(line, "", "ObjectType", kind)) return false;
+    bool is_key = name_at(line, kind, ".KeyBlock.KeyFormatType", format);
+    if (!is_key && !name_at(line, kind, ".CertificateType", format)) return false;
+    for (size_t i = 0; i < sizeof pems / sizeof *pems && !label; i++)
+        if (strcmp(pems[i].object, kind) == 0 && strcmp(pems[i].format, format) == 0)
+            label = pems[i].label;
+    snprintf(path, sizeof path, "%s.%s", kind,
+             is_key ? "KeyBlock.KeyValue.KeyMaterial" : "CertificateValue");
+    int64_t found = label ? kmip_item_value(line, path, true, &der) : -1;
+    if (label && found < 0) label = NULL;
+    if (label)
+        length = (size_t)found;
+    else {
+        kmip_room_free(&der);
+        label = is_key ? kmip_write_parts(&der, &length, line, format) : NULL;
+    }
+    bool written = label && write_pem(&client->pem, label, der.bytes, length);
+    kmip_room_free(&der);
+    return written;
+}
+
+const char *kmip_pem(kmip_client *client) {
+    if (!client || client->status != KMIP_ANSWERED) return NULL;
+    for (size_t i = 0; client->call.bytes[0] && i < sizeof pems / sizeof *pems; i++) {
+        if (!text_is(client, pems[i].format_at, pems[i].format)) continue;
+        size_t length = 0;
+        const uint8_t *bytes = kmip_bytes(client, pems[i].bytes_at, &length);
+        if (!bytes || !write_pem(&client->pem, pems[i].label, bytes, length)) return NULL;
+        return (const char *)client->pem.bytes;
+    }
+    kmip_room own = {NULL, 0};
+    const char *line = tree_of(client, &own);
+    bool written = line && pem_of_tree(client, line);
+    kmip_room_free(&own);
+    return written ? (const char *)client->pem.bytes : NULL;
 }

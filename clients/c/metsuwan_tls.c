@@ -3,26 +3,15 @@
 #define _POSIX_C_SOURCE 200809L
 #include "metsuwan_internal.h"
 
-#include <openssl/evp.h>
+#include <openssl/ssl.h>
 #include <stdarg.h>
 #include <stdio.h>
 #include <stdlib.h>
 #include <string.h>
+#include <unistd.h>
 
 #define HEAD 8
 #define PIECE 65536
-
-struct kmip_client {
-    kmip_wire *wire; /* a null pointer once the connection is lost */
-    char *user, *password;
-    uint32_t limit;
-    int status;
-    bool sent; /* whether a part of the last request was handed to the connection */
-    kmip_room call, request, response, line, value, pem;
-    size_t response_len;
-    /* of any operation, while its call is made; else null pointers */
-    const char *name, *version, *payload;
-};
 
 static const uint8_t *bytes_of(const char *text) {
     return (const uint8_t *)text;
@@ -42,7 +31,8 @@ static bool is_port(const char *port) {
 /* Settings of this version, from those of the same or of an older one, which end sooner; false
    where they are neither. */
 static bool read_settings(const kmip_settings *given, kmip_settings *into) {
-    static const size_t sizes[] = {offsetof(kmip_settings, library), sizeof *into};
+    static const size_t sizes[] = {offsetof(kmip_settings, library),
+                                   offsetof(kmip_settings, reconnect), sizeof *into};
     size_t size;
     memcpy(&size, given, sizeof size);
     *into = kmip_defaults();
@@ -87,6 +77,9 @@ static void free_client(kmip_client *client) {
     if (!client) return;
     kmip_copy_free(client->user);
     kmip_copy_free(client->password);
+    kmip_copy_free(client->host);
+    kmip_copy_free(client->port);
+    SSL_CTX_free(client->again.context);
     kmip_room_free(&client->call);
     kmip_room_free(&client->request);
     kmip_room_free(&client->response);
@@ -102,16 +95,32 @@ static kmip_client *client_of(const kmip_settings *settings) {
     if (!client) return NULL;
     client->limit = settings->limit;
     client->status = KMIP_LOST;
+    client->owner = getpid();
+    client->log = settings->log;
+    client->log_data = settings->log_data;
+    client->host = kmip_copy_of(settings->host);
+    client->port = kmip_copy_of(settings->port);
     if (settings->user) {
         client->user = kmip_copy_of(settings->user);
         client->password = kmip_copy_of(settings->password);
-        /* Without its copy each request would go out with no credential. */
-        if (!client->user || !client->password) {
-            free_client(client);
-            return NULL;
-        }
     }
-    return client;
+    /* Without its copy each request would go out with no credential. */
+    bool has_all = !settings->user || (client->user && client->password);
+    if (client->host && client->port && has_all) return client;
+    free_client(client);
+    return NULL;
+}
+
+/* Keeps what opens the connection again, where that is wanted: no file is read then, and no
+   passphrase is kept. */
+static bool keep_settings(kmip_client *client, const kmip_settings *settings) {
+    if (!settings->reconnect) return true;
+    client->again = kmip_defaults();
+    client->again.host = client->host;
+    client->again.port = client->port;
+    client->again.seconds = settings->seconds;
+    client->again.context = kmip_wire_context(client->wire);
+    return client->again.context != NULL;
 }
 
 /* Opens a client with settings of this version. */
@@ -125,10 +134,11 @@ static int connect_by(const kmip_settings *settings, kmip_client **into, char *e
     int status = KMIP_NO_MEMORY;
     kmip_client *client = client_of(settings);
     if (client) client->wire = kmip_wire_open(settings, &status, reason, sizeof reason);
-    if (client && client->wire) {
+    if (client && client->wire && keep_settings(client, settings)) {
         *into = client;
         return KMIP_ANSWERED;
     }
+    if (client) kmip_wire_close(client->wire);
     kmip_error_line(error, room, "ConnectError", reason);
     free_client(client);
     return status;
@@ -169,8 +179,7 @@ void kmip_abandon(kmip_client *client) {
     kmip_close(client);
 }
 
-/* Keeps what came of a call. After a status that loses the connection it is closed. */
-static int ends_as(kmip_client *client, int status) {
+int kmip_ends_as(kmip_client *client, int status) {
     if (status == KMIP_LOST || status == KMIP_NO_MEMORY) {
         kmip_wire_close(client->wire);
         client->wire = NULL;
@@ -178,26 +187,72 @@ static int ends_as(kmip_client *client, int status) {
     return client->status = status;
 }
 
-/* The same, with the line of an error of this client. */
-static int fails_as(kmip_client *client, int status, const char *kind, const char *text) {
+int kmip_says(kmip_client *client, int status, const char *kind, const char *text) {
     kmip_error_line((char *)client->line.bytes, client->line.room, kind, text);
-    return ends_as(client, status);
+    return client->status = status;
 }
 
-static int out_of_memory(kmip_client *client) {
+int kmip_fails_as(kmip_client *client, int status, const char *kind, const char *text) {
+    return kmip_ends_as(client, kmip_says(client, status, kind, text));
+}
+
+int kmip_says_no_memory(kmip_client *client) {
     if (client->line.bytes) client->line.bytes[0] = 0;
-    return ends_as(client, KMIP_NO_MEMORY);
+    return client->status = KMIP_NO_MEMORY;
+}
+
+int kmip_out_of_memory(kmip_client *client) {
+    return kmip_ends_as(client, kmip_says_no_memory(client));
+}
+
+/* Tells the log what has happened, with the server in front. */
+PRINTS(4, 5)
+static void tell(kmip_client *client, kmip_event_kind what, int status, const char *format, ...) {
+    char text[700];
+    va_list given;
+    if (!client->log) return;
+    int front = snprintf(text, sizeof text, "%.300s:%.40s: ", client->host, client->port);
+    va_start(given, format);
+    if (front > 0) vsnprintf(text + front, sizeof text - (size_t)front, format, given);
+    va_end(given);
+    kmip_event event = {.size = sizeof event,
+                        .what = what,
+                        .operation = client->operation,
+                        .status = status,
+                        .seconds = kmip_now() - client->begun,
+                        .text = text};
+    client->log(client->log_data, &event);
+}
+
+void kmip_tell_call(kmip_client *client, const char *call) {
+    double milliseconds = (kmip_now() - client->begun) * 1000;
+    const char *kind = kmip_member(kmip_line(client), "error");
+    if (client->response_len == 0 && kind)
+        tell(client, KMIP_EVENT_CALL, client->status, "%.60s: %.*s, %.1f ms", call,
+             (int)strcspn(kind + 1, "\""), kind + 1, milliseconds);
+    else
+        tell(client, KMIP_EVENT_CALL, client->status,
+             "%.60s: status %d, %zu bytes sent, %zu read, %.1f ms", call, client->status,
+             client->request_len, client->response_len, milliseconds);
+}
+
+/* Keeps that the connection failed, and whether its time was not over. */
+static int wire_fails(kmip_client *client, const char *kind, const char *after) {
+    snprintf(client->reason, sizeof client->reason, "%s%s", kmip_wire_reason(client->wire), after);
+    client->torn = !kmip_wire_is_late(client->wire);
+    return kmip_fails_as(client, KMIP_LOST, kind, client->reason);
 }
 
 static int wrong_words(kmip_client *client, const char *call, const char *const *words) {
     char text[1200];
     kmip_say_wrong_word(text, sizeof text, call, words);
-    return fails_as(client, KMIP_CALL_GRAMMAR, "GrammarError", text);
+    return kmip_fails_as(client, KMIP_CALL_GRAMMAR, "GrammarError", text);
 }
 
 /* The request, in room that is made for it; its length, or a negative number. */
-static int64_t make_request(kmip_client *client, size_t call_len) {
+static int64_t make_request(kmip_client *client) {
     const uint8_t *call = client->call.bytes;
+    size_t call_len = client->name ? 0 : strlen((const char *)call);
     bool has = client->user != NULL;
     const uint8_t *user = has ? (const uint8_t *)client->user : call;
     const uint8_t *password = has ? (const uint8_t *)client->password : call;
@@ -223,7 +278,8 @@ static int64_t make_request(kmip_client *client, size_t call_len) {
 /* Reads the response, and keeps its line; -1 where memory runs out. There is room at first for one
    that is bytes for the most part, of which the line has two digits each: what does not fit is made
    once more. */
-static int32_t line_of(kmip_client *client, size_t call_len) {
+static int32_t line_of(kmip_client *client) {
+    size_t call_len = client->name ? 0 : strlen((const char *)client->call.bytes);
     size_t most = client->response_len;
     if (most <= (SIZE_MAX - 4096) / 2 && !kmip_room_has(&client->line, 2 * most + 4096)) return -1;
     for (;;) {
@@ -249,22 +305,67 @@ static int32_t line_of(kmip_client *client, size_t call_len) {
     }
 }
 
-/* The status of the response, whose line is kept. */
-static int answer(kmip_client *client, size_t call_len) {
-    int32_t status = line_of(client, call_len);
-    return status < 0 ? out_of_memory(client) : ends_as(client, status);
-}
-
 static const char no_items[] = "{\"tag\":\"RequestPayload\",\"value\":[]}";
 
-/* What the response that was read answers to this operation, whose line is kept. */
-static int32_t line_of_operation(kmip_client *client, const char *name) {
+int32_t kmip_line_of_operation(kmip_client *client, const char *name) {
     client->name = name;
     client->version = "1.2";
     client->payload = no_items;
-    int32_t status = line_of(client, 0);
+    int32_t status = line_of(client);
     client->name = client->version = client->payload = NULL;
     return status;
+}
+
+/* Whether a word of a call stands for this text. In a word a byte that is special is `%` and two hex
+   digits; it ends with a space or with the line. */
+static bool stands_for(const char *word, const uint8_t *text, size_t length) {
+    static const char digits[] = "0123456789ABCDEF";
+    size_t at = 0;
+    for (; at < length && *word && *word != ' '; at++) {
+        const char *high = *word == '%' && word[1] ? strchr(digits, word[1]) : NULL;
+        const char *low = high && word[2] ? strchr(digits, word[2]) : NULL;
+        uint8_t byte = low ? (uint8_t)((high - digits) << 4 | (low - digits)) : (uint8_t)*word;
+        if (byte != text[at]) return false;
+        word += low ? 3 : 1;
+    }
+    return at == length && (!*word || *word == ' ');
+}
+
+/* Whether the answer to an operation is about the object that this word names. */
+static bool is_about(kmip_client *client, const char *word) {
+    int64_t length =
+        kmip_item_value((char *)client->line.bytes, "UniqueIdentifier", false, &client->value);
+    return length >= 0 && stands_for(word, client->value.bytes, (size_t)length);
+}
+
+/* After a refusal: what the tables of a call have no words for, as a key of EC, is answered as the
+   operation of the call has it, where the same bytes are a success of that. */
+static int answer_as_tree(kmip_client *client) {
+    const char *line = (const char *)client->call.bytes, *word = strchr(line, ' ');
+    const char *name = strncmp(line, "get ", 4) == 0           ? "Get"
+                       : strncmp(line, "attributes ", 11) == 0 ? "GetAttributes"
+                                                               : NULL;
+    /* What was to be wrapped is not given as anything else. */
+    if (!name || strstr(line, " wrap=")) return client->status;
+    kmip_room refusal = client->line;
+    client->line = (kmip_room){NULL, 0};
+    if (kmip_line_of_operation(client, name) != KMIP_ANSWERED) {
+        kmip_room_free(&client->line);
+        client->line = refusal;
+        return client->status;
+    }
+    kmip_room_free(&refusal);
+    bool about = is_about(client, word + 1);
+    client->call.bytes[0] = 0; /* values are those of the line */
+    if (about) return client->status = KMIP_ANSWERED;
+    return kmip_says(client, KMIP_LOST, "InternalError", "the response is about another object");
+}
+
+int kmip_read_answer(kmip_client *client) {
+    int32_t status = line_of(client);
+    if (status < 0) return kmip_says_no_memory(client);
+    client->status = status;
+    return status == KMIP_REFUSED && !client->name ? answer_as_tree(client) : status;
 }
 
 /* Reads what follows the head of a response of this length. What is announced may never come, so
@@ -274,9 +375,9 @@ static int read_rest(kmip_client *client, size_t length) {
     for (size_t done = HEAD, next; done < length; done = next) {
         next = done < PIECE ? PIECE : done > SIZE_MAX / 2 ? length : 2 * done;
         if (next > length) next = length;
-        if (!kmip_room_has(&client->response, next)) return out_of_memory(client);
+        if (!kmip_room_has(&client->response, next)) return kmip_out_of_memory(client);
         if (!kmip_wire_read(wire, client->response.bytes + done, next - done))
-            return fails_as(client, KMIP_LOST, "ResponseReadError", kmip_wire_reason(wire));
+            return wire_fails(client, "ResponseReadError", "");
     }
     return KMIP_ANSWERED;
 }
@@ -285,16 +386,16 @@ static int read_rest(kmip_client *client, size_t length) {
 static int read_response(kmip_client *client) {
     kmip_wire *wire = client->wire;
     if (!kmip_wire_read(wire, client->response.bytes, HEAD))
-        return fails_as(client, KMIP_LOST, "ResponseReadError", kmip_wire_reason(wire));
+        return wire_fails(client, "ResponseReadError", "");
     int64_t more = kmip_contents_len(client->response.bytes, HEAD, client->limit);
     if (more == KMIP_LENGTH_LIMIT) {
         char text[80];
         snprintf(text, sizeof text, "the response is longer than the limit of %u bytes",
                  client->limit);
-        return fails_as(client, KMIP_LOST, "DeserializeError", text);
+        return kmip_fails_as(client, KMIP_LOST, "DeserializeError", text);
     }
-    if (more < 0) return fails_as(client, KMIP_LOST, "DeserializeError", "not a structure");
-    if ((uint64_t)more > SIZE_MAX - HEAD) return out_of_memory(client);
+    if (more < 0) return kmip_fails_as(client, KMIP_LOST, "DeserializeError", "not a structure");
+    if ((uint64_t)more > SIZE_MAX - HEAD) return kmip_out_of_memory(client);
     size_t length = HEAD + (size_t)more;
     int status = read_rest(client, length);
     if (status != KMIP_ANSWERED) return status;
@@ -303,72 +404,84 @@ static int read_response(kmip_client *client) {
 }
 
 /* The three steps that nothing checks: these bytes are sent, 8 are read, and then so many. */
-static int exchange(kmip_client *client, size_t call_len, size_t request_len) {
+static int exchange(kmip_client *client, size_t request_len) {
     kmip_wire *wire = client->wire;
     kmip_wire_begin(wire);
-    if (!kmip_wire_is_idle(wire)) {
-        char text[300];
-        snprintf(text, sizeof text, "%s; nothing was sent", kmip_wire_reason(wire));
-        return fails_as(client, KMIP_LOST, "RequestWriteError", text);
-    }
+    if (!kmip_wire_is_idle(wire))
+        return wire_fails(client, "RequestWriteError", "; nothing was sent");
     bool written = kmip_wire_write(wire, client->request.bytes, request_len);
-    client->sent = kmip_wire_was_sent(wire);
-    if (!written) return fails_as(client, KMIP_LOST, "RequestWriteError", kmip_wire_reason(wire));
-    int status = read_response(client);
-    return status == KMIP_ANSWERED ? answer(client, call_len) : status;
+    client->sent = client->sent || kmip_wire_was_sent(wire);
+    return written ? read_response(client) : wire_fails(client, "RequestWriteError", "");
 }
 
-/* Begins a call: KMIP_ANSWERED, or the status of what went wrong. */
-static int begin(kmip_client *client) {
-    client->response_len = 0;
-    client->status = KMIP_LOST;
-    client->sent = false;
-    if (!kmip_room_has(&client->line, 4096) || !kmip_room_has(&client->response, 4096))
-        return out_of_memory(client);
-    if (!client->wire)
-        return fails_as(client, KMIP_LOST, "RequestWriteError",
-                        "the connection is closed; nothing was sent");
+/* Whether a connection that is lost is opened again: not in the child of a fork. */
+static bool reconnects(const kmip_client *client) {
+    return client->again.context && client->owner == getpid();
+}
+
+/* The connection, which is opened again where it was lost. */
+static int ready(kmip_client *client) {
+    char reason[256];
+    int status = KMIP_ANSWERED;
+    if (client->wire) return status;
+    client->wire = kmip_wire_open(&client->again, &status, reason, sizeof reason);
+    if (!client->wire && status == KMIP_NO_MEMORY) return kmip_out_of_memory(client);
+    if (!client->wire) return kmip_fails_as(client, KMIP_LOST, "ConnectError", reason);
+    tell(client, KMIP_EVENT_REOPENED, KMIP_LOST, "the connection was lost, and is opened again");
     return KMIP_ANSWERED;
 }
 
-/* Makes the exchange of a request of this length, which may be a negative number. */
-static int exchange_of(kmip_client *client, size_t call_len, int64_t length) {
+int kmip_exchange(kmip_client *client, size_t request_len, bool is_changeless) {
+    bool was_open = client->wire != NULL;
+    client->torn = false;
+    client->request_len = request_len;
+    int status = ready(client);
+    if (status == KMIP_ANSWERED) status = exchange(client, request_len);
+    /* Where the connection is new, or what was sent may have been done, that is all. */
+    bool harmless = is_changeless || !client->sent;
+    if (!was_open || !client->torn || !harmless || !reconnects(client)) return status;
+    tell(client, KMIP_EVENT_REPEATED, KMIP_LOST, "%s: the call is made again", client->reason);
+    status = ready(client);
+    return status == KMIP_ANSWERED ? exchange(client, request_len) : status;
+}
+
+int kmip_begin(kmip_client *client, const char *operation) {
+    client->response_len = 0;
+    client->status = KMIP_LOST;
+    client->sent = false;
+    client->operation = operation;
+    client->begun = kmip_now();
+    if (!kmip_room_has(&client->line, 4096) || !kmip_room_has(&client->response, 4096))
+        return kmip_out_of_memory(client);
+    if (client->wire || reconnects(client)) return KMIP_ANSWERED;
+    return kmip_fails_as(client, KMIP_LOST, "RequestWriteError",
+                         "the connection is closed; nothing was sent");
+}
+
+bool kmip_is_changeless(const char *operation) {
+    static const char names[] =
+        " query discover locate get attributes sign Query DiscoverVersions Locate Get GetAttributes"
+        " GetAttributeList Sign SignatureVerify Encrypt Decrypt MAC MACVerify Hash Check ";
+    char name[40];
+    int length = snprintf(name, sizeof name, " %s ", operation);
+    return length > 0 && (size_t)length < sizeof name && strstr(names, name);
+}
+
+/* Keeps the length of a request, or says why there is none. */
+static int made_request(kmip_client *client, int64_t length, size_t *into) {
     if (length == KMIP_LENGTH_NO_FORM)
-        return fails_as(client, KMIP_REFUSED, "SerializeError", "request has no wire form");
-    if (length < 0) return out_of_memory(client);
-    return exchange(client, call_len, (size_t)length);
+        return kmip_fails_as(client, KMIP_REFUSED, "SerializeError", "request has no wire form");
+    if (length < 0) return kmip_out_of_memory(client);
+    *into = (size_t)length;
+    return KMIP_ANSWERED;
 }
 
-/* Whether the answer to an operation is about this object. */
-static bool is_about(kmip_client *client, const char *object) {
-    int64_t length =
-        kmip_item_value((char *)client->line.bytes, "UniqueIdentifier", false, &client->value);
-    return object && length == (int64_t)strlen(object) &&
-           memcmp(client->value.bytes, object, (size_t)length) == 0;
-}
-
-/* After a refusal: what the tables of a call have no words for, as a key of EC, is answered as the
-   operation of the call has it, where the same bytes are a success of that. */
-static int answer_as_tree(kmip_client *client, const char *call, const char *const *words) {
-    const char *name = strcmp(call, "get") == 0          ? "Get"
-                       : strcmp(call, "attributes") == 0 ? "GetAttributes"
-                                                         : NULL;
-    if (!name || client->response_len == 0) return client->status;
-    for (size_t i = 0; words[i]; i++) /* what was to be wrapped is not given as anything else */
-        if (i > 0 && strncmp(words[i], "wrap=", 5) == 0) return client->status;
-    kmip_room refusal = client->line;
-    client->line = (kmip_room){NULL, 0};
-    int32_t status = line_of_operation(client, name);
-    bool answered = status == KMIP_ANSWERED;
-    if (answered) client->call.bytes[0] = 0; /* values are those of the line */
-    if (!answered) {
-        kmip_room_free(&client->line);
-        client->line = refusal;
-        return client->status;
-    }
-    kmip_room_free(&refusal);
-    if (is_about(client, words[0])) return ends_as(client, KMIP_ANSWERED);
-    return fails_as(client, KMIP_LOST, "InternalError", "the response is about another object");
+/* Makes the exchange of the request that was made, reads its answer, and tells the log. */
+static int exchange_of(kmip_client *client, size_t length) {
+    int status = kmip_exchange(client, length, kmip_is_changeless(client->operation));
+    if (status == KMIP_ANSWERED) status = kmip_ends_as(client, kmip_read_answer(client));
+    kmip_tell_call(client, client->operation);
+    return status;
 }
 
 /* Whether a word of `register` is a text of PEM, which would be kept as the bytes of a key. */
@@ -381,19 +494,23 @@ static bool registers_pem(const char *call, const char *const *words) {
     return found;
 }
 
-static int call_words(kmip_client *client, const char *call, const char *const *words) {
-    int status = begin(client);
-    if (status != KMIP_ANSWERED) return status;
+int kmip_make_call(kmip_client *client, const char *call, const char *const *words,
+                   size_t *length) {
     if (!kmip_may_ask(call)) return wrong_words(client, call, words);
     if (registers_pem(call, words))
-        return fails_as(client, KMIP_CALL_GRAMMAR, "GrammarError",
-                        "the key is PEM: kmip_register_private_key and .._public_key take it");
-    if (!kmip_write_words(&client->call, call, words)) return out_of_memory(client);
-    size_t call_len = strlen((const char *)client->call.bytes);
-    int64_t length = make_request(client, call_len);
-    if (length == KMIP_LENGTH_GRAMMAR) return wrong_words(client, call, words);
-    status = exchange_of(client, call_len, length);
-    return status == KMIP_REFUSED ? answer_as_tree(client, call, words) : status;
+        return kmip_fails_as(client, KMIP_CALL_GRAMMAR, "GrammarError",
+                             "the key is PEM: kmip_register_private_key and .._public_key take it");
+    if (!kmip_write_words(&client->call, call, words)) return kmip_out_of_memory(client);
+    int64_t made = make_request(client);
+    if (made == KMIP_LENGTH_GRAMMAR) return wrong_words(client, call, words);
+    return made_request(client, made, length);
+}
+
+static int call_words(kmip_client *client, const char *call, const char *const *words) {
+    size_t length = 0;
+    int status = kmip_begin(client, call);
+    if (status == KMIP_ANSWERED) status = kmip_make_call(client, call, words, &length);
+    return status == KMIP_ANSWERED ? exchange_of(client, length) : status;
 }
 
 int kmip_call_words(kmip_client *client, const char *call, const char *const *words) {
@@ -408,7 +525,7 @@ int kmip_call_words(kmip_client *client, const char *call, const char *const *wo
 /* Why the three texts of an operation in the client make no call. The text stands where the request
    would. */
 static int wrong_operation(kmip_client *client) {
-    if (!kmip_room_has(&client->request, 4096)) return out_of_memory(client);
+    if (!kmip_room_has(&client->request, 4096)) return kmip_out_of_memory(client);
     for (;;) {
         char *text = (char *)client->request.bytes;
         size_t room = client->request.room - 1;
@@ -416,33 +533,35 @@ static int wrong_operation(kmip_client *client) {
                                                 bytes_of(client->version), strlen(client->version),
                                                 bytes_of(client->payload), strlen(client->payload),
                                                 client->request.bytes, room);
-        if (length < 0) return out_of_memory(client);
+        if (length < 0) return kmip_out_of_memory(client);
         if ((uint64_t)length <= room) {
             text[length] = 0;
-            return fails_as(client, KMIP_CALL_GRAMMAR, "GrammarError", text);
+            return kmip_fails_as(client, KMIP_CALL_GRAMMAR, "GrammarError", text);
         }
-        if (!kmip_room_has(&client->request, (size_t)length + 1)) return out_of_memory(client);
+        if (!kmip_room_has(&client->request, (size_t)length + 1)) return kmip_out_of_memory(client);
     }
 }
 
-/* The same for any operation, whose three texts stand in the client. */
-static int call_operation(kmip_client *client) {
-    int64_t length = make_request(client, 0);
-    if (length == KMIP_LENGTH_GRAMMAR) return wrong_operation(client);
-    return exchange_of(client, 0, length);
-}
-
-static int operation(kmip_client *client, const char *name, const char *version,
-                     const char *payload) {
-    int status = begin(client);
-    if (status != KMIP_ANSWERED) return status;
+int kmip_make_operation(kmip_client *client, const char *name, const char *version,
+                        const char *payload, size_t *length) {
     /* No words: values are those of the line. */
-    if (!kmip_room_has(&client->call, 1)) return out_of_memory(client);
+    if (!kmip_room_has(&client->call, 1)) return kmip_out_of_memory(client);
     client->call.bytes[0] = 0;
     client->name = name;
     client->version = version;
     client->payload = payload;
-    status = call_operation(client);
+    int64_t made = make_request(client);
+    if (made == KMIP_LENGTH_GRAMMAR) return wrong_operation(client);
+    return made_request(client, made, length);
+}
+
+static int operation(kmip_client *client, const char *name, const char *version,
+                     const char *payload) {
+    size_t length = 0;
+    int status = kmip_begin(client, name);
+    if (status == KMIP_ANSWERED)
+        status = kmip_make_operation(client, name, version, payload, &length);
+    if (status == KMIP_ANSWERED) status = exchange_of(client, length);
     client->name = client->version = client->payload = NULL;
     return status;
 }
@@ -468,14 +587,14 @@ static const char *write_object(kmip_room *into, const char *kind, const void *b
 
 static int register_it(kmip_client *client, const char *kind, const void *bytes, size_t length,
                        const char *name, const char *usage) {
-    int status = begin(client);
+    int status = kmip_begin(client, "Register");
     if (status != KMIP_ANSWERED) return status;
     kmip_room payload = {NULL, 0};
     const char *wrong = write_object(&payload, kind, bytes, length, name, usage);
     if (wrong)
-        status = fails_as(client, KMIP_CALL_GRAMMAR, "GrammarError", wrong);
+        status = kmip_fails_as(client, KMIP_CALL_GRAMMAR, "GrammarError", wrong);
     else if (!payload.bytes)
-        status = out_of_memory(client);
+        status = kmip_out_of_memory(client);
     else
         status = operation(client, "Register", "1.0", (const char *)payload.bytes);
     kmip_room_free(&payload);
@@ -527,13 +646,14 @@ static int call_counted(kmip_client *client, const char *call, const char *const
     char text[100];
     size_t null = null_word(words, count);
     if (null < count) {
-        int status = begin(client);
+        int status = kmip_begin(client, call);
         snprintf(text, sizeof text, "%.30s: word %zu after it is a null pointer", call, null + 1);
-        return status == KMIP_ANSWERED ? fails_as(client, KMIP_CALL_GRAMMAR, "GrammarError", text)
-                                       : status;
+        return status == KMIP_ANSWERED
+                   ? kmip_fails_as(client, KMIP_CALL_GRAMMAR, "GrammarError", text)
+                   : status;
     }
     const char **ended = count < SIZE_MAX / sizeof *ended ? calloc(count + 1, sizeof *ended) : NULL;
-    if (!ended) return out_of_memory(client);
+    if (!ended) return kmip_out_of_memory(client);
     if (count > 0) memcpy(ended, words, count * sizeof *ended);
     int status = kmip_call_words(client, call, ended);
     free(ended);
@@ -549,10 +669,9 @@ int kmip_call_array(kmip_client *client, const char *call, const char *const *wo
     return status;
 }
 
-int kmip_call(kmip_client *client, const char *call, ...) {
-    va_list given, counted;
+const char **kmip_words_of(va_list given) {
+    va_list counted;
     size_t count = 0;
-    va_start(given, call);
     va_copy(counted, given);
     while (va_arg(counted, const char *))
         count++;
@@ -560,12 +679,19 @@ int kmip_call(kmip_client *client, const char *call, ...) {
     const char **words = calloc(count + 1, sizeof *words);
     for (size_t i = 0; words && i < count; i++)
         words[i] = va_arg(given, const char *);
+    return words;
+}
+
+int kmip_call(kmip_client *client, const char *call, ...) {
+    va_list given;
+    va_start(given, call);
+    const char **words = kmip_words_of(given);
     va_end(given);
     int status = KMIP_LOST;
     if (words)
         status = kmip_call_words(client, call, words);
     else if (client)
-        status = out_of_memory(client);
+        status = kmip_out_of_memory(client);
     free(words);
     return status;
 }
@@ -628,116 +754,4 @@ const char *kmip_text(kmip_client *client, const char *path, size_t *length) {
     if (!length && strlen(text) != found) return NULL;
     if (length) *length = found;
     return text;
-}
-
-/* Whether the text at a path is this one. */
-static bool text_is(kmip_client *client, const char *path, const char *text) {
-    const char *found = kmip_text(client, path, NULL);
-    return found && strcmp(found, text) == 0;
-}
-
-/* What objects are called in PEM (RFC 7468, and OpenSSL's own for PKCS#1 and SEC 1), and where
-   their bytes stand. */
-#define KEY_BLOCK(object) "cryptographic_object." object ".key_block."
-#define KEY(object, format, label)                                  \
-    {                                                               \
-        object, KEY_BLOCK(object) "key_format_type", format,        \
-            KEY_BLOCK(object) "key_value.key_material.Bytes", label \
-    }
-static const struct {
-    const char *object, *format_at, *format, *bytes_at, *label;
-} pems[] = {
-    KEY("PublicKey", "PKCS1", "RSA PUBLIC KEY"),
-    KEY("PublicKey", "X509", "PUBLIC KEY"),
-    KEY("PrivateKey", "PKCS1", "RSA PRIVATE KEY"),
-    KEY("PrivateKey", "PKCS8", "PRIVATE KEY"),
-    KEY("PrivateKey", "ECPrivateKey", "EC PRIVATE KEY"),
-    {"Certificate", "cryptographic_object.Certificate.certificate_type", "X509",
-     "cryptographic_object.Certificate.certificate_value", "CERTIFICATE"},
-};
-
-/* Writes bytes as PEM, in lines of 64 characters for 48 bytes; false where memory runs out. */
-static bool write_pem(kmip_room *into, const char *label, const uint8_t *bytes, size_t count) {
-    size_t room = 2 * (strlen(label) + 20) + (count + 47) / 48 * 65 + 1;
-    if (!kmip_room_has(into, room)) return false;
-    char *at = (char *)into->bytes;
-    at += snprintf(at, room, "-----BEGIN %s-----\n", label);
-    for (size_t done = 0; done < count; done += 48) {
-        int left = count - done < 48 ? (int)(count - done) : 48;
-        at += EVP_EncodeBlock((unsigned char *)at, bytes + done, left);
-        *at++ = '\n';
-    }
-    snprintf(at, room - (size_t)(at - (char *)into->bytes), "-----END %s-----\n", label);
-    return true;
-}
-
-/* The line of the response as one to Get: that of the last call, or one that is made; then it is
-   kept in `own`. A null pointer where there is none. */
-static const char *tree_of(kmip_client *client, kmip_room *own) {
-    if (client->status != KMIP_ANSWERED || client->response_len == 0) return NULL;
-    if (client->call.bytes[0] == 0) return (const char *)client->line.bytes;
-    kmip_room line = client->line;
-    client->line = (kmip_room){NULL, 0};
-    int32_t status = line_of_operation(client, "Get");
-    *own = client->line;
-    client->line = line;
-    return status == KMIP_ANSWERED ? (const char *)own->bytes : NULL;
-}
-
-/* The text at a path of a line, without the signs that KMIP's encodings put for others, as PKCS8
-   for PKCS_8. */
-static bool name_at(const char *line, const char *object, const char *path, char into[60]) {
-    kmip_room room = {NULL, 0};
-    char whole[100];
-    size_t done = 0;
-    snprintf(whole, sizeof whole, "%s%s", object, path);
-    int64_t length = kmip_item_value(line, whole, false, &room);
-    for (int64_t i = 0; i < length && done < 59; i++)
-        if (room.bytes[i] != '_') into[done++] = (char)room.bytes[i];
-    into[done] = 0;
-    kmip_room_free(&room);
-    return length >= 0;
-}
-
-/* The PEM of the object in a line of Get, in client->pem. */
-static bool pem_of_tree(kmip_client *client, const char *line) {
-    char kind[60], format[60], path[100];
-    kmip_room der = {NULL, 0};
-    size_t length = 0;
-    const char *label = NULL;
-    if (!name_at(line, "", "ObjectType", kind)) return false;
-    bool is_key = name_at(line, kind, ".KeyBlock.KeyFormatType", format);
-    if (!is_key && !name_at(line, kind, ".CertificateType", format)) return false;
-    for (size_t i = 0; i < sizeof pems / sizeof *pems && !label; i++)
-        if (strcmp(pems[i].object, kind) == 0 && strcmp(pems[i].format, format) == 0)
-            label = pems[i].label;
-    snprintf(path, sizeof path, "%s.%s", kind,
-             is_key ? "KeyBlock.KeyValue.KeyMaterial" : "CertificateValue");
-    int64_t found = label ? kmip_item_value(line, path, true, &der) : -1;
-    if (label && found < 0) label = NULL;
-    if (label)
-        length = (size_t)found;
-    else {
-        kmip_room_free(&der);
-        label = is_key ? kmip_write_parts(&der, &length, line, format) : NULL;
-    }
-    bool written = label && write_pem(&client->pem, label, der.bytes, length);
-    kmip_room_free(&der);
-    return written;
-}
-
-const char *kmip_pem(kmip_client *client) {
-    if (!client || client->status != KMIP_ANSWERED) return NULL;
-    for (size_t i = 0; client->call.bytes[0] && i < sizeof pems / sizeof *pems; i++) {
-        if (!text_is(client, pems[i].format_at, pems[i].format)) continue;
-        size_t length = 0;
-        const uint8_t *bytes = kmip_bytes(client, pems[i].bytes_at, &length);
-        if (!bytes || !write_pem(&client->pem, pems[i].label, bytes, length)) return NULL;
-        return (const char *)client->pem.bytes;
-    }
-    kmip_room own = {NULL, 0};
-    const char *line = tree_of(client, &own);
-    bool written = line && pem_of_tree(client, line);
-    kmip_room_free(&own);
-    return written ? (const char *)client->pem.bytes : NULL;
 }

@@ -37,8 +37,39 @@ typedef struct kmip_client kmip_client;
 struct ossl_lib_ctx_st;
 struct ssl_ctx_st;
 
+/* What the log of a client is told. More may be added. */
+typedef enum {
+    KMIP_EVENT_CALL = 0, /* a call, or a batch, whose request was made has ended */
+    KMIP_EVENT_REPEATED, /* the connection was lost, and the call is made again */
+    KMIP_EVENT_REOPENED  /* the connection was lost, and is opened again for this call */
+} kmip_event_kind;
+
+/* No value of a call stands in it, and no identifier.
+
+   size           of this structure, whose next version may be longer
+   what           of which kind it is
+   operation      the name of the call, as sign, or of the operation, as Encrypt; "batch" of a batch
+   status         that of a call that has ended; of the others KMIP_LOST
+   seconds        how long the call has taken until now
+   text           all that in words, with the server, as "localhost:5696: sign: status 0, 288 bytes
+                  sent, 432 read, 1.5 ms"
+
+   It stays until the log returns. */
+typedef struct {
+    size_t size;
+    kmip_event_kind what;
+    const char *operation;
+    int status;
+    double seconds;
+    const char *text;
+} kmip_event;
+
+/* A log. It is called within a call of a client, which it may not use. */
+typedef void kmip_log(void *data, const kmip_event *event);
+
 /* What opens a connection. Begin with kmip_defaults; host and port are needed, and certificate, key
-   and authority, or context in place of the three. Nothing of it is looked at after kmip_open.
+   and authority, or context in place of the three. Nothing of it is looked at after kmip_open; log_data is
+   given to the log until kmip_close.
 
    size           of this structure; kmip_defaults sets it, and by it a program that was compiled
                   with an older version of this header, and so without the last members, runs too
@@ -59,7 +90,13 @@ struct ssl_ctx_st;
    context        an SSL_CTX with a certificate, its key, and the authorities of servers: for keys
                   in hardware, revocation lists, PEM in memory. Then certificate, key, authority,
                   passphrase and library are null. Nothing of it is changed; whatever it says, the
-                  server's certificate is verified, has to name the host, and TLS is 1.2 or later */
+                  server's certificate is verified, has to name the host, and TLS is 1.2 or later
+   reconnect      a connection that is lost is opened again for the next call, with no file read
+                  again. A call itself is made again, once, where nothing of it was sent, or where
+                  it changes nothing (query, discover, locate, get, attributes, sign; Encrypt,
+                  Decrypt, MAC, SignatureVerify and the like; a batch of these), and not where its
+                  time was over. The log is told
+   log, log_data  what is told of each call, and what it is given; null: nobody */
 typedef struct {
     size_t size;
     const char *host, *port;
@@ -70,6 +107,9 @@ typedef struct {
     double seconds;
     struct ossl_lib_ctx_st *library;
     struct ssl_ctx_st *context;
+    bool reconnect;
+    kmip_log *log;
+    void *log_data;
 } kmip_settings;
 
 /* What settings begin with: a limit of 1048576 bytes, 30 seconds, and nothing else. */
@@ -86,6 +126,9 @@ static inline kmip_settings kmip_defaults(void) {
                               1048576,
                               30.0,
                               NULL,
+                              NULL,
+                              false,
+                              NULL,
                               NULL};
     return settings;
 }
@@ -101,8 +144,9 @@ kmip_client *kmip_open(const kmip_settings *settings, char *error, size_t room);
 int kmip_connect(const kmip_settings *settings, kmip_client **client, char *error, size_t room);
 
 /* Makes a call, and returns its status: KMIP_ANSWERED, KMIP_REFUSED, KMIP_CALL_GRAMMAR, KMIP_LOST
-   or KMIP_NO_MEMORY. After KMIP_LOST and KMIP_NO_MEMORY the connection is closed, and each further
-   call is KMIP_LOST: close the client, and open another. A null client is KMIP_LOST too.
+   or KMIP_NO_MEMORY. After KMIP_LOST and KMIP_NO_MEMORY the connection is closed, and without
+   `reconnect` each further call is KMIP_LOST: close the client, and open another. A null client is
+   KMIP_LOST too.
 
    The words after the first are texts, identifiers, numbers or hex digits; each is written as the
    grammar wants it. The last is followed by a null pointer:
@@ -180,6 +224,58 @@ int kmip_register_public_key(kmip_client *client, const void *pem, size_t length
 int kmip_register_secret(kmip_client *client, const void *data, size_t length, const char *kind,
                          const char *name, const char *usage);
 
+/* Several calls that are made in one message, in their order, each with a Unique Batch Item ID of
+   its own:
+
+       kmip_batch *batch = kmip_batch_new(client, KMIP_ON_ERROR_STOP);
+       kmip_batch_call(batch, "activate", key, NULL);
+       kmip_batch_call(batch, "sign", key, "68656C6C6F", NULL);
+       if (kmip_batch_send(batch) == KMIP_ANSWERED && kmip_batch_answer(batch, 1) == KMIP_ANSWERED)
+           signature = kmip_bytes(client, "signature_data", &length);
+       kmip_batch_free(batch);
+
+   It is one of its client, and is not used after kmip_close but by kmip_batch_free. */
+typedef struct kmip_batch kmip_batch;
+
+/* KMIP's Batch Error Continuation Option: what the server does after a call that failed. */
+typedef enum {
+    KMIP_ON_ERROR_CONTINUE = 1, /* it goes on, .. */
+    KMIP_ON_ERROR_STOP = 2,     /* .. ends, .. */
+    KMIP_ON_ERROR_UNDO = 3      /* .. or takes back what it did, so far as it can */
+} kmip_on_error;
+
+/* A batch without calls; a null pointer where memory runs out, the client is null, or `on_error` is
+   none. A null batch is KMIP_LOST, and has no calls. */
+kmip_batch *kmip_batch_new(kmip_client *client, kmip_on_error on_error);
+
+/* Adds a call, as kmip_call, kmip_call_words, kmip_call_array and kmip_operation make one. Nothing
+   is sent. KMIP_ANSWERED: it is added. KMIP_CALL_GRAMMAR and KMIP_REFUSED: it is none, or its
+   request has no wire form; kmip_line says why, and the batch is as it was. */
+int kmip_batch_call(kmip_batch *batch, const char *call, ...) KMIP_ENDS_WITH_NULL;
+int kmip_batch_words(kmip_batch *batch, const char *call, const char *const *words);
+int kmip_batch_array(kmip_batch *batch, const char *call, const char *const *words, size_t count);
+int kmip_batch_operation(kmip_batch *batch, const char *name, const char *version,
+                         const char *payload);
+
+/* How many calls it has. */
+size_t kmip_batch_count(const kmip_batch *batch);
+
+/* Makes the calls. KMIP_ANSWERED: a response came, and kmip_batch_answer has what it says to each of
+   them. KMIP_CALL_GRAMMAR: there are no calls. KMIP_LOST: the connection is lost, or the response is
+   none to this batch: an item of it is of no call, or a call has two, or none where no call before
+   it failed; of no call it is known whether it was done. */
+int kmip_batch_send(kmip_batch *batch);
+
+/* Has the answer to the call at this place, from 0, be the last one: its status is returned, as that
+   of the single call, and kmip_line, kmip_error_kind, kmip_bytes, kmip_text and kmip_pem are its
+   own. KMIP_REFUSED with {"error":"NotDone",..}: the server has not come to it. KMIP_LOST: the
+   response is none to this call, and kmip_batch_send has closed the connection. KMIP_CALL_GRAMMAR:
+   there is no such call, or no response to it. Nothing is sent, and nothing closed. */
+int kmip_batch_answer(kmip_batch *batch, size_t at);
+
+/* Frees it, and overwrites its requests and responses first. A null pointer is fine. */
+void kmip_batch_free(kmip_batch *batch);
+
 /* The line of JSON of the last call, without its line feed: {"answer":..} after KMIP_ANSWERED, and
    {"error":..,"text":..} after KMIP_REFUSED, KMIP_CALL_GRAMMAR and KMIP_LOST; "" where memory ran
    out, or no call was made. It stays until the next call. */
@@ -220,7 +316,9 @@ typedef enum {
     KMIP_KIND_READ,                   /* lost before all of the response was read */
     KMIP_KIND_NO_MESSAGE,             /* lost: what came is no message, or longer than the limit */
     KMIP_KIND_OTHER_ANSWER,           /* lost: what came answers for another object or call */
-    KMIP_KIND_MEMORY                  /* out of memory */
+    KMIP_KIND_MEMORY,                 /* out of memory */
+    KMIP_KIND_CONNECT,                /* lost: the connection was, and could not be opened again */
+    KMIP_KIND_NOT_DONE                /* the server has not done this call of a batch */
 } kmip_kind;
 
 /* A null client is KMIP_KIND_WRITE: its calls are lost, and send nothing. */

@@ -38,13 +38,13 @@ struct kmip_wire {
     pid_t owner;    /* the process that opened it */
     bool ended;     /* the other side has ended the connection */
     bool broken;    /* it cannot be ended in order */
+    bool late;      /* the last use failed since its time was over */
     bool sending;   /* what goes to the socket is a request */
     bool sent;      /* a byte of it did */
     char reason[256];
 };
 
-/* The time in seconds. Without a clock each deadline is over. */
-static double now(void) {
+double kmip_now(void) {
     struct timespec at;
     if (clock_gettime(CLOCK_MONOTONIC, &at) != 0) return DBL_MAX;
     return (double)at.tv_sec + (double)at.tv_nsec / 1e9;
@@ -58,6 +58,7 @@ static bool fails(kmip_wire *wire, const char *format, ...) {
     vsnprintf(wire->reason, sizeof wire->reason, format, given);
     va_end(given);
     wire->broken = true;
+    wire->late = false;
     return false;
 }
 
@@ -80,7 +81,9 @@ static bool fails_by_errno(kmip_wire *wire, const char *what, int error) {
 }
 
 static bool runs_late(kmip_wire *wire) {
-    return fails(wire, "no answer within %g seconds", wire->seconds);
+    fails(wire, "no answer within %g seconds", wire->seconds);
+    wire->late = true;
+    return false;
 }
 
 /* The first thing that OpenSSL has said since its errors were cleared: the cause of the others. */
@@ -93,14 +96,14 @@ static bool fails_by_openssl(kmip_wire *wire, const char *what) {
 
 /* Whether this call's time is over. */
 static bool is_late(const kmip_wire *wire) {
-    return wire->end > 0 && now() >= wire->end;
+    return wire->end > 0 && kmip_now() >= wire->end;
 }
 
 /* Waits until the socket can be read or written; not longer than until then, unless that is 0. */
 static bool wait_for(kmip_wire *wire, short events, double until) {
     struct pollfd it = {.fd = wire->socket, .events = events};
     for (;;) {
-        double left = until > 0 ? until - now() : 3600;
+        double left = until > 0 ? until - kmip_now() : 3600;
         if (left <= 0) return runs_late(wire);
         int ready = poll(&it, 1, left < 3600 ? (int)(1000 * left) + 1 : 3600000);
         if (ready > 0) return true;
@@ -430,7 +433,7 @@ static bool reach_host(kmip_wire *wire, const char *host, const char *port) {
     for (const struct addrinfo *at = addresses; at; at = at->ai_next)
         left++;
     for (const struct addrinfo *at = addresses; at && !reached; at = at->ai_next, left--) {
-        double until = wire->seconds > 0 ? now() + (wire->end - now()) / left : 0;
+        double until = wire->seconds > 0 ? kmip_now() + (wire->end - kmip_now()) / left : 0;
         reached = reach(wire, at, until);
         if (!reached && wire->socket >= 0) {
             (void)close(wire->socket);
@@ -535,7 +538,7 @@ kmip_wire *kmip_wire_open(const kmip_settings *settings, int *status, char *reas
 }
 
 void kmip_wire_begin(kmip_wire *wire) {
-    wire->end = wire->seconds > 0 ? now() + wire->seconds : 0;
+    wire->end = wire->seconds > 0 ? kmip_now() + wire->seconds : 0;
     wire->sent = false;
 }
 
@@ -596,6 +599,14 @@ bool kmip_wire_read(kmip_wire *wire, uint8_t *into, size_t count) {
 
 const char *kmip_wire_reason(const kmip_wire *wire) {
     return wire->reason;
+}
+
+bool kmip_wire_is_late(const kmip_wire *wire) {
+    return wire->late;
+}
+
+struct ssl_ctx_st *kmip_wire_context(const kmip_wire *wire) {
+    return SSL_CTX_up_ref(wire->context) == 1 ? wire->context : NULL;
 }
 
 void kmip_wire_close(kmip_wire *wire) {

@@ -26,8 +26,8 @@ import threading
 import time
 
 import records
-from registry import (ADD_ATTRIBUTE, CREATE_KEY_PAIR, DELETE_ATTRIBUTE, FAKES, MODIFY_ATTRIBUTE, PLAIN, QUERY, RNG_RETRIEVE, SIGN,
-                      fake, plain)
+from registry import (ADD_ATTRIBUTE, CREATE_KEY_PAIR, DELETE_ATTRIBUTE, FAKES, GET, MODIFY_ATTRIBUTE, PLAIN, QUERY,
+                      RNG_RETRIEVE, SIGN, fake, plain)
 from ttlv import (FAILED, PENDING, SUCCESS, UNDONE, batch_item, date, enumeration, header, identifier, item,
                   message_of, nested, octets, operation_of, response, structure, text, value_of)
 
@@ -160,24 +160,41 @@ def items_of(request):
     return made
 
 
+class Kept:
+    """In the place of a connection: what was sent on it."""
+
+    def __init__(self, serve, request):
+        self.sent = b''
+        serve(self, request)
+
+    def sendall(self, made):
+        self.sent += made
+
+
 def batch_answer(body):
-    """What `good` answers to a batch item, with its identifier in the batch; about `failing` that it is not found."""
-    name = octets(0x420093, value_of(body, '420093', 8) or b'')
-    if value_of(body, '420094', 7) == b'failing':
-        operation = enumeration(0x42005C, operation_of(body))
-        return structure(0x42000F, operation, name, enumeration(0x42007F, FAILED), enumeration(0x42007E, 1))
-    one = items_of(answer_of(body))[0]
+    """What `good` answers to a batch item, or `transparent` to get, with its identifier in the batch, but for `unnamed`;
+    about `failing` that it is not found, about `other operation` as that of Destroy."""
+    asked, operation = value_of(body, '420094', 7), operation_of(body)
+    name = b'' if asked == b'unnamed' else octets(0x420093, value_of(body, '420093', 8) or b'')
+    if asked == b'failing':
+        return structure(0x42000F, enumeration(0x42005C, operation), name, enumeration(0x42007F, FAILED), enumeration(0x42007E, 1))
+    answer = Kept(FAKES['transparent'], body).sent if operation == GET else answer_of(body)
+    one = items_of(answer)[0]
+    if asked == b'other operation':
+        one = enumeration(0x42005C, 0x14) + one[16:]
     return structure(0x42000F, one[:16], name, one[16:])
 
 
 @fake
 def batches(wire, request):
-    """answers each item of a batch as `good` does, the last one first; about `failing` it fails, and where the batch ends at
-    a failure, those after it are not answered; with the item `unknown` comes one that was not asked for"""
+    """answers each item of a batch as `good` does, and get as `transparent`, the last one first; about `failing` it fails, and
+    where the batch ends at a failure, those after it are not answered; with the item `unknown` comes one that was not asked
+    for, `twice` is answered twice, `left out` is not, the answer about `unnamed` does not say of which item it is, and that
+    about `other operation` is to Destroy"""
     made = []
     for body in items_of(request):
-        made.insert(0, batch_answer(body))
         asked = value_of(body, '420094', 7)
+        made[:0] = [batch_answer(body)] * {b'twice': 2, b'left out': 0}.get(asked, 1)
         if asked == b'unknown':
             made.append(batch_answer(body.replace(bytes.fromhex('4200930800000004') + value_of(body, '420093', 8),
                                                   bytes.fromhex('420093080000000400000063'))))

@@ -224,12 +224,14 @@ static void strangers(const kmip_settings *settings, const char *wanted) {
 
 /* Settings of a program that was compiled with another version of the header. */
 static void sizes(const kmip_settings *settings) {
-    const size_t old = offsetof(kmip_settings, library);
+    const size_t old = offsetof(kmip_settings, library),
+                 second = offsetof(kmip_settings, reconnect);
     const struct {
         size_t size;
         int status;
     } rows[] = {
         {old, KMIP_ANSWERED},         {sizeof *settings, KMIP_ANSWERED},
+        {second, KMIP_ANSWERED},      {second - 1, KMIP_CALL_GRAMMAR},
         {old - 1, KMIP_CALL_GRAMMAR}, {sizeof *settings + sizeof(void *), KMIP_CALL_GRAMMAR},
         {0, KMIP_CALL_GRAMMAR},
     };
@@ -260,6 +262,8 @@ static void kinds(void) {
         {"{\"error\":\"SerializeError\",\"text\":\"\"}", KMIP_REFUSED, KMIP_KIND_NO_FORM},
         {"{\"error\":\"RequestWriteError\",\"text\":\"\"}", KMIP_LOST, KMIP_KIND_WRITE},
         {"{\"error\":\"ResponseReadError\",\"text\":\"\"}", KMIP_LOST, KMIP_KIND_READ},
+        {"{\"error\":\"ConnectError\",\"text\":\"\"}", KMIP_LOST, KMIP_KIND_CONNECT},
+        {"{\"error\":\"NotDone\",\"text\":\"\"}", KMIP_REFUSED, KMIP_KIND_NOT_DONE},
         {"{\"error\":\"DeserializeError\",\"text\":\"\"}", KMIP_LOST, KMIP_KIND_NO_MESSAGE},
         {"{\"error\":\"InternalError\",\"text\":\"\"}", KMIP_LOST, KMIP_KIND_OTHER_ANSWER},
         {"{\"error\":\"InternalError\",\"text\":\"\"}", KMIP_REFUSED, KMIP_KIND_NO_ANSWER},

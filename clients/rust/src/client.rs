@@ -1,9 +1,11 @@
 //! A client over a stream.
 use crate::answer::Answer;
+use crate::batch::Batch;
 use crate::error::{Error, Result};
 use crate::item::Item;
 use crate::keys;
 use crate::library::{self, BadHead, NoRequest, Operation, Status, NO_ITEMS};
+use crate::log::{Event, EventKind, Log, Told};
 use crate::options::Given;
 use crate::word::{self, Word};
 use std::fmt::{self, Debug, Formatter};
@@ -17,6 +19,31 @@ pub const DEFAULT_LIMIT: u32 = 1 << 20;
 const PIECE: usize = 65536;
 
 type BeforeCall<T> = Box<dyn FnMut(&mut T) -> io::Result<()> + Send>;
+type Reopen<T> = Box<dyn FnMut() -> Result<T> + Send>;
+
+/// The calls that change nothing on the server: they may be made twice.
+const CHANGELESS: [&str; 20] = [
+    "query",
+    "discover",
+    "locate",
+    "get",
+    "attributes",
+    "sign",
+    "Query",
+    "DiscoverVersions",
+    "Locate",
+    "Get",
+    "GetAttributes",
+    "GetAttributeList",
+    "Sign",
+    "SignatureVerify",
+    "Encrypt",
+    "Decrypt",
+    "MAC",
+    "MACVerify",
+    "Hash",
+    "Check",
+];
 
 /// A user and a password.
 #[derive(Clone)]
@@ -31,6 +58,8 @@ pub struct ClientBuilder<T> {
     credential: Option<Credential>,
     limit: u32,
     before_call: BeforeCall<T>,
+    reopen: Option<Reopen<T>>,
+    log: Log,
 }
 
 impl<T: Read + Write> ClientBuilder<T> {
@@ -42,6 +71,8 @@ impl<T: Read + Write> ClientBuilder<T> {
             credential: None,
             limit: DEFAULT_LIMIT,
             before_call: Box::new(|_: &mut T| Ok(())),
+            reopen: None,
+            log: Log { tell: None, server: None },
         }
     }
 
@@ -67,10 +98,33 @@ impl<T: Read + Write> ClientBuilder<T> {
         ClientBuilder { before_call: Box::new(before_call), ..self }
     }
 
+    /// A stream that is lost is opened again by this for the next call, with the error of that call
+    /// where it is not. A call itself is made again, once, where nothing of it was sent, or where it
+    /// changes nothing, and not where its time was over: `query`, `discover`, `locate`, `get`,
+    /// `attributes` and `sign`, and of the operations `Encrypt`, `Decrypt`, `MAC`,
+    /// `SignatureVerify` and the like. [`with_log`](Self::with_log) is told of it.
+    pub fn with_reconnect(self, reopen: impl FnMut() -> Result<T> + Send + 'static) -> Self {
+        ClientBuilder { reopen: Some(Box::new(reopen)), ..self }
+    }
+
+    /// This is told of each call that has ended, and of a connection that is opened again. It is
+    /// called within a call of the client, which it may not use.
+    pub fn with_log(self, tell: impl FnMut(&Event<'_>) + Send + 'static) -> Self {
+        ClientBuilder { log: Log { tell: Some(Box::new(tell)), ..self.log }, ..self }
+    }
+
+    /// The server, for the log.
+    #[cfg(feature = "openssl")]
+    pub(crate) fn with_server(self, server: String) -> Self {
+        ClientBuilder { log: Log { server: Some(server), ..self.log }, ..self }
+    }
+
     /// The client.
     pub fn build(self) -> Client<T> {
-        let ClientBuilder { stream, credential, limit, before_call } = self;
-        Client { wire: Mutex::new(Some(Wire { stream, before_call })), credential, limit }
+        let ClientBuilder { stream, credential, limit, before_call, reopen, log } = self;
+        let stream = Some(stream);
+        let wire = Wire { stream, is_busy: false, before_call, reopen, log };
+        Client { wire: Mutex::new(wire), credential, limit }
     }
 }
 
@@ -92,18 +146,23 @@ impl<T> Debug for ClientBuilder<T> {
 ///
 /// Each call gives an [`Error`] by its kind where it is not answered. After an error that
 /// [`is_lost`](Error::is_lost), the stream is dropped, and each later call is a
-/// `RequestWriteError`. `Debug` shows no password.
+/// `RequestWriteError`, but where it is [opened again](ClientBuilder::with_reconnect). `Debug` shows
+/// no password.
 pub struct Client<T> {
-    /// None where a call lost it.
-    wire: Mutex<Option<Wire<T>>>,
+    wire: Mutex<Wire<T>>,
     credential: Option<Credential>,
     limit: u32,
 }
 
-/// A stream, and what is called with it before each call.
+/// A stream, and what goes with it.
 struct Wire<T> {
-    stream: T,
+    /// None where a call lost it.
+    stream: Option<T>,
+    /// Whether a call is made on it, or has panicked.
+    is_busy: bool,
     before_call: BeforeCall<T>,
+    reopen: Option<Reopen<T>>,
+    log: Log,
 }
 
 /// Options of a call by their names, each with its value, which for `prehashed` is empty.
@@ -173,55 +232,212 @@ impl<T: Read + Write> Client<T> {
         self.make(Asked::Operation(Operation::new(name, version, payload)))
     }
 
+    /// An empty batch, to which calls are added, and which is then sent as one message.
+    pub fn batch(&self) -> Batch<'_, T> {
+        Batch::new(self)
+    }
+
     /// The stream, where no call has lost it.
     pub fn into_inner(self) -> Option<T> {
-        self.wire.into_inner().ok().flatten().map(|it| it.stream)
+        let wire = self.wire.into_inner().unwrap_or_else(PoisonError::into_inner);
+        wire.stream.filter(|_| !wire.is_busy)
     }
 
     fn call_line(&self, line: &str) -> Result<Answer> {
-        if line.starts_with("register ") && line.split(' ').any(keys::is_pem) {
-            let text = "register: the key is PEM, which would be kept as its bytes: \
-                        register_private_key and register_public_key take it";
-            return Err(Error::grammar(text));
-        }
+        refuse_pem(line)?;
         self.make(Asked::Line(line))
     }
 
     fn make(&self, asked: Asked<'_>) -> Result<Answer> {
-        let mut guard = self.wire();
-        let wire = guard.as_mut().ok_or_else(Error::closed)?;
-        let credential = self.credential.as_ref();
-        let request = asked
-            .request(credential.map(|it| (it.user.as_str(), it.password.as_str())))
-            .map_err(|reason| match reason {
-                NoRequest::Grammar => asked.grammar(),
-                NoRequest::NoForm => Error::no_form(),
-                NoRequest::Memory => Error::memory(),
-            });
-        let answer = request.and_then(|request| {
-            (wire.before_call)(&mut wire.stream).map_err(Error::not_sent)?;
-            exchange(&mut wire.stream, asked, &request, self.limit)
-        });
-        if matches!(&answer, Err(error) if error.is_lost()) {
-            *guard = None;
-        }
-        answer
+        let mut wire = self.wire();
+        wire.ends_by(|wire| {
+            let request = asked.request(self.credential())?;
+            let call = Told::begin(asked.name());
+            let response = wire.response_again(call, &request, self.limit, asked.is_changeless());
+            let read = response.as_ref().map_or(0, Vec::len);
+            let answer = response.and_then(|response| asked.read(response));
+            wire.tell_end(call, asked.name(), answer.as_ref().err(), (request.len(), read));
+            answer
+        })
+    }
+
+    /// Makes these calls in one message, whose request is made of theirs, and gives the answer to
+    /// each, or its error.
+    pub(crate) fn make_batch(
+        &self,
+        calls: &[Asked<'_>],
+        message_of: impl FnOnce(&[Vec<u8>]) -> Result<Vec<u8>>,
+        responses_of: impl FnOnce(&[u8]) -> Result<Vec<Option<Vec<u8>>>>,
+    ) -> Result<Vec<Result<Answer>>> {
+        let mut wire = self.wire();
+        wire.ends_by(|wire| {
+            let requests = calls.iter().map(|call| call.request(self.credential()));
+            let request = message_of(&requests.collect::<Result<Vec<_>>>()?)?;
+            let call = Told::begin("batch");
+            let is_changeless = calls.iter().all(Asked::is_changeless);
+            let response = wire.response_again(call, &request, self.limit, is_changeless);
+            let read = response.as_ref().map_or(0, Vec::len);
+            let responses = response.and_then(|response| responses_of(&response));
+            let name = format!("a batch of {}", calls.len());
+            wire.tell_end(call, &name, responses.as_ref().err(), (request.len(), read));
+            let answers: Vec<_> = calls.iter().zip(responses?).map(answer_of_batch).collect();
+            if answers.iter().any(|it| matches!(it, Err(error) if error.is_lost())) {
+                wire.stream = None;
+            }
+            Ok(answers)
+        })
+    }
+
+    pub(crate) fn credential(&self) -> Option<(&str, &str)> {
+        self.credential.as_ref().map(|it| (it.user.as_str(), it.password.as_str()))
+    }
+}
+
+impl<T> Client<T> {
+    /// Whether calls can be made: no call has lost the connection, or it may be opened again.
+    pub fn is_open(&self) -> bool {
+        self.wire().is_open()
     }
 
     /// A call that panicked in the middle of a message has lost the connection, for all who come
     /// after it.
-    fn wire(&self) -> MutexGuard<'_, Option<Wire<T>>> {
-        self.wire.lock().unwrap_or_else(|poisoned: PoisonError<_>| {
-            let mut guard = poisoned.into_inner();
-            *guard = None;
-            guard
-        })
+    fn wire(&self) -> MutexGuard<'_, Wire<T>> {
+        let mut wire = self.wire.lock().unwrap_or_else(PoisonError::into_inner);
+        if wire.is_busy {
+            wire.stream = None;
+            wire.is_busy = false;
+        }
+        wire
     }
+}
+
+impl<T> Wire<T> {
+    fn is_open(&self) -> bool {
+        self.stream.is_some() || self.reopen.is_some()
+    }
+
+    /// Makes a call. After an error that loses it, the stream is dropped.
+    fn ends_by<R>(&mut self, make: impl FnOnce(&mut Self) -> Result<R>) -> Result<R> {
+        if !self.is_open() {
+            return Err(Error::closed());
+        }
+        self.is_busy = true;
+        let made = make(self);
+        self.is_busy = false;
+        if matches!(&made, Err(error) if error.is_lost()) {
+            self.stream = None;
+        }
+        made
+    }
+
+    /// Tells the log that a call of this name has ended, which sent and read so many bytes.
+    fn tell_end(
+        &mut self,
+        call: Told<'_>,
+        name: &str,
+        error: Option<&Error>,
+        (sent, read): (usize, usize),
+    ) {
+        let what = match error {
+            Some(error) if read == 0 => error.kind().to_string(),
+            _ => format!("status {}, {sent} bytes sent, {read} read", status_of(error)),
+        };
+        let text = format!("{name}: {what}, {}", call.took());
+        self.log.tell(call, EventKind::Call, error.map(Error::kind), &text);
+    }
+}
+
+/// The status that `kmip_call` has for it.
+fn status_of(error: Option<&Error>) -> u8 {
+    match error {
+        None => 0,
+        Some(Error::OutOfMemory(_)) => 5,
+        Some(error) if error.is_lost() => 3,
+        Some(_) => 1,
+    }
+}
+
+impl<T: Read + Write> Wire<T> {
+    /// The stream, which is opened again where it was lost.
+    fn ready(&mut self, call: Told<'_>) -> Result<&mut T> {
+        if self.stream.is_none() {
+            let reopen = self.reopen.as_mut().ok_or_else(Error::closed)?;
+            self.stream = Some(reopen()?);
+            let text = "the connection was lost, and is opened again";
+            self.log.tell(call, EventKind::Reopened, None, text);
+        }
+        self.stream.as_mut().ok_or_else(Error::closed)
+    }
+
+    /// The response to a request, which where that is wanted, and harmless, is sent once more on a
+    /// new stream.
+    fn response_again(
+        &mut self,
+        call: Told<'_>,
+        request: &[u8],
+        limit: u32,
+        is_changeless: bool,
+    ) -> Result<Vec<u8>> {
+        let was_open = self.stream.is_some();
+        let mut is_sent = false;
+        let response = self.response(call, request, limit, &mut is_sent);
+        let error = match response {
+            // Where the stream is new, or what was sent may have been done, that is all.
+            Err(error)
+                if was_open
+                    && self.reopen.is_some()
+                    && (is_changeless || !is_sent)
+                    && has_failed_in_time(&error) =>
+            {
+                error
+            }
+            ended => return ended,
+        };
+        self.stream = None;
+        let text = format!("{}: the call is made again", error.details().text());
+        self.log.tell(call, EventKind::Repeated, Some(error.kind()), &text);
+        self.response(call, request, limit, &mut is_sent)
+    }
+
+    fn response(
+        &mut self,
+        call: Told<'_>,
+        request: &[u8],
+        limit: u32,
+        is_sent: &mut bool,
+    ) -> Result<Vec<u8>> {
+        self.ready(call)?;
+        let Some(stream) = &mut self.stream else { return Err(Error::closed()) };
+        (self.before_call)(stream).map_err(Error::not_sent)?;
+        *is_sent = true;
+        exchange(stream, request, limit)
+    }
+}
+
+/// Whether the stream has failed, and the time of the call is not over.
+fn has_failed_in_time(error: &Error) -> bool {
+    matches!(error, Error::RequestWriteError(_) | Error::ResponseReadError(_))
+        && !matches!(error.details().io_kind(), Some(ErrorKind::TimedOut | ErrorKind::WouldBlock))
+}
+
+/// The answer to a call of a batch, where the server has come to it.
+fn answer_of_batch((call, response): (&Asked<'_>, Option<Vec<u8>>)) -> Result<Answer> {
+    call.read(response.ok_or_else(Error::not_done)?)
+}
+
+/// PEM is not registered as the bytes of a key.
+pub(crate) fn refuse_pem(line: &str) -> Result<()> {
+    if line.starts_with("register ") && line.split(' ').any(keys::is_pem) {
+        let text = "register: the key is PEM, which would be kept as its bytes: \
+                    register_private_key and register_public_key take it";
+        return Err(Error::grammar(text));
+    }
+    Ok(())
 }
 
 /// A call, as the library takes it.
 #[derive(Clone, Copy)]
-enum Asked<'a> {
+pub(crate) enum Asked<'a> {
     /// A line of words.
     Line(&'a str),
     /// Any operation.
@@ -229,11 +445,29 @@ enum Asked<'a> {
 }
 
 impl Asked<'_> {
-    fn request(&self, credential: Option<(&str, &str)>) -> std::result::Result<Vec<u8>, NoRequest> {
-        match self {
+    /// The request, or the error of a call that is none.
+    pub(crate) fn request(&self, credential: Option<(&str, &str)>) -> Result<Vec<u8>> {
+        let request = match self {
             Asked::Line(line) => library::request(line, credential),
             Asked::Operation(call) => library::operation_request(call, credential),
+        };
+        request.map_err(|reason| match reason {
+            NoRequest::Grammar => self.grammar(),
+            NoRequest::NoForm => Error::no_form(),
+            NoRequest::Memory => Error::memory(),
+        })
+    }
+
+    /// The name of the call.
+    fn name(&self) -> &str {
+        match self {
+            Asked::Line(line) => line.split(' ').next().unwrap_or(""),
+            Asked::Operation(call) => call.name,
         }
+    }
+
+    fn is_changeless(&self) -> bool {
+        CHANGELESS.contains(&self.name())
     }
 
     fn answer(&self, response: &[u8]) -> (Status, String) {
@@ -251,15 +485,24 @@ impl Asked<'_> {
         };
         Error::grammar(said.unwrap_or_else(|| "the call is none".into()))
     }
+
+    /// What a response answers to the call.
+    fn read(self, response: Vec<u8>) -> Result<Answer> {
+        let (status, line) = self.answer(&response);
+        match status {
+            Status::Answered => {
+                Answer::of_line(line, response).ok_or_else(|| Error::of_line("", true))
+            }
+            Status::Refused => as_tree(self, response, Error::of_line(&line, false)),
+            Status::Lost => Err(Error::of_line(&line, true)),
+            Status::Grammar => Err(self.grammar()),
+            Status::Memory => Err(Error::memory()),
+        }
+    }
 }
 
 /// The three steps that nothing checks: these bytes are sent, 8 are read, and then so many.
-fn exchange<T: Read + Write>(
-    stream: &mut T,
-    asked: Asked<'_>,
-    request: &[u8],
-    limit: u32,
-) -> Result<Answer> {
+fn exchange<T: Read + Write>(stream: &mut T, request: &[u8], limit: u32) -> Result<Vec<u8>> {
     let sent = stream.write_all(request).and_then(|()| stream.flush());
     sent.map_err(Error::write)?;
     let mut head = [0; 8];
@@ -284,14 +527,7 @@ fn exchange<T: Read + Write>(
         read(stream, &mut response[from..])?;
         left -= piece;
     }
-    let (status, line) = asked.answer(&response);
-    match status {
-        Status::Answered => Answer::of_line(line, response).ok_or_else(|| Error::of_line("", true)),
-        Status::Refused => as_tree(asked, response, Error::of_line(&line, false)),
-        Status::Lost => Err(Error::of_line(&line, true)),
-        Status::Grammar => Err(asked.grammar()),
-        Status::Memory => Err(Error::memory()),
-    }
+    Ok(response)
 }
 
 /// After a refusal: what the tables of a call have no words for, as a key of EC, is answered as the

@@ -122,6 +122,8 @@ pub enum Error {
     OtherObject(Details),
     /// The server refused the request, since it has no such object.
     ItemNotFound(Details),
+    /// The server has not done this call of a batch, as after another one that failed.
+    NotDone(Details),
     /// Memory ran out. The connection is closed.
     OutOfMemory(Details),
     /// An error of another kind. The connection is closed where it [`is_lost`](Error::is_lost).
@@ -133,7 +135,6 @@ impl Error {
         Error::GrammarError(Details::new(text, false))
     }
 
-    #[cfg(feature = "openssl")]
     pub(crate) fn configuration(text: impl Into<String>) -> Error {
         Error::ConfigurationError(Details::new(text, false))
     }
@@ -179,6 +180,10 @@ impl Error {
 
     pub(crate) fn bad_head(text: impl Into<String>) -> Error {
         Error::DeserializeError(Details::new(text, true))
+    }
+
+    pub(crate) fn not_done() -> Error {
+        Error::NotDone(Details::new("the server has not done this call of the batch", false))
     }
 
     pub(crate) fn memory() -> Error {
@@ -234,6 +239,7 @@ impl Error {
             Error::InternalError(it) => ("InternalError", it),
             Error::OtherObject(it) => ("OtherObject", it),
             Error::ItemNotFound(it) => ("ItemNotFound", it),
+            Error::NotDone(it) => ("NotDone", it),
             Error::OutOfMemory(it) => ("OutOfMemory", it),
             Error::Unknown(it) => ("Unknown", it),
         }

@@ -23,6 +23,7 @@
 #![warn(missing_docs)]
 
 mod answer;
+mod batch;
 mod calls;
 mod client;
 mod error;
@@ -30,20 +31,24 @@ mod item;
 mod json;
 mod keys;
 pub mod library;
+mod log;
 mod names;
 mod options;
 mod payload;
 mod pem;
+mod pool;
 #[cfg(feature = "openssl")]
 mod tls;
 mod word;
 
 pub use answer::Answer;
+pub use batch::{Batch, BatchErrorContinuationOption};
 pub use client::{Client, ClientBuilder, Options, DEFAULT_LIMIT};
 pub use error::{Details, Error, Result};
 pub use item::{Item, Value};
 pub use json::{Json, Text};
 pub use keys::SecretDataType;
+pub use log::{Event, EventKind};
 pub use names::{
     CryptographicAlgorithm, CryptographicUsageMask, HashingAlgorithm, KeyFormatType, NotInTable,
     ObjectType, PaddingMethod, RevocationReasonCode, State,
@@ -55,6 +60,7 @@ pub use payload::{
     Attribute, GetResponsePayload, ModifyAttributeResponsePayload, ProtocolVersion,
     QueryResponsePayload, RNGRetrieveResponsePayload, SignResponsePayload,
 };
+pub use pool::{Pool, PooledClient};
 #[cfg(feature = "openssl")]
 pub use tls::{TlsClient, TlsConnector, TlsStream, DEFAULT_TIMEOUT};
 pub use word::Word;

@@ -33,6 +33,7 @@ pub struct TlsConnector {
     authority: Option<PathBuf>,
     passphrase: Option<String>,
     timeout: Option<Duration>,
+    reconnects: bool,
 }
 
 impl Debug for TlsConnector {
@@ -58,6 +59,7 @@ impl TlsConnector {
             authority: None,
             passphrase: None,
             timeout: Some(DEFAULT_TIMEOUT),
+            reconnects: false,
         }
     }
 
@@ -87,6 +89,12 @@ impl TlsConnector {
         TlsConnector { timeout: timeout.filter(|it| !it.is_zero()), ..self }
     }
 
+    /// With `true` a connection that is lost is opened again for the next call, with no file read
+    /// again; [`ClientBuilder::with_reconnect`] says which calls are made again themselves.
+    pub fn with_reconnect(self, reconnects: bool) -> Self {
+        TlsConnector { reconnects, ..self }
+    }
+
     /// Connects, and gives the builder of a client on this connection.
     ///
     /// # Errors
@@ -94,11 +102,17 @@ impl TlsConnector {
     /// - `ConnectError`: a file cannot be read, or there is no connection to a server that is
     ///   trusted
     pub fn connect(&self) -> Result<ClientBuilder<TlsStream>> {
-        let name = self.name()?;
+        let name = self.name()?.to_string();
         let context = self.context()?;
-        let stream = self.open(&context, name);
-        let stream = stream.map_err(|it| Error::connect_of(it.to_string(), it))?;
-        Ok(stream.into_builder())
+        // What opens a connection again keeps no passphrase.
+        let server = TlsConnector { passphrase: None, ..self.clone() };
+        let open = move || {
+            let stream = server.open(&context, &name);
+            stream.map_err(|it| Error::connect_of(it.to_string(), it))
+        };
+        let builder = open()?.into_builder();
+        let builder = builder.with_server(format!("{}:{}", self.host, self.port));
+        Ok(if self.reconnects { builder.with_reconnect(open) } else { builder })
     }
 
     /// The host without the brackets of an address, and without the zone of one.

@@ -1,11 +1,13 @@
 //! Sessions over TLS with servers that make it hard. tools/live/rust/unit.sh starts them, and says
 //! where they are: METSUWAN_FAKES is the file of their ports, METSUWAN_CERTS the folder of their
 //! certificates.
-use metsuwan::{Error, TlsClient, TlsConnector, TlsStream};
+use metsuwan::{BatchErrorContinuationOption, Error, EventKind, Item, Pool, Result, Word};
+use metsuwan::{TlsClient, TlsConnector, TlsStream};
 use openssl::ssl::{Ssl, SslContext, SslFiletype, SslMethod, SslVerifyMode};
 use std::io::ErrorKind;
 use std::net::TcpStream;
 use std::path::PathBuf;
+use std::sync::{Arc, Mutex};
 use std::thread;
 use std::time::{Duration, Instant};
 
@@ -99,7 +101,7 @@ fn a_connection_that_ends_between_calls() {
 }
 
 /// A client whose calls have this timeout, and have had more than that together.
-fn client_in_time(timeout: Duration) -> Result<TlsClient, Error> {
+fn client_in_time(timeout: Duration) -> Result<TlsClient> {
     let connector = connector("slow", "localhost", "client").with_timeout(Some(timeout));
     let client = connector.connect()?.build();
     for _ in 0..3 {
@@ -293,4 +295,152 @@ fn an_encrypted_key() {
     assert!(error.ends_with("it is encrypted, and no passphrase is given"), "{error}");
     let shown = format!("{:?}", connector.with_passphrase("geheim & co"));
     assert!(!shown.contains("geheim") && shown.contains("encrypted.key"), "{shown}");
+}
+
+/// What a log was told.
+type Told = Arc<Mutex<Vec<(EventKind, String)>>>;
+
+/// A client that reconnects, as this user, and its log.
+fn reconnecting(fake: &str, user: &str) -> (TlsClient, Told) {
+    let told = Told::default();
+    let log = Arc::clone(&told);
+    let builder = connector(fake, "localhost", "client").with_reconnect(true).connect().unwrap();
+    let builder = builder.with_credentials(user, "");
+    let client = builder
+        .with_log(move |event| log.lock().unwrap().push((event.kind, event.to_string())))
+        .build();
+    (client, told)
+}
+
+/// How many requests the server had of this user.
+fn came(client: &TlsClient) -> String {
+    client.query().unwrap().vendor_identification.unwrap()
+}
+
+#[test]
+#[ignore = "it needs the fake servers"]
+fn where_nothing_was_sent_the_call_is_made_again() {
+    use EventKind::{Call, Reopened, Repeated};
+    let (client, told) = reconnecting("end_after", "Rust");
+    for _ in 0..3 {
+        client.activate_key("k").unwrap();
+    }
+    let told = told.lock().unwrap();
+    let kinds: Vec<_> = told.iter().map(|it| it.0).collect();
+    assert_eq!(kinds, [Call, Repeated, Reopened, Call, Repeated, Reopened, Call]);
+    let server = format!("localhost:{}: ", port_of("end_after"));
+    let wanted = format!("{server}end of input; nothing was sent: the call is made again");
+    assert_eq!(told[1].1, wanted);
+    assert_eq!(told[2].1, format!("{server}the connection was lost, and is opened again"));
+    assert!(told[3].1.starts_with(&format!("{server}activate: status 0, ")), "{}", told[3].1);
+}
+
+#[test]
+#[ignore = "it needs the fake servers"]
+fn what_changes_nothing_is_made_again() {
+    let (client, _) = reconnecting("first_lost", "Rust changeless");
+    assert_eq!(client.sign("k", b"x").unwrap().signature_data, b"signature by k");
+    assert_eq!(came(&client), "3");
+    let payload = || vec![Item::new("UniqueIdentifier", "k")];
+    let (client, _) = reconnecting("first_lost", "Rust by operation");
+    client.do_operation("MAC", "1.2", payload()).unwrap();
+    assert_eq!(came(&client), "3");
+    let (client, _) = reconnecting("first_lost", "Rust changing");
+    assert!(matches!(client.activate_key("k"), Err(Error::ResponseReadError(_))));
+    assert!(client.is_open());
+    assert_eq!(came(&client), "2");
+    let (client, told) = reconnecting("end", "Rust");
+    assert!(matches!(client.query(), Err(Error::ResponseReadError(_))));
+    assert_eq!(told.lock().unwrap().len(), 3);
+}
+
+#[test]
+#[ignore = "it needs the fake servers"]
+fn several_calls_in_one_message() {
+    let client = client("batches");
+    let archive = || vec![Item::new("UniqueIdentifier", "a")];
+    let mut batch = client.batch();
+    batch.call("query", &[]).unwrap();
+    batch.call("sign", &[Word::Text("k"), Word::Bytes(b"x")]).unwrap();
+    batch.do_operation("Archive", "1.2", archive()).unwrap();
+    batch.call("get", &[Word::Text("PublicKey.EC")]).unwrap();
+    let answers = batch.send().unwrap();
+    let (good, keys) = (self::client("good"), self::client("transparent"));
+    let json = |it: &Result<metsuwan::Answer>| it.as_ref().unwrap().json().clone();
+    assert_eq!(json(&answers[0]), json(&good.call("query", &[])));
+    assert_eq!(json(&answers[1]), json(&good.call("sign", &[Word::Text("k"), Word::Bytes(b"x")])));
+    let archived = answers[2].as_ref().unwrap().tree();
+    assert_eq!(archived, good.do_operation("Archive", "1.2", archive()).ok());
+    assert_eq!(json(&answers[3]), json(&keys.call("get", &[Word::Text("PublicKey.EC")])));
+    for on_error in [BatchErrorContinuationOption::Stop, BatchErrorContinuationOption::Continue] {
+        let mut batch = client.batch().on_error(on_error);
+        for name in ["a", "failing", "k"] {
+            batch.call("activate", &[Word::Text(name)]).unwrap();
+        }
+        let answers = batch.send().unwrap();
+        assert!(answers[0].is_ok() && matches!(answers[1], Err(Error::ItemNotFound(_))));
+        let goes_on = on_error == BatchErrorContinuationOption::Continue;
+        assert!(if goes_on {
+            answers[2].is_ok()
+        } else {
+            matches!(answers[2], Err(Error::NotDone(_)))
+        });
+    }
+    client.query().unwrap();
+}
+
+#[test]
+#[ignore = "it needs the fake servers"]
+fn responses_that_are_none_to_a_batch() {
+    let send = |fake: &str, names: &[&str]| {
+        let client = client(fake);
+        let mut batch = client.batch();
+        for name in names {
+            batch.call("activate", &[Word::Text(name)]).unwrap();
+        }
+        let answers = batch.send();
+        (answers, client)
+    };
+    for name in ["unknown", "twice", "unnamed", "left out"] {
+        let (answers, client) = send("batches", &["a", name]);
+        assert!(matches!(answers, Err(Error::OtherObject(_))), "{answers:?}");
+        assert!(!client.is_open());
+    }
+    for fake in ["rubbish", "half", "batch_two", "batch_none", "other_operation", "echo", "deep"] {
+        let (answers, client) = send(fake, &["a", "k"]);
+        // Where it has an item for each of them, each is lost.
+        let is_lost = |it: &Error| it.is_lost();
+        let each = |it: Vec<Result<_>>| it.iter().all(|it| it.as_ref().is_err_and(is_lost));
+        assert!(answers.map_or_else(|error| is_lost(&error), each), "{fake}");
+        assert!(!client.is_open(), "{fake}");
+    }
+    let (answers, client) = send("no_batches", &["a", "k"]);
+    for answer in answers.unwrap() {
+        assert_eq!(answer.unwrap_err().details().message(), Some("no batches"));
+    }
+    assert!(client.is_open());
+}
+
+#[test]
+#[ignore = "it needs the fake servers"]
+fn threads_share_a_pool() {
+    let server = connector("good", "localhost", "client");
+    let pool = Pool::new(2, move || Ok(server.connect()?.build())).unwrap();
+    thread::scope(|scope| {
+        for at in 0..4 {
+            let pool = &pool;
+            scope.spawn(move || {
+                for _ in 0..3 {
+                    let name = format!("k{at}");
+                    let signed = pool.client().unwrap().sign(&name, b"x").unwrap();
+                    assert_eq!(signed.signature_data, format!("signature by {name}").as_bytes());
+                }
+            });
+        }
+    });
+    let nobody = connector("nobody", "localhost", "client");
+    let pool = Pool::new(1, move || Ok(nobody.connect()?.build())).unwrap();
+    for _ in 0..2 {
+        assert!(matches!(pool.client(), Err(Error::ConnectError(_))));
+    }
 }

@@ -1,5 +1,5 @@
 -- A listing as the page's script takes it apart: by line feeds, and each line by tabs.
-use Rattle.std.specs.Prelude.{ℕ, ◌+◌, ◌==◌, Bool, List, [], ◌∷◌, ◌++◌, map, codes}
+use Rattle.std.specs.Prelude.{ℕ, ◌+◌, ◌==◌, Bool, true, List, [], ◌∷◌, ◌++◌, map, codes}
 use Rattle.std.specs.List.{slice_split}
 use Rattle.std.specs.Fmt.{decimal, digits}
 use Rattle.kmip_wire.specs.declared.kind.Kind.{Kind}

@@ -44,7 +44,7 @@ look_for_sanitizers() {
 # shellcheck disable=SC2054 # one word with a comma
 sanitized=(-fsanitize=address,undefined -fno-sanitize-recover=all)
 test_build() { # NAME FLAG..
-    local sources=("$top"/clients/c/metsuwan_{tls,wire,words,items,register,errors}.c)
+    local sources=("$top"/clients/c/metsuwan_{tls,batch,wire,words,items,register,errors}.c)
     gcc -std=c11 -g -O1 -Wall -Wextra "${@:2}" -I"$top/clients/c" -o "$work/$1" \
         "$top/clients/c/tests/$1.c" "${sources[@]}" "$built/libmetsuwan.a" \
         -lssl -lcrypto -pthread >"$said" 2>&1
@@ -55,4 +55,39 @@ test_run() { # NAME WORD..
     local server=("$host" "$port" "$certificate" "$key" "$authority")
     timeout -k 2 $((90 * slack)) "$work/$1" "${@:2}" "${server[@]}" 2>"$said"
     verdict "$1 ${*:2} ends well"
+}
+
+# The tasks of clients/c/README.md, as a program.
+tasks_in_c() {
+    cat <<'CODE'
+#define _POSIX_C_SOURCE 200809L
+#include "metsuwan_tls.h"
+#include <stdio.h>
+#include <stdlib.h>
+#include <string.h>
+CODE
+    lines_of_tasks c | sed -n '/^static /,/^}/p'
+    cat <<'CODE'
+int main(int argc, char **argv) {
+    if (argc != 6) return 2;
+    kmip_settings settings = kmip_defaults();
+    settings.host = argv[1];
+    settings.port = argv[2];
+    settings.certificate = argv[3];
+    settings.key = argv[4];
+    settings.authority = argv[5];
+    char error[300];
+    kmip_client *client = kmip_open(&settings, error, sizeof error);
+    if (!client) return 3;
+CODE
+    lines_of_tasks c | sed '/^static /,/^}/d'
+    cat <<'CODE'
+    puts("the end");
+    free(key);
+    free(new);
+    free(taken);
+    kmip_close(client);
+    return 0;
+}
+CODE
 }

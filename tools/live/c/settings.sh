@@ -9,6 +9,9 @@ test_build items "${sanitized[@]}"
 test_run items
 test_build memory "${sanitized[@]}" -Wl,--wrap=malloc,--wrap=calloc
 fake credential
-test_run memory
+test_run memory calls
+fake batches
+test_run memory batch
+fake credential
 test_build large -O2 -Wl,--wrap=malloc,--wrap=free
 test_run large

@@ -59,3 +59,30 @@ pub fn failure(operation: u32, reason: u32, why: &str) -> Vec<u8> {
     let reason = enumeration(0x42007E, reason);
     message(&[], &[enumeration(0x42005C, operation), status, reason, text(0x42007D, why)])
 }
+
+/// A batch item of a response, with these identifiers in the batch.
+pub fn batch_item(names: &[u32], operation: u32, rest: &[Vec<u8>]) -> Vec<u8> {
+    let mut items = vec![enumeration(0x42005C, operation)];
+    items.extend(names.iter().map(|name| bytes(0x420093, &name.to_be_bytes())));
+    items.extend(rest.iter().cloned());
+    structure(0x42000F, &items)
+}
+
+/// What follows in one of success.
+pub fn success(payload: &[Vec<u8>]) -> Vec<Vec<u8>> {
+    vec![enumeration(0x42007F, 0), structure(0x42007C, payload)]
+}
+
+/// What follows in one of failure.
+pub fn failed(reason: u32, why: &str) -> Vec<Vec<u8>> {
+    vec![enumeration(0x42007F, 1), enumeration(0x42007E, reason), text(0x42007D, why)]
+}
+
+/// A response of these batch items.
+pub fn response_of_items(items: &[Vec<u8>]) -> Vec<u8> {
+    let version = structure(0x420069, &[integer(0x42006A, 1), integer(0x42006B, 2)]);
+    let date = item(0x420092, 9, &1_700_000_000_i64.to_be_bytes());
+    let count = integer(0x42000D, i32::try_from(items.len()).unwrap());
+    let header = structure(0x42007A, &[version, date, count]);
+    structure(0x42007B, &[&[header], items].concat())
+}

@@ -1,0 +1,557 @@
+/* Several calls in one message. Each item of a batch is that of the request of a single call, and
+   each item of the response is read as the response to a single call: so nothing of either is
+   new. */
+#define _POSIX_C_SOURCE 200809L
+#include "metsuwan_internal.h"
+
+#include <stdarg.h>
+#include <stdio.h>
+#include <stdlib.h>
+#include <string.h>
+
+enum { STRUCTURE = 1, INTEGER = 2, ENUMERATION = 5, BYTES = 8, HEAD = 8 };
+enum { FAILED = 1 }; /* a Result Status */
+enum {
+    BATCH_COUNT = 0x42000D,
+    CONTINUATION = 0x42000E,
+    BATCH_ITEM = 0x42000F,
+    OPERATION = 0x42005C,
+    VERSION = 0x420069,
+    REQUEST_HEADER = 0x420077,
+    REQUEST_MESSAGE = 0x420078,
+    RESPONSE_HEADER = 0x42007A,
+    RESULT_STATUS = 0x42007F,
+    ITEM_ID = 0x420093
+};
+
+/* A call, and what came of it. */
+typedef struct {
+    char *name, *version, *payload; /* of a call of words the last two are null pointers, .. */
+    kmip_room line;                 /* .. and this has its words */
+    kmip_room request;
+    size_t request_len;
+    size_t place; /* that of its item in the response; 0: the server has not come to it */
+    bool failed;  /* the item says that it has failed */
+} item;
+
+struct kmip_batch {
+    kmip_client *client;
+    kmip_on_error on_error;
+    item *items;
+    size_t count, room;
+    kmip_room response; /* the last one, .. */
+    size_t response_len;
+    size_t answered; /* .. and of how many calls it says something */
+};
+
+/* An item of a structure: its tag and type, the whole of it with its pad, and its contents. */
+typedef struct {
+    uint32_t tag;
+    uint8_t type;
+    const uint8_t *whole, *contents;
+    size_t whole_len, length;
+} part;
+
+static uint32_t number_at(const uint8_t *bytes) {
+    return (uint32_t)bytes[0] << 24 | (uint32_t)bytes[1] << 16 | (uint32_t)bytes[2] << 8 | bytes[3];
+}
+
+/* The item of a structure that begins here, of so many bytes to the structure's end; or what is
+   wrong with it. */
+static const char *read_part(const uint8_t *at, size_t left, part *into) {
+    if (left < HEAD) return "an item without its head";
+    *into = (part){number_at(at) >> 8, at[3], at, at + HEAD, 0, number_at(at + 4)};
+    size_t pad = into->type == STRUCTURE ? 0 : (8 - into->length % 8) % 8;
+    if (into->length > left - HEAD || pad > left - HEAD - into->length)
+        return "an item without its end";
+    into->whole_len = HEAD + into->length + pad;
+    return NULL;
+}
+
+/* What is wrong with the items of a structure, or a null pointer. */
+static const char *wrong_with(const part *structure) {
+    const char *wrong = NULL;
+    part it;
+    for (size_t at = 0; !wrong && at < structure->length; at += it.whole_len)
+        wrong = read_part(structure->contents + at, structure->length - at, &it);
+    return wrong;
+}
+
+/* Goes to the next item of a structure that is well formed, from the first where `it` has none of
+   its bytes; false: there is none. */
+static bool next_part(const part *structure, part *it) {
+    size_t at = it->whole ? (size_t)(it->whole - structure->contents) + it->whole_len : 0;
+    return at < structure->length &&
+           !read_part(structure->contents + at, structure->length - at, it);
+}
+
+static bool is_structure(const part *it, uint32_t tag) {
+    return it->tag == tag && it->type == STRUCTURE;
+}
+
+/* The first item with this tag in a structure that is well formed. */
+static bool find_part(const part *structure, uint32_t tag, part *into) {
+    *into = (part){0};
+    while (next_part(structure, into))
+        if (into->tag == tag) return true;
+    return false;
+}
+
+/* Bytes that are written; once it has failed, nothing more is. */
+typedef struct {
+    kmip_room room;
+    size_t length;
+    bool failed;
+} writer;
+
+static void put(writer *it, const uint8_t *bytes, size_t count) {
+    size_t room = it->room.room;
+    if (!it->failed && count > room - it->length)
+        it->failed = count > SIZE_MAX / 4 || room > SIZE_MAX / 4 ||
+                     !kmip_room_has(&it->room, 2 * (room + count));
+    if (it->failed || count == 0) return;
+    memcpy(it->room.bytes + it->length, bytes, count);
+    it->length += count;
+}
+
+static void put_head(writer *it, uint32_t tag, uint8_t type, uint32_t length) {
+    const uint32_t words[] = {tag << 8 | type, length};
+    uint8_t head[HEAD];
+    for (size_t i = 0; i < HEAD; i++)
+        head[i] = (uint8_t)(words[i / 4] >> (24 - 8 * (i % 4)));
+    put(it, head, HEAD);
+}
+
+/* An item of four bytes: an integer, an enumeration, or an identifier in the batch. */
+static void put_number(writer *it, uint32_t tag, uint8_t type, uint32_t number) {
+    const uint8_t value[] = {(uint8_t)(number >> 24),
+                             (uint8_t)(number >> 16),
+                             (uint8_t)(number >> 8),
+                             (uint8_t)number,
+                             0,
+                             0,
+                             0,
+                             0};
+    put_head(it, tag, type, 4);
+    put(it, value, sizeof value);
+}
+
+/* Begins a structure, and says where its contents do. */
+static size_t put_structure(writer *it, uint32_t tag) {
+    put_head(it, tag, STRUCTURE, 0);
+    return it->length;
+}
+
+static void end_structure(writer *it, size_t from) {
+    size_t length = it->length - from;
+    for (size_t i = 0; !it->failed && i < 4; i++)
+        it->room.bytes[from - 4 + i] = (uint8_t)(length >> (24 - 8 * i));
+}
+
+/* The header and the batch item of a request that the library made. */
+static bool parts_of(const item *it, part *header, part *batch_item) {
+    part message;
+    return !read_part(it->request.bytes, it->request_len, &message) &&
+           find_part(&message, REQUEST_HEADER, header) &&
+           find_part(&message, BATCH_ITEM, batch_item);
+}
+
+/* The highest version that a request of the batch names: as the whole item, whose bytes have the
+   order of the versions. */
+static part highest_version(const kmip_batch *batch) {
+    part header, batch_item, version, highest = {0};
+    for (size_t i = 0; i < batch->count; i++) {
+        if (!parts_of(&batch->items[i], &header, &batch_item)) continue;
+        if (!find_part(&header, VERSION, &version)) continue;
+        bool higher = highest.whole_len != version.whole_len ||
+                      memcmp(version.whole, highest.whole, version.whole_len) > 0;
+        if (higher) highest = version;
+    }
+    return highest;
+}
+
+/* The header of the first request, with the version, the option and the count of the batch. */
+static void put_header(writer *it, const kmip_batch *batch, const part *first) {
+    part version = highest_version(batch), own = {0};
+    size_t header = put_structure(it, REQUEST_HEADER);
+    while (next_part(first, &own)) {
+        if (own.tag == BATCH_COUNT) {
+            put_number(it, CONTINUATION, ENUMERATION, (uint32_t)batch->on_error);
+            put_number(it, BATCH_COUNT, INTEGER, (uint32_t)batch->count);
+            continue;
+        }
+        const part *chosen = own.tag == VERSION ? &version : &own;
+        put(it, chosen->whole, chosen->whole_len);
+    }
+    end_structure(it, header);
+}
+
+/* A batch item of a request with its identifier in the batch, which stands after its operation. */
+static void put_item(writer *it, const part *batch_item, uint32_t name) {
+    part own = {0};
+    size_t made = put_structure(it, BATCH_ITEM);
+    while (next_part(batch_item, &own)) {
+        put(it, own.whole, own.whole_len);
+        if (own.tag == OPERATION) put_number(it, ITEM_ID, BYTES, name);
+    }
+    end_structure(it, made);
+}
+
+/* Writes one message of the requests; its length, or a negative number. */
+static int64_t write_message(const kmip_batch *batch, kmip_room *into) {
+    writer it = {*into, 0, false};
+    part header, batch_item;
+    size_t message = put_structure(&it, REQUEST_MESSAGE);
+    for (size_t i = 0; i < batch->count && !it.failed; i++) {
+        it.failed = !parts_of(&batch->items[i], &header, &batch_item);
+        if (i == 0 && !it.failed) put_header(&it, batch, &header);
+        if (!it.failed) put_item(&it, &batch_item, (uint32_t)i);
+    }
+    end_structure(&it, message);
+    *into = it.room;
+    if (it.failed) return KMIP_LENGTH_MEMORY;
+    return it.length > UINT32_MAX ? KMIP_LENGTH_NO_FORM : (int64_t)it.length;
+}
+
+/* The header of a response, which counts one batch item. */
+static void put_header_of_one(writer *it, const part *header) {
+    part own = {0};
+    size_t made = put_structure(it, RESPONSE_HEADER);
+    while (next_part(header, &own)) {
+        if (own.tag == BATCH_COUNT)
+            put_number(it, BATCH_COUNT, INTEGER, 1);
+        else
+            put(it, own.whole, own.whole_len);
+    }
+    end_structure(it, made);
+}
+
+/* A batch item of a response without its identifier in the batch. */
+static void put_item_alone(writer *it, const part *batch_item) {
+    part own = {0};
+    size_t made = put_structure(it, BATCH_ITEM);
+    while (next_part(batch_item, &own))
+        if (own.tag != ITEM_ID) put(it, own.whole, own.whole_len);
+    end_structure(it, made);
+}
+
+/* Writes the response to a single call, the message with the batch item at this place and no other,
+   and says how long it is; 0: memory ran out. */
+static size_t write_single(const kmip_batch *batch, size_t place, kmip_room *into) {
+    writer it = {*into, 0, false};
+    part message, own = {0};
+    if (read_part(batch->response.bytes, batch->response_len, &message)) return 0;
+    size_t single = put_structure(&it, message.tag);
+    while (next_part(&message, &own)) {
+        if (is_structure(&own, RESPONSE_HEADER))
+            put_header_of_one(&it, &own);
+        else if (own.tag != BATCH_ITEM)
+            put(&it, own.whole, own.whole_len);
+        else if (own.whole == batch->response.bytes + place)
+            put_item_alone(&it, &own);
+    }
+    end_structure(&it, single);
+    *into = it.room;
+    return it.failed ? 0 : it.length;
+}
+
+/* What is wrong with a message, down to the items of its header and of its batch items. */
+static const char *wrong_with_message(const part *message) {
+    const char *wrong = wrong_with(message);
+    part own = {0};
+    while (!wrong && next_part(message, &own))
+        if (is_structure(&own, RESPONSE_HEADER) || is_structure(&own, BATCH_ITEM))
+            wrong = wrong_with(&own);
+    return wrong;
+}
+
+/* The place of the call that a batch item of a response is of; `count`: it is of none. */
+static size_t place_of(const part *batch_item, size_t count) {
+    part own = {0};
+    size_t place = count, names = 0;
+    while (batch_item->type == STRUCTURE && next_part(batch_item, &own)) {
+        if (own.tag != ITEM_ID) continue;
+        bool is_number = own.type == BYTES && own.length == 4;
+        place = is_number ? number_at(own.contents) : count;
+        names++;
+    }
+    return names == 1 && place < count ? place : count;
+}
+
+/* Whether a batch item of a response says that its call has failed. */
+static bool has_failed(const part *batch_item) {
+    part status;
+    return find_part(batch_item, RESULT_STATUS, &status) && status.type == ENUMERATION &&
+           status.length == 4 && number_at(status.contents) == FAILED;
+}
+
+/* Whether the response is a failure of the whole message, as where a server takes no batches: one
+   batch item, which has failed and says of no call that it is its own. */
+static bool fails_whole(const part *message, part *batch_item) {
+    part own = {0}, name;
+    size_t count = 0;
+    while (next_part(message, &own)) {
+        if (!is_structure(&own, BATCH_ITEM)) continue;
+        *batch_item = own;
+        count++;
+    }
+    return count == 1 && !find_part(batch_item, ITEM_ID, &name) && has_failed(batch_item);
+}
+
+/* Gives a call its item in the response: KMIP_ANSWERED, or what went wrong. */
+static int give(kmip_batch *batch, size_t call, const part *batch_item) {
+    if (call >= batch->count || batch->items[call].place > 0)
+        return kmip_fails_as(batch->client, KMIP_LOST, "InternalError",
+                             "an item of the response is of no call of the batch");
+    batch->items[call].place = (size_t)(batch_item->whole - batch->response.bytes);
+    batch->items[call].failed = has_failed(batch_item);
+    return KMIP_ANSWERED;
+}
+
+/* Each call has a response, but for those after one that failed, where the batch ends there. */
+static int check_missing(kmip_batch *batch) {
+    bool ends = false;
+    for (size_t i = 0; i < batch->count; i++) {
+        const item *it = &batch->items[i];
+        ends = ends || (it->failed && batch->on_error != KMIP_ON_ERROR_CONTINUE);
+        if (it->place == 0 && !ends)
+            return kmip_fails_as(batch->client, KMIP_LOST, "InternalError",
+                                 "a call of the batch has no item in the response");
+    }
+    return KMIP_ANSWERED;
+}
+
+/* Gives each call its item in the response. */
+static int give_each(kmip_batch *batch) {
+    part message, own = {0};
+    const char *wrong = read_part(batch->response.bytes, batch->response_len, &message);
+    int status = KMIP_ANSWERED;
+    if (!wrong) wrong = wrong_with_message(&message);
+    if (wrong) return kmip_fails_as(batch->client, KMIP_LOST, "DeserializeError", wrong);
+    if (fails_whole(&message, &own)) {
+        for (size_t i = 0; i < batch->count && status == KMIP_ANSWERED; i++)
+            status = give(batch, i, &own);
+        return status;
+    }
+    own = (part){0};
+    while (status == KMIP_ANSWERED && next_part(&message, &own))
+        if (own.tag == BATCH_ITEM) status = give(batch, place_of(&own, batch->count), &own);
+    return status == KMIP_ANSWERED ? check_missing(batch) : status;
+}
+
+/* What the client has where there is no answer of a call, and no error. */
+static int says_nothing(kmip_client *client) {
+    static const char nothing[] = "{\"answer\":{}}";
+    memcpy(client->line.bytes, nothing, sizeof nothing);
+    client->call.bytes[0] = 0;
+    client->response_len = 0;
+    return client->status = KMIP_ANSWERED;
+}
+
+/* Copies bytes to room that is made for them. */
+static bool copy_to(kmip_room *into, const uint8_t *bytes, size_t count) {
+    if (!kmip_room_has(into, count)) return false;
+    memcpy(into->bytes, bytes, count);
+    return true;
+}
+
+/* Has the answer to a call be the client's. */
+static int read_item(const kmip_batch *batch, const item *it) {
+    static const uint8_t none[1];
+    kmip_client *client = batch->client;
+    const uint8_t *line = it->version ? none : it->line.bytes;
+    if (!copy_to(&client->call, line, strlen((const char *)line) + 1))
+        return kmip_says_no_memory(client);
+    client->response_len = 0;
+    if (it->place == 0)
+        return kmip_says(client, KMIP_REFUSED, "NotDone",
+                         "the server has not done this call of the batch");
+    client->response_len = write_single(batch, it->place, &client->response);
+    if (client->response_len == 0) return kmip_says_no_memory(client);
+    if (it->version) client->name = it->name;
+    client->version = it->version;
+    client->payload = it->payload;
+    int status = kmip_read_answer(client);
+    client->name = client->version = client->payload = NULL;
+    return status;
+}
+
+/* Reads all answers once: where one is none to its call, the connection is lost. */
+static int read_each(kmip_batch *batch) {
+    kmip_client *client = batch->client;
+    bool lost = false;
+    for (size_t i = 0; i < batch->count; i++) {
+        int status = read_item(batch, &batch->items[i]);
+        if (status == KMIP_NO_MEMORY) return kmip_out_of_memory(client);
+        lost = lost || status == KMIP_LOST;
+    }
+    if (lost) kmip_ends_as(client, KMIP_LOST);
+    return says_nothing(client);
+}
+
+static void forget_response(kmip_batch *batch) {
+    kmip_room_free(&batch->response);
+    batch->answered = batch->response_len = 0;
+    for (size_t i = 0; i < batch->count; i++) {
+        batch->items[i].place = 0;
+        batch->items[i].failed = false;
+    }
+}
+
+static bool is_changeless(const kmip_batch *batch) {
+    bool changeless = true;
+    for (size_t i = 0; i < batch->count; i++)
+        changeless = changeless && kmip_is_changeless(batch->items[i].name);
+    return changeless;
+}
+
+static int send_batch(kmip_batch *batch) {
+    kmip_client *client = batch->client;
+    char said[50];
+    int status = kmip_begin(client, "batch");
+    if (status != KMIP_ANSWERED) return status;
+    if (batch->count == 0)
+        return kmip_fails_as(client, KMIP_CALL_GRAMMAR, "GrammarError", "the batch has no calls");
+    int64_t length = write_message(batch, &client->request);
+    if (length == KMIP_LENGTH_NO_FORM)
+        return kmip_fails_as(client, KMIP_REFUSED, "SerializeError", "request has no wire form");
+    if (length < 0) return kmip_out_of_memory(client);
+    status = kmip_exchange(client, (size_t)length, is_changeless(batch));
+    batch->response = client->response;
+    batch->response_len = client->response_len;
+    client->response = (kmip_room){NULL, 0};
+    if (status == KMIP_ANSWERED) status = give_each(batch);
+    if (status == KMIP_ANSWERED) status = read_each(batch);
+    if (status == KMIP_ANSWERED) batch->answered = batch->count;
+    client->response_len = status == KMIP_ANSWERED ? batch->response_len : 0;
+    snprintf(said, sizeof said, "a batch of %zu", batch->count);
+    kmip_tell_call(client, said);
+    client->response_len = 0;
+    return status;
+}
+
+int kmip_batch_send(kmip_batch *batch) {
+    if (!batch) return KMIP_LOST;
+    kmip_queue queue;
+    kmip_queue_take(&queue);
+    forget_response(batch);
+    int status = send_batch(batch);
+    kmip_queue_give_back(&queue);
+    return status;
+}
+
+int kmip_batch_answer(kmip_batch *batch, size_t at) {
+    if (!batch) return KMIP_LOST;
+    kmip_client *client = batch->client;
+    if (at < batch->answered) return read_item(batch, &batch->items[at]);
+    client->response_len = 0;
+    return kmip_says(client, KMIP_CALL_GRAMMAR, "GrammarError",
+                     "the batch has no answer to such a call");
+}
+
+kmip_batch *kmip_batch_new(kmip_client *client, kmip_on_error on_error) {
+    bool known = on_error >= KMIP_ON_ERROR_CONTINUE && on_error <= KMIP_ON_ERROR_UNDO;
+    kmip_batch *batch = client && known ? calloc(1, sizeof *batch) : NULL;
+    if (!batch) return NULL;
+    batch->client = client;
+    batch->on_error = on_error;
+    return batch;
+}
+
+static void free_item(item *it) {
+    kmip_copy_free(it->name);
+    kmip_copy_free(it->version);
+    kmip_copy_free(it->payload);
+    kmip_room_free(&it->line);
+    kmip_room_free(&it->request);
+}
+
+void kmip_batch_free(kmip_batch *batch) {
+    if (!batch) return;
+    for (size_t i = 0; i < batch->count; i++)
+        free_item(&batch->items[i]);
+    kmip_room_free(&batch->response);
+    free(batch->items);
+    free(batch);
+}
+
+size_t kmip_batch_count(const kmip_batch *batch) {
+    return batch ? batch->count : 0;
+}
+
+/* Room for one more call; false where memory runs out. */
+static bool has_room(kmip_batch *batch) {
+    if (batch->count < batch->room) return true;
+    size_t room = 2 * batch->room + 4;
+    item *items = room < SIZE_MAX / sizeof *items ? calloc(room, sizeof *items) : NULL;
+    if (!items) return false;
+    if (batch->count > 0) memcpy(items, batch->items, batch->count * sizeof *items);
+    free(batch->items);
+    batch->items = items;
+    batch->room = room;
+    return true;
+}
+
+/* Adds the call whose request of this length the client has. */
+static int add(kmip_batch *batch, const char *name, const char *version, const char *payload,
+               size_t length) {
+    kmip_client *client = batch->client;
+    const char *line = (const char *)client->call.bytes;
+    item made = {.name = kmip_copy_of(name)};
+    if (version) made.version = kmip_copy_of(version);
+    if (payload) made.payload = kmip_copy_of(payload);
+    bool has_all = made.name && !made.version == !version && !made.payload == !payload &&
+                   copy_to(&made.line, (const uint8_t *)line, strlen(line) + 1) && has_room(batch);
+    if (!has_all) {
+        free_item(&made);
+        return kmip_out_of_memory(client);
+    }
+    made.request = client->request;
+    made.request_len = length;
+    client->request = (kmip_room){NULL, 0};
+    batch->items[batch->count++] = made;
+    return says_nothing(client);
+}
+
+int kmip_batch_words(kmip_batch *batch, const char *call, const char *const *words) {
+    if (!batch) return KMIP_LOST;
+    kmip_client *client = batch->client;
+    kmip_queue queue;
+    size_t length = 0;
+    kmip_queue_take(&queue);
+    int status = kmip_begin(client, call);
+    if (status == KMIP_ANSWERED) status = kmip_make_call(client, call, words, &length);
+    if (status == KMIP_ANSWERED) status = add(batch, call, NULL, NULL, length);
+    kmip_queue_give_back(&queue);
+    return status;
+}
+
+int kmip_batch_call(kmip_batch *batch, const char *call, ...) {
+    va_list given;
+    va_start(given, call);
+    const char **words = kmip_words_of(given);
+    va_end(given);
+    int status = KMIP_LOST;
+    if (words)
+        status = kmip_batch_words(batch, call, words);
+    else if (batch)
+        status = kmip_out_of_memory(batch->client);
+    free(words);
+    return status;
+}
+
+int kmip_batch_operation(kmip_batch *batch, const char *name, const char *version,
+                         const char *payload) {
+    if (!batch) return KMIP_LOST;
+    kmip_client *client = batch->client;
+    kmip_queue queue;
+    size_t length = 0;
+    kmip_queue_take(&queue);
+    int status = kmip_begin(client, name);
+    if (status == KMIP_ANSWERED)
+        status = kmip_make_operation(client, name, version, payload, &length);
+    client->name = client->version = client->payload = NULL;
+    if (status == KMIP_ANSWERED) status = add(batch, name, version, payload, length);
+    kmip_queue_give_back(&queue);
+    return status;
+}

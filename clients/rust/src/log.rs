@@ -1,0 +1,86 @@
+//! What a client tells of its calls.
+use std::fmt::{self, Display, Formatter};
+use std::time::{Duration, Instant};
+
+/// What has happened.
+#[derive(Clone, Copy, Debug, PartialEq, Eq, Hash)]
+#[non_exhaustive]
+pub enum EventKind {
+    /// A call, or a batch, whose request was made has ended.
+    Call,
+    /// The connection was lost, and the call is made again.
+    Repeated,
+    /// The connection was lost, and is opened again for this call.
+    Reopened,
+}
+
+/// What [`with_log`](crate::ClientBuilder::with_log) is told: no value of a call, and no identifier.
+/// `Display` writes it in words, as `localhost:5696: sign: status 0, 288 bytes sent, 432 read,
+/// 1.5 ms`.
+#[derive(Clone, Debug)]
+#[non_exhaustive]
+pub struct Event<'a> {
+    /// What has happened.
+    pub kind: EventKind,
+    /// The name of the call, as `sign`, or of the operation, as `Encrypt`; `batch` of a batch.
+    pub operation: &'a str,
+    /// The kind of the error where there is one, as `ItemNotFound`.
+    pub error: Option<&'static str>,
+    /// How long the call has taken until now.
+    pub elapsed: Duration,
+    text: String,
+}
+
+impl Display for Event<'_> {
+    fn fmt(&self, f: &mut Formatter<'_>) -> fmt::Result {
+        f.write_str(&self.text)
+    }
+}
+
+/// What is told of each event.
+pub(crate) type Tell = Box<dyn FnMut(&Event<'_>) + Send>;
+
+/// Where a client tells of its calls.
+pub(crate) struct Log {
+    pub(crate) tell: Option<Tell>,
+    /// The server, as `localhost:5696`, where it is known.
+    pub(crate) server: Option<String>,
+}
+
+/// A call that is told of.
+#[derive(Clone, Copy)]
+pub(crate) struct Told<'a> {
+    pub(crate) operation: &'a str,
+    begun: Instant,
+}
+
+impl<'a> Told<'a> {
+    pub(crate) fn begin(operation: &'a str) -> Self {
+        Told { operation, begun: Instant::now() }
+    }
+
+    /// How long it has taken, in words.
+    pub(crate) fn took(&self) -> String {
+        format!("{:.1} ms", self.begun.elapsed().as_secs_f64() * 1000.0)
+    }
+}
+
+impl Log {
+    pub(crate) fn tell(
+        &mut self,
+        call: Told<'_>,
+        kind: EventKind,
+        error: Option<&'static str>,
+        text: &str,
+    ) {
+        let Some(tell) = &mut self.tell else { return };
+        let server = self.server.as_deref().map_or(String::new(), |it| format!("{it}: "));
+        tell(&Event {
+            kind,
+            operation: call.operation,
+            error,
+            elapsed: call.begun.elapsed(),
+            text: server + text,
+        });
+    }
+}

@@ -1,0 +1,221 @@
+//! Streams that are opened again, and what the log is told.
+mod script;
+mod ttlv;
+
+use metsuwan::{Client, ClientBuilder, Error, Event, EventKind, Item, Word};
+use script::{Does, Script, Sent};
+use std::collections::VecDeque;
+use std::io::{self, ErrorKind};
+use std::sync::{Arc, Mutex};
+use std::time::Duration;
+use ttlv::{batch_item, bytes, identifier, response, response_of_items, success};
+
+const ACTIVATE: u32 = 0x12;
+const ENCRYPT: u32 = 0x1F;
+const QUERY: u32 = 0x18;
+const SIGN: u32 = 0x21;
+
+/// What the log was told.
+type Told = Arc<Mutex<Vec<(EventKind, String, Option<&'static str>, String)>>>;
+
+fn kinds(told: &Told) -> Vec<EventKind> {
+    told.lock().unwrap().iter().map(|it| it.0).collect()
+}
+
+fn keep(told: &Told) -> impl FnMut(&Event<'_>) + Send + 'static {
+    let told = Arc::clone(told);
+    move |event| {
+        assert!(event.elapsed < Duration::from_secs(1000));
+        let text = event.to_string();
+        told.lock().unwrap().push((event.kind, event.operation.into(), event.error, text));
+    }
+}
+
+/// A client whose streams do these one after the other.
+fn client(streams: &[&[Does]]) -> (Client<Script>, Sent, Told) {
+    let (sent, told) = (Sent::default(), Told::default());
+    let mut scripts: VecDeque<_> = streams.iter().map(|it| Script::new(it, &sent)).collect();
+    let first = scripts.pop_front().unwrap();
+    let builder = ClientBuilder::new(first).with_log(keep(&told)).with_reconnect(move || {
+        // As a stream that is asked for a query, and has none.
+        let none = || ClientBuilder::new(Script::new(&[], &Sent::default())).build().query();
+        scripts.pop_front().ok_or_else(|| none().unwrap_err())
+    });
+    (builder.build(), sent, told)
+}
+
+fn answer(operation: u32) -> Does {
+    Does::Answer(response(operation, &[identifier("k"), bytes(0x4200C3, b"signature")]))
+}
+
+fn is_read_error<T>(made: metsuwan::Result<T>) -> bool {
+    matches!(made, Err(Error::ResponseReadError(_)))
+}
+
+#[test]
+fn what_changes_nothing_is_made_again() {
+    let (client, sent, told) = client(&[&[], &[answer(SIGN), answer(QUERY)]]);
+    client.sign("k", b"x").unwrap();
+    client.query().unwrap();
+    let requests = sent.all();
+    assert!(requests.len() == 3 && requests[0] == requests[1]);
+    use EventKind::{Call, Reopened, Repeated};
+    assert_eq!(kinds(&told), [Repeated, Reopened, Call, Call]);
+    let told = told.lock().unwrap();
+    assert_eq!(told[0].3, "end of input: the call is made again");
+    assert_eq!((told[0].1.as_str(), told[0].2), ("sign", Some("ResponseReadError")));
+    assert_eq!(told[1].3, "the connection was lost, and is opened again");
+}
+
+#[test]
+fn an_operation_that_changes_nothing_is_made_again() {
+    let payload = || vec![Item::new("UniqueIdentifier", "k")];
+    let (client, sent, _) = self::client(&[&[], &[answer(ENCRYPT)]]);
+    client.do_operation("Encrypt", "1.2", payload()).unwrap();
+    assert_eq!(sent.count(), 2);
+    let (client, sent, _) = self::client(&[&[], &[answer(QUERY)]]);
+    assert!(is_read_error(client.do_operation("Archive", "1.2", payload())));
+    assert_eq!(sent.count(), 1);
+    client.query().unwrap();
+}
+
+#[test]
+fn what_may_have_been_done_is_not() {
+    for stream in [&[][..], &[Does::RefuseWrite], &[Does::Fail(ErrorKind::ConnectionReset)]] {
+        let (client, sent, told) = client(&[stream, &[answer(ACTIVATE)]]);
+        let before = sent.count();
+        assert!(client.activate_key("k").unwrap_err().is_lost());
+        assert!(client.is_open());
+        client.activate_key("k").unwrap();
+        assert!(sent.count() - before <= 2);
+        use EventKind::{Call, Reopened};
+        assert_eq!(kinds(&told), [Call, Reopened, Call]);
+    }
+}
+
+#[test]
+fn where_nothing_was_sent_the_call_is_made_again() {
+    let sent = Sent::default();
+    let stream = Script::new(&[answer(ACTIVATE)], &sent);
+    let mut again = vec![Script::new(&[answer(ACTIVATE)], &sent)];
+    let mut looks = 0;
+    let client = ClientBuilder::new(stream)
+        .with_before_call(move |_| {
+            looks += 1;
+            // The first stream has ended after its first call.
+            if looks == 2 {
+                Err(ErrorKind::UnexpectedEof.into())
+            } else {
+                Ok(())
+            }
+        })
+        .with_reconnect(move || Ok(again.pop().unwrap()))
+        .build();
+    client.activate_key("k").unwrap();
+    client.activate_key("k").unwrap();
+    assert_eq!(sent.count(), 2);
+}
+
+#[test]
+fn it_is_made_again_once() {
+    let (client, sent, _) = client(&[&[], &[], &[answer(QUERY)]]);
+    assert!(is_read_error(client.query()));
+    assert_eq!(sent.count(), 2);
+    client.query().unwrap();
+    // A stream that is new, as this call's, is not opened once more for it.
+    let (client, sent, _) = self::client(&[&[], &[], &[answer(QUERY)]]);
+    assert!(client.activate_key("k").unwrap_err().is_lost());
+    assert!(is_read_error(client.query()));
+    assert_eq!(sent.count(), 2);
+}
+
+#[test]
+fn what_is_late_or_no_message_is_not_made_again() {
+    let rubbish = Does::Answer(b"HTTP/1.1 400 Bad".to_vec());
+    for does in [Does::Fail(ErrorKind::TimedOut), Does::Fail(ErrorKind::WouldBlock), rubbish] {
+        let (client, sent, _) = client(&[&[does], &[answer(QUERY)]]);
+        assert!(client.query().unwrap_err().is_lost());
+        assert_eq!(sent.count(), 1);
+        client.query().unwrap();
+    }
+}
+
+#[test]
+fn a_stream_that_is_not_opened_again() {
+    let (client, _, told) = client(&[&[]]);
+    assert!(is_read_error(client.query()));
+    assert!(client.is_open() && is_read_error(client.query()));
+    assert_eq!(kinds(&told).last(), Some(&EventKind::Call));
+    assert!(client.into_inner().is_none());
+    let bare = ClientBuilder::new(Script::new(&[], &Sent::default())).build();
+    assert!(bare.is_open() && bare.query().is_err() && !bare.is_open());
+    assert!(matches!(bare.query(), Err(Error::RequestWriteError(_))));
+}
+
+#[test]
+fn a_batch_is_made_again_where_all_of_it_changes_nothing() {
+    let of_query = response(QUERY, &[]);
+    let items = |second| {
+        let query = batch_item(&[0], QUERY, &success(&[]));
+        let other = batch_item(&[1], second, &success(&[identifier("k")]));
+        Does::Answer(response_of_items(&[query, other]))
+    };
+    let (client, sent, _) = client(&[&[], &[items(ENCRYPT)]]);
+    let mut batch = client.batch();
+    let payload = vec![Item::new("UniqueIdentifier", "k")];
+    batch.call("query", &[]).unwrap().do_operation("Encrypt", "1.2", payload).unwrap();
+    assert!(batch.send().unwrap().iter().all(Result::is_ok));
+    assert_eq!(sent.count(), 2);
+    let (client, sent, _) = self::client(&[&[], &[items(ACTIVATE), Does::Answer(of_query)]]);
+    let mut batch = client.batch();
+    batch.call("query", &[]).unwrap().call("activate", &[Word::Text("k")]).unwrap();
+    assert!(is_read_error(batch.send()));
+    assert_eq!(sent.count(), 1);
+    assert!(batch.send().unwrap().iter().all(Result::is_ok));
+}
+
+#[test]
+fn a_call_that_panics_is_followed_by_another_stream() {
+    let sent = Sent::default();
+    let mut again = vec![Script::new(&[answer(QUERY), answer(QUERY)], &sent)];
+    let mut panics = true;
+    let client = ClientBuilder::new(Script::new(&[answer(QUERY)], &sent))
+        .with_before_call(move |_| {
+            assert!(!std::mem::take(&mut panics), "as wanted");
+            io::Result::Ok(())
+        })
+        .with_reconnect(move || Ok(again.pop().unwrap()))
+        .build();
+    std::thread::scope(|scope| assert!(scope.spawn(|| client.query()).join().is_err()));
+    client.query().unwrap();
+    client.query().unwrap();
+    assert_eq!(sent.count(), 2);
+}
+
+#[test]
+fn the_log_tells_of_each_call_and_shows_no_value() {
+    let no = ttlv::failure(ACTIVATE, 1, "no such key: the key");
+    let signed = response(SIGN, &[identifier("the key"), bytes(0x4200C3, b"signature")]);
+    let (client, _, told) = client(&[&[Does::Answer(signed), Does::Answer(no), answer(ENCRYPT)]]);
+    client.sign("the key", b"the data").unwrap();
+    client.activate_key("the key").unwrap_err();
+    let items = vec![Item::new("UniqueIdentifier", "the key")];
+    client.do_operation("Encrypt", "1.2", items).unwrap();
+    client.call("sign the key", &[]).unwrap_err();
+    client.query().unwrap_err();
+    let told = told.lock().unwrap();
+    let said = |at: usize, operation: &str, error, text: &str| {
+        let (kind, name, found, words) = &told[at];
+        assert_eq!((*kind, name.as_str(), *found), (EventKind::Call, operation, error));
+        assert!(words.starts_with(text) && words.ends_with(" ms"), "{words}");
+    };
+    said(0, "sign", None, "sign: status 0, ");
+    assert!(told[0].3.contains(" bytes sent, ") && told[0].3.contains(" read, "));
+    said(1, "activate", Some("ItemNotFound"), "activate: status 1, ");
+    said(2, "Encrypt", None, "Encrypt: status 0, ");
+    said(told.len() - 1, "query", Some("ResponseReadError"), "query: ResponseReadError, ");
+    let all: String = told.iter().map(|it| format!("{it:?}")).collect();
+    for secret in ["the key", "the%20key", "the data", "signature"] {
+        assert!(!all.contains(secret), "{all}");
+    }
+}
