@@ -21,8 +21,8 @@ does 'make install' make -s install BUILT="$built" OUT="$run/openssl" DESTDIR="$
 does 'what it leaves is loaded' env OPENSSL_CONF=/dev/null "OPENSSL_MODULES=$work/stage/modules" openssl list -providers \
     -provider default -provider metsuwan
 says 'as a provider' 'RSA keys of a KMIP server'
-mkdir none
-printf '#!/bin/sh\nexit 1\n' >none/pkg-config && chmod +x none/pkg-config
+mkdir "$work/none"
+printf '#!/bin/sh\nexit 1\n' >"$work/none/pkg-config" && chmod +x "$work/none/pkg-config"
 does 'make install, with no pkg-config' env "PATH=$work/none:$PATH" make -s install BUILT="$built" OUT="$run/openssl" \
     DESTDIR="$work/other"
 [[ -e $work/other$(openssl version -m | cut -d'"' -f2)/metsuwan.so ]]
