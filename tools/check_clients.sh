@@ -116,11 +116,14 @@ begin_builds() {
 # nothing.
 is_built() { # program|library
     local status=0
+    local -A makes=([program]=kmip_call [library]=libkmip_c.a)
     if ! type -P rt >/dev/null; then
         echo 'skipped the clients: there is no toolchain (rt) to build with; --built DIR takes a build'
         return 1
     fi
-    if [[ -n ${builders[$1]-} ]]; then wait "${builders[$1]}" || status=$?; fi
+    if [[ -n ${builders[$1]-} ]]; then wait "${builders[$1]}" 2>"$run/waited" || status=$?; fi
+    # (bash forgets a status where a later process had the same number)
+    if ((status == 127)) && [[ -s $run/${makes[$1]} ]]; then status=0; fi
     ((status != 0)) || return 0
     if ((status >= 124)); then
         echo "skipped the clients: the $1 is not built (status $status); --built DIR takes a build"
@@ -168,14 +171,16 @@ rest_of_cases() {
     local builder='' others=() it
     for it in "${clients[@]}"; do [[ $it == rust ]] || others+=("$it"); done
     if ((${#others[@]} < ${#clients[@]})); then
-        (clients=(rust) && build_clients && ((${#clients[@]} > 0))) &
+        (clients=(rust) && build_clients && ((${#clients[@]} > 0)) && : >"$run/rust.is_built") &
         builder=$!
         started+=("$builder")
     fi
     clients=(${others[@]+"${others[@]}"})
     build_clients
     run_cases fakes 8 "${clients[@]}"
-    if [[ -n $builder ]] && wait "$builder"; then run_cases fakes 8 rust; fi
+    # (its status is not asked: bash forgets it where a later process had the same number)
+    if [[ -n $builder ]]; then wait "$builder" 2>"$run/waited"; fi
+    if [[ -e $run/rust.is_built ]]; then run_cases fakes 8 rust; fi
 }
 
 check() {

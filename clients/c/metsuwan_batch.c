@@ -163,7 +163,7 @@ static part highest_version(const kmip_batch *batch) {
     for (size_t i = 0; i < batch->count; i++) {
         if (!parts_of(&batch->items[i], &header, &batch_item)) continue;
         if (!find_part(&header, VERSION, &version)) continue;
-        bool higher = highest.whole_len != version.whole_len ||
+        bool higher = !highest.whole || highest.whole_len != version.whole_len ||
                       memcmp(version.whole, highest.whole, version.whole_len) > 0;
         if (higher) highest = version;
     }

@@ -33,7 +33,8 @@ async function end(child, profile, ask) {
   await Promise.race([ask().catch(() => 0), sleep(5000)]);
   if (child.exitCode === null) child.kill();
   await Promise.race([over, sleep(5000)]);
-  fs.rmSync(profile, { recursive: true, force: true, maxRetries: 5 });
+  // (its other processes may write there for some seconds more)
+  fs.rmSync(profile, { recursive: true, force: true, maxRetries: 10, retryDelay: 200 });
 }
 
 // Commands that are numbered, and their answers, which come in any order.
