@@ -428,7 +428,8 @@ mod tests {
             ("0x80000000", i32::MIN),
         ];
         for (names, bits) in rows {
-            let text = format!(r#"{{"tag":"StorageStatusMask","type":"Integer","value":"{names}"}}"#);
+            let text =
+                format!(r#"{{"tag":"StorageStatusMask","type":"Integer","value":"{names}"}}"#);
             let item = of_text(&text).unwrap();
             assert!(item.value == Value::Integer(bits), "{names}");
         }
